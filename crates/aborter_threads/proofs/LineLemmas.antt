@@ -1,6 +1,6 @@
 -- What is met is what the lines say.
 use Rattle.aborter_threads.proofs.MeetLemmas.{each_at, rest_next}
-use Rattle.aborter_threads.specs.Aborters.{AbortsAreMet, AreNew, HasRun, HaveRun, IsNew, NoneWanting, briefs, with_all}
+use Rattle.aborter_threads.specs.Aborters.{AbortsAreMet, AreNew, HasRun, HaveRun, IsNew, NoneOutOfMemory, briefs, with_all}
 use Rattle.aborter_threads.specs.Counts.{added_each, counts_in, with_each}
 use Rattle.aborter_threads.specs.Lines.{line_at}
 use Rattle.aborter_threads.specs.declared.line.Aborter.{Aborter}
@@ -36,7 +36,7 @@ regrouped (z ∷ xs) ys x = ap (λ zs. z ∷ zs) (regrouped xs ys x)
 
 module _ (ids : List CellId) (splits : List ℕ) (lines : List (List ℕ)) (i : ℕ) (lt : i < length splits) where
   -- what a new aborter of a line has done to the spawn, if memory wasn't wanting
-  counted : (k : ℕ) (line : List ℕ) (a b : Aborter) → slice_get lines k ≡ Some line → IsNew ids splits k a → HasRun (line_at lines a.number) a b → b.wanting ≡ false →
+  counted : (k : ℕ) (line : List ℕ) (a b : Aborter) → slice_get lines k ≡ Some line → IsNew ids splits k a → HasRun (line_at lines a.number) a b → b.out_of_memory ≡ false →
       slice_get (counts_in b.passes.items) i ≡ Some (named (i + 1) line)
   unfolding named
   counted k line a b at new run none =
@@ -53,7 +53,7 @@ module _ (ids : List CellId) (splits : List ℕ) (lines : List (List ℕ)) (i : 
       ∙ (ap (λ (j : ℕ). Some (0 + named j line)) place ∙ ap (λ (n : ℕ). Some n) none_more))
 
   all_at : (k : ℕ) (rest : List (List ℕ)) (olds news : List Aborter) (mss : List (List (ℕ × ℕ))) (ms : List (ℕ × ℕ)) → rest ≡ drop k lines → length olds ≡ length rest →
-      AreNew ids splits k olds → HaveRun lines olds news → NoneWanting news → slice_get mss i ≡ Some ms → slice_get (with_all news mss) i ≡ Some (ms ++ briefs rest (k + 1) (i + 1))
+      AreNew ids splits k olds → HaveRun lines olds news → NoneOutOfMemory news → slice_get mss i ≡ Some ms → slice_get (with_all news mss) i ≡ Some (ms ++ briefs rest (k + 1) (i + 1))
   unfolding named
   all_at k [] [] [] mss ms is number new run none at = at ∙ ap (λ (ns : List (ℕ × ℕ)). Some ns) (sym (append-nil ms))
   all_at k [] [] (b ∷ news) mss ms is number new run none at = absurd run

@@ -15,7 +15,7 @@ use Rattle.shared_works.specs.declared.log.Found.{Found}
 use Rattle.task_abort.specs.Cells.{CellId}
 use Rattle.task_abort.specs.Rule.{Meets}
 use Rattle.task_abort.specs.Staged.{told}
-use Rattle.task_abort.specs.declared.log.View.{View}
+use Rattle.task_abort.specs.declared.log.PassView.{PassView}
 
 -- the first i items are those of ys
 abbrev pub stepped : {A : Type 0} → ℕ → List A → List A → List A
@@ -88,9 +88,9 @@ there_is ps cs ds i p cells same at none =
 
 -- where it isn't, as memory is wanting
 pub own_left : (s t : SharedSpawn) → spawn_view t ≡ spawn_view s → own_list t ≡ own_list s
-own_left s t same = t.listed ∙ (ap (λ (v : View). map told v.own.calls) same ∙ sym s.listed)
+own_left s t same = t.listed ∙ (ap (λ (v : PassView). map told v.own.calls) same ∙ sym s.listed)
 
-pub own_stays : (s t : SharedSpawn) (o : View) → Meets (spawn_view s) o (spawn_view t) → own_list t ≡ own_list s
+pub own_stays : (s t : SharedSpawn) (o : PassView) → Meets (spawn_view s) o (spawn_view t) → own_list t ≡ own_list s
 own_stays s t o meets = t.listed ∙ (ap (λ c. map told c.calls) meets.own ∙ sym s.listed)
 
 -- ---- The lists after it

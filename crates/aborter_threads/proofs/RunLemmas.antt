@@ -47,13 +47,13 @@ run_begins a = record {
   part = tt;
   counts = sym (added_none 0 (counts_in a.passes.items));
   whole = λ w. refl;
-  wanting = λ w. w;
+  out_of_memory = λ w. w;
 }
 
 -- the next one is made, or memory is wanting for it
 pub run_more : (line : List ℕ) (i : ℕ) (a b d : Aborter) → i < length line → HasRun (take i line) a b → d.number ≡ b.number → cells_in d.passes.items ≡ cells_in b.passes.items →
     places_in d.passes.items ≡ places_in b.passes.items →
-    ((d.wanting ≡ b.wanting) × (counts_in d.passes.items ≡ added (get_or line i 0) (counts_in b.passes.items))) ⊎ ((d.wanting ≡ true) × (counts_in d.passes.items ≡ counts_in b.passes.items)) →
+    ((d.out_of_memory ≡ b.out_of_memory) × (counts_in d.passes.items ≡ added (get_or line i 0) (counts_in b.passes.items))) ⊎ ((d.out_of_memory ≡ true) × (counts_in d.passes.items ≡ counts_in b.passes.items)) →
     HasRun (take (i + 1) line) a d
 run_more line i a b d lt run number cells places = ⊎_elim goes wants
   where
@@ -66,7 +66,7 @@ run_more line i a b d lt run number cells places = ⊎_elim goes wants
     none : s ≡ s - 0
     none = omega arith
 
-    goes : (d.wanting ≡ b.wanting) × (counts_in d.passes.items ≡ added s (counts_in b.passes.items)) → HasRun (take (i + 1) line) a d
+    goes : (d.out_of_memory ≡ b.out_of_memory) × (counts_in d.passes.items ≡ added s (counts_in b.passes.items)) → HasRun (take (i + 1) line) a d
     goes q = record {
       number = number ∙ run.number;
       cells = cells ∙ run.cells;
@@ -75,10 +75,10 @@ run_more line i a b d lt run number cells places = ⊎_elim goes wants
       part = subst (λ (ls : List ℕ). IsPartOf (run.made ++ s ∷ []) ls) (sym more) (part_both run.made (take i line) s run.part);
       counts = q.1 ∙ (ap (added s) run.counts ∙ (ap (λ (k : ℕ). added k (added_each run.made 0 (counts_in a.passes.items))) none ∙ sym (added_more run.made s 0 (counts_in a.passes.items))));
       whole = λ w. ap (λ (ls : List ℕ). ls ++ s ∷ []) (run.whole (sym q.0 ∙ w)) ∙ sym more;
-      wanting = λ w. run.wanting (sym q.0 ∙ w);
+      out_of_memory = λ w. run.out_of_memory (sym q.0 ∙ w);
     }
 
-    wants : (d.wanting ≡ true) × (counts_in d.passes.items ≡ counts_in b.passes.items) → HasRun (take (i + 1) line) a d
+    wants : (d.out_of_memory ≡ true) × (counts_in d.passes.items ≡ counts_in b.passes.items) → HasRun (take (i + 1) line) a d
     wants q = record {
       number = number ∙ run.number;
       cells = cells ∙ run.cells;
@@ -87,5 +87,5 @@ run_more line i a b d lt run number cells places = ⊎_elim goes wants
       part = subst (λ (ls : List ℕ). IsPartOf run.made ls) (sym more) (part_longer run.made (take i line) s run.part);
       counts = q.1 ∙ run.counts;
       whole = λ w. let no : true ≡ false = sym q.0 ∙ w in absurd (cc);
-      wanting = λ w. let no : true ≡ false = sym q.0 ∙ w in absurd (cc);
+      out_of_memory = λ w. let no : true ≡ false = sym q.0 ∙ w in absurd (cc);
     }

@@ -13,7 +13,7 @@ pub record IsNew (ids : List CellId) (splits : List ℕ) (k : ℕ) (a : Aborter)
   pub cells : cells_in a.passes.items ≡ ids
   pub places : places_in a.passes.items ≡ later k splits
   pub counts : counts_in a.passes.items ≡ replicate (length splits) 0
-  pub wanting : a.wanting ≡ false
+  pub out_of_memory : a.out_of_memory ≡ false
 
 -- so each is, in order, after k others
 abbrev pub AreNew : List CellId → List ℕ → ℕ → List Aborter → Type 0
@@ -36,8 +36,8 @@ pub record HasRun (line : List ℕ) (a b : Aborter) : Type 0 where
   pub made : List ℕ
   pub part : IsPartOf made line
   pub counts : counts_in b.passes.items ≡ added_each made 0 (counts_in a.passes.items)
-  pub whole : b.wanting ≡ false → made ≡ line
-  pub wanting : b.wanting ≡ false → a.wanting ≡ false
+  pub whole : b.out_of_memory ≡ false → made ≡ line
+  pub out_of_memory : b.out_of_memory ≡ false → a.out_of_memory ≡ false
 
 -- each of them has run, by its line among these
 abbrev pub HaveRun : List (List ℕ) → List Aborter → List Aborter → Type 0
@@ -72,14 +72,14 @@ briefs [] number j = []
 briefs (line ∷ lines) number j = (number, count_by (λ s. s == j) line) ∷ briefs lines (number + 1) j
 
 -- memory was wanting for none of them
-abbrev pub NoneWanting : List Aborter → Type 0
-NoneWanting [] = Unit {0}
-NoneWanting (a ∷ all) = (a.wanting ≡ false) × NoneWanting all
+abbrev pub NoneOutOfMemory : List Aborter → Type 0
+NoneOutOfMemory [] = Unit {0}
+NoneOutOfMemory (a ∷ all) = (a.out_of_memory ≡ false) × NoneOutOfMemory all
 
 -- Once new aborters of these lines have run, and were met, and memory was wanting for none, each cell lists all of them in order, each
 -- with as many aborts as its line names the cell's spawn.
 abbrev pub AbortsAreMet : Type 0
 AbortsAreMet =
     (ids : List CellId) (splits : List ℕ) (lines : List (List ℕ)) (olds news : List Aborter) (mss : List (List (ℕ × ℕ))) (i : ℕ)
-    (ms : List (ℕ × ℕ)) → AreNew ids splits 0 olds → length olds ≡ length lines → HaveRun lines olds news → NoneWanting news →
+    (ms : List (ℕ × ℕ)) → AreNew ids splits 0 olds → length olds ≡ length lines → HaveRun lines olds news → NoneOutOfMemory news →
     i < length splits → slice_get mss i ≡ Some ms → slice_get (with_all news mss) i ≡ Some (ms ++ briefs lines 1 (i + 1))

@@ -45,7 +45,7 @@ impl Aborter {
         cells: &mut Vec<SharedSpawn>,
         number: u32,
     ) -> Result<Aborter, NoMemory>
-        ensures first { IfOk result (λ a. (a.number ≡ number) × (a.wanting ≡ false)) }
+        ensures first { IfOk result (λ a. (a.number ≡ number) × (a.out_of_memory ≡ false)) }
         ensures cells { IfOk result (λ a. cells_in a.passes.items ≡ map spawn_cell cells.old.items) }
         ensures places { IfOk result (λ a. places_in a.passes.items ≡ map split_count cells.old.items) }
         ensures counts { IfOk result (λ a. counts_in a.passes.items ≡ replicate (length cells.old.items) 0) }
@@ -63,7 +63,7 @@ impl Aborter {
         Ok(Aborter {
             number,
             passes,
-            wanting: false,
+            out_of_memory: false,
         })
     }
 
@@ -72,13 +72,13 @@ impl Aborter {
         ensures number { self.new.number ≡ self.old.number }
         ensures cells { cells_in self.new.passes.items ≡ cells_in self.old.passes.items }
         ensures places { places_in self.new.passes.items ≡ places_in self.old.passes.items }
-        ensures made { ((self.new.wanting ≡ self.old.wanting)
+        ensures made { ((self.new.out_of_memory ≡ self.old.out_of_memory)
             × (counts_in self.new.passes.items ≡ added spawn (counts_in self.old.passes.items)))
-            ⊎ ((self.new.wanting ≡ true) × (counts_in self.new.passes.items ≡ counts_in self.old.passes.items)) }
+            ⊎ ((self.new.out_of_memory ≡ true) × (counts_in self.new.passes.items ≡ counts_in self.old.passes.items)) }
     {
         match abort_one(&mut self.passes, spawn) {
             Ok(()) => {}
-            Err(_) => self.wanting = true,
+            Err(_) => self.out_of_memory = true,
         }
     }
 

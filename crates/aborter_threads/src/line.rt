@@ -11,7 +11,7 @@ pub struct Aborter {
     pub number: u32,
     pub passes: Vec<AborterPass>,
     /// Memory was wanting for an abort, which wasn't made then.
-    pub wanting: bool,
+    pub out_of_memory: bool,
 }
 
 // The spawns that the aborter with this number aborts, in order, each counted from 1.

@@ -1,6 +1,6 @@
 //! The aborters of a run, from when their passes are split off to when these are met.
 ghost use Rattle.std.specs.Prelude.{◌≡◌, IfOk, OnErr, OnOk, false, length, map, take, ℕ};
-ghost use Rattle.aborter_threads.specs.Aborters.{AreNew, CanMeet, MetInPart, NoneWanting, with_all};
+ghost use Rattle.aborter_threads.specs.Aborters.{AreNew, CanMeet, MetInPart, NoneOutOfMemory, with_all};
 ghost use Rattle.aborter_threads.specs.Counts.{cells_in, counts_in, later, met_count, met_of, places_in, raised, with_each};
 ghost use Rattle.shared_works.specs.Views.{met_list, own_list, spawn_cell, split_count};
 
@@ -49,16 +49,16 @@ fn meet_each(cells: &mut Vec<SharedSpawn>, aborter: Aborter) -> Result<(), NoMem
     ensures count { OnOk result (map met_count cells.new.items ≡ later 1 (map met_count cells.old.items)) }
     ensures met { OnOk result (map met_of cells.new.items
         ≡ with_each aborter.number (counts_in aborter.passes.items) (map met_of cells.old.items)) }
-    ensures wanting { OnOk result (aborter.wanting ≡ false) }
+    ensures out_of_memory { OnOk result (aborter.out_of_memory ≡ false) }
     ensures refused { OnErr result ((k : ℕ) × (map met_of cells.new.items
         ≡ with_each aborter.number (take k (counts_in aborter.passes.items)) (map met_of cells.old.items))) }
 {
     let Aborter {
         number,
         passes,
-        wanting,
+        out_of_memory,
     } = aborter;
-    if wanting {
+    if out_of_memory {
         return Err(NoMemory);
     }
     let mut place = 0usize;
@@ -81,7 +81,7 @@ pub fn meet_all(cells: &mut Vec<SharedSpawn>, aborters: Vec<Aborter>) -> Result<
     ensures own { map own_list cells.new.items ≡ map own_list cells.old.items }
     ensures count { OnOk result (map met_count cells.new.items ≡ later (length aborters.items) (map met_count cells.old.items)) }
     ensures met { OnOk result (map met_of cells.new.items ≡ with_all aborters.items (map met_of cells.old.items)) }
-    ensures wanting { OnOk result (NoneWanting aborters.items) }
+    ensures out_of_memory { OnOk result (NoneOutOfMemory aborters.items) }
     ensures refused { OnErr result (MetInPart aborters.items (map met_of cells.old.items) (map met_of cells.new.items)) }
 {
     for aborter in aborters {

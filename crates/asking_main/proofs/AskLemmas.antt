@@ -5,7 +5,7 @@ use Rattle.state_calls.specs.declared.error.TaskError.{TaskError}
 use Rattle.state_calls.specs.declared.error.TaskError.TheVariants as task_error
 use Rattle.std.proofs.Common.{inl, refl}
 use Rattle.std.specs.Prelude.{Err, IfErr, IfOk, Ok, Result, [], ◌≡◌}
-use Rattle.task_loop.specs.HasRun.{HasStepped, MayStep, StepsTo}
+use Rattle.task_loop.specs.HasRun.{HasStepResult, MayStep, StepsTo}
 use Rattle.task_machine.specs.Core.{Core, Unscripted}
 use Rattle.task_machine.specs.declared.component.Component.{Component}
 use Rattle.task_machine.specs.declared.component.HostDef.{HostDef}
@@ -30,12 +30,12 @@ module _ {D T H G : Type 0} (course : H → HostDef) (c : Component) (m n : Aski
   }
 
   -- the step of the main that has asked is that of the main before
-  pub stepped_before : (q : MainStep) (o : AskingMain D) (t : Store T H G) → HasStepped asking_says course c q n s o t → HasStepped asking_says course c q m s o t
+  pub stepped_before : (q : MainStep) (o : AskingMain D) (t : Store T H G) → HasStepResult asking_says course c q n s o t → HasStepResult asking_says course c q m s o t
   stepped_before q o t did = record {
     steps = did.steps;
     does = did.does;
     told = did.told;
-    calm = did.calm;
+    hook_is_ok = did.hook_is_ok;
     idle = did.idle;
     suits = tt;
     knows = tt;
@@ -43,6 +43,6 @@ module _ {D T H G : Type 0} (course : H → HostDef) (c : Component) (m n : Aski
     asked = did.asked;
   }
 
-  pub steps_before : (r : Result MainStep TaskError) (o : AskingMain D) (t : Store T H G) → IfOk r (λ q. HasStepped asking_says course c q n s o t) → IfErr r (λ e. e ≡ task_error.NoMemory) → StepsTo asking_says course c r m s o t
+  pub steps_before : (r : Result MainStep TaskError) (o : AskingMain D) (t : Store T H G) → IfOk r (λ q. HasStepResult asking_says course c q n s o t) → IfErr r (λ e. e ≡ task_error.NoMemory) → StepsTo asking_says course c r m s o t
   steps_before (Ok q) o t did err = stepped_before q o t did
   steps_before (Err e) o t did err = inl err

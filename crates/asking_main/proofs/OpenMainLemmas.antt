@@ -6,8 +6,8 @@ use Rattle.std.proofs.Common.{ap, arith, refl, subst, sym}
 use Rattle.std.proofs.lemmas.Bool.Decides.{nat_tests}
 use Rattle.std.specs.Option.{option_map_or}
 use Rattle.std.specs.Prelude.{Bool, Err, IfSome, IsSome, List, None, Ok, Option, Some, [], false, is_some, length, not, slice_get, true, ℕ, ◌==◌, ◌≡◌}
-use Rattle.task_calls.specs.Calls.{Finishes, Starts}
-use Rattle.task_loop.specs.Calls.{callee_of}
+use Rattle.task_calls.specs.MainCalls.{Finishes, Starts}
+use Rattle.task_loop.specs.LoopCalls.{callee_of}
 use Rattle.task_loop.specs.declared.call.Func.{Func}
 use Rattle.task_machine.specs.Core.{Began, Core, Unscripted}
 use Rattle.task_machine.specs.Maps.{get}

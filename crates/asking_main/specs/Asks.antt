@@ -9,7 +9,7 @@ use Rattle.asking_main.specs.declared.ask.Refusal.TheVariants as refusal
 use Rattle.asking_main.specs.declared.asking.AskingMain.{AskingMain}
 use Rattle.asking_main.specs.declared.asking.Begun.{Begun}
 use Rattle.std.specs.Prelude.{IfSome, IsSome, List, None, false, length, slice_get, true, ℕ, ◌-◌, ◌<◌, ◌≡◌, ◌≤◌}
-use Rattle.task_loop.specs.Calls.{callee_of}
+use Rattle.task_loop.specs.LoopCalls.{callee_of}
 use Rattle.task_loop.specs.Says.{Says, unscripted}
 use Rattle.task_loop.specs.declared.call.Func.{Func}
 use Rattle.task_machine.specs.declared.component.Component.{Component}

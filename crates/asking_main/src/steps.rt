@@ -2,7 +2,7 @@
 ghost use Rattle.asking_main.specs.Asks.{MayFinish, TakesWords, asking_says};
 ghost use Rattle.state_calls.specs.declared.error.TaskError.TheVariants as task_error;
 ghost use Rattle.std.specs.Prelude.{◌≡◌, ◌+◌, ◌<◌, IfErr, IfOk, IsSome, length, slice_get};
-ghost use Rattle.task_loop.specs.HasRun.{HasStepped, MayStep};
+ghost use Rattle.task_loop.specs.HasRun.{HasStepResult, MayStep};
 ghost use Rattle.task_loop.specs.Standing.{standing};
 
 use crate::ask::{Answer, Ask, CallId, HostMain};
@@ -27,7 +27,7 @@ fn start<T, H: HostWork, D: Drop>(
     ensures same { access.new.store.ghost_name ≡ access.old.store.ghost_name }
     ensures stands { standing access.new.store.now ≡ standing access.old.store.now }
     ensures step { IfOk result (λ step.
-        HasStepped asking_says H.course component.now step main.old access.old.store.now main.new access.new.store.now) }
+        HasStepResult asking_says H.course component.now step main.old access.old.store.now main.new access.new.store.now) }
     ensures err { IfErr result (λ e. e ≡ task_error.NoMemory) }
 {
     let place = main.calls.len();
@@ -71,7 +71,7 @@ fn finish<T, H: HostWork, D: Drop>(
     requires untaken { MayFinish main.old.calls.items call }
     ensures same { access.new.store.ghost_name ≡ access.old.store.ghost_name }
     ensures stands { standing access.new.store.now ≡ standing access.old.store.now }
-    ensures step { HasStepped asking_says H.course component.now result main.old access.old.store.now main.new access.new.store.now }
+    ensures step { HasStepResult asking_says H.course component.now result main.old access.old.store.now main.new access.new.store.now }
 {
     let _component = component;
     let Some(begun) = main.calls.get_mut(call.place) else {
@@ -98,7 +98,7 @@ fn quiet<T, H: HostWork, D: Drop>(
     component: &Component,
 ) -> MainStep
     requires may { MayStep asking_says H.course component.now main.old access.now.store.now }
-    ensures step { HasStepped asking_says H.course component.now result main.old access.now.store.now main.new access.now.store.now }
+    ensures step { HasStepResult asking_says H.course component.now result main.old access.now.store.now main.new access.now.store.now }
 {
     let _component = component;
     let Poll::Ready(()) = access.store.poll_no_interesting_tasks() else {
@@ -118,7 +118,7 @@ fn ready<T, H: HostWork, D: Drop>(
 ) -> MainStep
     requires may { MayStep asking_says H.course component.now main.old access.now.store.now }
     requires there { IsSome (slice_get component.now.instances instance.index) }
-    ensures step { HasStepped asking_says H.course component.now result main.old access.now.store.now main.new access.now.store.now }
+    ensures step { HasStepResult asking_says H.course component.now result main.old access.now.store.now main.new access.now.store.now }
 {
     let _component = component;
     let place = RuntimeInstance {

@@ -1,5 +1,5 @@
 -- What a run itself calls on its spawned works, label by label.
-use Rattle.beside_laws.specs.Calls.{Calls, CallsGoOn, NoCalls, early_of}
+use Rattle.beside_laws.specs.RunCalls.{Calls, CallsGoOn, NoCalls, early_of}
 use Rattle.beside_rules.specs.Own.{calls_from, early_calls, own_calls}
 use Rattle.beside_rules.specs.Wide.{Wide, WideStep}
 use Rattle.std.proofs.Common.{ap, arith, refl, subst, sym, ◌∙◌}

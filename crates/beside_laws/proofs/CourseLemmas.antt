@@ -23,7 +23,7 @@ use Rattle.task_machine.specs.declared.records.Turn.TheVariants as turn
 use Rattle.task_rules.specs.Outcome.{IsOutcome, is_at_rest, last_outcome}
 use Rattle.task_rules.specs.Run.{Run, opens}
 use Rattle.task_rules.specs.Stalled.{Setting, is_idle, is_stalled, is_unended_take, main_pends, no_set_passed_over, none_admitted, none_behind, none_blocked_on_end, setting_of, works_rest}
-use Rattle.task_rules.specs.Turns.{at_turn, nothing_stands}
+use Rattle.task_rules.specs.Turns.{at_turn, queues_are_empty}
 use Rattle.task_rules.specs.Works.{poll_ends}
 
 -- ---- The opening
@@ -186,7 +186,7 @@ first_so a b c d h = grind (arith, h)
 
 stalls_at : (x : Setting) (s : State) → is_stalled x s ≡ true → s.turn ≡ turn.Take false
 unfolding is_stalled is_idle
-stalls_at x s h = take s.turn (first_so (is_unended_take s.turn) (main_pends x s.core s.main) (nothing_stands s.core && works_rest s.core)
+stalls_at x s h = take s.turn (first_so (is_unended_take s.turn) (main_pends x s.core s.main) (queues_are_empty s.core && works_rest s.core)
     (none_behind s.core && (none_admitted s.core && (no_set_passed_over s.core && none_blocked_on_end s.core))) h)
   where
     take : (p : Turn) → is_unended_take p ≡ true → p ≡ turn.Take false

@@ -27,7 +27,7 @@ use Rattle.task_machine.specs.declared.scenario.MainOpDef.{MainOpDef}
 use Rattle.task_machine.specs.declared.words.Phase.{Phase}
 use Rattle.task_machine.specs.declared.words.Phase.TheVariants as phase
 use Rattle.task_rules.specs.Cancels.{aborted_phase}
-use Rattle.task_rules.specs.MainOps.{Abort, Answer, Await, Finish, MainAct, Quiet, Ready, Spawn, SpawnOpen, Start, act_of, finish_act, finish_result, has_interesting, is_complete, is_ready_for_call, is_spawn, line_of, main_aborted, main_row, op_at, start_act, unless_pending}
+use Rattle.task_rules.specs.MainOps.{Abort, Answer, Await, Finish, MainAct, Quiet, Ready, Spawn, SpawnOpen, Start, act_of, finish_act, finish_result, has_interesting, is_complete, is_ready_for_call, is_spawn, line_of, main_aborted, main_rule, op_at, start_act, unless_pending}
 use Rattle.task_rules.specs.Stalled.{Setting, is_pending, main_pends, pends_at}
 use Rattle.task_rules.specs.Step.{FuturesStep, Polled, Step, TurnStep}
 use Rattle.task_rules.specs.Turns.{at_turn, goes_to}
@@ -205,7 +205,7 @@ same_ready : (i j : ℕ) (s : Core) → is_ready_for_call j (main_aborted i s) �
 unfolding main_aborted set_phase on_work is_ready_for_call
 same_ready i j s = refl
 
-act_pends : (x : Setting) (k i : ℕ) (s : Core) (a : MainAct) → is_pending (main_row x.component k (main_aborted i s) a) ≡ is_pending (main_row x.component k s a)
+act_pends : (x : Setting) (k i : ℕ) (s : Core) (a : MainAct) → is_pending (main_rule x.component k (main_aborted i s) a) ≡ is_pending (main_rule x.component k s a)
 act_pends x k i s (Start e ws) = never_pends x k e ws (main_aborted i s) _ ∙ sym (never_pends x k e ws s _)
 act_pends x k i s (Finish a) = finish_pends k i s a
 act_pends x k i s (Spawn h) = refl

@@ -17,7 +17,7 @@ use Rattle.task_machine.specs.declared.scenario.MainOpDef.{MainOpDef}
 use Rattle.task_rules.specs.MainOps.{op_at}
 use Rattle.task_rules.specs.Outcome.{is_at_rest, last_outcome, open_outcome, or_open, outcome_of, outcome_of_label}
 use Rattle.task_rules.specs.Stalled.{Setting, is_idle, is_stalled, main_pends, none_admitted, none_behind, none_blocked_on_end, no_set_passed_over, pends_at, works_rest, is_unended_take}
-use Rattle.task_rules.specs.Turns.{nothing_stands}
+use Rattle.task_rules.specs.Turns.{queues_are_empty}
 
 same_pends : (x : Setting) (s : Core) (m : Main) → main_pends (waiting x) s m ≡ main_pends x s m
 same_pends x s (Scripted p) = by (op_at x.script p)
@@ -30,7 +30,7 @@ same_pends x s Unscripted = refl
 same_stalled : (x : Setting) (s : State) → is_stalled (waiting x) s ≡ is_stalled x s
 unfolding is_stalled is_idle
 same_stalled x s =
-    ap (λ (b : Bool). ((is_unended_take s.turn && b) && (nothing_stands s.core && works_rest s.core))
+    ap (λ (b : Bool). ((is_unended_take s.turn && b) && (queues_are_empty s.core && works_rest s.core))
     && (none_behind s.core && (none_admitted s.core && (no_set_passed_over s.core && none_blocked_on_end s.core)))) (same_pends x s.core s.main)
 
 and_true : (b : Bool) → (b && true) ≡ b

@@ -27,11 +27,11 @@ use Rattle.task_machine.specs.declared.scenario.MainOpDef.{MainOpDef}
 use Rattle.task_machine.specs.declared.scenario.MainOpDef.TheVariants as main_op
 use Rattle.task_machine.specs.declared.trap.Trap.{Trap}
 use Rattle.task_machine.specs.declared.words.Mark.{Mark}
-use Rattle.task_rules.specs.MainOps.{act_of, finish_act, finish_result, is_complete, is_ready_for_call, line_of, main_row, op_at, spawned_at, start_act, start_refusal, started_at, unless_pending}
+use Rattle.task_rules.specs.MainOps.{act_of, finish_act, finish_result, is_complete, is_ready_for_call, line_of, main_rule, op_at, spawned_at, start_act, start_refusal, started_at, unless_pending}
 use Rattle.task_rules.specs.Scripts.{values_in}
 use Rattle.task_rules.specs.Stalled.{Setting, is_unended_take, may_deadlock}
 use Rattle.task_rules.specs.Step.{DeadlockStep, EmptyFor, FuturesStep, MainProgresses, MainStep, Polled, RestStep, ScriptStep, Step, TakeStep, TurnStep, entry_number}
-use Rattle.task_rules.specs.Takes.{popped, take_row}
+use Rattle.task_rules.specs.Takes.{popped, take_rule}
 use Rattle.task_rules.specs.Works.{Asked, Ends, FailsNow, Poll, StillPends, has_moving_work, next_polled, poll_of}
 
 -- ---- Polls
@@ -74,7 +74,7 @@ module _ (x : Setting) (s : State) (p : MainPlace) (k i : ℕ) (l : Label) (t : 
   unless o true m cs waits does is = ap (calls_of_label x k i (Scripted p)) is.0 ∙ does
   unless o false m cs waits does is = pends is.0 ∙ waits
 
-  op_calls : (o : MainOpDef) → op_at x.script p ≡ Some o → MainProgresses s p o (main_row x.component (line_of p o) s.core (act_of p o)) l t → calls ≡ calls_of_op k (Some o)
+  op_calls : (o : MainOpDef) → op_at x.script p ≡ Some o → MainProgresses s p o (main_rule x.component (line_of p o) s.core (act_of p o)) l t → calls ≡ calls_of_op k (Some o)
   op_calls (main_op.Start e xs) at is = started (main_op.Start e xs) (line_of p (main_op.Start e xs)) e (values_in p.registers xs) (start_refusal s.core) is
   op_calls (main_op.Finish j r) at is = finished (main_op.Finish j r) j (started_at p j) (ap (awaits k) at) is
   op_calls (main_op.Spawn h) at is = ap (calls_of_label x k i (Scripted p)) is.0
@@ -126,7 +126,7 @@ take_silent : (x : Setting) (s : State) (o : Option (Mark × Entry)) (l : Label)
 take_silent x s None l t is = empty_silent x s (has_moving_work s.core) l t is
 take_silent x s (Some e) l t is =
     let base = popped e.0 s.core in
-    let p = take_row e.0 (choice_of l) base e.1 in
+    let p = take_rule e.0 (choice_of l) base e.1 in
     let row : Shows (IsTaken e.0) p = take_shows e.0 (choice_of l) base e.1 in
     shown IsSilent s base (entry_number e.1) (λ why row y k i m. refl) (λ j y k i m. refl) p (wider (IsTaken e.0) IsSilent (taken_silent e.0) p row) l t is
 

@@ -1,6 +1,6 @@
 -- How a run beside aborters goes on: with what the machine's own runs add to it, and with the steps beside them; and what it calls on its
 -- spawned works.
-use Rattle.beside_laws.specs.Calls.{Calls, early_of}
+use Rattle.beside_laws.specs.RunCalls.{Calls, early_of}
 use Rattle.beside_laws.specs.Outcomes.{CameTo}
 use Rattle.beside_laws.specs.Rounds.{is_going}
 use Rattle.beside_rules.specs.Laws.{waiting}

@@ -2,5 +2,5 @@ pub mod Marked
 pub mod Rounds
 pub mod Outcomes
 pub mod Courses
-pub mod Calls
+pub mod RunCalls
 pub mod Shown

@@ -1,15 +1,15 @@
 //! What a run beside aborters makes of the machine's own steps. Each function here is the statement of a law.
 #![tactic(auto)]
 
-mod calls;
-mod courses;
+mod call_laws;
+mod course_laws;
 mod marked;
 mod outcomes;
 mod rounds;
 mod shown;
 
-pub use calls::{calls_go_on, no_calls};
-pub use courses::{
+pub use call_laws::{calls_go_on, no_calls};
+pub use course_laws::{
     comes_to_outcome, open_runs_go_on, round_begins, round_ends, round_goes, rounds_are_cut,
     run_opens, runs_add, steps_add,
 };

@@ -16,7 +16,7 @@ use Rattle.task_machine.specs.declared.records.Turn.TheVariants as turn
 use Rattle.task_rules.specs.MainOps.{op_at}
 use Rattle.task_rules.specs.Stalled.{Setting, is_idle, is_stalled, is_unended_take, may_deadlock, works_rest}
 use Rattle.task_rules.specs.Step.{DeadlockStep, EmptyFor, MainStep, OpenStep, ScriptStep, Step, TakeStep, TurnStep}
-use Rattle.task_rules.specs.Turns.{nothing_stands}
+use Rattle.task_rules.specs.Turns.{queues_are_empty}
 use Rattle.task_rules.specs.Works.{has_moving_work}
 
 -- what a step tells of the state that it is made from
@@ -48,7 +48,7 @@ not_at x s other = first (is_unended_take s.turn) _ _ _ other
 
 entry_stands : (x : Setting) (s : State) (e : Mark × Entry) → next_entry s.core ≡ Some e → is_stalled x s ≡ false
 unfolding is_stalled is_idle
-entry_stands x s e at = second _ (nothing_stands s.core) _ _ (ap (λ (o : Option (Mark × Entry)). is_none o) at)
+entry_stands x s e at = second _ (queues_are_empty s.core) _ _ (ap (λ (o : Option (Mark × Entry)). is_none o) at)
 
 not_rest : (b c : Bool) → b ≡ true → (not b && c) ≡ false
 not_rest true c moves = refl

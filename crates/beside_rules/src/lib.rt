@@ -2,6 +2,6 @@
 //! here is the statement of a law of theirs.
 #![tactic(auto)]
 
-mod laws;
+mod laws_of_runs;
 
-pub use laws::{outcomes_are_wide, runs_are_due, runs_are_wide, wide_run_goes_on, wide_runs_join};
+pub use laws_of_runs::{outcomes_are_wide, runs_are_due, runs_are_wide, wide_run_goes_on, wide_runs_join};

@@ -7,8 +7,8 @@ use Rattle.task_machine.specs.Core.{Core}
 use Rattle.task_machine.specs.Moves.{passes_check}
 use Rattle.task_machine.specs.Read.{event_of, instance_of, is_joined, join_of, subtask_at, subtask_ended, undelivered_end, was_cancelled}
 use Rattle.task_machine.specs.Write.{set_join}
-use Rattle.task_machine.specs.declared.records.HowFar.{HowFar}
-use Rattle.task_machine.specs.declared.records.HowFar.TheVariants as how_far
+use Rattle.task_machine.specs.declared.records.OpProgress.{OpProgress}
+use Rattle.task_machine.specs.declared.records.OpProgress.TheVariants as op_progress
 use Rattle.task_machine.specs.declared.records.Join.TheVariants as join
 use Rattle.task_machine.specs.declared.records.Subtask.{Subtask}
 use Rattle.task_machine.specs.declared.records.Subtask.TheVariants as subtask
@@ -21,23 +21,23 @@ use Rattle.task_rules.specs.Progress.{Stops}
 
 -- ---- By how far the op has come
 
-pub behind_at : (h : HowFar) (sub : Subtask) → waits_behind h ≡ Some sub → h ≡ how_far.Cancels sub
-behind_at (how_far.Cancels other) sub e = cc
+pub behind_at : (h : OpProgress) (sub : Subtask) → waits_behind h ≡ Some sub → h ≡ op_progress.Cancels sub
+behind_at (op_progress.Cancels other) sub e = cc
 behind_at h sub e = absurd (cc)
 
-pub awaits_at : (h : HowFar) (sub : Subtask) → awaits_end h ≡ Some sub → h ≡ how_far.AwaitsEnd sub
-awaits_at (how_far.AwaitsEnd other) sub e = cc
+pub awaits_at : (h : OpProgress) (sub : Subtask) → awaits_end h ≡ Some sub → h ≡ op_progress.AwaitsEnd sub
+awaits_at (op_progress.AwaitsEnd other) sub e = cc
 awaits_at h sub e = absurd (cc)
 
-pub cancel_fresh : (mode : Mode) (n : ℕ) (r : Doer) (h : ℕ) (s : Core) (f : HowFar) → waits_behind f ≡ None → awaits_end f ≡ None → cancel_rule r mode n h s f ≡ cancel_rule r mode n h s how_far.Fresh
-cancel_fresh mode n r h s (how_far.Cancels sub) a b = absurd (cc)
-cancel_fresh mode n r h s (how_far.AwaitsEnd sub) a b = absurd (cc)
-cancel_fresh mode n r h s how_far.Fresh a b = refl
-cancel_fresh mode n r h s (how_far.Waits x) a b = refl
-cancel_fresh mode n r h s (how_far.Calls sub) a b = refl
-cancel_fresh mode n r h s (how_far.Answered v) a b = refl
-cancel_fresh mode n r h s how_far.Suspends a b = refl
-cancel_fresh mode n r h s how_far.Yields a b = refl
+pub cancel_fresh : (mode : Mode) (n : ℕ) (r : Doer) (h : ℕ) (s : Core) (f : OpProgress) → waits_behind f ≡ None → awaits_end f ≡ None → cancel_rule r mode n h s f ≡ cancel_rule r mode n h s op_progress.Fresh
+cancel_fresh mode n r h s (op_progress.Cancels sub) a b = absurd (cc)
+cancel_fresh mode n r h s (op_progress.AwaitsEnd sub) a b = absurd (cc)
+cancel_fresh mode n r h s op_progress.Fresh a b = refl
+cancel_fresh mode n r h s (op_progress.Waits x) a b = refl
+cancel_fresh mode n r h s (op_progress.Calls sub) a b = refl
+cancel_fresh mode n r h s (op_progress.Answered v) a b = refl
+cancel_fresh mode n r h s op_progress.Suspends a b = refl
+cancel_fresh mode n r h s op_progress.Yields a b = refl
 
 -- ---- What it shows
 
@@ -69,18 +69,18 @@ subtask_shows mode n r s (subtask.Host i) =
     (by_end_shows mode n r (subtask.Host i) (cancel_aborts_host i s) (subtask_ended (subtask.Host i) (cancel_aborts_host i s)))
 
 module _ (mode : Mode) (n : ℕ) (r : Doer) (h : ℕ) (s : Core) where
-  fresh_cancels : ShowsAs n (cancel_rule r mode n h s how_far.Fresh)
+  fresh_cancels : ShowsAs n (cancel_rule r mode n h s op_progress.Fresh)
   fresh_cancels = if_found (here n) (subtask_at (instance_of n s) h s) trap.BadHandle (cancel_found_by r mode n s)
       (λ sub. if_traps (here n) (is_joined (join_of sub s)) trap.WaitableSyncAndAsync (cancel_subtask_by r mode n s sub) (subtask_shows mode n r s sub))
 
-  pub cancel_shows : (f : HowFar) → ShowsAs n (cancel_rule r mode n h s f)
-  cancel_shows (how_far.Cancels sub) = by_end_shows mode n r sub (cancel_resumed n sub s) (subtask_ended sub (cancel_resumed n sub s))
-  cancel_shows (how_far.AwaitsEnd sub) =
+  pub cancel_shows : (f : OpProgress) → ShowsAs n (cancel_rule r mode n h s f)
+  cancel_shows (op_progress.Cancels sub) = by_end_shows mode n r sub (cancel_resumed n sub s) (subtask_ended sub (cancel_resumed n sub s))
+  cancel_shows (op_progress.AwaitsEnd sub) =
       let t = set_join sub join.Nowhere s in
       ended_shows mode n r sub t (undelivered_end (event_of sub t))
-  cancel_shows how_far.Fresh = fresh_cancels
-  cancel_shows (how_far.Waits x) = fresh_cancels
-  cancel_shows (how_far.Calls sub) = fresh_cancels
-  cancel_shows (how_far.Answered v) = fresh_cancels
-  cancel_shows how_far.Suspends = fresh_cancels
-  cancel_shows how_far.Yields = fresh_cancels
+  cancel_shows op_progress.Fresh = fresh_cancels
+  cancel_shows (op_progress.Waits x) = fresh_cancels
+  cancel_shows (op_progress.Calls sub) = fresh_cancels
+  cancel_shows (op_progress.Answered v) = fresh_cancels
+  cancel_shows op_progress.Suspends = fresh_cancels
+  cancel_shows op_progress.Yields = fresh_cancels

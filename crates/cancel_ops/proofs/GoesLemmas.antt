@@ -1,27 +1,27 @@
 -- Which thread goes on after an op.
 use Rattle.cancel_ops.proofs.Shows.{ShowsAs, shows_of}
-use Rattle.cancel_ops.specs.Goes.{DoesOp, GoesOn, Shows, running_of}
+use Rattle.cancel_ops.specs.Continues.{DoesOp, OpGoesOn, Shows, running_of}
 use Rattle.std.proofs.Common.{ap, sym, ◌∙◌}
 use Rattle.std.specs.Prelude.{Some, option_map, ℕ, ◌≡◌}
 use Rattle.task_machine.specs.Core.{Core}
 use Rattle.task_machine.specs.Labels.{choice_of}
-use Rattle.task_ops.specs.Came.{Meets}
+use Rattle.task_ops.specs.OpResult.{Implements}
 use Rattle.task_ops.specs.Does.{DoesRule, Rule, SameNames}
 use Rattle.task_ops.specs.Ended.{ended}
 use Rattle.task_ops.specs.Steps.{label_of}
-use Rattle.task_ops.specs.declared.came.Came.{Came}
-use Rattle.task_ops.specs.declared.came.Came.TheVariants as came
+use Rattle.task_ops.specs.declared.op_result.OpResult.{OpResult}
+use Rattle.task_ops.specs.declared.op_result.OpResult.TheVariants as op_result
 use Rattle.task_rules.specs.Finish.{SomeHost}
 use Rattle.task_rules.specs.Progress.{Progress}
 use Rattle.task_table.specs.declared.id.TableId.{TableId}
 use Rattle.task_wait.specs.declared.keys.ThreadKey.{ThreadKey}
 use Rattle.task_words.specs.StateView.{StateView, thread_of}
 
-shown_goes : (n : ℕ) (r : Came) (v : StateView) → Shows n r → running_of v ≡ Some n → GoesOn r v
-shown_goes n (came.Goes l m said) v h runs = (runs ∙ ap (λ (k : ℕ). Some k) (sym h.0), h.1)
-shown_goes n (came.Stops l) v h runs = h
-shown_goes n (came.Traps why) v h runs = tt
-shown_goes n (came.Fails i) v h runs = tt
+shown_goes : (n : ℕ) (r : OpResult) (v : StateView) → Shows n r → running_of v ≡ Some n → OpGoesOn r v
+shown_goes n (op_result.Continues l m said) v h runs = (runs ∙ ap (λ (k : ℕ). Some k) (sym h.0), h.1)
+shown_goes n (op_result.Stops l) v h runs = h
+shown_goes n (op_result.Traps why) v h runs = tt
+shown_goes n (op_result.Fails i) v h runs = tt
 
 -- a thread whose name is kept runs still
 pub still_runs : (id : TableId ThreadKey) (s t : StateView) → s.current ≡ Some id → t.current ≡ s.current → thread_of t id ≡ thread_of s id → running_of t ≡ Some (thread_of s id)
@@ -31,25 +31,25 @@ pub same_name : (id : TableId ThreadKey) (s t : StateView) → t.tags ≡ s.tags
 same_name id s t tags = cc
 
 -- an op whose row shows so lets this thread go on, or none
-pub row_goes : (id : TableId ThreadKey) (p : Progress) (s t : StateView) (r : Came) (u : Core) → ShowsAs (thread_of s id) p → Meets p s.core r u → s.current ≡ Some id → t.current ≡ s.current → thread_of t id ≡ thread_of s id → GoesOn r t
-row_goes id p s t r u g h runs current name = shown_goes (thread_of s id) r t (shows_of (thread_of s id) p s.core r u g h) (still_runs id s t runs current name)
+pub rule_goes : (id : TableId ThreadKey) (p : Progress) (s t : StateView) (r : OpResult) (u : Core) → ShowsAs (thread_of s id) p → Implements p s.core r u → s.current ≡ Some id → t.current ≡ s.current → thread_of t id ≡ thread_of s id → OpGoesOn r t
+rule_goes id p s t r u g h runs current name = shown_goes (thread_of s id) r t (shows_of (thread_of s id) p s.core r u g h) (still_runs id s t runs current name)
 
-pub same_goes : (id : TableId ThreadKey) (p : Progress) (s t : StateView) (r : Came) → ShowsAs (thread_of s id) p → Meets p s.core r t.core → s.current ≡ Some id → t.tags ≡ s.tags → t.current ≡ s.current → GoesOn r t
-same_goes id p s t r g h runs tags current = row_goes id p s t r t.core g h runs current (same_name id s t tags)
+pub same_goes : (id : TableId ThreadKey) (p : Progress) (s t : StateView) (r : OpResult) → ShowsAs (thread_of s id) p → Implements p s.core r t.core → s.current ≡ Some id → t.tags ≡ s.tags → t.current ≡ s.current → OpGoesOn r t
+same_goes id p s t r g h runs tags current = rule_goes id p s t r t.core g h runs current (same_name id s t tags)
 
 -- ---- The running thread's op
 
 -- the rule of an op shows so, where its label shows such choices
-abbrev pub RuleShows : Rule → TableId ThreadKey → StateView → Came → Type 0
+abbrev pub RuleShows : Rule → TableId ThreadKey → StateView → OpResult → Type 0
 RuleShows rule id s r = ShowsAs (thread_of s id) (rule SomeHost (thread_of s id) (choice_of (label_of (thread_of s id) r)) s.core)
 
-module _ (AreKept : StateView → StateView → Type 0) (rule : Rule) (id : TableId ThreadKey) (s t : StateView) (r : Came) (shows : RuleShows rule id s r) (runs : s.current ≡ Some id) where
+module _ (AreKept : StateView → StateView → Type 0) (rule : Rule) (id : TableId ThreadKey) (s t : StateView) (r : OpResult) (shows : RuleShows rule id s r) (runs : s.current ≡ Some id) where
   -- what was kept is what is to be kept, or more
   pub does_op : (WasKept : StateView → StateView → Type 0) → DoesRule WasKept rule id s r t → AreKept s t → t.current ≡ s.current → thread_of t id ≡ thread_of s id → DoesOp AreKept rule id s r t
   does_op WasKept did kept current name = record {
     meets = did.meets;
     named = λ e. name;
-    goes = row_goes id (rule SomeHost (thread_of s id) (choice_of (label_of (thread_of s id) r)) s.core) s t r (ended SomeHost (thread_of s id) r t.core) shows (did.meets SomeHost) runs current name;
+    goes = rule_goes id (rule SomeHost (thread_of s id) (choice_of (label_of (thread_of s id) r)) s.core) s t r (ended SomeHost (thread_of s id) r t.core) shows (did.meets SomeHost) runs current name;
     stays = did.stays;
     kept = kept;
   }

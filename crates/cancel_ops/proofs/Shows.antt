@@ -1,19 +1,19 @@
 -- What a row shows: the thread goes on or none does, and the label gives no outcome.
 use Rattle.task_machine.specs.declared.words.HostPoll.{HostPoll}
-use Rattle.cancel_ops.specs.Goes.{GoesOn, Shows}
+use Rattle.cancel_ops.specs.Continues.{OpGoesOn, Shows}
 use Rattle.std.proofs.Common.{subst, sym}
 use Rattle.std.specs.Prelude.{Bool, List, None, Option, Some, false, true, ℕ, ◌≡◌}
 use Rattle.task_machine.specs.Core.{Core}
 use Rattle.task_machine.specs.declared.trap.Trap.{Trap}
-use Rattle.task_ops.specs.Came.{Meets}
-use Rattle.task_ops.specs.declared.came.Came.{Came}
+use Rattle.task_ops.specs.OpResult.{Implements}
+use Rattle.task_ops.specs.declared.op_result.OpResult.{OpResult}
 use Rattle.task_rules.specs.Outcome.{outcome_of_label}
-use Rattle.task_rules.specs.Progress.{Asks, Fails, Goes, Never, Ordered, Progress, Stops, Traps, may, or_never, or_trap, trap_if}
+use Rattle.task_rules.specs.Progress.{Asks, Fails, Continues, Never, Ordered, Progress, Stops, Traps, may, or_never, or_trap, trap_if}
 use Rattle.task_words.specs.StateView.{StateView}
 
 -- who goes on is so, and the label gives no outcome
 abbrev pub ShowsFor : (ℕ → Type 0) → Progress → Type 0
-ShowsFor P (Goes l new m) = P m × (outcome_of_label l ≡ None)
+ShowsFor P (Continues l new m) = P m × (outcome_of_label l ≡ None)
 ShowsFor P (Stops l new) = outcome_of_label l ≡ None
 ShowsFor P (Ordered ns next) = (order : List ℕ) → ShowsFor P (next order)
 ShowsFor P (Asks next) = (answer : HostPoll) → ShowsFor P (next answer)
@@ -33,8 +33,8 @@ nobody m = ⊥
 abbrev pub StopsAs : Progress → Type 0
 StopsAs p = ShowsFor nobody p
 
-pub shows_of : (n : ℕ) (p : Progress) (s : Core) (r : Came) (t : Core) → ShowsAs n p → Meets p s r t → Shows n r
-shows_of n (Goes l new m) s r t g h = subst (Shows n) (sym h.0) g
+pub shows_of : (n : ℕ) (p : Progress) (s : Core) (r : OpResult) (t : Core) → ShowsAs n p → Implements p s r t → Shows n r
+shows_of n (Continues l new m) s r t g h = subst (Shows n) (sym h.0) g
 shows_of n (Stops l new) s r t g h = subst (Shows n) (sym h.0) g
 shows_of n (Traps why) s r t g h = subst (Shows n) (sym h.0) tt
 shows_of n (Fails i) s r t g h = subst (Shows n) (sym h.0) tt
@@ -42,11 +42,11 @@ shows_of n Never s r t g h = absurd h
 shows_of n (Ordered ns next) s r t g h = shows_of n (next h.0) s r t (g h.0) h.1.1
 shows_of n (Asks next) s r t g h = shows_of n (next h.0) s r t (g h.0) h.1
 
-pub stops_goes : (v : StateView) (p : Progress) (s : Core) (r : Came) (t : Core) → StopsAs p → Meets p s r t → GoesOn r v
-stops_goes v (Goes l new m) s r t g h = absurd g.0
-stops_goes v (Stops l new) s r t g h = subst (λ (q : Came). GoesOn q v) (sym h.0) g
-stops_goes v (Traps why) s r t g h = subst (λ (q : Came). GoesOn q v) (sym h.0) tt
-stops_goes v (Fails i) s r t g h = subst (λ (q : Came). GoesOn q v) (sym h.0) tt
+pub stops_goes : (v : StateView) (p : Progress) (s : Core) (r : OpResult) (t : Core) → StopsAs p → Implements p s r t → OpGoesOn r v
+stops_goes v (Continues l new m) s r t g h = absurd g.0
+stops_goes v (Stops l new) s r t g h = subst (λ (q : OpResult). OpGoesOn q v) (sym h.0) g
+stops_goes v (Traps why) s r t g h = subst (λ (q : OpResult). OpGoesOn q v) (sym h.0) tt
+stops_goes v (Fails i) s r t g h = subst (λ (q : OpResult). OpGoesOn q v) (sym h.0) tt
 stops_goes v Never s r t g h = absurd h
 stops_goes v (Ordered ns next) s r t g h = stops_goes v (next h.0) s r t (g h.0) h.1.1
 stops_goes v (Asks next) s r t g h = stops_goes v (next h.0) s r t (g h.0) h.1

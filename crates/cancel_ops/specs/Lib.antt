@@ -1,2 +1,2 @@
 pub mod Runner
-pub mod Goes
+pub mod Continues

@@ -2,31 +2,31 @@
 use Rattle.std.specs.Prelude.{Bool, IsSome, None, Option, Some, false, is_some, true, ℕ, ◌<◌, ◌≡◌, ◌||◌}
 use Rattle.subtask_ops.specs.Named.{NamedCallsThere}
 use Rattle.task_laws.specs.Order.{StartsAwaited, StartsThere, WorksQueued}
-use Rattle.task_laws.specs.Wakes.{NoneAdmitted}
+use Rattle.task_laws.specs.WakeLaw.{NoneAdmitted}
 use Rattle.task_machine.specs.Core.{Core}
 use Rattle.task_machine.specs.Maps.{get}
-use Rattle.task_machine.specs.Read.{goal_of, how_far_of, instance_of, is_direct, is_explicit, task_of, under_of}
-use Rattle.task_machine.specs.declared.records.HowFar.{HowFar}
-use Rattle.task_machine.specs.declared.records.HowFar.TheVariants as how_far
+use Rattle.task_machine.specs.Read.{goal_of, op_progress_of, instance_of, is_direct, is_explicit, task_of, under_of}
+use Rattle.task_machine.specs.declared.records.OpProgress.{OpProgress}
+use Rattle.task_machine.specs.declared.records.OpProgress.TheVariants as op_progress
 use Rattle.task_machine.specs.declared.records.Subtask.{Subtask}
 use Rattle.task_machine.specs.declared.records.Subtask.TheVariants as subtask
 use Rattle.task_machine.specs.declared.records.Thread.{Thread}
 use Rattle.task_machine.specs.declared.op.ThreadOp.{ThreadOp}
 use Rattle.task_moves.specs.Idle.{IsJoinThere}
-use Rattle.task_ops.specs.Gifts.{AllMembersNamed, MembersNamed}
+use Rattle.task_ops.specs.PickedEvents.{AllMembersNamed, MembersNamed}
 use Rattle.task_ops.specs.Running.{IsRunning, SetsThere}
-use Rattle.task_ops.specs.Wakes.{WaitersTogether}
+use Rattle.task_ops.specs.OpWakes.{WaitersTogether}
 use Rattle.task_rules.specs.OpParts.{suspends, yields}
 use Rattle.task_table.specs.declared.id.TableId.{TableId}
 use Rattle.task_wait.specs.declared.keys.ThreadKey.{ThreadKey}
 use Rattle.task_words.specs.Apart.{work_entries}
-use Rattle.task_words.specs.Live.{live_how_far}
+use Rattle.task_words.specs.Live.{live_op_progress}
 use Rattle.task_words.specs.StateView.{StateView, thread_of}
 
 -- the thread was resumed inside an op that suspends or yields
-abbrev pub is_resumed : HowFar → Bool
-is_resumed how_far.Suspends = true
-is_resumed how_far.Yields = true
+abbrev pub is_resumed : OpProgress → Bool
+is_resumed op_progress.Suspends = true
+is_resumed op_progress.Yields = true
 is_resumed _ = false
 
 -- an op inside which a thread may be resumed
@@ -34,38 +34,38 @@ abbrev pub is_halting : ThreadOp → Bool
 is_halting o = suspends o || yields o
 
 -- the call that the op is inside of
-abbrev pub called_call : HowFar → Option ℕ
-called_call (how_far.Calls (subtask.Guest k)) = Some k
+abbrev pub called_call : OpProgress → Option ℕ
+called_call (op_progress.Calls (subtask.Guest k)) = Some k
 called_call _ = None
 
 -- the host work that it is inside of
-abbrev pub called_work : HowFar → Option ℕ
-called_work (how_far.Calls (subtask.Host i)) = Some i
+abbrev pub called_work : OpProgress → Option ℕ
+called_work (op_progress.Calls (subtask.Host i)) = Some i
 called_work _ = None
 
 -- the answer that it was given
-abbrev pub given_answer : HowFar → Option ℕ
-given_answer (how_far.Answered v) = Some v
+abbrev pub given_answer : OpProgress → Option ℕ
+given_answer (op_progress.Answered v) = Some v
 given_answer _ = None
 
 -- the subtask behind whose callee a cancel waits, and the one whose end it awaits
-abbrev pub waits_behind : HowFar → Option Subtask
-waits_behind (how_far.Cancels sub) = Some sub
+abbrev pub waits_behind : OpProgress → Option Subtask
+waits_behind (op_progress.Cancels sub) = Some sub
 waits_behind _ = None
 
-abbrev pub awaits_end : HowFar → Option Subtask
-awaits_end (how_far.AwaitsEnd sub) = Some sub
+abbrev pub awaits_end : OpProgress → Option Subtask
+awaits_end (op_progress.AwaitsEnd sub) = Some sub
 awaits_end _ = None
 
 -- What the op under way is about is there, and the ready members of a set are named in the thread's instance. The work of a host call has
 -- no entry any more.
 pub record UnderWay (n : ℕ) (s : Core) : Type 0 where
-  pub names : live_how_far (how_far_of n s) s ≡ how_far_of n s
-  pub sets : (x : ℕ) → how_far_of n s ≡ how_far.Waits x → is_some (get s.sets x) ≡ true
-  pub members : (x : ℕ) → how_far_of n s ≡ how_far.Waits x → MembersNamed (instance_of n s) x s
-  pub calls : (k : ℕ) → how_far_of n s ≡ how_far.Calls (subtask.Guest k) → is_some (get s.calls k) ≡ true
-  pub works : (i : ℕ) → how_far_of n s ≡ how_far.Calls (subtask.Host i) → is_some (get s.works i) ≡ true
-  pub unqueued : (i : ℕ) → how_far_of n s ≡ how_far.Calls (subtask.Host i) → work_entries i s.queues.high ≡ 0
+  pub names : live_op_progress (op_progress_of n s) s ≡ op_progress_of n s
+  pub sets : (x : ℕ) → op_progress_of n s ≡ op_progress.Waits x → is_some (get s.sets x) ≡ true
+  pub members : (x : ℕ) → op_progress_of n s ≡ op_progress.Waits x → MembersNamed (instance_of n s) x s
+  pub calls : (k : ℕ) → op_progress_of n s ≡ op_progress.Calls (subtask.Guest k) → is_some (get s.calls k) ≡ true
+  pub works : (i : ℕ) → op_progress_of n s ≡ op_progress.Calls (subtask.Host i) → is_some (get s.works i) ≡ true
+  pub unqueued : (i : ℕ) → op_progress_of n s ≡ op_progress.Calls (subtask.Host i) → work_entries i s.queues.high ≡ 0
 
 -- The thread runs, and what its ops name is there: sets and calls by their handles, the set that its call is joined to, the thread under
 -- the first one of a direct call, and the first thread of a call whose start hasn't run. Ready members are named in the instances of

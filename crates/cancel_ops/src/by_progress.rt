@@ -1,35 +1,35 @@
 //! What a cancel of a subtask does, whether it begins or was resumed inside.
-ghost use Rattle.cancel_ops.specs.Goes.{DoesOp, cancels_here};
+ghost use Rattle.cancel_ops.specs.Continues.{DoesOp, cancels_here};
 ghost use Rattle.cancel_ops.specs.Runner.{Runner, UnderWay, awaits_end, waits_behind};
 ghost use Rattle.std.specs.Prelude.{◌≡◌, option_map};
 ghost use Rattle.subtask_ops.specs.Refused.{mode_of};
-ghost use Rattle.task_machine.specs.Read.{how_far_of};
+ghost use Rattle.task_machine.specs.Read.{op_progress_of};
 ghost use Rattle.task_ops.specs.Works.{KeepsTold};
 ghost use Rattle.task_words.specs.Names.{subtask_in};
 ghost use Rattle.task_words.specs.StateView.{thread_of};
 
 use subtask_ops::{cancel, go_on_awaiting, go_on_cancelling};
-use task_ops::Came;
-use task_words::{HowFarId, SubtaskId, ThreadId, Words};
+use task_ops::OpResult;
+use task_words::{OpProgressId, SubtaskId, ThreadId, Primitives};
 
 // The subtask behind whose callee the cancel waits.
-fn cancelling<W: Words>(w: &W, thread: ThreadId) -> Option<SubtaskId>
+fn cancelling<W: Primitives>(w: &W, thread: ThreadId) -> Option<SubtaskId>
     requires { UnderWay (thread_of (W.view w.now) thread) (W.view w.now).core }
-    ensures { option_map (subtask_in (W.view w.now).tags) result ≡ waits_behind (how_far_of (thread_of (W.view w.now) thread) (W.view w.now).core) }
+    ensures { option_map (subtask_in (W.view w.now).tags) result ≡ waits_behind (op_progress_of (thread_of (W.view w.now) thread) (W.view w.now).core) }
 {
-    match w.how_far(thread) {
-        HowFarId::Cancels(subtask) => Some(subtask),
+    match w.op_progress(thread) {
+        OpProgressId::Cancels(subtask) => Some(subtask),
         _ => None,
     }
 }
 
 // The subtask whose end the cancel awaits.
-fn awaiting<W: Words>(w: &W, thread: ThreadId) -> Option<SubtaskId>
+fn awaiting<W: Primitives>(w: &W, thread: ThreadId) -> Option<SubtaskId>
     requires { UnderWay (thread_of (W.view w.now) thread) (W.view w.now).core }
-    ensures { option_map (subtask_in (W.view w.now).tags) result ≡ awaits_end (how_far_of (thread_of (W.view w.now) thread) (W.view w.now).core) }
+    ensures { option_map (subtask_in (W.view w.now).tags) result ≡ awaits_end (op_progress_of (thread_of (W.view w.now) thread) (W.view w.now).core) }
 {
-    match w.how_far(thread) {
-        HowFarId::AwaitsEnd(subtask) => Some(subtask),
+    match w.op_progress(thread) {
+        OpProgressId::AwaitsEnd(subtask) => Some(subtask),
         _ => None,
     }
 }
@@ -37,7 +37,7 @@ fn awaiting<W: Words>(w: &W, thread: ThreadId) -> Option<SubtaskId>
 /// The op `cancel R X`, or `cancel_sync R X` where it is sync, of the running thread, by how far it has come: it begins, or
 /// goes on where it was resumed behind its callee, or once its subtask ended. It is `cancel_rule` of the machine, by whoever has
 /// it done, takes no memory, and refuses nothing: where the row traps, `Traps` says which trap.
-pub fn cancels<W: Words>(w: &mut W, thread: ThreadId, handle: u64, sync: bool) -> Came
+pub fn cancels<W: Primitives>(w: &mut W, thread: ThreadId, handle: u64, sync: bool) -> OpResult
     requires runner { Runner thread (W.view w.old) }
     ensures does { DoesOp KeepsTold (cancels_here (mode_of sync) handle) thread (W.view w.old) result (W.view w.new) }
 {

@@ -1,5 +1,5 @@
 -- The cells of host works stay, but for those that main aborts.
-use Rattle.task_laws.proofs.Words.{add_call, add_group, add_set, add_thread, add_work, AddGroup, after_word, Allowed, along, ap, arith, base_at, call_made, Core, count_work, EndWork, FinishWork, free_handle, free_thread_handle, get, get-change, get-insert, get-remove, give_handle, give_result, give_thread_handle, inl, inr, Label, LaterBy, le_refl, le_trans, made_works_word, nat_tests, on_call, on_instance, on_thread, on_work, Option, Pend, poll_pends, push_high, refl, remove_call, remove_group, remove_set, remove_thread, remove_work, Scene, scene_as, set_backpressure, set_cancel_delivered, set_cancelled, set_course, set_do_not_enter, set_do_not_suspend, set_end, set_event, set_exited, set_how_far, set_join, set_own_event, set_phase, set_position, set_register, set_result, set_saved_callee, set_saved_own, set_script, set_stage, set_started, set_starting_published, set_subtask_handle, set_thread_handle, set_trapped, set_uninteresting, set_word, Setting, State, step_walks, subst, Subtask, take_result, true, Turn, with_handle, with_thread_handle, Word, Work, work_queued, WorkCaller, ℕ, ◌∙◌, ◌≡◌, ◌≤◌, ◌⊎◌}
+use Rattle.task_laws.proofs.Words.{add_call, add_group, add_set, add_thread, add_work, AddGroup, after_primitive, Allowed, along, ap, arith, base_at, call_made, Core, count_work, EndWork, FinishWork, free_handle, free_thread_handle, get, get-change, get-insert, get-remove, give_handle, give_result, give_thread_handle, inl, inr, Label, LaterBy, le_refl, le_trans, made_works_word, nat_tests, on_call, on_instance, on_thread, on_work, Option, Pend, poll_pends, push_high, refl, remove_call, remove_group, remove_set, remove_thread, remove_work, Scene, scene_as, set_backpressure, set_cancel_delivered, set_cancelled, set_course, set_do_not_enter, set_do_not_suspend, set_end, set_event, set_exited, set_op_progress, set_join, set_task_event, set_phase, set_position, set_register, set_result, set_saved_callee, set_saved_own, set_script, set_stage, set_started, set_starting_published, set_subtask_handle, set_thread_handle, set_trapped, set_uninteresting, set_word, Setting, State, step_walks, subst, Subtask, take_result, true, Turn, with_handle, with_thread_handle, Primitive, Work, work_queued, WorkCaller, ℕ, ◌∙◌, ◌≡◌, ◌≤◌, ◌⊎◌}
 use Rattle.std.proofs.Common.{cond, sym}
 use Rattle.std.specs.Prelude.{Bool, None, Some, false, ◌==◌}
 use Rattle.std.proofs.lemmas.Bool.{eqb-true}
@@ -19,11 +19,11 @@ use Rattle.task_machine.specs.Read.{next_entry}
 use Rattle.task_machine.specs.declared.op.Op.{Op}
 use Rattle.task_machine.specs.declared.records.Entry.{Entry}
 use Rattle.task_machine.specs.declared.words.Mark.{Mark}
-use Rattle.task_rules.specs.Progress.{Asks, Fails, Goes, Never, Ordered, Progress, Stops, Traps}
+use Rattle.task_rules.specs.Progress.{Asks, Fails, Continues, Never, Ordered, Progress, Stops, Traps}
 use Rattle.task_rules.specs.Stalled.{is_unended_take, may_deadlock}
 use Rattle.task_rules.specs.Step.{DeadlockStep, EmptyFor, Progresses, RestStep, Step, TakeStep, TurnStep, did, entry_number}
 use Rattle.task_rules.specs.Scripts.{ops_of}
-use Rattle.task_rules.specs.Takes.{popped, take_row}
+use Rattle.task_rules.specs.Takes.{popped, take_rule}
 use Rattle.task_rules.specs.Turns.{at_turn}
 use Rattle.task_rules.specs.Works.{has_moving_work}
 use Rattle.std.specs.Prelude.{[], true}
@@ -92,9 +92,9 @@ module _ (a : Scene) (quiet : (n : ℕ) → a.turn ≡ Turn.Futures n → ⊥) (
           nobody None (Some w) is q = q
           nobody (Some v) r is q = absurd (cc)
 
-  cell_word : (w : Word) (s : Core) → Allowed a w s → (i : ℕ) → i ≤ s.made.works → LaterBy SameCell (get b.works i) (get s.works i) →
-      LaterBy SameCell (get b.works i) (get (after_word w s).works i)
-  unfolding add_call add_group add_set add_thread add_work call_made count_work free_handle free_thread_handle give_handle give_result give_thread_handle on_call on_instance on_thread on_work poll_pends push_high remove_call remove_group remove_set remove_thread remove_work set_backpressure set_cancel_delivered set_cancelled set_course set_do_not_enter set_do_not_suspend set_end set_event set_exited set_how_far set_join set_own_event set_phase set_position set_register set_result set_saved_callee set_saved_own set_script set_stage set_started set_starting_published set_subtask_handle set_thread_handle set_trapped set_uninteresting set_word take_result with_handle with_thread_handle work_queued
+  cell_word : (w : Primitive) (s : Core) → Allowed a w s → (i : ℕ) → i ≤ s.made.works → LaterBy SameCell (get b.works i) (get s.works i) →
+      LaterBy SameCell (get b.works i) (get (after_primitive w s).works i)
+  unfolding add_call add_group add_set add_thread add_work call_made count_work free_handle free_thread_handle give_handle give_result give_thread_handle on_call on_instance on_thread on_work poll_pends push_high remove_call remove_group remove_set remove_thread remove_work set_backpressure set_cancel_delivered set_cancelled set_course set_do_not_enter set_do_not_suspend set_end set_event set_exited set_op_progress set_join set_task_event set_phase set_position set_register set_result set_saved_callee set_saved_own set_script set_stage set_started set_starting_published set_subtask_handle set_thread_handle set_trapped set_uninteresting set_word take_result with_handle with_thread_handle work_queued
   cell_word AddGroup s ok i below q = q
   cell_word (Pend j host) s ok i below q = absurd (quiet ok.0.0 ok.0.1.0)
   cell_word (EndWork j c) s ok i below q = absurd (quiet ok.0.0.0 ok.0.0.1.0)
@@ -102,7 +102,7 @@ module _ (a : Scene) (quiet : (n : ℕ) → a.turn ≡ Turn.Futures n → ⊥) (
   cell_word (SetPhase j p) s ok i below q = phase_word j p s ok.0 i q
   cell_word w s ok i below q = first_of (assumption, grind (arith, nat_tests, get-change, get-insert, get-remove))
 
-  stays_word : (w : Word) (s : Core) → Allowed a w s → Stays b s → Stays b (after_word w s)
+  stays_word : (w : Primitive) (s : Core) → Allowed a w s → Stays b s → Stays b (after_primitive w s)
   stays_word w s ok q = record {
     more = le_trans q.more (made_works_word a w s);
     same = λ i below. cell_word w s ok i (le_trans below q.more) (q.same i below);
@@ -141,7 +141,7 @@ cells_stay x s l t step quiet nothing none calls i below =
 module _ (m : Main) where
   progress_free : (s : State) (base : Core) (n : ℕ) (p : Progress) (l : Label) (t : State) → Progresses s base n p l t → Progresses (record s { main = m }) base n p l (record t { main = m })
   unfolding at_turn
-  progress_free s base n (Goes k new j) l t h = (h.0, ap (λ (u : State). record u { main = m }) h.1)
+  progress_free s base n (Continues k new j) l t h = (h.0, ap (λ (u : State). record u { main = m }) h.1)
   progress_free s base n (Stops k new) l t h = (h.0, ap (λ (u : State). record u { main = m }) h.1)
   progress_free s base n (Traps why) l t h = (h.0, ap (λ (u : State). record u { main = m }) h.1)
   progress_free s base n (Fails i) l t h = (h.0, ap (λ (u : State). record u { main = m }) h.1)
@@ -200,7 +200,7 @@ module _ (x : Setting) (s : State) (l : Label) (t : State) (none : get s.core.wo
   take_stays ended is None at h i below = empty_stays (has_moving_work s.core) h i
   take_stays ended is (Some e) at h i below = by_free (subst (λ (p : Turn). TurnStep x (record s { main = nobody }) p l (record t { main = nobody })) (sym is)
       (subst (λ (o : Option (Mark × Entry)). TakeStep x (record s { main = nobody }) o l (record t { main = nobody })) (sym at)
-      (progress_free nobody s (popped e.0 s.core) (entry_number e.1) (take_row e.0 (choice_of l) (popped e.0 s.core) e.1) l t h))) (λ n e. cc) i below
+      (progress_free nobody s (popped e.0 s.core) (entry_number e.1) (take_rule e.0 (choice_of l) (popped e.0 s.core) e.1) l t h))) (λ n e. cc) i below
 
   inside : (p : Turn) → s.turn ≡ p → IsInside p → TurnStep x s p l t → (i : ℕ) → i ≤ s.core.made.works → LaterBy SameCell (get s.core.works i) (get t.core.works i)
   unfolding Step is_inside

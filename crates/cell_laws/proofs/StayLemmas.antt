@@ -1,6 +1,6 @@
 -- What a turn of a thread, or of a take, leaves of host works.
 use Rattle.task_laws.proofs.CallsSteps.{codes_at}
-use Rattle.task_laws.proofs.Words.{add_call, add_group, add_set, add_thread, add_work, AddGroup, after_word, Allowed, along, arith, by_number, call_made, Core, count_work, free_handle, free_thread_handle, get, get-change, get-insert, get-remove, give_handle, give_result, give_thread_handle, how_far_of, HowFar, inl, inr, Label, LaterBy, MayQueue, MayRemoveWork, nat_tests, on_call, on_instance, on_thread, on_work, Option, poll_pends, push_high, QueueWork, refl, remove_call, remove_group, remove_set, remove_thread, remove_work, RemoveWork, Scene, scene_as, set_backpressure, set_cancel_delivered, set_cancelled, set_course, set_do_not_enter, set_do_not_suspend, set_end, set_event, set_exited, set_how_far, set_join, set_own_event, set_phase, set_position, set_register, set_result, set_saved_callee, set_saved_own, set_script, set_stage, set_started, set_starting_published, set_subtask_handle, set_thread_handle, set_trapped, set_uninteresting, set_word, Setting, State, step_walks, Subtask, take_result, true, Turn, with_handle, with_thread_handle, Word, Work, work_queued, WorkCaller, ℕ, ⊎_elim, ◌≡◌, ◌⊎◌, subst, sym, ◌≤◌, ◌∙◌}
+use Rattle.task_laws.proofs.Words.{add_call, add_group, add_set, add_thread, add_work, AddGroup, after_primitive, Allowed, along, arith, by_number, call_made, Core, count_work, free_handle, free_thread_handle, get, get-change, get-insert, get-remove, give_handle, give_result, give_thread_handle, op_progress_of, OpProgress, inl, inr, Label, LaterBy, MayQueue, MayRemoveWork, nat_tests, on_call, on_instance, on_thread, on_work, Option, poll_pends, push_high, QueueWork, refl, remove_call, remove_group, remove_set, remove_thread, remove_work, RemoveWork, Scene, scene_as, set_backpressure, set_cancel_delivered, set_cancelled, set_course, set_do_not_enter, set_do_not_suspend, set_end, set_event, set_exited, set_op_progress, set_join, set_task_event, set_phase, set_position, set_register, set_result, set_saved_callee, set_saved_own, set_script, set_stage, set_started, set_starting_published, set_subtask_handle, set_thread_handle, set_trapped, set_uninteresting, set_word, Setting, State, step_walks, Subtask, take_result, true, Turn, with_handle, with_thread_handle, Primitive, Work, work_queued, WorkCaller, ℕ, ⊎_elim, ◌≡◌, ◌⊎◌, subst, sym, ◌≤◌, ◌∙◌}
 use Rattle.std.specs.Prelude.{Bool, None, Some, false, is_some}
 use Rattle.cell_laws.proofs.CellLemmas.{cells_stay_inside, cells_stay_walked}
 use Rattle.cell_laws.specs.Cells.{CellsStayInside, CellsStayWalked, RunsWorks, IsInside, Runs, SameCell, StaysWork, Takes, WorksStayRunning, WorksStayTaken, WorksStayWalked, is_spawned}
@@ -22,15 +22,15 @@ use Rattle.task_rules.specs.Scenes.{base_at, runner_at}
 
 -- who goes on after its sync call of a host finds the work ended
 abbrev Finds : Scene → Type 0
-Finds c = (n i : ℕ) → IsRunner c n → how_far_of n c.base ≡ HowFar.Calls (Subtask.Host i) → is_stage_ended (stage_of i c.base) ≡ true
+Finds c = (n i : ℕ) → IsRunner c n → op_progress_of n c.base ≡ OpProgress.Calls (Subtask.Host i) → is_stage_ended (stage_of i c.base) ≡ true
 
 removed_ended : (a : Scene) → Finds a → (i : ℕ) (s : Core) → MayRemoveWork a i s → is_stage_ended (stage_of i a.base) ≡ true
 removed_ended a finds i s (n, (is, (same, inl (far, done)))) = finds n i is far
 removed_ended a finds i s (n, (is, (same, inr ended))) = ended.0
 
-gone_word : (a : Scene) → Finds a → (i : ℕ) (w : Word) (s : Core) → Allowed a w s → get (after_word w s).works i ≡ None →
+gone_word : (a : Scene) → Finds a → (i : ℕ) (w : Primitive) (s : Core) → Allowed a w s → get (after_primitive w s).works i ≡ None →
     (get s.works i ≡ None) ⊎ (is_stage_ended (stage_of i a.base) ≡ true)
-unfolding add_call add_group add_set add_thread add_work count_work free_handle free_thread_handle give_handle give_result give_thread_handle on_call on_instance on_thread on_work push_high remove_call remove_group remove_set remove_thread remove_work set_backpressure set_cancel_delivered set_cancelled set_course set_do_not_enter set_do_not_suspend set_end set_event set_exited set_how_far set_join set_own_event set_phase set_position set_register set_result set_saved_callee set_saved_own set_script set_stage set_started set_starting_published set_subtask_handle set_thread_handle set_trapped set_uninteresting set_word take_result call_made with_handle with_thread_handle work_queued poll_pends
+unfolding add_call add_group add_set add_thread add_work count_work free_handle free_thread_handle give_handle give_result give_thread_handle on_call on_instance on_thread on_work push_high remove_call remove_group remove_set remove_thread remove_work set_backpressure set_cancel_delivered set_cancelled set_course set_do_not_enter set_do_not_suspend set_end set_event set_exited set_op_progress set_join set_task_event set_phase set_position set_register set_result set_saved_callee set_saved_own set_script set_stage set_started set_starting_published set_subtask_handle set_thread_handle set_trapped set_uninteresting set_word take_result call_made with_handle with_thread_handle work_queued poll_pends
 gone_word a finds i AddGroup s ok none = inl none
 gone_word a finds i (RemoveWork j) s ok none = by_number i j _ (λ is. inr (removed_ended a finds i s (rw is ok)))
     (λ other. inl (grind (arith, nat_tests, get-remove, other, none)))
@@ -51,9 +51,9 @@ spawned_at : Option Work → Bool
 spawned_at None = false
 spawned_at (Some w) = is_spawned w.caller
 
-spawned_word : (a : Scene) → (a.turn ≡ Turn.Main → ⊥) → (i : ℕ) (w : Word) (s : Core) → Allowed a w s → spawned_at (get s.works i) ≡ false →
-    spawned_at (get (after_word w s).works i) ≡ false
-unfolding spawned_at add_call add_group add_set add_thread add_work count_work free_handle free_thread_handle give_handle give_result give_thread_handle on_call on_instance on_thread on_work push_high remove_call remove_group remove_set remove_thread remove_work set_backpressure set_cancel_delivered set_cancelled set_course set_do_not_enter set_do_not_suspend set_end set_event set_exited set_how_far set_join set_own_event set_phase set_position set_register set_result set_saved_callee set_saved_own set_script set_stage set_started set_starting_published set_subtask_handle set_thread_handle set_trapped set_uninteresting set_word take_result call_made with_handle with_thread_handle work_queued poll_pends
+spawned_word : (a : Scene) → (a.turn ≡ Turn.Main → ⊥) → (i : ℕ) (w : Primitive) (s : Core) → Allowed a w s → spawned_at (get s.works i) ≡ false →
+    spawned_at (get (after_primitive w s).works i) ≡ false
+unfolding spawned_at add_call add_group add_set add_thread add_work count_work free_handle free_thread_handle give_handle give_result give_thread_handle on_call on_instance on_thread on_work push_high remove_call remove_group remove_set remove_thread remove_work set_backpressure set_cancel_delivered set_cancelled set_course set_do_not_enter set_do_not_suspend set_end set_event set_exited set_op_progress set_join set_task_event set_phase set_position set_register set_result set_saved_callee set_saved_own set_script set_stage set_started set_starting_published set_subtask_handle set_thread_handle set_trapped set_uninteresting set_word take_result call_made with_handle with_thread_handle work_queued poll_pends
 spawned_word a inside i AddGroup s ok was = was
 spawned_word a inside i (QueueWork f host group) s ok was = let call = queued_call a f group inside ok.1.0 in grind (arith, nat_tests, get-insert, call, was)
 spawned_word a inside i w s ok was = first_of (assumption, grind (arith, nat_tests, get-change, get-insert, get-remove))
@@ -106,10 +106,10 @@ module _ (ops : ℕ → Op) (x : Setting) (s : State) (l : Label) (t : State) (w
 -- a thread that runs isn't blocked
 running_finds : (ops : ℕ → Op) (x : Setting) (s : State) (l : Label) (next : Turn) (n : ℕ) → RunsWorks n s.core → s.turn ≡ Turn.Run n → Finds (scene_as ops x s l next)
 running_finds ops x s l next n h is m j runner far =
-    subst (λ (u : Turn). runner_at u s.core ≡ Some m → how_far_of m (base_at u s.core) ≡ HowFar.Calls (Subtask.Host j) → is_stage_ended (stage_of j (base_at u s.core)) ≡ true)
+    subst (λ (u : Turn). runner_at u s.core ≡ Some m → op_progress_of m (base_at u s.core) ≡ OpProgress.Calls (Subtask.Host j) → is_stage_ended (stage_of j (base_at u s.core)) ≡ true)
     (sym is) (λ runs far. ended (cc) far) runner far
   where
-    ended : n ≡ m → how_far_of m s.core ≡ HowFar.Calls (Subtask.Host j) → is_stage_ended (stage_of j s.core) ≡ true
+    ended : n ≡ m → op_progress_of m s.core ≡ OpProgress.Calls (Subtask.Host j) → is_stage_ended (stage_of j s.core) ≡ true
     ended same far =
         let runs : place_of m s.core ≡ Some Place.Running = subst (λ (k : ℕ). place_of k s.core ≡ Some Place.Running) same h.runs in
         ⊎_elim (λ blocked. absurd (let e = sym runs ∙ blocked in cc)) (λ over. over) (h.awaited m j far).1

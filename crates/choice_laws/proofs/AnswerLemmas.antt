@@ -1,8 +1,8 @@
 -- The run under a list of choices comes to one thing alone.
 use Rattle.choice_laws.proofs.RunLemmas.{determined, going_has_no_outcome, has_choices, is_step, next_one, one_step, run_is}
 use Rattle.choice_laws.proofs.StepLemmas.{stays_scripted}
-use Rattle.choice_laws.specs.Answers.{Answer, AnswersAreOne, ComesTo, HasCome, Reports, RunIsReported, Short, Wrong}
-use Rattle.choice_laws.specs.Offer.{Chosen, Fits, Offer, is_open}
+use Rattle.choice_laws.specs.ChoiceAnswers.{Answer, AnswersAreOne, ComesTo, HasCome, Reports, RunIsReported, Short, Wrong}
+use Rattle.choice_laws.specs.Offer.{Chosen, FitsOffer, Offer, is_open}
 use Rattle.choice_laws.specs.Offers.{offer}
 use Rattle.choice_laws.specs.Runs.{GoingHasNoOutcome, NextIs, RunBy, TakesNext}
 use Rattle.choice_laws.specs.Steps.{IsScripted, StepBy}
@@ -15,7 +15,7 @@ use Rattle.task_rules.specs.Outcome.{outcome_of}
 -- ---- A longer run goes on from where a shorter one is
 
 -- a step by the next choice
-record GoesOn (x : Setting) (t : State) (left : List Chosen) : Type 0 where
+record ChoiceGoesOn (x : Setting) (t : State) (left : List Chosen) : Type 0 where
   choice : Chosen
   rest : List Chosen
   label : Label
@@ -24,12 +24,12 @@ record GoesOn (x : Setting) (t : State) (left : List Chosen) : Type 0 where
   makes : StepBy x choice t label next
 
 goes_on : (x : Setting) (s : State) → IsScripted s.main → (cs : List Chosen) (ls ks : List Label) (t u : State) (left over : List Chosen) →
-    length ls < length ks → RunBy x s cs ls t left → RunBy x s cs ks u over → GoesOn x t left
+    length ls < length ks → RunBy x s cs ls t left → RunBy x s cs ks u over → ChoiceGoesOn x t left
 goes_on x s scripted cs [] [] t u left over short h i = absurd (omega (arith, short))
 goes_on x s scripted cs (l ∷ ls) [] t u left over short h i = absurd (grind (arith, short))
 goes_on x s scripted cs [] (k ∷ ks) t u left over short h i =
-    let it : GoesOn x s cs = record { choice = i.0; rest = i.1.0; label = k; next = i.1.1.0; takes = i.1.1.1.0; makes = i.1.1.1.1.0 } in
-    subst (λ (v : State). GoesOn x v left) (sym h.0) (subst (λ ds. GoesOn x s ds) (sym h.1) it)
+    let it : ChoiceGoesOn x s cs = record { choice = i.0; rest = i.1.0; label = k; next = i.1.1.0; takes = i.1.1.1.0; makes = i.1.1.1.1.0 } in
+    subst (λ (v : State). ChoiceGoesOn x v left) (sym h.0) (subst (λ ds. ChoiceGoesOn x s ds) (sym h.1) it)
 goes_on x s scripted cs (l ∷ ls) (k ∷ ks) t u left over short h i =
     let m = h.1.1.0 in let rest = h.1.0 in
     let next = next_one (offer x s) (is_open (offer x s)) cs h.0 i.0 rest i.1.0 h.1.1.1.0.0 i.1.1.1.0.0 in
@@ -56,7 +56,7 @@ first_taken o false e cs c rest h = absurd (grind arith)
 
 module _ (x : Setting) (s : State) (settled : HasOpen x.component → ⊥) (order : InOrder x.component s) (scripted : IsScripted s.main) (steps : ℕ) (cs : List Chosen) where
   -- what has come to an answer doesn't go on
-  stops : (a : Answer) (ls : List Label) (t : State) (left : List Chosen) → RunBy x s cs ls t left → HasCome x steps cs ls t left a → length ls < steps → GoesOn x t left → ⊥
+  stops : (a : Answer) (ls : List Label) (t : State) (left : List Chosen) → RunBy x s cs ls t left → HasCome x steps cs ls t left a → length ls < steps → ChoiceGoesOn x t left → ⊥
   stops (Reports trace o used) ls t left run come short next =
       let ran = run_is x s settled order cs ls t left run in
       let step = is_step x t settled (order_after x s order ls t ran) next.choice next.takes.1 next.label next.next next.makes in
@@ -65,7 +65,7 @@ module _ (x : Setting) (s : State) (settled : HasOpen x.component → ⊥) (orde
   stops (Wrong k) ls t left run come short next =
       let is = first_taken (offer x t) (is_open (offer x t)) come.1.1.1.0.offers left next.choice next.rest next.takes.0 in
       let same : next.choice ≡ come.0 = ap (λ (ds : List Chosen). first_of ds come.0) (sym is ∙ come.1.1.0) in
-      come.1.1.1.1.1 (subst (λ c. Fits c (offer x t)) same next.takes.1)
+      come.1.1.1.1.1 (subst (λ c. FitsOffer c (offer x t)) same next.takes.1)
   stops (Short n) ls t left run come short next =
       let is = first_taken (offer x t) (is_open (offer x t)) come.1.0.offers left next.choice next.rest next.takes.0 in
       absurd (let none = come.0 in grind (arith, is, none))

@@ -1,9 +1,9 @@
 pub mod ListLemmas
 pub mod OfferLemmas
 pub mod Forms
-pub mod SilentRows
+pub mod SilentRules
 pub mod ReturnChecks
-pub mod RowPicks
+pub mod RulePicks
 pub mod TakePicks
 pub mod StepLemmas
 pub mod RunLemmas

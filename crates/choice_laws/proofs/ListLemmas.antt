@@ -11,7 +11,7 @@ use Rattle.std.specs.Ordering.{nat_cmp}
 use Rattle.std.specs.Prelude.{Bool, List, None, Option, Some, [], false, filter, is_some, map, not, option_and_then, true, ℕ, ◌&&◌, ◌==◌, ◌∷◌, ◌≡◌}
 use Rattle.task_laws.proofs.Counts.{any_at}
 use Rattle.task_laws.proofs.ReadyCounts.{none_ready}
-use Rattle.task_machine.specs.Core.{Core, Table}
+use Rattle.task_machine.specs.Core.{Core, NameTable}
 use Rattle.task_machine.specs.Maps.{Records, get, numbers}
 use Rattle.task_machine.specs.Moves.{may_wake}
 use Rattle.task_machine.specs.Read.{has_ready_member, has_waiter, instance_of, is_nil, is_ready_member, is_waiter, is_waiting_on, named_by, subtask_at}
@@ -98,7 +98,7 @@ wake_fits x (Some n) s = sym (waiter_has x n s)
 
 -- ---- Members
 
-live_has : (o : Option (Table Named)) (h : ℕ) → is_some (option_and_then (λ t. get t.live h) o) ≡ true → has (option_map_or (λ t. numbers t.live) o []) h ≡ true
+live_has : (o : Option (NameTable Named)) (h : ℕ) → is_some (option_and_then (λ t. get t.live h) o) ≡ true → has (option_map_or (λ t. numbers t.live) o []) h ≡ true
 live_has None h e = absurd (grind arith)
 live_has (Some t) h e = number_has t.live h e
 

@@ -1,6 +1,6 @@
 -- An open offer of a state is fitted by two choices at least: its lists rise, so none has a number twice.
 use Rattle.choice_laws.proofs.OfferLemmas.{first_fits}
-use Rattle.choice_laws.specs.Offer.{Chosen, Fits, Offer, first_choice, first_of, has_two, is_one_of, is_open}
+use Rattle.choice_laws.specs.Offer.{Chosen, FitsOffer, Offer, first_choice, first_of, has_two, is_one_of, is_open}
 use Rattle.choice_laws.specs.Offers.{code_kind_offer, code_offer, dec_offer, delivery_offer, gives, gives_woken, handles_of, join_done_offer, join_to_offer, kind_exit_offer, names_ready, nothing, of_found, offer, op_offer, releases, set_offer, start_offer, take_offer, takes_of, task_offer, tells, thread_offer, turn_offer, unless, wait_offer, wakes, wakes_in, wakes_new, why_offer}
 use Rattle.choice_laws.specs.Steps.{OpenHasTwo}
 use Rattle.std.proofs.Common.{ap₂, T}
@@ -9,10 +9,10 @@ use Rattle.std.specs.declared.cmp.Ordering.TheVariants.{Equal, Greater, Less}
 use Rattle.std.specs.declared.cmp.Ordering.{Ordering}
 use Rattle.std.specs.FinMap.Entries.{below_all, is_sorted}
 use Rattle.std.specs.Ordering.{is_eq, is_lt}
-use Rattle.task_machine.specs.Core.{Table}
+use Rattle.task_machine.specs.Core.{NameTable}
 use Rattle.task_machine.specs.Maps.{Records}
 use Rattle.task_rules.specs.Task.{held_by_counter}
-use Rattle.task_rules.proofs.Machine.{Bool, Core, Delivery, Entry, ExportKind, HowFar, IsPermutation, Join, List, Named, None, Op, Option, Place, SetOp, Setting, Some, Status, Subtask, TaskOp, Turn, Why, [], admits, admitted_held, ap, arith, at_handle_limit, backpressure_of, cancel_was_delivered, event_of, false, filter, finds_nothing, foot_of, get, goal_of, has_ended, has_ready_member, held_by_flag, held_why, how_far_of, if◌then◌else◌, instance_of, is_async_lifted, is_direct, is_explicit, is_held_admitted, is_some, is_told, is_waiter, is_watched, join_of, kind_of, leaves_no_result, map, nat_cmp, nat_lt, nat_tests, next_entry, not, numbers, op_of, option_and_then, option_map_or, own_gift_of, passes_after_return, passes_after_stop, place_of, popped, refl, set_at, set_backpressure, set_do_not_enter, starting_is_published, subtask_at, suc, task_of, true, unsigned_tied, unwrap_or, value_of, zero, ℕ, ◌%◌, ◌&&◌, ◌*◌, ◌+◌, ◌/◌, ◌∙◌, ◌∷◌, ◌≡◌}
+use Rattle.task_rules.proofs.Machine.{Bool, Core, Delivery, Entry, ExportKind, OpProgress, IsPermutation, Join, List, Named, None, Op, Option, Place, SetOp, Setting, Some, Status, Subtask, TaskOp, Turn, Why, [], admits, admitted_held, ap, arith, at_handle_limit, backpressure_of, cancel_was_delivered, event_of, false, filter, finds_nothing, foot_of, get, goal_of, has_ended, has_ready_member, held_by_flag, held_why, op_progress_of, if◌then◌else◌, instance_of, is_async_lifted, is_direct, is_explicit, is_held_admitted, is_some, is_told, is_waiter, is_watched, join_of, kind_of, leaves_no_result, map, nat_cmp, nat_lt, nat_tests, next_entry, not, numbers, op_of, option_and_then, option_map_or, picked_task_event_of, passes_after_return, passes_after_stop, place_of, popped, refl, set_at, set_backpressure, set_do_not_enter, starting_is_published, subtask_at, suc, task_of, true, unsigned_tied, unwrap_or, value_of, zero, ℕ, ◌%◌, ◌&&◌, ◌*◌, ◌+◌, ◌/◌, ◌∙◌, ◌∷◌, ◌≡◌}
 
 -- ---- Lists that rise
 
@@ -90,7 +90,7 @@ tells_rise k s = either (is_told k s) _ _ (joined_rise (join_of (Subtask.Guest k
 takes_rise : (n x : ℕ) (s : Core) → Rising (takes_of n x s)
 takes_rise n x s = (refl, (kept_rises (names_ready (instance_of n s) x s) (handles_of (instance_of n s) s) (handles (get s.handles (instance_of n s))), refl))
   where
-    handles : (o : Option (Table Named)) → rises (option_map_or (λ t. numbers t.live) o []) ≡ true
+    handles : (o : Option (NameTable Named)) → rises (option_map_or (λ t. numbers t.live) o []) ≡ true
     handles None = refl
     handles (Some t) = numbers_rise t.live
 
@@ -98,10 +98,10 @@ releases_rise : (ns : List ℕ) (o : Offer) → rises ns ≡ true → Rising o �
 releases_rise ns o h k = (k.0, (k.1.0, h))
 
 gives_rise : (b : Bool) (n x : ℕ) (s : Core) → Rising (gives b n x s)
-gives_rise b n x s = either (is_some (own_gift_of b (task_of n s) s)) _ _ none_rise (takes_rise n x s)
+gives_rise b n x s = either (is_some (picked_task_event_of b (task_of n s) s)) _ _ none_rise (takes_rise n x s)
 
 woken_rise : (b : Bool) (n x : ℕ) (s : Core) → Rising (gives_woken b n x s)
-woken_rise b n x s = either (is_some (own_gift_of b (task_of n s) s)) _ _ (either (has_ready_member x s) _ _ (wakes_rise x s) none_rise) (takes_rise n x s)
+woken_rise b n x s = either (is_some (picked_task_event_of b (task_of n s) s)) _ _ (either (has_ready_member x s) _ _ (wakes_rise x s) none_rise) (takes_rise n x s)
 
 flag_rises : (i : ℕ) (s : Core) → rises (held_by_flag i s) ≡ true
 unfolding held_by_flag admitted_held
@@ -152,8 +152,8 @@ module _ (n : ℕ) (s : Core) where
   begins_rise : (h : ℕ) → Rising (of_found (set_at (instance_of n s) h s) (λ x. if finds_nothing n x s then nothing else gives false n x s))
   begins_rise h = found_rise (set_at (instance_of n s) h s) _ (λ x. either (finds_nothing n x s) _ _ none_rise (gives_rise false n x s))
 
-  wait_rise : (h : ℕ) (far : HowFar) → Rising (wait_offer n h s far)
-  wait_rise h (HowFar.Waits x) = woken_rise false n x s
+  wait_rise : (h : ℕ) (far : OpProgress) → Rising (wait_offer n h s far)
+  wait_rise h (OpProgress.Waits x) = woken_rise false n x s
   wait_rise h _ = begins_rise h
 
   new_rise : (e : Option Status) (x : Option ℕ) → Rising (wakes_new e x s)
@@ -171,7 +171,7 @@ module _ (n : ℕ) (s : Core) where
   set_rise : (o : SetOp) → Rising (set_offer n s o)
   set_rise (SetOp.New r) = none_rise
   set_rise (SetOp.Drop x) = none_rise
-  set_rise (SetOp.Wait r x) = wait_rise (value_of n s x) (how_far_of n s)
+  set_rise (SetOp.Wait r x) = wait_rise (value_of n s x) (op_progress_of n s)
   set_rise (SetOp.Poll r x) = found_rise (set_at (instance_of n s) (value_of n s x) s) _ (λ y. gives_rise false n y s)
   set_rise (SetOp.Join x y) = found_rise (subtask_at (instance_of n s) (value_of n s x) s) _ (λ sub. join_to_rise (value_of n s y) sub)
 
@@ -230,13 +230,13 @@ other_order (a ∷ []) h two = absurd (grind arith)
 other_order (a ∷ b ∷ ns) h two =
     (b ∷ a ∷ ns, (IsPermutation-swap (a ∷ b ∷ ns) (b ∷ a ∷ ns) 0 1 (omega arith) (omega arith) refl, λ e. apart a b (grind arith) (ap (head_of a) e)))
 
-two_fit : (o : Offer) → Rising o → is_open o ≡ true → (c : Chosen) × ((d : Chosen) × (Fits c o × (Fits d o × (c ≡ d → ⊥))))
+two_fit : (o : Offer) → Rising o → is_open o ≡ true → (c : Chosen) × ((d : Chosen) × (FitsOffer c o × (FitsOffer d o × (c ≡ d → ⊥))))
 two_fit o h two = by (has_two o.waiters) (has_two o.members) refl refl
   where
-    fit : Fits (first_choice o) o
+    fit : FitsOffer (first_choice o) o
     fit = first_fits o
 
-    by : (b c : Bool) → has_two o.waiters ≡ b → has_two o.members ≡ c → (c : Chosen) × ((d : Chosen) × (Fits c o × (Fits d o × (c ≡ d → ⊥))))
+    by : (b c : Bool) → has_two o.waiters ≡ b → has_two o.members ≡ c → (c : Chosen) × ((d : Chosen) × (FitsOffer c o × (FitsOffer d o × (c ≡ d → ⊥))))
     by true c is at =
         let r = other_one o.waiters h.0 is in (
           first_choice o,

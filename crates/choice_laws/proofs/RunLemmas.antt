@@ -1,7 +1,7 @@
 -- Runs and the lists of choices that make them.
 use Rattle.choice_laws.proofs.OfferLemmas.{closed_has_one}
 use Rattle.choice_laws.proofs.StepLemmas.{made_is_step, stays_scripted, step_chooses, step_determined}
-use Rattle.choice_laws.specs.Offer.{Chosen, Fits, Offer, is_open}
+use Rattle.choice_laws.specs.Offer.{Chosen, FitsOffer, Offer, is_open}
 use Rattle.choice_laws.specs.Offers.{offer}
 use Rattle.choice_laws.specs.Runs.{GoingHasNoOutcome, NextIs, RestUnseen, RunBy, RunByIsRun, RunDetermined, RunHasChoices}
 use Rattle.choice_laws.specs.Steps.{IsChoiceOf, IsScripted, MadeIsStep, NothingOpen, StepBy, StepChooses, StepDetermined}
@@ -18,7 +18,7 @@ use Rattle.task_rules.proofs.Machine.{HasOpen, Bool, DeadlockStep, EmptyFor, Ent
 
 -- ---- Runs
 
-pub is_step : (x : Setting) (s : State) → (HasOpen x.component → ⊥) → InOrder x.component s → (c : Chosen) → Fits c (offer x s) → (l : Label) (m : State) → StepBy x c s l m → Step x s l m
+pub is_step : (x : Setting) (s : State) → (HasOpen x.component → ⊥) → InOrder x.component s → (c : Chosen) → FitsOffer c (offer x s) → (l : Label) (m : State) → StepBy x c s l m → Step x s l m
 unfolding MadeIsStep
 is_step x s settled order c fit l m makes = (made_is_step x s settled order.waits c fit l m makes).0
 
@@ -41,7 +41,7 @@ settled_step : (x : Setting) (s : State) (l : Label) (t : State) → IsSettled x
 unfolding SettledStays
 settled_step x s l t settled none step = settled_stays (ops_of x.component s.core) x s l t settled (step_walks x s l t step) none
 
-next_is : (o : Offer) (b : Bool) → is_open o ≡ b → (c : Chosen) → Fits c o → (rest : List Chosen) → (cs : List Chosen) × NextIs b o cs c rest
+next_is : (o : Offer) (b : Bool) → is_open o ≡ b → (c : Chosen) → FitsOffer c o → (rest : List Chosen) → (cs : List Chosen) × NextIs b o cs c rest
 next_is o true is c fit rest = (c ∷ rest, refl)
 next_is o false is c fit rest = (rest, (closed_has_one o is c fit, refl))
 

@@ -1,5 +1,5 @@
 -- What rows choose among, in both directions: what their labels can show, and what is offered.
-use Rattle.choice_laws.specs.Offer.{Chosen, Fits, Offer, shown}
+use Rattle.choice_laws.specs.Offer.{Chosen, FitsOffer, Offer, shown}
 use Rattle.choice_laws.specs.Offers.{op_offer, take_offer}
 use Rattle.std.specs.Prelude.{IsPermutation, List, None, [], ℕ, ◌≡◌}
 use Rattle.task_laws.specs.Order.{WaitsAtHome}
@@ -9,10 +9,10 @@ use Rattle.task_machine.specs.declared.component.Component.{Component}
 use Rattle.task_machine.specs.declared.op.Op.{Op}
 use Rattle.task_machine.specs.declared.records.Entry.{Entry}
 use Rattle.task_machine.specs.declared.words.Mark.{Mark}
-use Rattle.task_rules.specs.Progress.{Asks, Fails, Goes, Never, Ordered, Progress, Stops, Traps}
+use Rattle.task_rules.specs.Progress.{Asks, Fails, Continues, Never, Ordered, Progress, Stops, Traps}
 use Rattle.task_rules.specs.Scripts.{HasOpen}
-use Rattle.task_rules.specs.Step.{op_row}
-use Rattle.task_rules.specs.Takes.{take_row}
+use Rattle.task_rules.specs.Step.{scripted_op_rule}
+use Rattle.task_rules.specs.Takes.{take_rule}
 
 -- nothing is woken, and no member's event is taken
 abbrev pub no_choice : Choice
@@ -20,7 +20,7 @@ no_choice = record { woken = None; member = None }
 
 -- the label shows the choice; that of a trap and of a failed host shows none
 abbrev pub ShowsChoice : Choice → Progress → Type 0
-ShowsChoice ch (Goes l new m) = choice_of l ≡ ch
+ShowsChoice ch (Continues l new m) = choice_of l ≡ ch
 ShowsChoice ch (Stops l new) = choice_of l ≡ ch
 ShowsChoice ch (Traps t) = no_choice ≡ ch
 ShowsChoice ch (Fails i) = no_choice ≡ ch
@@ -53,15 +53,15 @@ ReleasesOnce _ = Unit {0}
 -- The row chooses among what is offered. What a lawful label shows fits the offer; where some label is lawful, each choice that fits is
 -- shown by a lawful one.
 pub record Chooses (o : Offer) (row : Choice → Progress) : Type 0 where
-  pub only : (c : Chosen) → MayCome c (row (shown c)) → Fits c o
-  pub each : (b : Choice) (c : Chosen) → IsLawful (row b) → Fits c o → MayCome c (row (shown c))
+  pub only : (c : Chosen) → MayCome c (row (shown c)) → FitsOffer c o
+  pub each : (b : Choice) (c : Chosen) → IsLawful (row b) → FitsOffer c o → MayCome c (row (shown c))
   pub once : (b : Choice) → ReleasesOnce (row b)
 
 -- the rows of all ops do, where threads wait on sets of their own instances and no host is open: what an open one answers is no choice that
 -- a list could make
-unfoldable pub RowsChoose : Type 0
-RowsChoose = (c : Component) (n : ℕ) (s : Core) (o : Op) → (HasOpen c → ⊥) → WaitsAtHome s → Chooses (op_offer n s o) (λ ch. op_row c n s ch o)
+unfoldable pub RulesChoose : Type 0
+RulesChoose = (c : Component) (n : ℕ) (s : Core) (o : Op) → (HasOpen c → ⊥) → WaitsAtHome s → Chooses (op_offer n s o) (λ ch. scripted_op_rule c n s ch o)
 
 -- so do the rows of takings, in every core
 unfoldable pub TakingsChoose : Type 0
-TakingsChoose = (m : Mark) (e : Entry) (s : Core) → Chooses (take_offer s e) (λ ch. take_row m ch s e)
+TakingsChoose = (m : Mark) (e : Entry) (s : Core) → Chooses (take_offer s e) (λ ch. take_rule m ch s e)

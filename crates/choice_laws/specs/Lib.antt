@@ -4,4 +4,4 @@ pub mod Chooses
 pub mod Steps
 pub mod Runs
 pub mod Lines
-pub mod Answers
+pub mod ChoiceAnswers

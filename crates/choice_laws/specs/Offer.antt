@@ -26,7 +26,7 @@ is_one_of ns None = is_nil ns
 is_one_of ns (Some n) = list_any (λ m. m == n) ns
 
 -- The choice fits the offer.
-pub record Fits (c : Chosen) (o : Offer) : Type 0 where
+pub record FitsOffer (c : Chosen) (o : Offer) : Type 0 where
   pub waiter : is_one_of o.waiters c.waiter ≡ true
   pub member : is_one_of o.members c.member ≡ true
   pub release : IsPermutation o.held c.release
@@ -51,8 +51,8 @@ first_choice o = record { waiter = first_of o.waiters; member = first_of o.membe
 
 -- the first of each kind fits every offer
 abbrev pub FirstFits : Type 0
-FirstFits = (o : Offer) → Fits (first_choice o) o
+FirstFits = (o : Offer) → FitsOffer (first_choice o) o
 
 -- an offer that isn't open is fitted by that alone
 abbrev pub ClosedHasOne : Type 0
-ClosedHasOne = (o : Offer) → is_open o ≡ false → (c : Chosen) → Fits c o → c ≡ first_choice o
+ClosedHasOne = (o : Offer) → is_open o ≡ false → (c : Chosen) → FitsOffer c o → c ≡ first_choice o

@@ -4,8 +4,8 @@ use Rattle.std.specs.Option.{option_map_or}
 use Rattle.std.specs.Prelude.{Bool, List, None, Option, Some, [], filter, false, if◌then◌else◌, is_some, nat_lt, not, suc, true, zero, ℕ, ◌%◌, ◌*◌, ◌+◌, ◌/◌}
 use Rattle.task_machine.specs.Core.{Core, State}
 use Rattle.task_machine.specs.Maps.{get, numbers}
-use Rattle.task_machine.specs.Moves.{own_gift_of}
-use Rattle.task_machine.specs.Read.{admits, at_handle_limit, backpressure_of, cancel_was_delivered, event_of, foot_of, goal_of, has_ended, has_ready_member, how_far_of, instance_of, is_async_lifted, is_direct, is_explicit, is_ready_member, is_waiter, is_watched, join_of, kind_of, next_entry, place_of, set_at, subtask_at, task_of}
+use Rattle.task_machine.specs.Moves.{picked_task_event_of}
+use Rattle.task_machine.specs.Read.{admits, at_handle_limit, backpressure_of, cancel_was_delivered, event_of, foot_of, goal_of, has_ended, has_ready_member, op_progress_of, instance_of, is_async_lifted, is_direct, is_explicit, is_ready_member, is_waiter, is_watched, join_of, kind_of, next_entry, place_of, set_at, subtask_at, task_of}
 use Rattle.task_machine.specs.declared.component.ExportKind.TheVariants as kind
 use Rattle.task_machine.specs.declared.component.ExportKind.{ExportKind}
 use Rattle.task_machine.specs.declared.op.Op.TheVariants as op
@@ -18,8 +18,8 @@ use Rattle.task_machine.specs.declared.records.Delivery.TheVariants as delivery
 use Rattle.task_machine.specs.declared.records.Delivery.{Delivery}
 use Rattle.task_machine.specs.declared.records.Entry.TheVariants as entry
 use Rattle.task_machine.specs.declared.records.Entry.{Entry}
-use Rattle.task_machine.specs.declared.records.HowFar.TheVariants as how_far
-use Rattle.task_machine.specs.declared.records.HowFar.{HowFar}
+use Rattle.task_machine.specs.declared.records.OpProgress.TheVariants as op_progress
+use Rattle.task_machine.specs.declared.records.OpProgress.{OpProgress}
 use Rattle.task_machine.specs.declared.records.Join.TheVariants as join
 use Rattle.task_machine.specs.declared.records.Join.{Join}
 use Rattle.task_machine.specs.declared.records.Place.TheVariants as place
@@ -88,12 +88,12 @@ releases ns o = record { waiters = o.waiters; members = o.members; held = ns }
 
 -- what the thread is given of the set: its task's own event, for which no member is taken, else that of a member
 abbrev pub gives : Bool → ℕ → ℕ → Core → Offer
-gives by_callback n x s = if is_some (own_gift_of by_callback (task_of n s) s) then nothing else takes_of n x s
+gives by_callback n x s = if is_some (picked_task_event_of by_callback (task_of n s) s) then nothing else takes_of n x s
 
 -- the same of a woken thread, whose wake is handed on where it is given the own event while a member is ready
 abbrev pub gives_woken : Bool → ℕ → ℕ → Core → Offer
 gives_woken by_callback n x s =
-    if is_some (own_gift_of by_callback (task_of n s) s) then (if has_ready_member x s then wakes x s else nothing) else takes_of n x s
+    if is_some (picked_task_event_of by_callback (task_of n s) s) then (if has_ready_member x s then wakes x s else nothing) else takes_of n x s
 
 -- ---- Ops on tasks
 
@@ -153,8 +153,8 @@ task_offer n s _ = nothing
 -- ---- Ops on sets
 
 -- resumed inside it, or as it begins, where it takes only what is there
-abbrev pub wait_offer : ℕ → ℕ → Core → HowFar → Offer
-wait_offer n h s (how_far.Waits x) = gives_woken false n x s
+abbrev pub wait_offer : ℕ → ℕ → Core → OpProgress → Offer
+wait_offer n h s (op_progress.Waits x) = gives_woken false n x s
 wait_offer n h s _ = of_found (set_at (instance_of n s) h s) (λ x. if finds_nothing n x s then nothing else gives false n x s)
 
 abbrev pub poll_offer : ℕ → ℕ → Core → Offer
@@ -176,7 +176,7 @@ abbrev pub join_offer : ℕ → ℕ → ℕ → Core → Offer
 join_offer n h y s = of_found (subtask_at (instance_of n s) h s) (join_to_offer n y s)
 
 abbrev pub set_offer : ℕ → Core → SetOp → Offer
-set_offer n s (set_op.Wait r x) = wait_offer n (value_of n s x) s (how_far_of n s)
+set_offer n s (set_op.Wait r x) = wait_offer n (value_of n s x) s (op_progress_of n s)
 set_offer n s (set_op.Poll r x) = poll_offer n (value_of n s x) s
 set_offer n s (set_op.Join x y) = join_offer n (value_of n s x) (value_of n s y) s
 set_offer n s _ = nothing

@@ -1,5 +1,5 @@
 -- The run that a list of choices makes.
-use Rattle.choice_laws.specs.Offer.{Chosen, Fits, Offer, first_choice, is_open}
+use Rattle.choice_laws.specs.Offer.{Chosen, FitsOffer, Offer, first_choice, is_open}
 use Rattle.choice_laws.specs.Offers.{offer}
 use Rattle.choice_laws.specs.Steps.{IsScripted, StepBy}
 use Rattle.std.specs.Prelude.{Bool, List, None, [], false, length, true, ℕ, ◌++◌, ◌<◌, ◌∷◌, ◌≡◌}
@@ -20,7 +20,7 @@ NextIs false o cs c rest = (c ≡ first_choice o) × (cs ≡ rest)
 
 -- the choice that the next step from s takes fits the offer, and these are left of the given ones
 abbrev pub TakesNext : Setting → State → List Chosen → Chosen → List Chosen → Type 0
-TakesNext x s cs c rest = NextIs (is_open (offer x s)) (offer x s) cs c rest × Fits c (offer x s)
+TakesNext x s cs c rest = NextIs (is_open (offer x s)) (offer x s) cs c rest × FitsOffer c (offer x s)
 
 -- From s the k-th step with an open offer takes the k-th of the choices, and each other step the only one: so the labels come, the run
 -- is in t, and these choices are left.

@@ -1,5 +1,5 @@
 -- The step that a choice makes.
-use Rattle.choice_laws.specs.Offer.{Chosen, Fits, is_open, shown}
+use Rattle.choice_laws.specs.Offer.{Chosen, FitsOffer, is_open, shown}
 use Rattle.choice_laws.specs.Offers.{offer}
 use Rattle.std.specs.Prelude.{List, None, Option, Some, true, ℕ, ◌≡◌}
 use Rattle.task_laws.specs.Settled.{NoneOpen}
@@ -16,7 +16,7 @@ use Rattle.task_rules.specs.Progress.{Asks, Ordered, Progress}
 use Rattle.task_rules.specs.Scripts.{HasOpen}
 use Rattle.task_rules.specs.Stalled.{Setting}
 use Rattle.task_rules.specs.Step.{EmptyStep, Polled, Progresses, Step, TurnStep, did, entry_number}
-use Rattle.task_rules.specs.Takes.{popped, take_row}
+use Rattle.task_rules.specs.Takes.{popped, take_rule}
 use Rattle.task_rules.specs.Works.{Asked, Poll, next_polled, poll_of}
 
 -- as `Progresses`, with the release in this order; what an open work answers isn't chosen
@@ -28,7 +28,7 @@ ProgressesBy order s base n p l t = Progresses s base n p l t
 abbrev pub TakenBy : Setting → Chosen → State → Option (Mark × Entry) → Label → State → Type 0
 TakenBy x c s None l t = EmptyStep x s l t
 TakenBy x c s (Some e) l t =
-    let base = popped e.0 s.core in ProgressesBy c.release s base (entry_number e.1) (take_row e.0 (shown c) base e.1) l t
+    let base = popped e.0 s.core in ProgressesBy c.release s base (entry_number e.1) (take_rule e.0 (shown c) base e.1) l t
 
 abbrev pub PolledBy : State → ℕ → Poll → Label → State → Type 0
 PolledBy s i (Asked next) l t = ⊥
@@ -58,7 +58,7 @@ IsScripted Unscripted = ⊥
 -- an open offer is fitted by two choices at least
 unfoldable pub OpenHasTwo : Type 0
 OpenHasTwo = (x : Setting) (s : State) → is_open (offer x s) ≡ true →
-    (c : Chosen) × ((d : Chosen) × (Fits c (offer x s) × (Fits d (offer x s) × (c ≡ d → ⊥))))
+    (c : Chosen) × ((d : Chosen) × (FitsOffer c (offer x s) × (FitsOffer d (offer x s) × (c ≡ d → ⊥))))
 
 -- a choice makes one step: one label, and one next state
 unfoldable pub StepDetermined : Type 0
@@ -67,7 +67,7 @@ StepDetermined = (x : Setting) (s : State) → IsScripted s.main → (c : Chosen
 
 -- The choice fits what the state offers, the label shows it, and it makes this step.
 pub record IsChoiceOf (x : Setting) (s : State) (c : Chosen) (l : Label) (t : State) : Type 0 where
-  pub fits : Fits c (offer x s)
+  pub fits : FitsOffer c (offer x s)
   pub shows : choice_of l ≡ shown c
   pub makes : StepBy x c s l t
 
@@ -84,9 +84,9 @@ StepChooses = (x : Setting) (s : State) → NothingOpen x s → WaitsAtHome s.co
 -- where some label is lawful, each choice that fits makes a step
 unfoldable pub ChoiceSteps : Type 0
 ChoiceSteps = (x : Setting) (s : State) → NothingOpen x s → WaitsAtHome s.core → (k : Label) (u : State) → Step x s k u →
-    (c : Chosen) → Fits c (offer x s) → (l : Label) × ((t : State) × StepBy x c s l t)
+    (c : Chosen) → FitsOffer c (offer x s) → (l : Label) × ((t : State) × StepBy x c s l t)
 
 -- what a choice that fits makes is a step
 unfoldable pub MadeIsStep : Type 0
-MadeIsStep = (x : Setting) (s : State) → (HasOpen x.component → ⊥) → WaitsAtHome s.core → (c : Chosen) → Fits c (offer x s) → (l : Label) (t : State) →
+MadeIsStep = (x : Setting) (s : State) → (HasOpen x.component → ⊥) → WaitsAtHome s.core → (c : Chosen) → FitsOffer c (offer x s) → (l : Label) (t : State) →
     StepBy x c s l t → Step x s l t × IsChoiceOf x s c l t

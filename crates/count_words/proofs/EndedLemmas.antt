@@ -11,10 +11,10 @@ use Rattle.std.specs.Ordering.{is_lt, nat_cmp}
 use Rattle.std.specs.Prelude.{if◌then◌else◌, IsPermutation, IsSorted, is_some, T, None, Option, Some, Vec, vec_capacity, ◌++◌, ◌≤◌, ◌⊎◌}
 use Rattle.std.specs.declared.cmp.Ordering.TheVariants as ordering
 use Rattle.count_words.specs.Entries.{numbers_above, numbers_of}
-use Rattle.task_records.proofs.Core.{AreApart, AreEnded, asked, IsAsked, core_of, ended_groups, found_record, get-records, Global, group_key, has, is_known, IsMembers-numbers, IsSound, known_of, numbers, Once, parts_of, Placed, records, seen, SoundTable}
+use Rattle.task_records.proofs.Core.{AreApart, AreEnded, asked, IsAsked, core_of, ended_groups, found_record, get-records, Global, group_key, has, is_tracked, IsMembers-numbers, IsSoundCore, tracked_of, numbers, Once, parts_of, Placed, records, seen, SoundTable}
 use Rattle.task_records.proofs.LiveGroupLemmas.{ended_are, groups_sound, known_is, known_within, live_found, live_groups, live_within, numbers_above_zero}
-use Rattle.task_records.proofs.KnownLemmas.{ended_listed, false_or, has_filter, has_here, has_later, known_live, known_same, not_both, or_false, Rising, rising_filter, rising_sorted, known_counted}
-use Rattle.task_records.specs.declared.{calls.TaskGroup.TaskGroup, parts.CoreParts.CoreParts, single.Single.Single}
+use Rattle.task_records.proofs.TrackedLemmas.{ended_listed, false_or, has_filter, has_here, has_later, known_live, known_same, not_both, or_false, Rising, rising_filter, rising_sorted, known_counted}
+use Rattle.task_records.specs.declared.{call_records.TaskGroup.TaskGroup, parts.CoreParts.CoreParts, single.Single.Single}
 use Rattle.task_table.proofs.RecordLemmas.{AreApart-rest, fresh_first}
 use Rattle.task_table.specs.Entries.{entries, entries_from}
 
@@ -200,7 +200,7 @@ rising_numbers (e ∷ es) sorted above = (above e.0 (has_here e.0 (map (λ f. f.
 
 -- ---- Of a core
 
-module _ (a : CoreParts) (sound : IsSound a) where
+module _ (a : CoreParts) (sound : IsSoundCore a) where
   abbrev live : List ℕ
   live = live_groups a
 
@@ -230,7 +230,7 @@ module _ (a : CoreParts) (sound : IsSound a) where
     room = let long = length-append a.ended.items trap_ends in let fits = ends_fit in omega (arith, long, fits);
   }
 
-  pub all_known : known_of (a.ended.items ++ trap_ends) [] a.made.groups ≡ known_of a.ended.items live a.made.groups
+  pub all_known : tracked_of (a.ended.items ++ trap_ends) [] a.made.groups ≡ tracked_of a.ended.items live a.made.groups
   all_known = known_same (a.ended.items ++ trap_ends) a.ended.items [] live a.made.groups
       (λ n. or_false (has n (a.ended.items ++ trap_ends)) ∙ (has_append n a.ended.items trap_ends ∙ ap (λ d. has n a.ended.items || d) (ends_has n)))
 
@@ -239,7 +239,7 @@ module _ (a : CoreParts) (sound : IsSound a) where
   ended_has : (n : ℕ) → has n (ended_groups (seen a)) ≡ has n a.ended.items
   unfolding seen
   ended_has n =
-      has_filter (λ g. not (has g live)) n (known_of a.ended.items live a.made.groups)
+      has_filter (λ g. not (has g live)) n (tracked_of a.ended.items live a.made.groups)
       ∙ (ap (λ b. b && not (has n live)) (known_is a sound n)
       ∙ by (has n a.ended.items) refl (has n live) refl)
     where
@@ -268,11 +268,11 @@ module _ (a : CoreParts) (sound : IsSound a) where
 
     pub ordered_seen : seen (record a { ended = v }) ≡ seen a
     unfolding seen
-    ordered_seen = ap (λ (ks : List ℕ). record (seen a) { tags = record (seen a).tags { known = ks } })
+    ordered_seen = ap (λ (ks : List ℕ). record (seen a) { tags = record (seen a).tags { tracked = ks } })
         (known_same v.items a.ended.items live live a.made.groups (λ n. ap (λ b. b || has n live) (permuted_has a.ended.items v.items moved n)))
 
-    pub ordered_sound : length v.items ≡ length a.ended.items → vec_capacity v ≡ vec_capacity a.ended → IsSound (record a { ended = v })
-    unfolding IsSound
+    pub ordered_sound : length v.items ≡ length a.ended.items → vec_capacity v ≡ vec_capacity a.ended → IsSoundCore (record a { ended = v })
+    unfolding IsSoundCore
     ordered_sound long same = record {
       tables = record { threads = sound.tables.threads; calls = sound.tables.calls; works = sound.tables.works; sets = sound.tables.sets; groups = sound.tables.groups };
       whole = sound.whole;
@@ -298,7 +298,7 @@ module _ (a : CoreParts) (sound : IsSound a) where
   -- where none has ended the live ones are known
   pub none_asked : a.ended.items ≡ [] → IsAsked (seen a)
   unfolding seen
-  none_asked none = ap (λ ns. known_of ns live a.made.groups) none ∙ known_live live a.made.groups live_rising (λ n there. (live_within a sound n there).1)
+  none_asked none = ap (λ ns. tracked_of ns live a.made.groups) none ∙ known_live live a.made.groups live_rising (λ n there. (live_within a sound n there).1)
 
   pub counted : CountsEnded (seen a)
   unfolding seen
@@ -307,11 +307,11 @@ module _ (a : CoreParts) (sound : IsSound a) where
   module _ (v : Vec ℕ Global) (none : v.items ≡ []) where
     pub forgotten_seen : seen (record a { ended = v }) ≡ asked (seen a)
     unfolding seen
-    forgotten_seen = ap (λ (ks : List ℕ). record (seen a) { tags = record (seen a).tags { known = ks } })
-        (ap (λ ns. known_of ns live a.made.groups) none ∙ known_live live a.made.groups live_rising (λ n there. (live_within a sound n there).1))
+    forgotten_seen = ap (λ (ks : List ℕ). record (seen a) { tags = record (seen a).tags { tracked = ks } })
+        (ap (λ ns. tracked_of ns live a.made.groups) none ∙ known_live live a.made.groups live_rising (λ n there. (live_within a sound n there).1))
 
-    pub forgotten_sound : vec_capacity v ≡ vec_capacity a.ended → IsSound (record a { ended = v })
-    unfolding IsSound
+    pub forgotten_sound : vec_capacity v ≡ vec_capacity a.ended → IsSoundCore (record a { ended = v })
+    unfolding IsSoundCore
     forgotten_sound same = record {
       tables = record { threads = sound.tables.threads; calls = sound.tables.calls; works = sound.tables.works; sets = sound.tables.sets; groups = sound.tables.groups };
       whole = sound.whole;

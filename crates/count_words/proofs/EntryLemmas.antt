@@ -3,7 +3,7 @@ use Rattle.std.proofs.Common.{◌≡◌, ap, None, Option, refl, Some, ℕ}
 use Rattle.std.proofs.lemmas.Option.{same_Some}
 use Rattle.std.specs.Option.{option_and_then, option_map_or}
 use Rattle.task_records.specs.Kinds.{item_of}
-use Rattle.task_records.specs.declared.calls.TaskGroup.{TaskGroup}
+use Rattle.task_records.specs.declared.call_records.TaskGroup.{TaskGroup}
 use Rattle.task_records.specs.declared.single.Single.{Single}
 use Rattle.task_table.specs.Table.{Placed}
 

@@ -3,8 +3,8 @@ use Rattle.task_records.proofs.SoundLemmas.{sound_of_whole}
 use Rattle.task_records.proofs.LaterLemmas.{beside_whole, same_made}
 use Rattle.result_rooms.specs.Rooms.{given_in as given, wanted}
 use Rattle.result_rooms.specs.declared.rooms.ResultRoom.{ResultRoom}
-use Rattle.task_records.proofs.Core.{[], ap, ap₂, bare, bare_call, Bool, Call, call_key, call_of, cases_eq, cond, core_of, eq-eqb, eq_by_cmp_equiv, false, get, get-empty, get-insert, get-remove, give_result, given_results, Goal, goal_of, GuestTaskKey, HasRoom, inl, inr, insert, is_at, is_some, IsSome, IsSound, item_at, item_of, List, lookup, loose_call, nat_cmp, nat_cmp_total, ne_eqb, None, Ok, on_core, on_item, Option, option_map, option_map_or, parts_of, Records, records, refl, remove, same_map, seen, Some, subst, sym, table_use, TableId, take_result, true, uninterested, unsigned_tied, with_given, ℕ, ◌==◌, ◌||◌, ◌∙◌, ◌∷◌, ◌≡◌, ◌⊎◌}
-use Rattle.task_records.specs.declared.{calls.GuestTask.GuestTask, parts.CoreParts.CoreParts}
+use Rattle.task_records.proofs.Core.{[], ap, ap₂, bare, bare_call, Bool, Call, call_key, call_of, cases_eq, cond, core_of, eq-eqb, eq_by_cmp_equiv, false, get, get-empty, get-insert, get-remove, give_result, given_results, Goal, goal_of, GuestTaskKey, HasRoom, inl, inr, insert, is_at, is_some, IsSome, IsSoundCore, item_at, item_of, List, lookup, loose_call, nat_cmp, nat_cmp_total, ne_eqb, None, Ok, on_core, on_item, Option, option_map, option_map_or, parts_of, Records, records, refl, remove, same_map, seen, Some, subst, sym, table_use, TableId, take_result, true, uninterested, unsigned_tied, with_given, ℕ, ◌==◌, ◌||◌, ◌∙◌, ◌∷◌, ◌≡◌, ◌⊎◌}
+use Rattle.task_records.specs.declared.{call_records.GuestTask.GuestTask, parts.CoreParts.CoreParts}
 use Rattle.task_records.proofs.ReadLemmas.{call_named, call_read}
 use Rattle.task_records.proofs.TableLemmas.{get_mapped}
 
@@ -43,9 +43,9 @@ given_wanted r = by r.lives r.given
 pub lives_wanted : (r : ResultRoom) → r.lives ≡ true → lives_in (wanted r) ≡ true
 lives_wanted r lives = ap (λ b. lives_in (cond (b || is_some r.given) (Some r) None)) lives ∙ lives
 
-module _ (a : CoreParts) (sound : IsSound a) (m : List (ℕ × ResultRoom)) where
-  pub results_sound : ((k : ℕ) (c : Call) → get (core_of (bare (parts_of a))).calls k ≡ Some c → c.goal ≡ Goal.Main → HasRoom k m) → IsSound (record a { results = m })
-  unfolding IsSound table_use
+module _ (a : CoreParts) (sound : IsSoundCore a) (m : List (ℕ × ResultRoom)) where
+  pub results_sound : ((k : ℕ) (c : Call) → get (core_of (bare (parts_of a))).calls k ≡ Some c → c.goal ≡ Goal.Main → HasRoom k m) → IsSoundCore (record a { results = m })
+  unfolding IsSoundCore table_use
   results_sound rooms =
       sound_of_whole a (record a { results = m }) refl sound
       (beside_whole (bare (parts_of a)) a.made (same_made a.made) a.finished (bare (parts_of a)).kept m a.capacity sound.whole
@@ -59,8 +59,8 @@ module _ (a : CoreParts) (sound : IsSound a) (m : List (ℕ × ResultRoom)) wher
   results_seen rs same = ap (λ (ns : Records ℕ). record (seen a) { core = record (seen a).core { results = ns } }) (same_map (given_results m) rs (λ q. get-given m q ∙ same q))
 
   -- a map with the same rooms
-  pub same_sound : m ≡ a.results → IsSound (record a { results = m })
-  unfolding IsSound
+  pub same_sound : m ≡ a.results → IsSoundCore (record a { results = m })
+  unfolding IsSoundCore
   same_sound same = results_sound (λ k c at main. subst (HasRoom k) (sym same) (sound.whole.counted.results k c at main))
 
   module _ (k : ℕ) (w : Option ResultRoom) (writes : (q : ℕ) → lookup (is_at (nat_cmp q)) m ≡ cond (is_at (nat_cmp k) q) w (lookup (is_at (nat_cmp q)) a.results)) where
@@ -71,8 +71,8 @@ module _ (a : CoreParts) (sound : IsSound a) (m : List (ℕ × ResultRoom)) wher
     has_written lives = ap lives_in (written k ∙ ap (λ b. cond b w (lookup (is_at (nat_cmp k)) a.results)) (eq-eqb k k refl)) ∙ lives
 
     -- a call that is there has room still
-    room_left : ((c : Call) → get (core_of (bare (parts_of a))).calls k ≡ Some c → c.goal ≡ Goal.Main → lives_in w ≡ true) → IsSound (record a { results = m })
-    unfolding IsSound
+    room_left : ((c : Call) → get (core_of (bare (parts_of a))).calls k ≡ Some c → c.goal ≡ Goal.Main → lives_in w ≡ true) → IsSoundCore (record a { results = m })
+    unfolding IsSoundCore
     room_left lives = results_sound (λ q c at main. by q c at main (cases_eq q k))
       where
         by : (q : ℕ) (c : Call) → get (core_of (bare (parts_of a))).calls q ≡ Some c → c.goal ≡ Goal.Main → (q ≡ k) ⊎ (q ≡ k → ⊥) → HasRoom q m
@@ -83,11 +83,11 @@ module _ (a : CoreParts) (sound : IsSound a) (m : List (ℕ × ResultRoom)) wher
             ap lives_in (written q ∙ ap (λ b. cond b w (lookup (is_at (nat_cmp q)) a.results)) (ne_eqb q k other))
             ∙ sound.whole.counted.results q c at main
 
-    pub written_sound : (HasRoom k a.results → lives_in w ≡ true) → IsSound (record a { results = m })
-    unfolding IsSound
+    pub written_sound : (HasRoom k a.results → lives_in w ≡ true) → IsSoundCore (record a { results = m })
+    unfolding IsSoundCore
     written_sound keeps = room_left (λ c at main. keeps (sound.whole.counted.results k c at main))
 
-    pub closed_sound : get (seen a).core.calls k ≡ None → IsSound (record a { results = m })
+    pub closed_sound : get (seen a).core.calls k ≡ None → IsSoundCore (record a { results = m })
     unfolding seen
     closed_sound gone = room_left (λ c at main. absurd (let none : ◌≡◌ {A = Option Call} None (Some c) = sym (get_mapped call_key call_key (on_item bare_call) (λ c. uninterested (loose_call c)) (λ e. refl) a.calls k ∙ ap (option_map (λ (c : Call). uninterested (loose_call c))) gone) ∙ at in cc))
 
@@ -125,9 +125,9 @@ module _ (a : CoreParts) (sound : IsSound a) (m : List (ℕ × ResultRoom)) wher
       by q (inr other) = sym (get-given a.results q) ∙ sym (ap (λ b. cond b None (get (given_results a.results) q)) (ne_eqb q k other))
 
 -- a call by main has room for its result
-module _ (a : CoreParts) (sound : IsSound a) (id : TableId GuestTaskKey) (g : GuestTask) (is : Ok g ≡ item_at item_of a.calls id.rep id.serial) (main : goal_of (call_of (seen a) id) (seen a).core ≡ Goal.Main) where
+module _ (a : CoreParts) (sound : IsSoundCore a) (id : TableId GuestTaskKey) (g : GuestTask) (is : Ok g ≡ item_at item_of a.calls id.rep id.serial) (main : goal_of (call_of (seen a) id) (seen a).core ≡ Goal.Main) where
   room_there : HasRoom g.number a.results
-  unfolding IsSound seen
+  unfolding IsSoundCore seen
   room_there =
       sound.whole.counted.results g.number (uninterested (loose_call g.call))
       (get_mapped call_key call_key (on_item bare_call) (λ c. uninterested (loose_call c)) (λ e. refl) a.calls g.number

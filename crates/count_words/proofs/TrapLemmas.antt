@@ -2,7 +2,7 @@
 use Rattle.std.specs.Prelude.{Vec, vec_capacity, ◌++◌}
 use Rattle.count_words.proofs.EndedLemmas.{all_ended, all_known, trap_ends}
 use Rattle.task_records.proofs.LaterLemmas.{beside, beside_whole, same_made}
-use Rattle.task_records.proofs.Core.{AreEnded, ap₂, Global, known_of, core_of, subst, [], ap, arith, bare, Bool, cond, eq-eqb, eq_by_cmp, false, filter, find, get, get-records, group_key, image, IsSound, IsWhole, length, List, ltb-true, map, nat_cmp, nat_lt, None, numbers, on_core, Option, Parts, parts_of, records, refl, seen, set_trapped, Some, sym, table_use, true, unsigned_tied, ℕ, ◌*◌, ◌+◌, ◌-◌, ◌<◌, ◌∙◌, ◌∷◌, ◌≡◌, ◌≤◌}
+use Rattle.task_records.proofs.Core.{AreEnded, ap₂, Global, tracked_of, core_of, subst, [], ap, arith, bare, Bool, cond, eq-eqb, eq_by_cmp, false, filter, find, get, get-records, group_key, image, IsSoundCore, IsWhole, length, List, ltb-true, map, nat_cmp, nat_lt, None, numbers, on_core, Option, CoreImage, parts_of, records, refl, seen, set_trapped, Some, sym, table_use, true, unsigned_tied, ℕ, ◌*◌, ◌+◌, ◌-◌, ◌<◌, ◌∙◌, ◌∷◌, ◌≡◌, ◌≤◌}
 use Rattle.task_records.specs.declared.{parts.CoreParts.CoreParts}
 use Rattle.task_records.proofs.KeptLemmas.{groups_are, used_is}
 
@@ -28,10 +28,10 @@ less_groups u g l m a b c d used groups none = omega (arith, used, groups, none)
 all_made : (n : ℕ) → n ≤ n
 all_made n = omega arith
 
-abbrev pub after_trap : Parts → Parts
+abbrev pub after_trap : CoreImage → CoreImage
 after_trap p = beside p p.made (same_made p.made) p.made.groups (record p.kept { used = p.kept.used - p.kept.groups; groups = 0 }) p.results p.capacity
 
-module _ (p : Parts) (none : filter (nat_lt p.made.groups) (numbers (records group_key p.groups.places)) ≡ []) where
+module _ (p : CoreImage) (none : filter (nat_lt p.made.groups) (numbers (records group_key p.groups.places)) ≡ []) where
   pub trapped_whole : IsWhole p → IsWhole (after_trap p)
   unfolding table_use
   trapped_whole whole =
@@ -45,9 +45,9 @@ module _ (p : Parts) (none : filter (nat_lt p.made.groups) (numbers (records gro
       (all_made p.made.groups)
       whole.counted.few
 
-module _ (a : CoreParts) (sound : IsSound a) where
+module _ (a : CoreParts) (sound : IsSoundCore a) where
   none_left : filter (nat_lt a.made.groups) (numbers (records group_key a.groups.places)) ≡ []
-  unfolding IsSound get numbers
+  unfolding IsSoundCore get numbers
   none_left = all_within a.made.groups (records group_key a.groups.places).list (λ n more. sym (sym (get-records group_key a.groups.places n)) ∙ sound.tables.groups.later n more)
 
   pub groups_within : a.kept.groups ≤ a.kept.used
@@ -58,8 +58,8 @@ module _ (a : CoreParts) (sound : IsSound a) where
     abbrev pub trapped_parts : CoreParts
     trapped_parts = record a { trapped = true; finished = a.made.groups; kept = record a.kept { used = a.kept.used - a.kept.groups; groups = 0 }; ended = v }
 
-    pub trapped_sound : IsSound trapped_parts
-    unfolding IsSound
+    pub trapped_sound : IsSoundCore trapped_parts
+    unfolding IsSoundCore
     trapped_sound = record {
       tables = record { threads = sound.tables.threads; calls = sound.tables.calls; works = sound.tables.works; sets = sound.tables.sets; groups = sound.tables.groups };
       whole = trapped_whole (bare (parts_of a)) none_left sound.whole;
@@ -73,9 +73,9 @@ module _ (a : CoreParts) (sound : IsSound a) where
           (subst (λ (n : ℕ). AreEnded (a.ended.items ++ trap_ends a sound) n [] a.made.groups) (sym room) (all_ended a sound)));
     }
 
-    still_known : known_of v.items (filter (nat_lt a.made.groups) (numbers (records group_key a.groups.places))) a.made.groups ≡ known_of a.ended.items (core_of (parts_of a)).groups a.made.groups
-    still_known = ap₂ (λ (ns gs : List ℕ). known_of ns gs a.made.groups) items none_left ∙ all_known a sound
+    still_known : tracked_of v.items (filter (nat_lt a.made.groups) (numbers (records group_key a.groups.places))) a.made.groups ≡ tracked_of a.ended.items (core_of (parts_of a)).groups a.made.groups
+    still_known = ap₂ (λ (ns gs : List ℕ). tracked_of ns gs a.made.groups) items none_left ∙ all_known a sound
 
     pub trapped_seen : seen trapped_parts ≡ on_core set_trapped (seen a)
     unfolding seen set_trapped
-    trapped_seen = ap₂ (λ (gs ks : List ℕ). record (image (parts_of a)) { core = record (image (parts_of a)).core { trapped = true; groups = gs }; tags = record (image (parts_of a)).tags { known = ks } }) none_left still_known
+    trapped_seen = ap₂ (λ (gs ks : List ℕ). record (image (parts_of a)) { core = record (image (parts_of a)).core { trapped = true; groups = gs }; tags = record (image (parts_of a)).tags { tracked = ks } }) none_left still_known

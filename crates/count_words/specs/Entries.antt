@@ -1,8 +1,8 @@
 -- Groups by the places of their records.
 use Rattle.std.specs.Option.{option_map_or}
 use Rattle.std.specs.Prelude.{ℕ, List, filter, map, nat_lt}
-use Rattle.table_order.specs.Places.{GivenInOrder, Places}
-use Rattle.task_records.specs.declared.calls.TaskGroup.{TaskGroup}
+use Rattle.table_order.specs.GivenPlaces.{GivenInOrder, Places}
+use Rattle.task_records.specs.declared.call_records.TaskGroup.{TaskGroup}
 use Rattle.task_records.specs.declared.single.Single.{Single}
 use Rattle.task_table.specs.Entries.{entries}
 use Rattle.task_table.specs.Table.{Table, place_at}

@@ -4,7 +4,7 @@ ghost use Rattle.count_words.specs.Lends.{LeavesSo};
 ghost use Rattle.std.specs.Borrow.{sem};
 ghost use Rattle.task_machine.specs.Read.{is_nil};
 ghost use Rattle.std.specs.Prelude.{◌≡◌, ◌+◌, ◌++◌, ◌≤◌, false, length, not, vec_capacity};
-ghost use Rattle.task_records.specs.Seen.{IsSound, seen};
+ghost use Rattle.task_records.specs.Seen.{IsSoundCore, seen};
 ghost use Rattle.task_words.specs.Groups.{CountsEnded, IsAsked, asked, ended_groups};
 
 use record_table::RecordTable;
@@ -30,7 +30,7 @@ pub(crate) fn end_groups(
 /// Whether a group has ended since the core was last asked which.
 #[inline(always)]
 pub fn has_ended(parts: &CoreParts) -> bool
-    requires { IsSound parts.now }
+    requires { IsSoundCore parts.now }
     ensures ended { result ≡ not (is_nil (ended_groups (seen parts.now))) }
     ensures none { result ≡ false → IsAsked (seen parts.now) }
 {
@@ -39,7 +39,7 @@ pub fn has_ended(parts: &CoreParts) -> bool
 
 /// Each live group is known.
 pub fn count_ended(parts: &CoreParts)
-    requires { IsSound parts.now }
+    requires { IsSoundCore parts.now }
     ensures { CountsEnded (seen parts.now) }
 {
     let _parts = parts;
@@ -47,9 +47,9 @@ pub fn count_ended(parts: &CoreParts)
 
 /// The groups that have ended since the core was last asked, in order of number.
 pub fn ended(parts: &mut CoreParts) -> &[u64]
-    requires { IsSound parts.old }
+    requires { IsSoundCore parts.old }
     ensures numbers { result.now ≡ ended_groups (seen parts.old) }
-    ensures* same { sem 𝓛 (LeavesSo parts.entry (λ a. IsSound a × (seen a ≡ seen parts.old))) }
+    ensures* same { sem 𝓛 (LeavesSo parts.entry (λ a. IsSoundCore a × (seen a ≡ seen parts.old))) }
 {
     parts.ended.sort_unstable();
     parts.ended.as_slice()
@@ -57,8 +57,8 @@ pub fn ended(parts: &mut CoreParts) -> &[u64]
 
 /// The core was asked which groups have ended: from now on it knows the live ones alone.
 pub fn forget_ended(parts: &mut CoreParts)
-    requires { IsSound parts.old }
-    ensures sound { IsSound parts.new }
+    requires { IsSoundCore parts.old }
+    ensures sound { IsSoundCore parts.new }
     ensures new { seen parts.new ≡ asked (seen parts.old) }
 {
     parts.ended.clear();

@@ -1,7 +1,7 @@
 //! The places of groups in the resource table.
 ghost use Rattle.count_words.specs.Entries.{entry_at, GivesGroups, groups_above, number_at};
 ghost use Rattle.std.specs.Prelude.{◌≡◌};
-ghost use Rattle.table_order.specs.Places.{given_each};
+ghost use Rattle.table_order.specs.GivenPlaces.{given_each};
 
 use record_table::RecordTable;
 use table_order::{Holders, TablePlaces};

@@ -2,7 +2,7 @@
 ghost use Rattle.std.specs.Prelude.{◌≡◌, ◌≤◌};
 ghost use Rattle.count_words.specs.Limits.{with_capacity, with_handle_limit};
 ghost use Rattle.task_machine.specs.Read.{table_use};
-ghost use Rattle.task_records.specs.Seen.{IsSound, seen};
+ghost use Rattle.task_records.specs.Seen.{IsSoundCore, seen};
 ghost use Rattle.task_words.specs.StateView.{on_core};
 
 use task_records::CoreParts;
@@ -17,7 +17,7 @@ pub fn capacity(parts: &CoreParts) -> usize
 
 /// How many entries of the table are taken.
 pub fn used(parts: &CoreParts) -> u64
-    requires { IsSound parts.now }
+    requires { IsSoundCore parts.now }
     ensures { result ≡ table_use (seen parts.now).core }
 {
     parts.kept.used
@@ -26,9 +26,9 @@ pub fn used(parts: &CoreParts) -> u64
 /// Sets how many entries have room in the table, at most 4,294,967,295. A lowered capacity takes none
 /// away.
 pub fn set_capacity(parts: &mut CoreParts, entries: usize)
-    requires sound { IsSound parts.old }
+    requires sound { IsSoundCore parts.old }
     requires few { entries ≤ 4294967295 }
-    ensures sound { IsSound parts.new }
+    ensures sound { IsSoundCore parts.new }
     ensures new { seen parts.new ≡ on_core (with_capacity entries) (seen parts.old) }
 {
     parts.capacity = entries;
@@ -45,9 +45,9 @@ pub fn handle_limit(parts: &CoreParts) -> u32
 
 /// Sets how many handles may be live at once, at most 268,435,455. A lowered limit takes none away.
 pub fn set_handle_limit(parts: &mut CoreParts, handles: u32)
-    requires sound { IsSound parts.old }
+    requires sound { IsSoundCore parts.old }
     requires few { handles ≤ 268435455 }
-    ensures sound { IsSound parts.new }
+    ensures sound { IsSoundCore parts.new }
     ensures new { seen parts.new ≡ on_core (with_handle_limit handles) (seen parts.old) }
 {
     parts.counter.set_limit(handles);

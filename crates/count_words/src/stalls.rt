@@ -1,7 +1,7 @@
 ghost use Rattle.std.specs.List.{list_any};
 ghost use Rattle.std.specs.Prelude.{◌≡◌};
 ghost use Rattle.task_machine.specs.Read.{may_not_suspend};
-ghost use Rattle.task_records.specs.Seen.{IsSound, seen};
+ghost use Rattle.task_records.specs.Seen.{IsSoundCore, seen};
 ghost use Rattle.task_rules.specs.Stalled.{some_may_not_suspend};
 ghost use Rattle.task_table.specs.Entries.{entries};
 
@@ -27,7 +27,7 @@ fn some_entry_may_not(parts: &CoreParts) -> bool
 
 /// Whether the instance of some call may not suspend. It looks at all calls.
 pub fn some_may_not_suspend(parts: &CoreParts) -> bool
-    requires { IsSound parts.now }
+    requires { IsSoundCore parts.now }
     ensures { result ≡ some_may_not_suspend (seen parts.now).core }
 {
     some_entry_may_not(parts)

@@ -17,7 +17,7 @@ use Rattle.task_machine.specs.declared.trap.Trap.{Trap}
 use Rattle.task_machine.specs.Core.{Began, Core, State, Unscripted, fresh}
 use Rattle.task_machine.specs.Maps.{get, size}
 use Rattle.task_machine.specs.Write.{take_result}
-use Rattle.task_calls.specs.Calls.{Finishes, Starts}
+use Rattle.task_calls.specs.MainCalls.{Finishes, Starts}
 use Rattle.state_calls.specs.declared.error.TaskError.TheVariants as task_error
 use Rattle.task_store.proofs.FreshLemmas.{size_fresh}
 use Rattle.task_rules.specs.MainOps as row
@@ -26,7 +26,7 @@ use Rattle.task_rules.specs.Stalled.{Setting}
 use Rattle.task_rules.specs.Step.{OpenProgresses}
 use Rattle.task_rules.specs.Turns.{at_turn}
 use Rattle.futures.specs.declared.task.Poll.TheVariants.{Ready}
-use Rattle.task_loop.specs.Calls.{callee_of}
+use Rattle.task_loop.specs.LoopCalls.{callee_of}
 use Rattle.task_turns.specs.Drive.{Drives}
 use Rattle.task_turns.specs.Main.{Answers, Did}
 use Rattle.task_turns.specs.Turn.{running_of, state_at}

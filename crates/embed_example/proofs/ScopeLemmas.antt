@@ -2,14 +2,14 @@
 use Rattle.std.proofs.Common.{ap, arith, refl, subst, sym, ◌∙◌}
 use Rattle.std.specs.Option.{option_and_then}
 use Rattle.std.specs.Prelude.{List, None, Ok, Option, Some, length, slice_set, suc, zero, [], ℕ, ◌+◌, ◌-◌, ◌∷◌, ◌≡◌, ◌≤◌}
-use Rattle.task_group.proofs.GroupLemmas.{still_calm}
-use Rattle.task_group.specs.Listeners.{Told}
+use Rattle.task_group.proofs.GroupLemmas.{still_hook_is_ok}
+use Rattle.task_group.specs.Listeners.{ToldListeners}
 use Rattle.task_loop.proofs.MainStartLemmas.{shows_start}
 use Rattle.task_loop.proofs.MainToldLemmas.{started_notices}
 use Rattle.task_loop.proofs.StartLemmas.{start_current}
 use Rattle.task_loop.specs.CallStarts.{KeepsStore}
-use Rattle.task_loop.specs.Calls.{callee_of}
-use Rattle.task_loop.specs.HasRun.{HasStepped, MayStep}
+use Rattle.task_loop.specs.LoopCalls.{callee_of}
+use Rattle.task_loop.specs.HasRun.{HasStepResult, MayStep}
 use Rattle.task_loop.specs.Says.{Says}
 use Rattle.task_loop.specs.Told.{main_notices}
 use Rattle.task_loop.specs.declared.call.Func.{Func}
@@ -68,15 +68,15 @@ takes_none n m s k (Some kept.Ended) here scope none = refl
 module _ {M T H G : Type 0} (says : Says M) (course : H → HostDef) (c : Component) (f : Func) (words : List ℕ) (m : M) (s : Store T H G) (may : MayStep says course c m s) (t : Store T H G) (keeps : KeepsStore c s t) (k : ℕ) where
   -- the call was started in the scope
   pub child_started : (child : Child) → TellsStart (Ok child) s t → (call : FuncCallConcurrent) → StartsCall c f words s call.thread t → (thread : ℕ) → thread ≡ call.thread → (p : M) →
-      Steps c (says.script m) (says.part m) s.state.core (shows_start k thread) (says.part p) t.state.core → says.does m s.state.core (shows_start k thread) p t.state.core → says.suits p c → says.knows p t.state → HasStepped says course c (shows_start k thread) m s p t
+      Steps c (says.script m) (says.part m) s.state.core (shows_start k thread) (says.part p) t.state.core → says.does m s.state.core (shows_start k thread) p t.state.core → says.suits p c → says.knows p t.state → HasStepResult says course c (shows_start k thread) m s p t
   child_started child told call starts thread is p steps does suits knows =
       let started = started_notices c (callee_of f) words s.state t.state k (start_refusal s.state.core) call.thread starts in
       record {
         steps = steps;
         does = does;
-        told = subst (λ (i : ℕ). Told (main_notices (shows_start k i) s.state.core t.state.core) s.listeners t.listeners) (sym is)
-            (subst (λ (ns : List Notice). Told ns s.listeners t.listeners) started told.0);
-        calm = λ unrefused. still_calm s.listeners t.listeners told.0 told.1;
+        told = subst (λ (i : ℕ). ToldListeners (main_notices (shows_start k i) s.state.core t.state.core) s.listeners t.listeners) (sym is)
+            (subst (λ (ns : List Notice). ToldListeners ns s.listeners t.listeners) started told.0);
+        hook_is_ok = λ unrefused. still_hook_is_ok s.listeners t.listeners told.0 told.1;
         idle = start_current c (callee_of f) words s.state t.state (start_refusal s.state.core) (Ok call.thread) may.idle starts ∙ sym may.idle;
         suits = suits;
         knows = knows;

@@ -5,7 +5,7 @@ use Rattle.task_machine.specs.declared.component.ExportDef.{ExportDef}
 use Rattle.task_machine.specs.declared.component.InstanceDef.{InstanceDef}
 use Rattle.task_rules.specs.Scripts.{export_at}
 use Rattle.task_loop.specs.declared.call.Func.{Func}
-use Rattle.task_loop.specs.Calls.{callee_of}
+use Rattle.task_loop.specs.LoopCalls.{callee_of}
 use Rattle.task_turns.specs.Covered.{IsPlainExport}
 
 -- the export is there, and takes one word

@@ -5,7 +5,7 @@ use Rattle.embed_example.specs.Relays.{Relays}
 use Rattle.embed_example.specs.declared.parts.TheConstants.{DOUBLE, NEXT}
 use Rattle.embed_example.specs.declared.relay.Relay.{Relay}
 use Rattle.host_works.specs.declared.scripted.ScriptedHost.{ScriptedHost}
-use Rattle.task_loop.specs.HasRun.{HasStepped}
+use Rattle.task_loop.specs.HasRun.{HasStepResult}
 use Rattle.task_loop.specs.Says.{Says, unscripted}
 use Rattle.task_machine.specs.declared.component.Component.{Component}
 use Rattle.task_store.specs.declared.store.Store.{Store}
@@ -17,4 +17,4 @@ relay_says = unscripted (λ m c. TakesOne c DOUBLE × TakesOne c NEXT) Keeps (λ
 
 -- it did this step
 abbrev pub HasRelayed : {T G : Type 0} → Component → MainStep → Relay → Store T ScriptedHost G → Relay → Store T ScriptedHost G → Type 0
-HasRelayed c step m s n t = HasStepped relay_says (λ (w : ScriptedHost). w.left) c step m s n t
+HasRelayed c step m s n t = HasStepResult relay_says (λ (w : ScriptedHost). w.left) c step m s n t

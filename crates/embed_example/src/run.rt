@@ -1,6 +1,6 @@
 //! The store and the run.
 ghost use Rattle.std.specs.Prelude.{◌≡◌, ℕ, length, true, false, IfOk};
-ghost use Rattle.host_works.specs.Kept.{HoldsNone};
+ghost use Rattle.host_works.specs.KeptWorks.{HoldsNone};
 ghost use Rattle.task_machine.specs.Core.{fresh};
 ghost use Rattle.task_records.specs.Seen.{nothing};
 ghost use Rattle.task_words.specs.Groups.{IsAsked};

@@ -1,6 +1,6 @@
 -- The summary of a run: how many labels of each kind it has, and its outcome.
 use Rattle.label_trace.specs.Opened.{opened}
-use Rattle.label_trace.specs.declared.kinds.Kind.{Kind}
+use Rattle.label_trace.specs.declared.kinds.LabelKind.{LabelKind}
 use Rattle.std.specs.Prelude.{ℕ, Bool, true, false, List, ◌++◌, ◌≡◌, codes, cond, count_by, decimal, length}
 use Rattle.task_machine.specs.declared.label.CallLabel.TheVariants as call_label
 use Rattle.task_machine.specs.declared.label.Label.{Label}
@@ -43,7 +43,7 @@ pauses (label.Call (call_label.PausesPolls n i)) = true
 pauses _ = false
 
 -- a label of this kind counts as so many takings, held ones, ones that wake and ones that pause
-pub record CountsAs (kind : Kind) (taken held waking pausing : ℕ) : Type 0 where
+pub record CountsAs (kind : LabelKind) (taken held waking pausing : ℕ) : Type 0 where
   pub takes : (s : ℕ) (own all : List ℕ) → cond (takes (opened kind s own all)) 1 0 ≡ taken
   pub holds : (s : ℕ) (own all : List ℕ) → cond (holds (opened kind s own all)) 1 0 ≡ held
   pub wakes : (s : ℕ) (own all : List ℕ) → cond (wakes (opened kind s own all)) 1 0 ≡ waking

@@ -1,7 +1,7 @@
 ghost use Rattle.std.specs.Prelude.{◌≡◌, IfOk, count_by, true};
 ghost use Rattle.generated_scenario.specs.Summary.{CountsAs, holds, pauses, summary, takes, wakes};
 
-use label_trace::{CallKind, Kind, Labels, OwnKind, SetKind, TakeKind, TaskKind, ThreadKind};
+use label_trace::{CallKind, LabelKind, Labels, OwnKind, SetKind, TakeKind, TaskKind, ThreadKind};
 use report_text::{LINE, outcome_line};
 use std::alloc::Global;
 use task_machine::{NoMemory, Outcome};
@@ -17,7 +17,7 @@ struct Counts {
 
 // The kinds of a label, by its head's kind alone. Most labels are of none, and one look tells that.
 #[inline(always)]
-fn kinds(kind: Kind) -> Counts
+fn kinds(kind: LabelKind) -> Counts
     ensures { CountsAs kind result.takes result.holds result.wakes result.pauses }
 {
     let mut kinds = Counts {
@@ -27,7 +27,7 @@ fn kinds(kind: Kind) -> Counts
         pauses: 0,
     };
     match kind {
-        Kind::Take(_, kind) => {
+        LabelKind::Take(_, kind) => {
             kinds.takes = 1;
             match kind {
                 TakeKind::Held => kinds.holds = 1,
@@ -39,15 +39,15 @@ fn kinds(kind: Kind) -> Counts
                 _ => {}
             }
         }
-        Kind::Own(_, OwnKind::NothingWakes | OwnKind::CancelledWakes) => {
+        LabelKind::Own(_, OwnKind::NothingWakes | OwnKind::CancelledWakes) => {
             kinds.takes = 1;
             kinds.wakes = 1;
         }
-        Kind::Own(..) | Kind::Given(..) => kinds.takes = 1,
-        Kind::Task(TaskKind::TaskCancelWakes | TaskKind::ExitWakes)
-        | Kind::Set(SetKind::WaitWakes(_) | SetKind::JoinWakes)
-        | Kind::Call(CallKind::RetWakes) => kinds.wakes = 1,
-        Kind::Thread(ThreadKind::Pauses) | Kind::Call(CallKind::PausesPolls) => kinds.pauses = 1,
+        LabelKind::Own(..) | LabelKind::Given(..) => kinds.takes = 1,
+        LabelKind::Task(TaskKind::TaskCancelWakes | TaskKind::ExitWakes)
+        | LabelKind::Set(SetKind::WaitWakes(_) | SetKind::JoinWakes)
+        | LabelKind::Call(CallKind::RetWakes) => kinds.wakes = 1,
+        LabelKind::Thread(ThreadKind::Pauses) | LabelKind::Call(CallKind::PausesPolls) => kinds.pauses = 1,
         _ => {}
     }
     kinds
@@ -55,18 +55,18 @@ fn kinds(kind: Kind) -> Counts
 
 // Whether it is a label of the loop, as many are: none of those is of any of the kinds.
 #[inline(always)]
-fn is_of_loop(kind: Kind) -> bool
+fn is_of_loop(kind: LabelKind) -> bool
     ensures { result ≡ true → CountsAs kind 0 0 0 0 }
 {
-    matches!(kind, Kind::Loop(_))
+    matches!(kind, LabelKind::Loop(_))
 }
 
 // Whether it is that of a taking that was held and woke none.
 #[inline(always)]
-fn is_held(kind: Kind) -> bool
+fn is_held(kind: LabelKind) -> bool
     ensures { result ≡ true → CountsAs kind 1 1 0 0 }
 {
-    matches!(kind, Kind::Take(_, TakeKind::Held))
+    matches!(kind, LabelKind::Take(_, TakeKind::Held))
 }
 
 fn count(labels: &Labels<'_>) -> Counts

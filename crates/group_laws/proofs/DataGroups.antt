@@ -1,6 +1,6 @@
 -- An op on registers and words leaves the groups, and of which group each thread is.
 use Rattle.label_laws.specs.Own.{is_data}
-use Rattle.task_rules.proofs.Machine.{advanced, ap, arith, assigned, Bool, Call, call_group, change, Component, Core, data_row, DataOp, false, get, get-change, Goes, Instance, instance_of, moved_to, nat_tests, None, on_instance, on_thread, Option, option_map, option_map_or, position_of, Progress, Records, refl, Set, set_how_far, set_position, set_register, set_word, skip_row, skipped, Some, stored, sym, task_of, Thread, thread_group, true, value_of, ℕ, ◌+◌, ◌==◌, ◌∙◌, ◌≡◌}
+use Rattle.task_rules.proofs.Machine.{advanced, ap, arith, assigned, Bool, Call, call_group, change, Component, Core, data_rule, DataOp, false, get, get-change, Continues, Instance, instance_of, moved_to, nat_tests, None, on_instance, on_thread, Option, option_map, option_map_or, position_of, Progress, Records, refl, Set, set_op_progress, set_position, set_register, set_word, skip_rule, skipped, Some, stored, sym, task_of, Thread, thread_group, true, value_of, ℕ, ◌+◌, ◌==◌, ◌∙◌, ◌≡◌}
 
 -- From s to t the groups, the groups of calls and the calls of threads are as before.
 pub record Mild (s t : Core) : Type 0 where
@@ -38,11 +38,11 @@ mild_group {s = s} {t = t} h n = ap (λ k. call_group k t) (h.tasks n) ∙ h.cal
 
 -- What it comes to is of this thread, which runs on, and leaves the groups.
 abbrev pub Plain : ℕ → Core → Progress → Type 0
-Plain n s (Goes l new m) = (is_data l ≡ true) × ((m ≡ n) × Mild s new)
+Plain n s (Continues l new m) = (is_data l ≡ true) × ((m ≡ n) × Mild s new)
 Plain n s _ = ⊥
 
 moved_mild : (n p : ℕ) (s : Core) → Mild s (moved_to n p s)
-unfolding moved_to set_how_far set_position
+unfolding moved_to set_op_progress set_position
 moved_mild n p s = mild_then (mild_thread n (λ t. record t { position = p }) s (λ t. refl)) (mild_thread n _ _ (λ t. refl))
 
 advanced_mild : (n : ℕ) (s : Core) → Mild s (advanced n s)
@@ -61,11 +61,11 @@ skipped_mild : (c : Component) (n k : ℕ) (s : Core) → Mild s (skipped c n k 
 unfolding skipped
 skipped_mild c n k s = moved_mild n _ s
 
-skip_plain : (c : Component) (n k : ℕ) (s : Core) (b : Bool) → Plain n s (skip_row c n k s b)
+skip_plain : (c : Component) (n k : ℕ) (s : Core) (b : Bool) → Plain n s (skip_rule c n k s b)
 skip_plain c n k s true = (refl, (refl, skipped_mild c n k s))
 skip_plain c n k s false = (refl, (refl, advanced_mild n s))
 
-pub data_plain : (c : Component) (n : ℕ) (s : Core) (o : DataOp) → Plain n s (data_row c n s o)
+pub data_plain : (c : Component) (n : ℕ) (s : Core) (o : DataOp) → Plain n s (data_rule c n s o)
 data_plain c n s (DataOp.Set r x) = (refl, (refl, assigned_mild n r _ s))
 data_plain c n s (DataOp.Add r x) = (refl, (refl, assigned_mild n r _ s))
 data_plain c n s (DataOp.Handle r x) = (refl, (refl, assigned_mild n r _ s))

@@ -18,7 +18,7 @@ use Rattle.task_machine.specs.declared.records.Turn.TheVariants as turn
 use Rattle.task_machine.specs.declared.scenario.MainOpDef.{MainOpDef}
 use Rattle.task_machine.specs.declared.trap.Trap.{Trap}
 use Rattle.task_rules.specs.Calls.{work_queued}
-use Rattle.task_rules.specs.MainOps.{Abort, Answer, Answers, Await, Does, Finish, MainAct, MainProgress, Pends, Quiet, Ready, Spawn, SpawnOpen, Start, act_of, finish_act, finish_result, has_interesting, is_complete, is_ready_for_call, line_of, main_aborted, main_row, main_spawned, open_spawned, op_at, start_act, start_refusal, unless_pending}
+use Rattle.task_rules.specs.MainOps.{Abort, Answer, Answers, Await, Does, Finish, MainAct, MainProgress, Pends, Quiet, Ready, Spawn, SpawnOpen, Start, act_of, finish_act, finish_result, has_interesting, is_complete, is_ready_for_call, line_of, main_aborted, main_rule, main_spawned, open_spawned, op_at, start_act, start_refusal, unless_pending}
 use Rattle.task_rules.specs.Stalled.{Setting}
 use Rattle.task_rules.specs.Step.{MainProgresses, MainStep, OpenAct, OpenProgresses, OpenStep, ScriptStep}
 use Rattle.task_rules.specs.Turns.{at_turn}
@@ -57,16 +57,16 @@ aborted_groups : (i : ℕ) (s : Core) → (main_aborted i s).groups ≡ s.groups
 unfolding main_aborted set_phase on_work
 aborted_groups i s = refl
 
-row_spared : (c : Component) (k : ℕ) (s : Core) (act : MainAct) → Spared s (main_row c k s act)
-row_spared c k s (Start e words) = start_spared c k e words s (start_refusal s)
-row_spared c k s (Finish x) = finish_spared k s x
-row_spared c k s (Spawn h) = λ other. spawned_groups c h s
-row_spared c k s SpawnOpen = λ other. opened_groups s
-row_spared c k s (Abort i) = λ other. aborted_groups i s
-row_spared c k s (Await i) = pending_spared (is_complete (phase_of i s)) (main_label.Await k) s
-row_spared c k s Quiet = pending_spared (not (has_interesting s)) main_label.Quiet s
-row_spared c k s (Ready i) = pending_spared (is_ready_for_call i s) main_label.Ready s
-row_spared c k s (Answer v) = tt
+rule_spared : (c : Component) (k : ℕ) (s : Core) (act : MainAct) → Spared s (main_rule c k s act)
+rule_spared c k s (Start e words) = start_spared c k e words s (start_refusal s)
+rule_spared c k s (Finish x) = finish_spared k s x
+rule_spared c k s (Spawn h) = λ other. spawned_groups c h s
+rule_spared c k s SpawnOpen = λ other. opened_groups s
+rule_spared c k s (Abort i) = λ other. aborted_groups i s
+rule_spared c k s (Await i) = pending_spared (is_complete (phase_of i s)) (main_label.Await k) s
+rule_spared c k s Quiet = pending_spared (not (has_interesting s)) main_label.Quiet s
+rule_spared c k s (Ready i) = pending_spared (is_ready_for_call i s) main_label.Ready s
+rule_spared c k s (Answer v) = tt
 
 core_at : (s : State) (new : Core) (m : Main) (p : Turn) → (at_turn s new m p).core ≡ new
 unfolding at_turn
@@ -85,7 +85,7 @@ script_spares s p o (Answers v) l t h spared other = groups_at s s.core s.main t
 
 place_spares : (x : Setting) (s : State) (p : MainPlace) (o : Option MainOpDef) (l : Label) (t : State) → ScriptStep x s p o l t → is_start l ≡ false → t.core.groups ≡ s.core.groups
 place_spares x s p None l t h other = groups_at s s.core s.main (turn.Futures 0) t h.1 refl
-place_spares x s p (Some o) l t h other = script_spares s p o _ l t h (row_spared x.component (line_of p o) s.core (act_of p o)) other
+place_spares x s p (Some o) l t h other = script_spares s p o _ l t h (rule_spared x.component (line_of p o) s.core (act_of p o)) other
 
 open_spares : (s : State) (q : MainProgress) (l : Label) (t : State) → OpenProgresses s q l t → Spared s.core q → is_start l ≡ false → t.core.groups ≡ s.core.groups
 open_spares s (Does k new) l t h spared other = groups_at s new s.main turn.Main t h.1 (spared (shown_start l k h.0 other))
@@ -93,7 +93,7 @@ open_spares s Pends l t h spared other = absurd h
 open_spares s (Answers v) l t h spared other = groups_at s s.core s.main turn.Over t h.1 refl
 
 act_spares : (x : Setting) (s : State) (l : Label) (t : State) → (k : ℕ) × ((act : MainAct) × OpenAct x s k act l t) → is_start l ≡ false → t.core.groups ≡ s.core.groups
-act_spares x s l t h other = open_spares s _ l t h.1.1.1 (row_spared x.component h.0 s.core h.1.0) other
+act_spares x s l t h other = open_spares s _ l t h.1.1.1 (rule_spared x.component h.0 s.core h.1.0) other
 
 any_spares : (x : Setting) (s : State) (l : Label) (t : State) → OpenStep x s l t → is_start l ≡ false → t.core.groups ≡ s.core.groups
 any_spares x s (label.Loop loop_label.MainPends) t h other = groups_at s s.core s.main (turn.Futures 0) t h refl

@@ -11,7 +11,7 @@ use Rattle.std.proofs.Common.{append_assoc}
 use Rattle.std.specs.List.{list_all}
 use Rattle.task_machine.specs.declared.records.Notice.{Notice}
 use Rattle.task_machine.specs.declared.records.NoticeKind.{NoticeKind}
-use Rattle.task_rules.proofs.Machine.{Asks, HostPoll, Bool, Call, CallLabel, Component, Core, Enter, Fails, Goes, Label, List, Main, Never, Op, Ordered, Progress, Progresses, Run, Set, Setting, Some, State, Step, Stops, Thread, Traps, Turn, TurnStep, [], and_parts, ap, ap₂, arith, choice_of, cond, data_row, did, false, history, nat_tests, op_of, op_row, refl, subst, sym, thread_group, trap_label, true, ℕ, ◌++◌, ◌==◌, ◌∙◌, ◌∷◌, ◌≡◌}
+use Rattle.task_rules.proofs.Machine.{Asks, HostPoll, Bool, Call, CallLabel, Component, Core, Enter, Fails, Continues, Label, List, Main, Never, Op, Ordered, Progress, Progresses, Run, Set, Setting, Some, State, Step, Stops, Thread, Traps, Turn, TurnStep, [], and_parts, ap, ap₂, arith, choice_of, cond, data_rule, did, false, history, nat_tests, op_of, scripted_op_rule, refl, subst, sym, thread_group, trap_label, true, ℕ, ◌++◌, ◌==◌, ◌∙◌, ◌∷◌, ◌≡◌}
 use Rattle.task_rules.specs.Notices.{finish_notices, group_notice, moment_notices, notices, of_live, running_group, switch_notices}
 use Rattle.task_rules.specs.OpParts.{is_data_op}
 use Rattle.task_rules.specs.Step.{RunStep, own_script}
@@ -27,15 +27,15 @@ done_no_data _ done = refl
 
 module _ (c : Component) (s : State) (l : Label) (t : State) (d : is_data l ≡ true) (n : ℕ) where
   -- no other op shows such a label
-  never_shown : {A : Type 0} (o : Op) → is_data_op o ≡ false → Progresses s s.core n (op_row c n s.core (choice_of l) o) l t → A
+  never_shown : {A : Type 0} (o : Op) → is_data_op o ≡ false → Progresses s s.core n (scripted_op_rule c n s.core (choice_of l) o) l t → A
   never_shown o other h =
-      let row = op_row c n s.core (choice_of l) o in
+      let row = scripted_op_rule c n s.core (choice_of l) o in
       no_data l d
       (shown (λ k. is_data k ≡ false) s s.core n (λ why is. refl) (λ i. refl) row
       (wider IsDone (λ k. is_data k ≡ false) done_no_data row (op_done (own_script o) c n s.core (choice_of l) o other)) l t h)
 
-  op_runs_on : (o : Op) → Progresses s s.core n (op_row c n s.core (choice_of l) o) l t → RunsOn s n l t
-  op_runs_on (Op.Data o) h = plain_runs_on s n (data_row c n s.core o) l t (data_plain c n s.core o) h
+  op_runs_on : (o : Op) → Progresses s s.core n (scripted_op_rule c n s.core (choice_of l) o) l t → RunsOn s n l t
+  op_runs_on (Op.Data o) h = plain_runs_on s n (data_rule c n s.core o) l t (data_plain c n s.core o) h
   op_runs_on (Op.Task o) h = never_shown (Op.Task o) refl h
   op_runs_on (Op.Set o) h = never_shown (Op.Set o) refl h
   op_runs_on (Op.Call o) h = never_shown (Op.Call o) refl h

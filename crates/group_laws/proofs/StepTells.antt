@@ -5,10 +5,10 @@ use Rattle.label_laws.proofs.OwnLemmas.{IsOwn}
 use Rattle.label_laws.proofs.ShowLemmas.{wider}
 use Rattle.label_laws.proofs.TakingLemmas.{IsThreadTaken, thread_shows}
 use Rattle.label_laws.proofs.TurnLemmas.{run_shows, shown}
-use Rattle.label_laws.specs.Own.{is_data, is_main_turn, is_row_trap, taking_shown}
+use Rattle.label_laws.specs.Own.{is_data, is_main_turn, is_rule_trap, taking_shown}
 use Rattle.task_machine.specs.declared.label.TakeLabel.{TakeLabel}
 use Rattle.task_machine.specs.declared.records.Notice.{Notice}
-use Rattle.task_rules.proofs.Machine.{Asked, Asks, Bool, CallLabel, Core, DeadlockStep, EmptyFor, Ends, Entry, Fails, FailsNow, FuturesStep, Goes, Label, List, Mark, Never, None, Option, Ordered, Poll, Polled, Progress, Progresses, RestStep, Setting, Some, State, Step, StillPends, Stops, Subtask, TakeStep, Trap, Traps, Turn, TurnStep, [], ap, ap₂, at_turn, choice_of, did, entry_number, false, goes_to, has_moving_work, host_done, host_label, is_unended_take, may, may_deadlock, may_publish, next_entry, next_polled, option_and_then, place_of, poll_of, popped, refl, subst, sym, take_row, thread_taken, trap_label, true, woken, work_group, ℕ, ◌++◌, ◌∙◌, ◌≡◌}
+use Rattle.task_rules.proofs.Machine.{Asked, Asks, Bool, CallLabel, Core, DeadlockStep, EmptyFor, Ends, Entry, Fails, FailsNow, FuturesStep, Continues, Label, List, Mark, Never, None, Option, Ordered, Poll, Polled, Progress, Progresses, RestStep, Setting, Some, State, Step, StillPends, Stops, Subtask, TakeStep, Trap, Traps, Turn, TurnStep, [], ap, ap₂, at_turn, choice_of, did, entry_number, false, goes_to, has_moving_work, host_done, host_label, is_unended_take, may, may_deadlock, may_publish, next_entry, next_polled, option_and_then, place_of, poll_of, popped, refl, subst, sym, take_rule, thread_taken, trap_label, true, woken, work_group, ℕ, ◌++◌, ◌∙◌, ◌≡◌}
 use Rattle.task_rules.specs.Notices.{around, finish_notices, of_live, running_group, start_notices, switch_notices, work_notices}
 use Rattle.task_rules.specs.Step.{RunStep}
 
@@ -70,7 +70,7 @@ unfolding at_turn
 core_at s new p = refl
 
 pub plain_runs_on : (s : State) (n : ℕ) (p : Progress) (l : Label) (t : State) → Plain n s.core p → Progresses s s.core n p l t → RunsOn s n l t
-plain_runs_on s n (Goes k new m) l t q h = record {
+plain_runs_on s n (Continues k new m) l t q h = record {
   data_label = ap is_data h.0 ∙ q.0;
   runs = ap (λ (u : State). u.turn) h.1 ∙ (ap (λ j. (goes_to s new (Turn.Run j)).turn) q.1.0 ∙ turn_at s new n);
   mild = subst (λ (c : Core). Mild s.core c) (sym (ap (λ (u : State). u.core) h.1 ∙ core_at s new (Turn.Run m))) q.1.1;
@@ -139,7 +139,7 @@ module _ (s : State) (l : Label) (t : State) where
     quiet_entry e next none silent = quiet (Turn.Take b) at (ap (λ (o : Option (Mark × Entry)). entry_group o s.core) next ∙ none) silent
 
     thread_tells : (n : ℕ) → next_entry s.core ≡ Some (m, Entry.Thread n) →
-        Progresses s (popped m s.core) n (take_row m (choice_of l) (popped m s.core) (Entry.Thread n)) l t → Tells s l t
+        Progresses s (popped m s.core) n (take_rule m (choice_of l) (popped m s.core) (Entry.Thread n)) l t → Tells s l t
     thread_tells n next h =
         let base = popped m s.core in
         quiet_entry (Entry.Thread n) next refl
@@ -147,7 +147,7 @@ module _ (s : State) (l : Label) (t : State) where
         (wider (IsThreadTaken m) IsSilent (taken_silent m) _ (thread_shows m n (choice_of l) base (place_of n base))) l t h)
 
     push_tells : (i : ℕ) → next_entry s.core ≡ Some (m, Entry.Push i) →
-        Progresses s (popped m s.core) i (take_row m (choice_of l) (popped m s.core) (Entry.Push i)) l t → Tells s l t
+        Progresses s (popped m s.core) i (take_rule m (choice_of l) (popped m s.core) (Entry.Push i)) l t → Tells s l t
     push_tells i next h = quiet_entry (Entry.Push i) next refl (subst IsSilent (sym h.0) (record { starts = λ c. refl; works = λ c. refl }))
 
     host_label_tells : (i : ℕ) (w : Option ℕ) (u : Core) → (start_notices (host_label m i w) u ≡ []) × (work_notices (host_label m i w) s.core ≡ around (work_group i s.core))
@@ -165,7 +165,7 @@ module _ (s : State) (l : Label) (t : State) where
     host_done_tells i w false next h = absurd h
 
     entry_tells : (e : Entry) → next_entry s.core ≡ Some (m, e) →
-        Progresses s (popped m s.core) (entry_number e) (take_row m (choice_of l) (popped m s.core) e) l t → Tells s l t
+        Progresses s (popped m s.core) (entry_number e) (take_rule m (choice_of l) (popped m s.core) e) l t → Tells s l t
     entry_tells (Entry.Thread n) next h = thread_tells n next h
     entry_tells (Entry.Push i) next h = push_tells i next h
     entry_tells (Entry.Host i) next h = host_done_tells i (choice_of l).woken (may_publish (Subtask.Host i) (choice_of l).woken (popped m s.core)) next h

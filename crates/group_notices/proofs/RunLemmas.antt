@@ -6,9 +6,9 @@ use Rattle.group_laws.proofs.StepTells.{notices_told}
 use Rattle.group_laws.specs.Tells.{worked_group}
 use Rattle.group_notices.proofs.SeenLemmas.{among, moves_seen}
 use Rattle.group_notices.specs.Moves.{moved, switched}
-use Rattle.group_notices.specs.Runs.{AskedTold, DataTold, HasTold, MainTold, NothingTold, StepTold, moment, running_in, worked_in}
+use Rattle.group_notices.specs.Runs.{OtherTurnsTold, DataTold, HasTold, MainTold, NothingTold, StepTold, moment, running_in, worked_in}
 use Rattle.task_group.proofs.GroupLemmas.{told-append, told-none}
-use Rattle.task_group.specs.Listeners.{Listeners, Told}
+use Rattle.task_group.specs.Listeners.{Listeners, ToldListeners}
 use Rattle.task_machine.specs.Core.{Core, State}
 use Rattle.task_machine.specs.declared.label.Label.{Label}
 use Rattle.task_machine.specs.declared.records.Notice.{Notice}
@@ -24,7 +24,7 @@ nothing_told x s before l = record { added = []; trace = sym (append-nil before)
 
 -- a run goes on by one that tells this
 more_told : (x : Setting) (s : State) (before : List Label) (m : State) (mid ls : List Label) (t : State) (old g new : Listeners) →
-    HasTold x s before m mid old g → (run : Run x m ls t) → Told (notices (history x m ls t run)) g new →
+    HasTold x s before m mid old g → (run : Run x m ls t) → ToldListeners (notices (history x m ls t run)) g new →
     HasTold x s before t (mid ++ ls) old new
 more_told x s before m mid ls t old g new h run told =
     let both = runs_tell_on x s h.added m ls t h.run run in
@@ -32,27 +32,27 @@ more_told x s before m mid ls t old g new h run told =
       added = h.added ++ ls;
       trace = ap (λ (ks : List Label). ks ++ ls) h.trace ∙ append_assoc before h.added ls;
       run = both.0;
-      told = subst (λ (ns : List Notice). Told ns old new) (sym both.1)
+      told = subst (λ (ns : List Notice). ToldListeners ns old new) (sym both.1)
           (told-append (notices (history x s h.added m h.run)) (notices (history x m ls t run)) old g new h.told told);
     }
 
 pub step_told_on : StepTold
 step_told_on x s before m mid l t old g new h step told =
     more_told x s before m mid (l ∷ []) t old g new h (t, (step, refl))
-    (subst (λ (ns : List Notice). Told ns g new) (sym (append-nil (moment_notices (moment m l t)))) told)
+    (subst (λ (ns : List Notice). ToldListeners ns g new) (sym (append-nil (moment_notices (moment m l t)))) told)
 
 pub data_told : DataTold
 data_told x s before m mid ls t n old new h at run all =
     more_told x s before m mid ls t old new new h run
-    (subst (λ (ns : List Notice). Told ns new new) (sym (data_runs_tell_nothing x m ls t n run at all)) (told-none new))
+    (subst (λ (ns : List Notice). ToldListeners ns new new) (sym (data_runs_tell_nothing x m ls t n run at all)) (told-none new))
 
 -- the group of the thread that runs, among these
 running_among : (gs : List ℕ) (positive : is_in gs 0 ≡ false) (s : Core) (p : Turn) → among gs positive (running_group s p) ≡ running_in gs s p
 running_among gs positive s (turn.Run n) = refl
 running_among gs positive s _ = refl
 
-pub asked_told : AskedTold
-asked_told x s l t a step main q positive =
+pub other_turns_told : OtherTurnsTold
+other_turns_told x s l t a step main q positive =
     let gs = s.core.groups in
     ap₂ (λ (r : ℕ) (w : Option ℕ). (switched r (running_in gs t.core t.turn) ++ around w) ++ finish_notices gs t.core.groups) q.running q.worked
     ∙ (sym (ap (λ (ns : List Notice). ns ++ finish_notices gs t.core.groups)

@@ -9,12 +9,12 @@ use Rattle.task_machine.specs.declared.records.Notice.{Notice}
 use Rattle.task_machine.specs.declared.records.NoticeKind.{NoticeKind}
 use Rattle.task_machine.specs.declared.records.NoticeKind.TheVariants as notice
 use Rattle.task_rules.specs.Notices.{around, group_notice, is_in, of_live, same_group, switch_notices, told_of}
-use Rattle.task_words.specs.Groups.{if_known, some_if_known}
+use Rattle.task_words.specs.Groups.{if_tracked, some_if_tracked}
 
 module _ (gs : List ℕ) (positive : is_in gs 0 ≡ false) where
   -- the group of an option, 0 where it is none of these
   abbrev pub among : Option ℕ → ℕ
-  among o = option_map_or (if_known gs) o 0
+  among o = option_map_or (if_tracked gs) o 0
 
   apart : (g : ℕ) → is_in gs g ≡ true → (g == 0) ≡ false
   apart g there = by (g == 0) refl
@@ -49,8 +49,8 @@ module _ (gs : List ℕ) (positive : is_in gs 0 ≡ false) where
   self : (k : ℕ) → switched k k ≡ []
   self k = let is : (k == k) ≡ true = grind (arith, nat_tests) in ap (λ (b : Bool). cond {A = List Notice} b [] (one notice.Exit k ++ one notice.Enter k)) is
 
-  two_seen : (g h : ℕ) (b : Bool) → (g == h) ≡ b → of_live gs (cond b [] (group_notice notice.Exit (Some g) ++ group_notice notice.Enter (Some h))) ≡ switched (if_known gs g) (if_known gs h)
-  two_seen g h true same = let is : g ≡ h = grind (arith, nat_tests, same) in sym (self (if_known gs g)) ∙ ap (λ k. switched (if_known gs g) (if_known gs k)) is
+  two_seen : (g h : ℕ) (b : Bool) → (g == h) ≡ b → of_live gs (cond b [] (group_notice notice.Exit (Some g) ++ group_notice notice.Enter (Some h))) ≡ switched (if_tracked gs g) (if_tracked gs h)
+  two_seen g h true same = let is : g ≡ h = grind (arith, nat_tests, same) in sym (self (if_tracked gs g)) ∙ ap (λ k. switched (if_tracked gs g) (if_tracked gs k)) is
   two_seen g h false other = both_seen (Some g) (Some h) ∙ alike g h other (is_in gs g) (is_in gs h) refl refl
 
   enter_by : (h : ℕ) (b : Bool) → is_in gs h ≡ b → one notice.Enter (cond b h 0) ≡ switched 0 (cond b h 0)
@@ -73,11 +73,11 @@ module _ (gs : List ℕ) (positive : is_in gs 0 ≡ false) where
   around_by g false = refl
 
   -- a work is worked on
-  pub around_seen : (o : Option ℕ) → of_live gs (around o) ≡ around (option_and_then (some_if_known gs) o)
+  pub around_seen : (o : Option ℕ) → of_live gs (around o) ≡ around (option_and_then (some_if_tracked gs) o)
   around_seen None = refl
   around_seen (Some g) = around_by g (is_in gs g)
 
-  pub moves_seen : (o n w : Option ℕ) → of_live gs (switch_notices o n ++ around w) ≡ switched (among o) (among n) ++ around (option_and_then (some_if_known gs) w)
+  pub moves_seen : (o n w : Option ℕ) → of_live gs (switch_notices o n ++ around w) ≡ switched (among o) (among n) ++ around (option_and_then (some_if_tracked gs) w)
   moves_seen o n w =
       filter-append (λ (m : Notice). is_in gs m.group) (switch_notices o n) (around w)
       ∙ ap₂ (λ (xs ys : List Notice). xs ++ ys) (switch_seen o n) (around_seen w)

@@ -1,7 +1,7 @@
 -- The notices of exits, enters and finishes, and how they are told. A group of number 0 is none: nothing is told of it.
 use Rattle.std.specs.Prelude.{List, OnErr, OnOk, Result, [], if◌then◌else◌, is_some, map, ℕ, ◌++◌, ◌==◌, ◌∷◌, ◌≡◌}
-use Rattle.group_notices.specs.declared.tells.Asked.{Asked}
-use Rattle.task_group.specs.Listeners.{AnsweredErr, Listeners, Told, ToldCalmly, errors_of}
+use Rattle.group_notices.specs.declared.tells.GroupsBefore.{GroupsBefore}
+use Rattle.task_group.specs.Listeners.{AnsweredErr, Listeners, ToldListeners, ToldWithHookOk, errors_of}
 use Rattle.task_machine.specs.declared.records.Notice.{Notice}
 use Rattle.task_machine.specs.declared.records.NoticeKind.{NoticeKind}
 use Rattle.task_machine.specs.declared.records.NoticeKind.TheVariants as notice
@@ -17,7 +17,7 @@ abbrev pub switched : (old new : ℕ) → List Notice
 switched old new = if old == new then [] else one notice.Exit old ++ one notice.Enter new
 
 -- the exits and enters of a step before which this was asked, and after which a thread of this group runs
-abbrev pub moved : Asked → (running : ℕ) → List Notice
+abbrev pub moved : GroupsBefore → (running : ℕ) → List Notice
 moved a running = switched a.running running ++ around a.worked
 
 abbrev pub finishes : List ℕ → List Notice
@@ -32,18 +32,18 @@ pub record StopsAt (all : List Notice) (old new : Listeners) : Type 0 where
   pub behind : List Notice
   pub parts : before ++ failed ∷ behind ≡ all
   pub between : Listeners
-  pub calm : ToldCalmly before old between
-  pub last : Told (failed ∷ []) between new
+  pub hook_is_ok : ToldWithHookOk before old between
+  pub last : ToldListeners (failed ∷ []) between new
   pub answered : AnsweredErr between new
 
 -- A call answers an error just where the hook answered one in it, and leaves that there is a hook, or none.
 pub record AnswersAsHook {A E : Type 0} (answer : Result A E) (old new : Listeners) : Type 0 where
   pub failed : OnErr answer (AnsweredErr old new)
-  pub calm : OnOk answer (errors_of new ≡ errors_of old)
+  pub hook_is_ok : OnOk answer (errors_of new ≡ errors_of old)
   pub hook : is_some new.hook ≡ is_some old.hook
 
 -- These are told, as far as the hook answers no error.
 pub record TellsAsFar {A E : Type 0} (notices : List Notice) (answer : Result A E) (old new : Listeners) : Type 0 where
-  pub told : OnOk answer (ToldCalmly notices old new)
+  pub told : OnOk answer (ToldWithHookOk notices old new)
   pub stops : OnErr answer (StopsAt notices old new)
   pub hook : is_some new.hook ≡ is_some old.hook

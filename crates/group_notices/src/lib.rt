@@ -4,5 +4,5 @@
 mod runs;
 mod tells;
 
-pub use runs::{asked_is_told, data_is_told, main_is_told, nothing_is_told, steps_are_told};
-pub use tells::{Asked, tell_at_once, tell_finishes, tell_moves};
+pub use runs::{other_turns_are_told, data_is_told, main_is_told, nothing_is_told, steps_are_told};
+pub use tells::{GroupsBefore, tell_at_once, tell_finishes, tell_moves};

@@ -1,5 +1,5 @@
 //! What a run has told: each function here is the statement of a law.
-ghost use Rattle.group_notices.specs.Runs.{AskedTold, DataTold, MainTold, NothingTold, StepTold};
+ghost use Rattle.group_notices.specs.Runs.{OtherTurnsTold, DataTold, MainTold, NothingTold, StepTold};
 
 /// Before the first step nothing was told.
 #[tactic(auto, using(crate::proofs::RunLemmas::nothing_told))]
@@ -20,8 +20,8 @@ pub fn data_is_told()
 {}
 
 /// In each turn but main's `tell_step` tells just the notices of the step, from what was asked before it.
-pub fn asked_is_told()
-    ensures { AskedTold }
+pub fn other_turns_are_told()
+    ensures { OtherTurnsTold }
 {}
 
 /// At main's turn the notices are those of the group that a start made, and of those that its refusal finished.

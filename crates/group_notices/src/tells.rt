@@ -1,6 +1,6 @@
 ghost use Rattle.std.specs.Prelude.{◌≡◌, ◌∷◌, [], Some, false, is_some, true};
 ghost use Rattle.group_notices.specs.Moves.{AnswersAsHook, TellsAsFar, finishes, moved, one, switched};
-ghost use Rattle.task_group.specs.Listeners.{Told, ToldCalmly};
+ghost use Rattle.task_group.specs.Listeners.{ToldListeners, ToldWithHookOk};
 ghost use Rattle.task_rules.specs.Notices.{around, told_of};
 
 use task_group::{HookError, Listeners, TaskGroupHook, TaskGroupId};
@@ -9,7 +9,7 @@ use task_machine::NoticeKind;
 /// What is asked of a turn before its step: the group of the thread that runs, 0 where none does or its group is finished, and
 /// that of the work which the turn works on, as long as it isn't.
 #[derive(Clone, Copy)]
-pub struct Asked {
+pub struct GroupsBefore {
     pub running: u64,
     pub worked: Option<u64>,
 }
@@ -21,7 +21,7 @@ fn tell_one<H: TaskGroupHook>(
     kind: NoticeKind,
     group: u64,
 ) -> Result<(), HookError>
-    ensures told { Told (one kind group) listeners.old listeners.new }
+    ensures told { ToldListeners (one kind group) listeners.old listeners.new }
     ensures hook { AnswersAsHook result listeners.old listeners.new }
 {
     if group == 0 {
@@ -66,13 +66,13 @@ fn visit<H: TaskGroupHook>(
 /// none where that is 0. An error is the hook's: after it the rest isn't told.
 pub fn tell_moves<H: TaskGroupHook>(
     listeners: &mut Listeners<H>,
-    asked: &Asked,
+    groups_before: &GroupsBefore,
     running: u64,
 ) -> Result<(), HookError>
-    ensures { TellsAsFar (moved asked.now running) result listeners.old listeners.new }
+    ensures { TellsAsFar (moved groups_before.now running) result listeners.old listeners.new }
 {
-    switch(listeners, asked.running, running)?;
-    visit(listeners, asked.worked)
+    switch(listeners, groups_before.running, running)?;
+    visit(listeners, groups_before.worked)
 }
 
 /// Tells that these groups finish, in their order. An error is the hook's: the rest is told all the same.
@@ -80,24 +80,24 @@ pub fn tell_finishes<H: TaskGroupHook>(
     listeners: &mut Listeners<H>,
     ended: &[u64],
 ) -> Result<(), HookError>
-    ensures told { Told (finishes ended.now) listeners.old listeners.new }
+    ensures told { ToldListeners (finishes ended.now) listeners.old listeners.new }
     ensures hook { AnswersAsHook result listeners.old listeners.new }
 {
-    let mut calm = true;
+    let mut hook_is_ok = true;
     for number in ended {
         let id = TaskGroupId { number: *number };
         if listeners.tell(NoticeKind::Finish, id).is_err() {
-            calm = false;
+            hook_is_ok = false;
         }
     }
-    if calm { Ok(()) } else { Err(HookError) }
+    if hook_is_ok { Ok(()) } else { Err(HookError) }
 }
 
 // Another group runs, or none: told at once, where that takes one notice at most, which is kept in four bytes, and there is no
 // hook. Answers whether it was told; else nothing is.
 #[inline(always)]
 fn switch_at_once<H: TaskGroupHook>(listeners: &mut Listeners<H>, old: u64, new: u64) -> bool
-    ensures told { result ≡ true → ToldCalmly (switched old new) listeners.old listeners.new }
+    ensures told { result ≡ true → ToldWithHookOk (switched old new) listeners.old listeners.new }
     ensures none { result ≡ false → listeners.new ≡ listeners.old }
 {
     if old == new {
@@ -116,7 +116,7 @@ fn switch_at_once<H: TaskGroupHook>(listeners: &mut Listeners<H>, old: u64, new:
 #[inline(always)]
 fn leave<H: TaskGroupHook>(listeners: &mut Listeners<H>, id: TaskGroupId)
     requires { is_some listeners.old.hook ≡ false }
-    ensures { ToldCalmly (told_of NoticeKind.Exit id.number ∷ []) listeners.old listeners.new }
+    ensures { ToldWithHookOk (told_of NoticeKind.Exit id.number ∷ []) listeners.old listeners.new }
 {
     if listeners.tell_word(NoticeKind::Exit, id) {
         return;
@@ -128,7 +128,7 @@ fn leave<H: TaskGroupHook>(listeners: &mut Listeners<H>, id: TaskGroupId)
 #[inline(always)]
 fn visit_at_once<H: TaskGroupHook>(listeners: &mut Listeners<H>, group: u64) -> bool
     requires { is_some listeners.old.hook ≡ false }
-    ensures told { result ≡ true → ToldCalmly (around (Some group)) listeners.old listeners.new }
+    ensures told { result ≡ true → ToldWithHookOk (around (Some group)) listeners.old listeners.new }
     ensures none { result ≡ false → listeners.new ≡ listeners.old }
 {
     let id = TaskGroupId { number: group };
@@ -144,18 +144,18 @@ fn visit_at_once<H: TaskGroupHook>(listeners: &mut Listeners<H>, group: u64) -> 
 #[inline(always)]
 pub fn tell_at_once<H: TaskGroupHook>(
     listeners: &mut Listeners<H>,
-    asked: &Asked,
+    groups_before: &GroupsBefore,
     running: u64,
 ) -> bool
     requires unhooked { is_some listeners.old.hook ≡ false }
-    ensures told { result ≡ true → ToldCalmly (moved asked.now running) listeners.old listeners.new }
+    ensures told { result ≡ true → ToldWithHookOk (moved groups_before.now running) listeners.old listeners.new }
     ensures none { result ≡ false → listeners.new ≡ listeners.old }
     ensures hook { is_some listeners.new.hook ≡ is_some listeners.old.hook }
 {
-    match asked.worked {
-        None => switch_at_once(listeners, asked.running, running),
+    match groups_before.worked {
+        None => switch_at_once(listeners, groups_before.running, running),
         Some(group) => {
-            if asked.running != 0 || running != 0 {
+            if groups_before.running != 0 || running != 0 {
                 return false;
             }
             visit_at_once(listeners, group)

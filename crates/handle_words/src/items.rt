@@ -5,11 +5,11 @@ ghost use Rattle.task_machine.specs.Read.{new_handle, subtask_at};
 ghost use Rattle.task_machine.specs.Write.{free_handle, give_handle};
 ghost use Rattle.task_records.specs.Instances.{named_of};
 ghost use Rattle.task_records.specs.Names.{IsHeldNamed, kinds};
-ghost use Rattle.task_records.specs.Seen.{IsSound, parts_of, seen};
+ghost use Rattle.task_records.specs.Seen.{IsSoundCore, parts_of, seen};
 ghost use Rattle.task_records.specs.Sound.{bare};
 ghost use Rattle.task_words.specs.StateView.{on_core};
 
-use task_handles::{HandleCounter, HandleKind, HandleTable, Held, WaitableKind};
+use task_handles::{HandleCounter, HandleKind, HandleTable, HeldItem, WaitableKind};
 use task_machine::NoMemory;
 use task_records::CoreParts;
 
@@ -17,7 +17,7 @@ use task_records::CoreParts;
 fn insert(
     handles: &mut HandleTable,
     counter: &mut HandleCounter,
-    item: Held,
+    item: HeldItem,
 ) -> Result<u32, NoMemory>
     requires counts { Counts counter.old handles.old }
     requires known { IsHandleKind item.kind }
@@ -41,11 +41,11 @@ fn insert(
 }
 
 /// Gives the next handle of an instance to a subtask or a set. Where none is given, all is as before.
-pub fn insert_handle(parts: &mut CoreParts, index: u32, item: Held) -> Result<u32, NoMemory>
-    requires sound { IsSound parts.old }
+pub fn insert_handle(parts: &mut CoreParts, index: u32, item: HeldItem) -> Result<u32, NoMemory>
+    requires sound { IsSoundCore parts.old }
     requires there { index < length parts.old.instances.items }
     requires stands { IsHeldNamed (kinds (bare (parts_of parts.old))) item.kind item.rep }
-    ensures sound { IsSound parts.new }
+    ensures sound { IsSoundCore parts.new }
     ensures handle { IfOk result (λ h. h ≡ new_handle index (seen parts.old).core) }
     ensures small { IfOk result (λ h. h < 2 ^ 28) }
     ensures new { OnOk result (seen parts.new ≡ on_core (give_handle index (named_of item)) (seen parts.old)) }
@@ -61,9 +61,9 @@ pub fn insert_handle(parts: &mut CoreParts, index: u32, item: Held) -> Result<u3
 
 /// Takes a handle of a subtask back.
 pub fn free_handle(parts: &mut CoreParts, instance: u32, handle: u32)
-    requires sound { IsSound parts.old }
+    requires sound { IsSoundCore parts.old }
     requires live { IsSome (subtask_at instance handle (seen parts.old).core) }
-    ensures sound { IsSound parts.new }
+    ensures sound { IsSoundCore parts.new }
     ensures new { seen parts.new ≡ on_core (free_handle instance handle) (seen parts.old) }
 {
     let entry = &mut parts.instances[instance as usize];

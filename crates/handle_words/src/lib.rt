@@ -2,11 +2,11 @@
 #![tactic(auto)]
 
 mod items;
-mod names;
-mod subtasks;
-mod threads;
+mod named_handles;
+mod subtask_handles;
+mod thread_handles;
 
 pub use items::{free_handle, insert_handle};
-pub use names::name_thread;
-pub use subtasks::name_subtask;
-pub use threads::insert_thread_handle;
+pub use named_handles::name_thread;
+pub use subtask_handles::name_subtask;
+pub use thread_handles::insert_thread_handle;

@@ -2,19 +2,19 @@
 use Rattle.std.proofs.Common.{refl, subst, sym}
 use Rattle.std.specs.Prelude.{IfSome, None, Option, Some, is_some, length, true, ℕ, ◌<◌, ◌≡◌}
 use Rattle.task_calls.specs.Asks.{CanAsk, IsRunningIn}
-use Rattle.task_machine.specs.Read.{how_far_of, instance_of}
+use Rattle.task_machine.specs.Read.{op_progress_of, instance_of}
 use Rattle.task_machine.specs.declared.component.Component.{Component}
-use Rattle.task_machine.specs.declared.records.HowFar.TheVariants as how_far
+use Rattle.task_machine.specs.declared.records.OpProgress.TheVariants as op_progress
 use Rattle.task_machine.specs.declared.records.Turn.TheVariants as turn
-use Rattle.task_turns.specs.Turn.{Sits, running_of}
+use Rattle.task_turns.specs.Turn.{CoreInOrder, running_of}
 use Rattle.task_turns.specs.WellFormed.{IsWellFormed}
 use Rattle.task_words.specs.StateView.{StateView}
 
 -- a thread that is about to ask runs in its instance
-pub is_running_in : (c : Component) (s : StateView) (i : ℕ) → IsWellFormed c → IfSome (running_of s) (λ n. Sits c (turn.Run n) s.core) → is_some (running_of s) ≡ true → CanAsk i s → i < length c.instances → IsRunningIn c s
+pub is_running_in : (c : Component) (s : StateView) (i : ℕ) → IsWellFormed c → IfSome (running_of s) (λ n. CoreInOrder c (turn.Run n) s.core) → is_some (running_of s) ≡ true → CanAsk i s → i < length c.instances → IsRunningIn c s
 is_running_in c s i formed order there asks below = go (running_of s) refl order asks there
   where
-    go : (o : Option ℕ) → running_of s ≡ o → IfSome o (λ n. Sits c (turn.Run n) s.core) → IfSome o (λ n. (instance_of n s.core ≡ i) × (how_far_of n s.core ≡ how_far.Fresh)) → is_some o ≡ true → IsRunningIn c s
+    go : (o : Option ℕ) → running_of s ≡ o → IfSome o (λ n. CoreInOrder c (turn.Run n) s.core) → IfSome o (λ n. (instance_of n s.core ≡ i) × (op_progress_of n s.core ≡ op_progress.Fresh)) → is_some o ≡ true → IsRunningIn c s
     go None e order asks there = absurd (cc)
     go (Some n) e order asks there = record {
       well_formed = formed;

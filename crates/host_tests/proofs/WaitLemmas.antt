@@ -1,10 +1,10 @@
 -- An event from outside, between two drives.
-use Rattle.host_works.specs.Kept.{HeldWork}
+use Rattle.host_works.specs.KeptWorks.{HeldWork}
 use Rattle.make_words.specs.Instances.{with_instance}
-use Rattle.order_laws.specs.Kept.{CanTell, StaysInOrder}
+use Rattle.order_laws.specs.KeptOrder.{CanTell, StaysInOrder}
 use Rattle.state_calls.specs.Woken.{Wakes, event_set}
 use Rattle.state_calls.specs.declared.error.TaskError.{TaskError}
-use Rattle.state_calls.specs.declared.names.QualifiedThreadId.{QualifiedThreadId}
+use Rattle.state_calls.specs.declared.name_calls.QualifiedThreadId.{QualifiedThreadId}
 use Rattle.std.proofs.Common.{ap, arith, refl, subst, sym, ◌∙◌}
 use Rattle.std.specs.Prelude.{Bool, List, None, Option, Result, Some, false, option_map, true, ℕ, ◌≡◌, ◌≤◌, [], length, ◌∷◌, ◌==◌, is_some, ◌+◌, ◌*◌, ◌^◌}
 use Rattle.task_machine.specs.Core.{Core, State, Unscripted, fresh}
@@ -38,7 +38,7 @@ use Rattle.task_words.specs.Groups.{IsAsked}
 use Rattle.task_store.specs.Hosts.{HoldsAt, HoldsWorks}
 use Rattle.task_turns.proofs.DriveLemmas.{label_ends}
 use Rattle.task_turns.specs.Drive.{Drives}
-use Rattle.task_turns.specs.Turn.{PendsIn, Sits, given, is_open, running_of, IsSettled, goes_on}
+use Rattle.task_turns.specs.Turn.{PendsIn, CoreInOrder, given, is_open, running_of, IsSettled, goes_on}
 use Rattle.task_wait.specs.declared.codes.Event.TheVariants as event
 use Rattle.task_words.specs.StateView.{StateView, on_core, with_core}
 
@@ -74,7 +74,7 @@ pub given_few : (n k : ℕ) → n ≡ k → k ≤ 200 → n ≤ 2 ^ 60
 given_few n k same few = omega (arith, same, few)
 
 -- what stands in order sits
-pub stays_sitting : (s t : Core) → StaysInOrder s t → (c : Component) (p : Turn) → is_open p ≡ true → Sits c p s → Sits c p t
+pub stays_sitting : (s t : Core) → StaysInOrder s t → (c : Component) (p : Turn) → is_open p ≡ true → CoreInOrder c p s → CoreInOrder c p t
 stays_sitting s t stays c p going sits =
     let r = stays c p None going sits.order in
     record {
@@ -142,7 +142,7 @@ pub woken_given : (may : Option ℕ → Core → Bool) (k : ℕ) (s : StateView)
     Wakes may (event_set (subtask.Guest k) (event.Subtask status.Started)) s r t → given t.core ≡ given s.core
 woken_given may k s r t w = rest_given s.core t.core (woken_rest may k s r t w)
 
-pub rest_asked : (s t : StateView) → t.tags.known ≡ s.tags.known → SameRest s.core t.core → IsAsked s → IsAsked t
+pub rest_asked : (s t : StateView) → t.tags.tracked ≡ s.tags.tracked → SameRest s.core t.core → IsAsked s → IsAsked t
 rest_asked s t known h is = known ∙ (is ∙ sym h.1.0)
 
 pub rest_works : (held : ℕ → Option HeldWork) (s t : Core) → SameRest s t → HoldsWorks held s → HoldsWorks held t
@@ -200,12 +200,12 @@ settled_take_of s p is = subst (λ (q : Turn). IsSettled s q) (sym is) refl
 
 -- ---- What the calls of a state ask
 
-pub sits_placed : (c : Component) (p : Turn) (s : Core) → Sits c p s → Placed s
-sits_placed c p s sits = (sits.order Unscripted).in_place.placed
+pub core_in_order_placed : (c : Component) (p : Turn) (s : Core) → CoreInOrder c p s → Placed s
+core_in_order_placed c p s sits = (sits.order Unscripted).in_place.placed
 
-instance_there : (i : ℕ) (o : Option Set) → option_map (λ (r : Set). r.instance) o ≡ Some i → is_some o ≡ true
-instance_there i (Some r) e = refl
-instance_there i None e = absurd (cc)
+instance_unchecked : (i : ℕ) (o : Option Set) → option_map (λ (r : Set). r.instance) o ≡ Some i → is_some o ≡ true
+instance_unchecked i (Some r) e = refl
+instance_unchecked i None e = absurd (cc)
 
-pub sits_joins : (c : Component) (p : Turn) (s : Core) → Sits c p s → (k : ℕ) → IsJoinThere (subtask.Guest k) s
-sits_joins c p s sits k x at = let n = (sits.order Unscripted).joins_named.joins (subtask.Guest k) x at in instance_there n.instance (get s.sets x) n.home
+pub core_in_order_joins : (c : Component) (p : Turn) (s : Core) → CoreInOrder c p s → (k : ℕ) → IsJoinThere (subtask.Guest k) s
+core_in_order_joins c p s sits k x at = let n = (sits.order Unscripted).joins_named.joins (subtask.Guest k) x at in instance_unchecked n.instance (get s.sets x) n.home

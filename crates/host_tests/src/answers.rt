@@ -21,13 +21,13 @@ impl<A: Abort> Teller<'_, A> {
         ensures { Tells (notice_of kind id) (record { told = Some self.old.told.items; answers = Some self.old.answers.items; errors = self.old.errors }) (record { told = Some self.new.told.items; answers = Some self.new.answers.items; errors = self.new.errors }) (is_ok result) }
     {
         let group = id.number;
-        let calm = self.fails != group || self.errors == u64::MAX;
+        let hook_is_ok = self.fails != group || self.errors == u64::MAX;
         let told = self.told.push(Notice { kind, group });
-        let answered = self.answers.push(calm);
+        let answered = self.answers.push(hook_is_ok);
         if told.is_err() || answered.is_err() {
             panic!(self.rt; "no memory");
         }
-        if calm {
+        if hook_is_ok {
             return Ok(());
         }
         self.errors += 1;

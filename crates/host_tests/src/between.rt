@@ -10,7 +10,7 @@ use std::cell::Cell;
 use std::process::Abort;
 use task_loop::{TaskError, new_guest_task, set_thread};
 use task_machine::{ExportKind, Place, Trap};
-use task_words::{PlaceWords, View};
+use task_words::{PlacePrimitives, View};
 
 // What comes of a task that is begun, and whose thread is to run then.
 #[derive(Clone, Copy, PartialEq, Eq)]

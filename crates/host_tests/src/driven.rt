@@ -1,6 +1,6 @@
 //! Scenarios that are driven in a store with a hook.
 ghost use Rattle.std.specs.Prelude.{◌≡◌, None, false, is_ok, length, true};
-ghost use Rattle.host_works.specs.Kept.{HoldsNone};
+ghost use Rattle.host_works.specs.KeptWorks.{HoldsNone};
 ghost use Rattle.task_group.specs.Heard.{Tells, notice_of};
 ghost use Rattle.task_machine.specs.Core.{fresh};
 ghost use Rattle.task_records.specs.Seen.{nothing};

@@ -1,5 +1,5 @@
 //! Calls on a store midway in a run, which a failing hook refuses: what they answer, and what is left of the store.
-ghost use Rattle.host_works.specs.Kept.{HoldsNone};
+ghost use Rattle.host_works.specs.KeptWorks.{HoldsNone};
 ghost use Rattle.std.specs.Prelude.{◌≡◌, [], IfSome, IsSome, None, Some, false, length, true};
 ghost use Rattle.state_calls.specs.Ends.{MayEnd};
 ghost use Rattle.state_calls.specs.Named.{IsLive};
@@ -11,7 +11,7 @@ ghost use Rattle.task_records.specs.Seen.{nothing};
 ghost use Rattle.task_rules.specs.Places.{Placed};
 ghost use Rattle.task_run.specs.Runnable.{IsRunnable};
 ghost use Rattle.task_words.specs.Groups.{IsAsked};
-ghost use Rattle.task_turns.specs.Turn.{Sits, running_of};
+ghost use Rattle.task_turns.specs.Turn.{CoreInOrder, running_of};
 ghost use Rattle.task_words.specs.StateView.{thread_of, with_core};
 
 use crate::driven::{EXIT, FINISH, Watched, watched};
@@ -24,7 +24,7 @@ use task_loop::{
 };
 use task_machine::{Place, Trap, Turn};
 use task_run::{Scenario, ScriptMain, read_scenario};
-use task_words::{HowFarId, PlaceWords, ThreadWords, View};
+use task_words::{OpProgressId, PlacePrimitives, ThreadPrimitives, View};
 
 // A thread returns and ends.
 const RETURNS: &[u8] =
@@ -55,7 +55,7 @@ fn drive(rt: &impl Abort, alloc: Global, scenario: &Scenario, store: &mut Watche
     requires free { store.old.running ≡ false }
     requires works { HoldsNone store.old.works }
     requires groups { IsAsked store.old.state }
-    ensures order { IfSome (running_of store.new.state) (λ n. Sits scenario.now.component (Turn.Run n) store.new.state.core) }
+    ensures order { IfSome (running_of store.new.state) (λ n. CoreInOrder scenario.now.component (Turn.Run n) store.new.state.core) }
     ensures one { length scenario.now.component.instances ≡ 1 }
 {
     let Ok(mut run) = run_concurrent(store, false) else {
@@ -81,7 +81,7 @@ fn is_asking(store: &Watched<'_>, instance: Instance) -> bool
     if store.state.instance_of(thread) != instance.index {
         return false;
     }
-    matches!(store.state.how_far(thread), HowFarId::Fresh)
+    matches!(store.state.op_progress(thread), OpProgressId::Fresh)
 }
 
 // What the scenario leaves after so many labels, with its thread running, in a store whose hook fails at this notice.

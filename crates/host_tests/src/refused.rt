@@ -1,12 +1,12 @@
 //! Starts that a failing hook refuses: what they answer, and what is left of the store.
 ghost use Rattle.std.specs.Prelude.{◌≡◌, ◌<◌, ◌^◌, IfSome, IsSome, Some, length, true};
-ghost use Rattle.task_loop.specs.Calls.{callee_of};
+ghost use Rattle.task_loop.specs.LoopCalls.{callee_of};
 ghost use Rattle.task_machine.specs.Core.{fresh};
 ghost use Rattle.task_machine.specs.declared.records.Turn.{Turn};
 ghost use Rattle.task_records.specs.Seen.{nothing};
 ghost use Rattle.task_rules.specs.Scripts.{export_at};
 ghost use Rattle.task_run.specs.Runnable.{IsRunnable};
-ghost use Rattle.task_turns.specs.Turn.{Sits, given};
+ghost use Rattle.task_turns.specs.Turn.{CoreInOrder, given};
 ghost use Rattle.task_turns.specs.WellFormed.{IsWellFormed};
 ghost use Rattle.task_words.specs.StateView.{with_core};
 
@@ -66,7 +66,7 @@ fn refuses(alloc: Global, component: &Component, store: &mut Watched<'_>, way: W
     requires covered { IsWellFormed component.now }
     requires there { IsSome (export_at component.now (callee_of F)) }
     requires params { IfSome (export_at component.now (callee_of F)) (λ e. 1 ≡ e.params) }
-    requires order { (p : Turn) × Sits component.now p store.old.state.core }
+    requires order { (p : Turn) × CoreInOrder component.now p store.old.state.core }
     requires given { given store.old.state.core < 2 ^ 61 }
 {
     let func: TypedFunc<u64, u64> = TypedFunc::new(F);

@@ -1,6 +1,6 @@
 //! A work that a host spawns before a run: it is polled in the run, or aborted.
 ghost use Rattle.std.specs.Prelude.{◌≡◌, false, length};
-ghost use Rattle.host_works.specs.Kept.{HoldsNone};
+ghost use Rattle.host_works.specs.KeptWorks.{HoldsNone};
 ghost use Rattle.task_machine.specs.Core.{fresh};
 ghost use Rattle.task_machine.specs.declared.component.Component.{Component};
 ghost use Rattle.task_machine.specs.declared.records.Turn.{Turn};
@@ -8,7 +8,7 @@ ghost use Rattle.task_records.specs.Seen.{nothing};
 ghost use Rattle.task_run.specs.Runnable.{IsRunnable};
 ghost use Rattle.task_words.specs.Groups.{IsAsked};
 ghost use Rattle.task_store.specs.Hosts.{HoldsHosts};
-ghost use Rattle.task_turns.specs.Turn.{Sits, given};
+ghost use Rattle.task_turns.specs.Turn.{CoreInOrder, given};
 ghost use Rattle.task_words.specs.StateView.{with_core};
 
 use crate::driven::{TWO_CALLS, Watched, watched};
@@ -25,7 +25,7 @@ use task_store::ScriptedHost;
 fn spawns(rt: &impl Abort, store: &mut Watched<'_>, table: u32, aborts: bool)
     requires fresh { store.old.state ≡ with_core (fresh 1 100000 table) nothing }
     requires works { HoldsNone store.old.works }
-    ensures order { (c : Component) (p : Turn) → Sits c p store.old.state.core → Sits c p store.new.state.core }
+    ensures order { (c : Component) (p : Turn) → CoreInOrder c p store.old.state.core → CoreInOrder c p store.new.state.core }
     ensures given { given store.new.state.core ≡ 1 }
     ensures current { store.new.state.current ≡ store.old.state.current }
     ensures hosts { HoldsHosts (λ (w : ScriptedHost). w.left) store.new }

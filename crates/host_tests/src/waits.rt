@@ -1,6 +1,6 @@
 //! A waiter is woken from outside, between two drives.
 ghost use Rattle.std.specs.Prelude.{◌≡◌, ◌≤◌, ◌<◌, None, false, length, true, ℕ};
-ghost use Rattle.host_works.specs.Kept.{HoldsNone};
+ghost use Rattle.host_works.specs.KeptWorks.{HoldsNone};
 ghost use Rattle.make_words.specs.Instances.{with_instance};
 ghost use Rattle.task_loop.specs.Says.{unscripted};
 ghost use Rattle.task_machine.specs.Core.{fresh};
@@ -16,7 +16,7 @@ ghost use Rattle.task_rules.specs.Places.{Placed};
 ghost use Rattle.task_run.specs.Runnable.{IsRunnable};
 ghost use Rattle.task_words.specs.Groups.{IsAsked};
 ghost use Rattle.task_store.specs.Hosts.{HoldsHosts};
-ghost use Rattle.task_turns.specs.Turn.{Sits, given, is_open, running_of};
+ghost use Rattle.task_turns.specs.Turn.{CoreInOrder, given, is_open, running_of};
 ghost use Rattle.task_words.specs.StateView.{call_of, on_core, with_core};
 
 use state_calls::{QualifiedThreadId, set_event};
@@ -30,7 +30,7 @@ use task_machine::Status;
 use task_run::{Scenario, ScriptMain, read_scenario};
 use task_store::{Access, HostWork, ScriptedHost, Store, Whole};
 use task_wait::{Event, Waitable};
-use task_words::{CallId, CallWords, InstanceWords, SubtaskId, View};
+use task_words::{CallId, CallPrimitives, InstancePrimitives, SubtaskId, View};
 
 // A thread waits on a set whose one member, a call that has begun, never tells anything.
 const WAITS: &[u8] =
@@ -90,7 +90,7 @@ fn idles(
     requires works { HoldsNone store.old.works }
     requires groups { IsAsked store.old.state }
     ensures turn { result.turn ≡ turns.Take false }
-    ensures order { Sits scenario.now.component (turns.Take false) store.new.state.core }
+    ensures order { CoreInOrder scenario.now.component (turns.Take false) store.new.state.core }
     ensures current { running_of store.new.state ≡ None }
     ensures hosts { HoldsHosts ⟦<ScriptedHost as HostWork>⟧.course store.new }
     ensures groups { IsAsked store.new.state }
@@ -115,7 +115,7 @@ fn wakes(
     requires unended { end_of (call_of store.old.state call) store.old.state.core ≡ None }
     requires placed { Placed store.old.state.core }
     requires joins { (k : ℕ) → IsJoinThere (subtasks.Guest k) store.old.state.core }
-    ensures order { (c : Exports) (p : Turn) → is_open p ≡ true → Sits c p store.old.state.core → Sits c p store.new.state.core }
+    ensures order { (c : Exports) (p : Turn) → is_open p ≡ true → CoreInOrder c p store.old.state.core → CoreInOrder c p store.new.state.core }
     ensures current { running_of store.new.state ≡ running_of store.old.state }
     ensures hosts { HoldsHosts ⟦<ScriptedHost as HostWork>⟧.course store.old → HoldsHosts ⟦<ScriptedHost as HostWork>⟧.course store.new }
     ensures groups { IsAsked store.old.state → IsAsked store.new.state }

@@ -11,7 +11,7 @@ use Rattle.indexmap.proofs.CallerLemmas.{updates-with_value_at}
 use Rattle.indexmap.specs.IndexMap.{IsUnique, with_value_at}
 use Rattle.host_works.specs.Course.{MayTell, one_fewer}
 use Rattle.host_works.specs.Joined.{joined_phase, joined_work}
-use Rattle.host_works.specs.Kept.{Found, HeldWork, after_abort, after_poll, MayAnswer, MayAnswerIn, found_phase, held, is_over, unless_over}
+use Rattle.host_works.specs.KeptWorks.{Found, HeldWork, after_abort, after_poll, MayAnswer, MayAnswerIn, found_phase, held, is_over, unless_over}
 use Rattle.host_works.specs.declared.joined.JoinedWork.{JoinedWork}
 use Rattle.host_works.specs.declared.kept.HostWorks.{HostWorks}
 use Rattle.task_machine.specs.declared.words.HostPoll.{HostPoll}

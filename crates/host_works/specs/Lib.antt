@@ -1,4 +1,4 @@
 pub mod Course
-pub mod Kept
+pub mod KeptWorks
 pub mod Joined
 pub mod Own

@@ -1,7 +1,7 @@
 //! The works that a store keeps.
 ghost use Rattle.std.specs.Prelude.{◌≡◌, ◌↔◌, ◌==◌, ℕ, IfNone, IfSome, None, OnErr, OnOk, Some, cond, nat_eq, slice_get};
 ghost use Rattle.indexmap.specs.IndexMap.{get};
-ghost use Rattle.host_works.specs.Kept.{Found, HoldsNone, after_abort, after_poll, MayAnswer, found_phase, held, is_over};
+ghost use Rattle.host_works.specs.KeptWorks.{Found, HoldsNone, after_abort, after_poll, MayAnswer, found_phase, held, is_over};
 ghost use Rattle.task_machine.specs.declared.words.Phase.TheVariants as phases;
 
 use crate::joined::JoinedWork;

@@ -19,7 +19,7 @@ use Rattle.task_machine.specs.declared.words.Mark.{Mark}
 use Rattle.task_rules.specs.Outcome.{outcome_of_label}
 use Rattle.task_rules.specs.Stalled.{Setting, is_unended_take, may_deadlock}
 use Rattle.task_rules.specs.Step.{DeadlockStep, EmptyFor, FuturesStep, Polled, RestStep, Step, TakeStep, TurnStep, entry_number}
-use Rattle.task_rules.specs.Takes.{popped, take_row}
+use Rattle.task_rules.specs.Takes.{popped, take_rule}
 use Rattle.task_rules.specs.Works.{Asked, Ends, FailsNow, Poll, StillPends, has_moving_work, next_polled, poll_of}
 
 -- Its mark is this one, and it rests or doesn't.
@@ -67,7 +67,7 @@ taken_goes m _ is none = absurd (cc)
 entry_goes : (x : Setting) (s : State) (e : Mark × Entry) (l : Label) (t : State) → TakeStep x s (Some e) l t → Goes e.0 l
 entry_goes x s e l t is =
     let base = popped e.0 s.core in
-    let p = take_row e.0 (choice_of l) base e.1 in
+    let p = take_rule e.0 (choice_of l) base e.1 in
     shown (Goes e.0) s base (entry_number e.1) (λ x row none. absurd (cc)) (λ i none. absurd (cc)) p
     (wider (IsTaken e.0) (Goes e.0) (taken_goes e.0) p (take_shows e.0 (choice_of l) base e.1)) l t is
 

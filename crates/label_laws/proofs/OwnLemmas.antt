@@ -5,8 +5,8 @@ use Rattle.std.proofs.Common.{refl, suc, zero}
 use Rattle.std.specs.Prelude.{Bool, List, None, Option, Some, false, is_some, nat_le, nat_lt, not, true, ℕ, ◌%◌, ◌*◌, ◌+◌, ◌/◌, ◌==◌, ◌≡◌}
 use Rattle.task_machine.specs.Core.{Core}
 use Rattle.task_machine.specs.Labels.{Choice, exit_label, join_label, ret_label, task_cancel_label, wait_label}
-use Rattle.task_machine.specs.Moves.{Gift, MemberGift, NoGift, OwnGift, gift, may_hand_on, passes_check}
-use Rattle.task_machine.specs.Read.{at_handle_limit, backpressure_of, cancel_was_delivered, event_of, fits, foot_of, goal_of, has_ended, has_member, has_waiters, how_far_of, instance_of, is_async_lifted, is_direct, is_explicit, is_joined, is_watched, join_of, kind_of, registers_of, set_at, subtask_at, subtask_ended, task_of, thread_at, undelivered_end, under_of, was_cancelled}
+use Rattle.task_machine.specs.Moves.{PickedEvent, PickedMember, NothingPicked, PickedTaskEvent, picked_event, may_hand_on, passes_check}
+use Rattle.task_machine.specs.Read.{at_handle_limit, backpressure_of, cancel_was_delivered, event_of, fits, foot_of, goal_of, has_ended, has_member, has_waiters, op_progress_of, instance_of, is_async_lifted, is_direct, is_explicit, is_joined, is_watched, join_of, kind_of, registers_of, set_at, subtask_at, subtask_ended, task_of, thread_at, undelivered_end, under_of, was_cancelled}
 use Rattle.task_machine.specs.Statuses.{status_code}
 use Rattle.task_machine.specs.Write.{set_join}
 use Rattle.task_machine.specs.declared.component.Callee.{Callee}
@@ -34,8 +34,8 @@ use Rattle.task_machine.specs.declared.op.ThreadOp.TheVariants as thread_op
 use Rattle.task_machine.specs.declared.op.ThreadOp.{ThreadOp}
 use Rattle.task_machine.specs.declared.records.Goal.TheVariants as goal
 use Rattle.task_machine.specs.declared.records.Goal.{Goal}
-use Rattle.task_machine.specs.declared.records.HowFar.TheVariants as how_far
-use Rattle.task_machine.specs.declared.records.HowFar.{HowFar}
+use Rattle.task_machine.specs.declared.records.OpProgress.TheVariants as op_progress
+use Rattle.task_machine.specs.declared.records.OpProgress.{OpProgress}
 use Rattle.task_machine.specs.declared.records.Join.TheVariants as join
 use Rattle.task_machine.specs.declared.records.Subtask.TheVariants as subtask
 use Rattle.task_machine.specs.declared.records.Subtask.{Subtask}
@@ -45,18 +45,18 @@ use Rattle.task_machine.specs.declared.words.Status.TheVariants as status
 use Rattle.task_machine.specs.declared.words.Status.{Status}
 use Rattle.task_machine.specs.declared.component.HostDef.{HostDef}
 use Rattle.task_machine.specs.declared.component.HostDef.TheVariants as host_def
-use Rattle.task_rules.specs.Calls.{AtOnce, Failing, FirstPoll, Later, call_begins, call_host_by, call_resumes, call_rule, call_status_by, call_sync_begins, call_sync_host_by, call_sync_host_rule, call_sync_rule, call_sync_status_by, enter_row, first_polled, heard_first, polled_first, status_found}
+use Rattle.task_rules.specs.Calls.{AtOnce, Failing, FirstPoll, Later, call_begins, call_host_by, call_resumes, call_rule, call_status_by, call_sync_begins, call_sync_host_by, call_sync_host_rule, call_sync_rule, call_sync_status_by, enter_rule, first_polled, heard_first, polled_first, status_found}
 use Rattle.task_rules.specs.Cancels.{AlreadyEnded, Async, CallbackWaits, CallbackYields, CancelCase, Mode, OtherwiseRuns, StartNotRun, Sync, after_cancel_by, cancel_aborts_host, cancel_asks, cancel_by, cancel_case, cancel_ended_by, cancel_found_by, cancel_guest_by, cancel_label, cancel_resumed, cancel_rule, cancel_subtask_by, cancel_unended_by, drop_by, subtask_rule}
-use Rattle.task_rules.specs.Data.{data_row, skip_row}
-use Rattle.task_rules.specs.Ends.{blocking_exit_row, code_kind_row, code_row, code_wait_row, direct_exit_to, exit_row_for, has_event_for, held_by_flag, implicit_exit_row, kind_exit_row, leaves_no_result, may_tell, passes_after_return, passes_after_stop, sync_exit_row, thread_exit_row}
+use Rattle.task_rules.specs.Data.{data_rule, skip_rule}
+use Rattle.task_rules.specs.Ends.{blocking_exit_rule, code_kind_rule, code_rule, code_wait_rule, direct_exit_to, exit_rule_for, has_event_for, held_by_flag, implicit_exit_rule, kind_exit_rule, leaves_no_result, may_tell, passes_after_return, passes_after_stop, sync_exit_rule, thread_exit_rule}
 use Rattle.task_rules.specs.Finish.{Doer}
 use Rattle.task_rules.specs.OpParts.{is_data_op}
 use Rattle.task_rules.specs.Progress.{Progress, or_trap}
 use Rattle.task_rules.specs.Scripts.{export_kind, host_at, op_of, slot_at, value_of, values_in}
 use Rattle.task_rules.specs.Sets.{chosen, finds_nothing, handed_out, join_done_by, join_to_by, may_wake_new, set_drop_by, set_new_rule, set_rule, wait_begins_by, wait_goes_on_by, wait_rule}
 use Rattle.task_rules.specs.Step.{did, op_rule, own_script}
-use Rattle.task_rules.specs.Task.{dec_by, inc_rule, ret_bad_row, ret_rule, task_cancel_rule, task_rule}
-use Rattle.task_rules.specs.Threads.{Halt, Suspension, Yielding, halt_rule, halting_by, halts_by, has_yielded, resume_later_by, resume_why, resumed_by, then_promote_by, then_promote_found_by, then_promote_rule, then_resume_found, then_resume_row, thread_new_rule, thread_rule}
+use Rattle.task_rules.specs.Task.{dec_by, inc_rule, ret_bad_rule, ret_rule, task_cancel_rule, task_rule}
+use Rattle.task_rules.specs.Threads.{Halt, Suspension, Yielding, halt_rule, halting_by, halts_by, has_yielded, resume_later_by, resume_why, resumed_by, then_promote_by, then_promote_found_by, then_promote_rule, then_resume_found, then_resume_rule, thread_new_rule, thread_rule}
 
 abbrev pub IsOwn : Label → Type 0
 IsOwn l = is_own l ≡ true
@@ -95,11 +95,11 @@ own_subtask_cancel Sync n v = refl
 
 -- ---- Registers and words
 
-skip_own : (c : Component) (n k : ℕ) (s : Core) (b : Bool) → Shows IsOwn (skip_row c n k s b)
+skip_own : (c : Component) (n k : ℕ) (s : Core) (b : Bool) → Shows IsOwn (skip_rule c n k s b)
 skip_own c n k s true = refl
 skip_own c n k s false = refl
 
-data_own : (c : Component) (n : ℕ) (s : Core) (o : DataOp) → Shows IsOwn (data_row c n s o)
+data_own : (c : Component) (n : ℕ) (s : Core) (o : DataOp) → Shows IsOwn (data_rule c n s o)
 data_own c n s (data_op.Set r x) = refl
 data_own c n s (data_op.Add r x) = refl
 data_own c n s (data_op.Handle r x) = refl
@@ -113,13 +113,13 @@ module _ (d : Doer) (n : ℕ) (s : Core) where
   abbrev fails_check : Bool
   fails_check = not (passes_check (instance_of n s) s)
 
-  thread_exit_own : Own (thread_exit_row n s)
+  thread_exit_own : Own (thread_exit_rule n s)
   thread_exit_own = trap_if_shows IsDone fails_check _ _ refl (trap_if_shows IsDone (leaves_no_result n s) _ _ refl refl)
 
-  sync_exit_own : (w : Option ℕ) → Own (sync_exit_row n w s)
+  sync_exit_own : (w : Option ℕ) → Own (sync_exit_rule n w s)
   sync_exit_own w = may_shows IsDone (may_tell (task_of n s) w s) _ (own_exit n w)
 
-  blocking_exit_own : (w : Option ℕ) → Own (blocking_exit_row n w s)
+  blocking_exit_own : (w : Option ℕ) → Own (blocking_exit_rule n w s)
   blocking_exit_own w =
       trap_if_shows IsDone (not (passes_after_return n w s)) _ _ refl (
       may_shows IsDone (may_tell (task_of n s) w s) _ (λ order. own_exit n w))
@@ -132,11 +132,11 @@ module _ (d : Doer) (n : ℕ) (s : Core) where
   direct_exit_own kind.Callback (Some m) = trap_if_shows IsDone fails_check _ _ refl refl
 
   module _ (l : Label) (own : is_done l ≡ true) where
-    code_wait_own : (x : ℕ) (held : List ℕ) (b : Bool) → Own (code_wait_row l n x held s b)
+    code_wait_own : (x : ℕ) (held : List ℕ) (b : Bool) → Own (code_wait_rule l n x held s b)
     code_wait_own x held true = λ order. own
     code_wait_own x held false = λ order. own
 
-    code_kind_own : (held : List ℕ) (k rest : ℕ) → Own (code_kind_row l n held s k rest)
+    code_kind_own : (held : List ℕ) (k rest : ℕ) → Own (code_kind_rule l n held s k rest)
     code_kind_own held zero rest =
         trap_if_shows IsDone (not (passes_after_stop (instance_of n s) (foot_of n s) held s)) _ _ refl (
         trap_if_shows IsDone (leaves_no_result n s) _ _ refl (λ order. own))
@@ -145,21 +145,21 @@ module _ (d : Doer) (n : ℕ) (s : Core) where
         or_trap_shows IsDone (set_at (instance_of n s) rest s) _ _ refl (λ x. code_wait_own x held (has_event_for (task_of n s) x s))
     code_kind_own held (suc (suc (suc k))) rest = refl
 
-    code_own : (code : ℕ) → Own (code_row l n s code)
+    code_own : (code : ℕ) → Own (code_rule l n s code)
     code_own code =
         trap_if_shows IsDone (nat_lt 4294967295 code) _ _ refl (code_kind_own (held_by_flag (instance_of n s) s) (code % 16) (code / 16))
 
-  kind_exit_own : (w : Option ℕ) (x : ExportKind) → Own (kind_exit_row n w s x)
+  kind_exit_own : (w : Option ℕ) (x : ExportKind) → Own (kind_exit_rule n w s x)
   kind_exit_own w kind.Sync = sync_exit_own w
   kind_exit_own w kind.Blocking = blocking_exit_own w
   kind_exit_own w kind.Stackful = thread_exit_own
   kind_exit_own w kind.Callback = code_own (exit_label n None) refl 0
 
-  implicit_exit_own : (w : Option ℕ) (b : Bool) → Own (implicit_exit_row n w s b)
+  implicit_exit_own : (w : Option ℕ) (b : Bool) → Own (implicit_exit_rule n w s b)
   implicit_exit_own w true = direct_exit_own (kind_of (task_of n s) s) (under_of n s)
   implicit_exit_own w false = kind_exit_own w (kind_of (task_of n s) s)
 
-  exit_for_own : (w : Option ℕ) (b : Bool) → Own (exit_row_for n w s b)
+  exit_for_own : (w : Option ℕ) (b : Bool) → Own (exit_rule_for n w s b)
   exit_for_own w true = thread_exit_own
   exit_for_own w false = implicit_exit_own w (is_direct (goal_of (task_of n s) s))
 
@@ -171,7 +171,7 @@ module _ (d : Doer) (n : ℕ) (s : Core) where
       trap_if_shows IsDone (not (is_async_lifted (kind_of (task_of n s) s))) _ _ refl (
       may_shows IsDone (may_tell (task_of n s) w s) _ (own_ret n v w)))
 
-  pub ret_bad_own : Own (ret_bad_row n s)
+  pub ret_bad_own : Own (ret_bad_rule n s)
   ret_bad_own = trap_if_shows IsDone (has_ended (task_of n s) s) _ _ refl refl
 
   task_cancel_own : (w : Option ℕ) → Own (task_cancel_rule d n w s)
@@ -201,25 +201,25 @@ module _ (d : Doer) (n : ℕ) (s : Core) where
 
   -- ---- Sets
 
-  wait_on_own : (x : ℕ) (ch : Choice) (g : Gift) → Own (wait_goes_on_by d n x ch s g)
-  wait_on_own x ch NoGift = refl
-  wait_on_own x ch (OwnGift e) =
-      may_shows IsDone (may_hand_on x (OwnGift e) ch.woken s) _ (own_wait n (handed_out ch s (OwnGift e)) ch.woken)
-  wait_on_own x ch (MemberGift sub) =
-      may_shows IsDone (may_hand_on x (MemberGift sub) ch.woken s) _ (own_wait n (handed_out ch s (MemberGift sub)) ch.woken)
+  wait_on_own : (x : ℕ) (ch : Choice) (g : PickedEvent) → Own (wait_goes_on_by d n x ch s g)
+  wait_on_own x ch NothingPicked = refl
+  wait_on_own x ch (PickedTaskEvent e) =
+      may_shows IsDone (may_hand_on x (PickedTaskEvent e) ch.woken s) _ (own_wait n (handed_out ch s (PickedTaskEvent e)) ch.woken)
+  wait_on_own x ch (PickedMember sub) =
+      may_shows IsDone (may_hand_on x (PickedMember sub) ch.woken s) _ (own_wait n (handed_out ch s (PickedMember sub)) ch.woken)
 
-  abbrev gift_here : Choice → ℕ → Option Gift
-  gift_here ch x = gift false (task_of n s) x (chosen n ch s) s
+  abbrev picked_event_here : Choice → ℕ → Option PickedEvent
+  picked_event_here ch x = picked_event false (task_of n s) x (chosen n ch s) s
 
   wait_begins_own : (ch : Choice) (x : ℕ) (b : Bool) → Own (wait_begins_by d n ch s x b)
   wait_begins_own ch x true = trap_if_shows IsDone fails_check _ _ refl refl
-  wait_begins_own ch x false = or_never_shows IsDone (gift_here ch x) _ (λ g. refl)
+  wait_begins_own ch x false = or_never_shows IsDone (picked_event_here ch x) _ (λ g. refl)
 
   wait_found_own : (h : ℕ) (ch : Choice) → Own (or_trap (set_at (instance_of n s) h s) trap.BadHandle (λ x. wait_begins_by d n ch s x (finds_nothing n x s)))
   wait_found_own h ch = or_trap_shows IsDone (set_at (instance_of n s) h s) _ _ refl (λ x. wait_begins_own ch x (finds_nothing n x s))
 
-  wait_own : (h : ℕ) (ch : Choice) (far : HowFar) → Own (wait_rule d n h ch s far)
-  wait_own h ch (how_far.Waits x) = or_never_shows IsDone (gift_here ch x) _ (λ g. wait_on_own x ch g)
+  wait_own : (h : ℕ) (ch : Choice) (far : OpProgress) → Own (wait_rule d n h ch s far)
+  wait_own h ch (op_progress.Waits x) = or_never_shows IsDone (picked_event_here ch x) _ (λ g. wait_on_own x ch g)
   wait_own h ch _ = wait_found_own h ch
 
   join_done_own : (sub : Subtask) (w : Option ℕ) (x : Option ℕ) → Own (join_done_by d n sub w s x)
@@ -240,9 +240,9 @@ module _ (d : Doer) (n : ℕ) (s : Core) where
   set_own : (ch : Choice) (o : SetOp) → Own (set_rule d n s ch o)
   set_own ch (set_op.New r) = set_new_own
   set_own ch (set_op.Drop x) = or_trap_shows IsDone (set_at (instance_of n s) (value_of n s x) s) _ _ refl (λ y. set_drop_own (value_of n s x) y)
-  set_own ch (set_op.Wait r x) = wait_own (value_of n s x) ch (how_far_of n s)
+  set_own ch (set_op.Wait r x) = wait_own (value_of n s x) ch (op_progress_of n s)
   set_own ch (set_op.Poll r x) =
-      or_trap_shows IsDone (set_at (instance_of n s) (value_of n s x) s) _ _ refl (λ y. or_never_shows IsDone (gift_here ch y) _ (λ g. refl))
+      or_trap_shows IsDone (set_at (instance_of n s) (value_of n s x) s) _ _ refl (λ y. or_never_shows IsDone (picked_event_here ch y) _ (λ g. refl))
   set_own ch (set_op.Join x y) =
       or_trap_shows IsDone (subtask_at (instance_of n s) (value_of n s x) s) _ _ refl (λ sub. join_to_own (value_of n s y) ch.woken sub)
 
@@ -258,8 +258,8 @@ module _ (d : Doer) (n : ℕ) (s : Core) where
   call_status_own k status.StartCancelled = trap_if_shows IsDone (at_handle_limit s) _ _ refl refl
   call_status_own k status.ReturnCancelled = trap_if_shows IsDone (at_handle_limit s) _ _ refl refl
 
-  call_own : (c : Component) (q : ℕ) (e : Callee) (words : List ℕ) (far : HowFar) → Own (call_rule d c n q e words s far)
-  call_own c q e words (how_far.Calls (subtask.Guest k)) = call_status_own k (status_found k s)
+  call_own : (c : Component) (q : ℕ) (e : Callee) (words : List ℕ) (far : OpProgress) → Own (call_rule d c n q e words s far)
+  call_own c q e words (op_progress.Calls (subtask.Guest k)) = call_status_own k (status_found k s)
   call_own c q e words _ = call_begins_own c e (goal.Register q) words
 
   sync_status_own : (k : ℕ) (x : Status) → Own (call_sync_status_by d n k s x)
@@ -269,16 +269,16 @@ module _ (d : Doer) (n : ℕ) (s : Core) where
   sync_status_own k status.StartCancelled = trap_if_shows IsDone (not (passes_check (instance_of n s) (call_resumes n k s))) _ _ refl refl
   sync_status_own k status.ReturnCancelled = trap_if_shows IsDone (not (passes_check (instance_of n s) (call_resumes n k s))) _ _ refl refl
 
-  pub enter_own : (e : Callee) (x : ExportKind) (words : List ℕ) → Own (enter_row n e x words s)
+  pub enter_own : (e : Callee) (x : ExportKind) (words : List ℕ) → Own (enter_rule n e x words s)
   enter_own e x words = trap_if_shows IsDone (not (fits 3 s)) _ _ refl (trap_if_shows IsDone (at_handle_limit s) _ _ refl refl)
 
   sync_begins_own : (c : Component) (e : Callee) (words : List ℕ) (b : Bool) → Own (call_sync_begins c n e words s b)
   sync_begins_own c e words true = call_begins_own c e goal.Answer words
   sync_begins_own c e words false = enter_own e (export_kind c e) words
 
-  sync_own : (c : Component) (e : Callee) (words : List ℕ) (far : HowFar) → Own (call_sync_rule d c n e words s far)
-  sync_own c e words (how_far.Answered v) = refl
-  sync_own c e words (how_far.Calls (subtask.Guest k)) = sync_status_own k (status_found k s)
+  sync_own : (c : Component) (e : Callee) (words : List ℕ) (far : OpProgress) → Own (call_sync_rule d c n e words s far)
+  sync_own c e words (op_progress.Answered v) = refl
+  sync_own c e words (op_progress.Calls (subtask.Guest k)) = sync_status_own k (status_found k s)
   sync_own c e words _ = sync_begins_own c e words (is_async_lifted (export_kind c e))
 
   pub host_own : (q : ℕ) (x : FirstPoll) → Own (call_host_by d n q s x)
@@ -295,8 +295,8 @@ module _ (d : Doer) (n : ℕ) (s : Core) where
   first_polled_own (host_def.Settled polls value) next own = own (polled_first polls value)
   first_polled_own host_def.Open next own = λ answer. own (heard_first answer)
 
-  sync_host_own : (c : Component) (h : ℕ) (far : HowFar) → Own (call_sync_host_rule d c n h s far)
-  sync_host_own c h (how_far.Calls (subtask.Host i)) = refl
+  sync_host_own : (c : Component) (h : ℕ) (far : OpProgress) → Own (call_sync_host_rule d c n h s far)
+  sync_host_own c h (op_progress.Calls (subtask.Host i)) = refl
   sync_host_own c h _ = first_polled_own (host_at c h) (call_sync_host_by d n s) (λ x. sync_host_polled_own x)
 
 -- ---- Cancels and drops
@@ -334,9 +334,9 @@ module _ (d : Doer) (mode : Mode) (n : ℕ) where
   named_own : (h : ℕ) (s : Core) → Own (or_trap (subtask_at (instance_of n s) h s) trap.BadHandle (cancel_found_by d mode n s))
   named_own h s = or_trap_shows IsDone (subtask_at (instance_of n s) h s) _ _ refl (λ sub. found_own s sub)
 
-  cancel_own : (h : ℕ) (s : Core) (far : HowFar) → Own (cancel_rule d mode n h s far)
-  cancel_own h s (how_far.Cancels sub) = after_own sub (cancel_resumed n sub s)
-  cancel_own h s (how_far.AwaitsEnd sub) =
+  cancel_own : (h : ℕ) (s : Core) (far : OpProgress) → Own (cancel_rule d mode n h s far)
+  cancel_own h s (op_progress.Cancels sub) = after_own sub (cancel_resumed n sub s)
+  cancel_own h s (op_progress.AwaitsEnd sub) =
       let t = set_join sub join.Nowhere s in ended_own sub t (undelivered_end (event_of sub t))
   cancel_own h s _ = named_own h s
 
@@ -347,12 +347,12 @@ drop_own d n h s sub =
     trap_if_shows IsDone (is_some (event_of sub s)) _ _ refl refl))
 
 calls_own : (d : Doer) (c : Component) (n : ℕ) (s : Core) (o : CallOp) → Own (subtask_rule d c n s o)
-calls_own d c n s (call_op.Call r q e xs) = call_own d n s c q e (values_in (registers_of n s) xs) (how_far_of n s)
-calls_own d c n s (call_op.CallSync r e xs) = sync_own d n s c e (values_in (registers_of n s) xs) (how_far_of n s)
+calls_own d c n s (call_op.Call r q e xs) = call_own d n s c q e (values_in (registers_of n s) xs) (op_progress_of n s)
+calls_own d c n s (call_op.CallSync r e xs) = sync_own d n s c e (values_in (registers_of n s) xs) (op_progress_of n s)
 calls_own d c n s (call_op.CallHost r q h) = first_polled_own d n s (host_at c h) (call_host_by d n q s) (λ x. host_own d n s q x)
-calls_own d c n s (call_op.CallSyncHost r h) = sync_host_own d n s c h (how_far_of n s)
-calls_own d c n s (call_op.Cancel r x) = cancel_own d Async n (value_of n s x) s (how_far_of n s)
-calls_own d c n s (call_op.CancelSync r x) = cancel_own d Sync n (value_of n s x) s (how_far_of n s)
+calls_own d c n s (call_op.CallSyncHost r h) = sync_host_own d n s c h (op_progress_of n s)
+calls_own d c n s (call_op.Cancel r x) = cancel_own d Async n (value_of n s x) s (op_progress_of n s)
+calls_own d c n s (call_op.CancelSync r x) = cancel_own d Sync n (value_of n s x) s (op_progress_of n s)
 calls_own d c n s (call_op.Drop x) =
     or_trap_shows IsDone (subtask_at (instance_of n s) (value_of n s x) s) _ _ refl (λ sub. drop_own d n (value_of n s x) s sub)
 
@@ -388,17 +388,17 @@ module _ (d : Doer) (n : ℕ) (l : Label) (own : is_done l ≡ true) (s : Core) 
   then_promote_own : (x : Halt) (h : ℕ) → Own (then_promote_rule d x n h l s)
   then_promote_own x h = or_trap_shows IsDone (thread_at (instance_of n s) h s) _ _ refl (λ m. promote_found_own x m)
 
-  by_own : (far : HowFar) (p : Progress) → Own p → Own (resumed_by d far n l s p)
-  by_own how_far.Suspends p h = own
-  by_own how_far.Yields p h = own
+  by_own : (far : OpProgress) (p : Progress) → Own p → Own (resumed_by d far n l s p)
+  by_own op_progress.Suspends p h = own
+  by_own op_progress.Yields p h = own
   by_own _ p h = h
 
 module _ (d : Doer) (n : ℕ) (s : Core) where
-  resume_row_own : (x : Halt) (h : ℕ) → Own (then_resume_row x n h s)
-  resume_row_own x h = or_trap_shows IsDone (thread_at (instance_of n s) h s) _ _ refl (λ m. then_resume_own x n s m)
+  resume_rule_own : (x : Halt) (h : ℕ) → Own (then_resume_rule x n h s)
+  resume_rule_own x h = or_trap_shows IsDone (thread_at (instance_of n s) h s) _ _ refl (λ m. then_resume_own x n s m)
 
   halting_own : (l : ThreadLabel) (row : Label → Progress) → Own (row (label.Thread l)) → Own (halting_by d n s l row)
-  halting_own l row h = by_own d n (label.Thread l) refl s (how_far_of n s) (row (label.Thread l)) h
+  halting_own l row h = by_own d n (label.Thread l) refl s (op_progress_of n s) (row (label.Thread l)) h
 
   thread_own : (c : Component) (o : ThreadOp) → Own (thread_rule d c n s o)
   thread_own c (thread_op.New r x v) = new_own d n x (value_of n s v) s (slot_at c (instance_of n s) x)
@@ -409,9 +409,9 @@ module _ (d : Doer) (n : ℕ) (s : Core) where
   thread_own c thread_op.Yield =
       let l = thread_label.Yield n in halting_own l (λ l. halt_rule d Yielding n l s) (halt_own d n (label.Thread l) refl s Yielding)
   thread_own c (thread_op.SuspendThenResume x) =
-      halting_own (thread_label.SuspendThenResume n) (λ l. then_resume_row Suspension n (value_of n s x) s) (resume_row_own Suspension (value_of n s x))
+      halting_own (thread_label.SuspendThenResume n) (λ l. then_resume_rule Suspension n (value_of n s x) s) (resume_rule_own Suspension (value_of n s x))
   thread_own c (thread_op.YieldThenResume x) =
-      halting_own (thread_label.YieldThenResume n) (λ l. then_resume_row Yielding n (value_of n s x) s) (resume_row_own Yielding (value_of n s x))
+      halting_own (thread_label.YieldThenResume n) (λ l. then_resume_rule Yielding n (value_of n s x) s) (resume_rule_own Yielding (value_of n s x))
   thread_own c (thread_op.SuspendThenPromote x) =
       let l = thread_label.SuspendThenPromote n in
       halting_own l (λ l. then_promote_rule d Suspension n (value_of n s x) l s) (then_promote_own d n (label.Thread l) refl s Suspension (value_of n s x))

@@ -1,16 +1,16 @@
 -- What the parts of rows show.
-use Rattle.label_laws.specs.Own.{Shows, is_row_trap}
+use Rattle.label_laws.specs.Own.{Shows, is_rule_trap}
 use Rattle.std.specs.Prelude.{Bool, None, Option, Some, false, true, ◌≡◌}
 use Rattle.task_machine.specs.declared.label.Label.{Label}
 use Rattle.task_machine.specs.declared.trap.Trap.{Trap}
-use Rattle.task_rules.specs.Progress.{Asks, Fails, Goes, Never, Ordered, Progress, Stops, Traps, may, or_never, or_trap, trap_if}
+use Rattle.task_rules.specs.Progress.{Asks, Fails, Continues, Never, Ordered, Progress, Stops, Traps, may, or_never, or_trap, trap_if}
 
 module _ (P : Label → Type 0) where
-  pub trap_if_shows : (b : Bool) (t : Trap) (p : Progress) → is_row_trap t ≡ true → Shows P p → Shows P (trap_if b t p)
+  pub trap_if_shows : (b : Bool) (t : Trap) (p : Progress) → is_rule_trap t ≡ true → Shows P p → Shows P (trap_if b t p)
   trap_if_shows true t p row h = row
   trap_if_shows false t p row h = h
 
-  pub or_trap_shows : {X : Type 0} (o : Option X) (t : Trap) (next : X → Progress) → is_row_trap t ≡ true → ((x : X) → Shows P (next x)) → Shows P (or_trap o t next)
+  pub or_trap_shows : {X : Type 0} (o : Option X) (t : Trap) (next : X → Progress) → is_rule_trap t ≡ true → ((x : X) → Shows P (next x)) → Shows P (or_trap o t next)
   or_trap_shows None t next row h = row
   or_trap_shows (Some x) t next row h = h x
 
@@ -24,7 +24,7 @@ module _ (P : Label → Type 0) where
 
 -- what shows one kind of label shows a wider one
 pub wider : (P Q : Label → Type 0) → ((l : Label) → P l → Q l) → (p : Progress) → Shows P p → Shows Q p
-wider P Q leads (Goes l new m) h = leads l h
+wider P Q leads (Continues l new m) h = leads l h
 wider P Q leads (Stops l new) h = leads l h
 wider P Q leads (Ordered held next) h = λ order. wider P Q leads (next order) (h order)
 wider P Q leads (Asks next) h = λ answer. wider P Q leads (next answer) (h answer)

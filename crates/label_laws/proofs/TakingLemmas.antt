@@ -5,7 +5,7 @@ use Rattle.std.proofs.Common.{ap, refl}
 use Rattle.std.specs.Prelude.{Bool, None, Option, Some, false, option_map, true, ℕ, ◌≡◌}
 use Rattle.task_machine.specs.Core.{Core}
 use Rattle.task_machine.specs.Labels.{Choice, event_label, held_label, host_label, take_label}
-use Rattle.task_machine.specs.Moves.{Gift, MemberGift, NoGift, OwnGift, gift, may_hand_on, may_publish}
+use Rattle.task_machine.specs.Moves.{PickedEvent, PickedMember, NothingPicked, PickedTaskEvent, picked_event, may_hand_on, may_publish}
 use Rattle.task_machine.specs.Read.{admits, at_handle_limit, is_explicit, place_of, task_of}
 use Rattle.task_machine.specs.declared.records.Delivery.{Delivery}
 use Rattle.task_machine.specs.declared.records.Delivery.TheVariants as delivery
@@ -22,7 +22,7 @@ use Rattle.task_machine.specs.declared.label.Label.TheVariants as label
 use Rattle.task_machine.specs.declared.words.Mark.{Mark}
 use Rattle.task_rules.specs.Ends.{may_tell}
 use Rattle.task_rules.specs.Sets.{chosen, handed_out}
-use Rattle.task_rules.specs.Takes.{delivered, delivery_row, host_row, may_tell_starting, set_delivered, start_admitted, start_row, take_row, thread_taken, thread_taken_for}
+use Rattle.task_rules.specs.Takes.{delivered, delivery_rule, scripted_host_rule, may_tell_starting, set_delivered, start_admitted, start_rule, take_rule, thread_taken, thread_taken_for}
 
 abbrev pub IsTaken : Mark → Label → Type 0
 IsTaken m l = mark_taken l ≡ Some m
@@ -51,28 +51,28 @@ module _ (m : Mark) (n : ℕ) where
   taken_host None = refl
   taken_host (Some w) = refl
 
-  host_shows : (w : Option ℕ) (s : Core) → Shows (IsTaken m) (host_row m n w s)
+  host_shows : (w : Option ℕ) (s : Core) → Shows (IsTaken m) (scripted_host_rule m n w s)
   host_shows w s = may_shows (IsTaken m) (may_publish (subtask.Host n) w s) _ (taken_host w)
 
   admitted_shows : (w : Option ℕ) (s : Core) (b : Bool) → Shows Taken (start_admitted m n w s b)
   admitted_shows w s true = refl
   admitted_shows w s false = trap_if_shows Taken (at_handle_limit s) _ _ refl (may_shows Taken (may_tell (task_of n s) w s) _ (taken_label w))
 
-  start_shows : (w : Option ℕ) (s : Core) (b : Bool) → Shows Taken (start_row m n w s b)
+  start_shows : (w : Option ℕ) (s : Core) (b : Bool) → Shows Taken (start_rule m n w s b)
   start_shows w s true = admitted_shows w s (is_explicit n s)
   start_shows w s false = may_shows Taken (may_tell_starting (task_of n s) w s) _ (taken_held w)
 
-  set_shows : (x : ℕ) (ch : Choice) (s : Core) (g : Gift) → Shows Taken (set_delivered m n x ch s g)
-  set_shows x ch s NoGift = refl
-  set_shows x ch s (OwnGift e) = may_shows Taken (may_hand_on x (OwnGift e) ch.woken s) _ (taken_event (handed_out ch s (OwnGift e)) ch.woken)
-  set_shows x ch s (MemberGift sub) = may_shows Taken (may_hand_on x (MemberGift sub) ch.woken s) _ (taken_event (handed_out ch s (MemberGift sub)) ch.woken)
+  set_shows : (x : ℕ) (ch : Choice) (s : Core) (g : PickedEvent) → Shows Taken (set_delivered m n x ch s g)
+  set_shows x ch s NothingPicked = refl
+  set_shows x ch s (PickedTaskEvent e) = may_shows Taken (may_hand_on x (PickedTaskEvent e) ch.woken s) _ (taken_event (handed_out ch s (PickedTaskEvent e)) ch.woken)
+  set_shows x ch s (PickedMember sub) = may_shows Taken (may_hand_on x (PickedMember sub) ch.woken s) _ (taken_event (handed_out ch s (PickedMember sub)) ch.woken)
 
   delivered_shows : (ch : Choice) (s : Core) (d : Delivery) → Shows Taken (delivered m n ch s d)
-  delivered_shows ch s (delivery.Set x) = or_never_shows Taken (gift true (task_of n s) x (chosen n ch s) s) _ (λ g. set_shows x ch s g)
+  delivered_shows ch s (delivery.Set x) = or_never_shows Taken (picked_event true (task_of n s) x (chosen n ch s) s) _ (λ g. set_shows x ch s g)
   delivered_shows ch s delivery.Yield = refl
   delivered_shows ch s delivery.Cancel = refl
 
-  delivery_shows : (ch : Choice) (s : Core) (d : Delivery) (b : Bool) → Shows Taken (delivery_row m n ch s d b)
+  delivery_shows : (ch : Choice) (s : Core) (d : Delivery) (b : Bool) → Shows Taken (delivery_rule m n ch s d b)
   delivery_shows ch s d true = delivered_shows ch s d
   delivery_shows ch s d false = refl
 
@@ -93,7 +93,7 @@ taken_thread m (label.Loop l) is = absurd (cc)
 taken_thread m _ is = absurd (cc)
 
 -- what a taking comes to shows that it is one
-pub take_shows : (m : Mark) (ch : Choice) (s : Core) (e : Entry) → Shows (IsTaken m) (take_row m ch s e)
+pub take_shows : (m : Mark) (ch : Choice) (s : Core) (e : Entry) → Shows (IsTaken m) (take_rule m ch s e)
 take_shows m ch s (entry.Thread n) = wider (IsThreadTaken m) (IsTaken m) (taken_thread m) _ (thread_shows m n ch s (place_of n s))
 take_shows m ch s (entry.Push i) = refl
 take_shows m ch s (entry.Host i) = host_shows m i ch.woken s

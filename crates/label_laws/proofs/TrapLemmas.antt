@@ -3,7 +3,7 @@ use Rattle.label_laws.proofs.OwnLemmas.{IsOwn}
 use Rattle.label_laws.proofs.TakingLemmas.{IsTaken, take_shows}
 use Rattle.label_laws.proofs.ShowLemmas.{wider}
 use Rattle.label_laws.proofs.TurnLemmas.{main_shows, run_shows, shown}
-use Rattle.label_laws.specs.Own.{EndsAreOfRows, is_deadlock_trap, is_of_main, is_of_rows}
+use Rattle.label_laws.specs.Own.{EndsAreOfRules, is_deadlock_trap, is_of_main, is_of_rules}
 use Rattle.std.proofs.Common.{refl, subst, sym}
 use Rattle.std.specs.Prelude.{Bool, None, Option, Some, false, if◌then◌else◌, true, ℕ, ◌≡◌}
 use Rattle.task_machine.specs.Core.{State}
@@ -25,12 +25,12 @@ use Rattle.task_machine.specs.declared.words.Mark.{Mark}
 use Rattle.task_rules.specs.Outcome.{outcome_of_label}
 use Rattle.task_rules.specs.Stalled.{Setting, is_unended_take, may_deadlock, some_may_not_suspend}
 use Rattle.task_rules.specs.Step.{DeadlockStep, EmptyFor, FuturesStep, Polled, RestStep, Step, TakeStep, TurnStep, entry_number}
-use Rattle.task_rules.specs.Takes.{popped, take_row}
+use Rattle.task_rules.specs.Takes.{popped, take_rule}
 use Rattle.task_rules.specs.Works.{Asked, Ends, FailsNow, Poll, StillPends, has_moving_work, next_polled, poll_of}
 
 abbrev MayEnd : Option Outcome → Type 0
 MayEnd None = Unit {0}
-MayEnd (Some o) = is_of_rows o ≡ true
+MayEnd (Some o) = is_of_rules o ≡ true
 
 -- the outcome that it gives, if it gives one
 abbrev EndsSo : Label → Type 0
@@ -96,7 +96,7 @@ take_ends : (x : Setting) (s : State) (o : Option (Mark × Entry)) (l : Label) (
 take_ends x s None l t is = empty_ends x s (has_moving_work s.core) l t is
 take_ends x s (Some e) l t is =
     let base = popped e.0 s.core in
-    let p = take_row e.0 (choice_of l) base e.1 in
+    let p = take_rule e.0 (choice_of l) base e.1 in
     shown EndsSo s base (entry_number e.1) (λ x row. row) (λ i. refl) p
     (wider (IsTaken e.0) EndsSo (taken_ends e.0) p (take_shows e.0 (choice_of l) base e.1)) l t is
 
@@ -107,6 +107,6 @@ turn_ends x s (turn.Take ended) l t is = take_ends x s (next_entry s.core) l t i
 turn_ends x s (turn.Run n) l t is = run_shows EndsSo own_ends (λ n t row. row) (λ n i. refl) x s n l t is
 turn_ends x s turn.Over l t is = absurd is
 
-pub ends_are_of_rows : EndsAreOfRows
+pub ends_are_of_rules : EndsAreOfRules
 unfolding Step
-ends_are_of_rows x s l t is o gives = subst MayEnd gives (turn_ends x s s.turn l t is)
+ends_are_of_rules x s l t is o gives = subst MayEnd gives (turn_ends x s s.turn l t is)

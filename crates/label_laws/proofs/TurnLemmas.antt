@@ -2,7 +2,7 @@
 use Rattle.label_laws.proofs.OwnLemmas.{IsOwn, did_own}
 use Rattle.label_laws.proofs.ShowLemmas.{wider}
 use Rattle.label_laws.proofs.TakingLemmas.{IsTaken, take_shows}
-use Rattle.label_laws.specs.Own.{MainAtItsTurns, Shows, TakesNext, TakingsShowMarks, is_main_turn, is_of_main, is_row_trap, mark_taken}
+use Rattle.label_laws.specs.Own.{MainAtItsTurns, Shows, TakesNext, TakingsShowMarks, is_main_turn, is_of_main, is_rule_trap, mark_taken}
 use Rattle.std.proofs.Common.{ap, refl, subst, sym}
 use Rattle.std.specs.Prelude.{Bool, None, Option, Some, false, true, ℕ, ◌≡◌}
 use Rattle.task_machine.specs.Core.{Core, Main, MainPlace, Scripted, State, Unscripted}
@@ -18,11 +18,11 @@ use Rattle.task_machine.specs.declared.records.Turn.TheVariants as turn
 use Rattle.task_machine.specs.declared.scenario.MainOpDef.{MainOpDef}
 use Rattle.task_machine.specs.declared.trap.Trap.{Trap}
 use Rattle.task_machine.specs.declared.words.Mark.{Mark}
-use Rattle.task_rules.specs.MainOps.{Answers, Does, MainProgress, Pends, act_of, line_of, main_row, op_at}
-use Rattle.task_rules.specs.Progress.{Asks, Fails, Goes, Never, Ordered, Progress, Stops, Traps}
+use Rattle.task_rules.specs.MainOps.{Answers, Does, MainProgress, Pends, act_of, line_of, main_rule, op_at}
+use Rattle.task_rules.specs.Progress.{Asks, Fails, Continues, Never, Ordered, Progress, Stops, Traps}
 use Rattle.task_rules.specs.Stalled.{Setting, is_unended_take, may_deadlock}
 use Rattle.task_rules.specs.Step.{DeadlockStep, EmptyFor, FuturesStep, MainProgresses, MainStep, OpenProgresses, Polled, Progresses, RestStep, ScriptStep, Step, TakeStep, TurnStep, did, entry_number, trap_label}
-use Rattle.task_rules.specs.Takes.{popped, take_row}
+use Rattle.task_rules.specs.Takes.{popped, take_rule}
 use Rattle.task_rules.specs.Works.{Asked, Ends, FailsNow, Poll, StillPends, has_moving_work, next_polled, poll_of}
 
 -- ---- The steps of threads
@@ -51,9 +51,9 @@ taken_others m (label.Main l) h = absurd (cc)
 taken_others m (label.Loop l) h = absurd (cc)
 taken_others m _ h = refl
 
-module _ (P : Label → Type 0) (s : State) (base : Core) (n : ℕ) (traps : (t : Trap) → is_row_trap t ≡ true → P (trap_label n t)) (fails : (i : ℕ) → P (label.Call (call_label.Fails n i))) where
+module _ (P : Label → Type 0) (s : State) (base : Core) (n : ℕ) (traps : (t : Trap) → is_rule_trap t ≡ true → P (trap_label n t)) (fails : (i : ℕ) → P (label.Call (call_label.Fails n i))) where
   pub shown : (p : Progress) → Shows P p → (l : Label) (t : State) → Progresses s base n p l t → P l
-  shown (Goes k new m) h l t is = subst P (sym is.0) h
+  shown (Continues k new m) h l t is = subst P (sym is.0) h
   shown (Stops k new) h l t is = subst P (sym is.0) h
   shown (Ordered held next) h l t is = shown (next is.0) (h is.0) l t is.1.1
   shown (Asks next) h l t is = shown (next is.0) (h is.0) l t is.1
@@ -62,7 +62,7 @@ module _ (P : Label → Type 0) (s : State) (base : Core) (n : ℕ) (traps : (t 
   shown Never h l t is = absurd is
 
 -- the label of a running thread is no label of main, nor of a taking
-pub run_shows : (P : Label → Type 0) → ((l : Label) → IsOwn l → P l) → ((n : ℕ) (t : Trap) → is_row_trap t ≡ true → P (trap_label n t)) → ((n i : ℕ) → P (label.Call (call_label.Fails n i)))
+pub run_shows : (P : Label → Type 0) → ((l : Label) → IsOwn l → P l) → ((n : ℕ) (t : Trap) → is_rule_trap t ≡ true → P (trap_label n t)) → ((n i : ℕ) → P (label.Call (call_label.Fails n i)))
     → (x : Setting) (s : State) (n : ℕ) (l : Label) (t : State) → Progresses s s.core n (did x.component n s.core (choice_of l)) l t → P l
 run_shows P leads traps fails x s n l t is =
     let p = did x.component n s.core (choice_of l) in
@@ -92,7 +92,7 @@ taken_at m l is k at = cc
 entry_others : (x : Setting) (s : State) (e : Mark × Entry) (l : Label) (t : State) → TakeStep x s (Some e) l t → IsOthers l × IsAt e.0 l
 entry_others x s e l t is =
     let base = popped e.0 s.core in
-    let p = take_row e.0 (choice_of l) base e.1 in
+    let p = take_rule e.0 (choice_of l) base e.1 in
     let row : Shows (IsTaken e.0) p = take_shows e.0 (choice_of l) base e.1 in (
       shown IsOthers s base (entry_number e.1) (λ x row. refl) (λ i. refl) p (wider (IsTaken e.0) IsOthers (taken_others e.0) p row) l t is,
       shown (IsAt e.0) s base (entry_number e.1) (λ x row k at. absurd (cc)) (λ i k at. absurd (cc)) p (wider (IsTaken e.0) (IsAt e.0) (taken_at e.0) p row) l t is,
@@ -128,7 +128,7 @@ scripted_shows s p o (Answers v) l t is = ap is_of_main is.0
 
 script_shows : (x : Setting) (s : State) (p : MainPlace) (o : Option MainOpDef) (l : Label) (t : State) → ScriptStep x s p o l t → is_of_main l ≡ true
 script_shows x s p None l t is = ap is_of_main is.0
-script_shows x s p (Some o) l t is = scripted_shows s p o (main_row x.component (line_of p o) s.core (act_of p o)) l t is
+script_shows x s p (Some o) l t is = scripted_shows s p o (main_rule x.component (line_of p o) s.core (act_of p o)) l t is
 
 open_shows : (s : State) (q : MainProgress) (l : Label) (t : State) → OpenProgresses s q l t → is_of_main l ≡ true
 open_shows s (Does k new) l t is = ap is_of_main is.0
@@ -138,7 +138,7 @@ open_shows s (Answers v) l t is = ap is_of_main is.0
 pub main_shows : (x : Setting) (s : State) (m : Main) (l : Label) (t : State) → MainStep x s m l t → is_of_main l ≡ true
 main_shows x s (Scripted p) l t is = script_shows x s p (op_at x.script p) l t is
 main_shows x s Unscripted (label.Loop loop_label.MainPends) t is = refl
-main_shows x s Unscripted l t is = open_shows s (main_row x.component is.0 s.core is.1.0) l t is.1.1.1
+main_shows x s Unscripted l t is = open_shows s (main_rule x.component is.0 s.core is.1.0) l t is.1.1.1
 
 -- ---- Each turn
 

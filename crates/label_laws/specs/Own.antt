@@ -17,7 +17,7 @@ use Rattle.task_machine.specs.declared.trap.Trap.TheVariants as trap
 use Rattle.task_machine.specs.declared.words.Mark.{Mark}
 use Rattle.task_rules.specs.Outcome.{outcome_of_label}
 use Rattle.task_machine.specs.declared.words.HostPoll.{HostPoll}
-use Rattle.task_rules.specs.Progress.{Asks, Fails, Goes, Never, Ordered, Progress, Stops, Traps}
+use Rattle.task_rules.specs.Progress.{Asks, Fails, Continues, Never, Ordered, Progress, Stops, Traps}
 use Rattle.task_rules.specs.Stalled.{Setting}
 use Rattle.task_rules.specs.Step.{Step}
 
@@ -74,23 +74,23 @@ is_of_main _ = false
 
 -- The traps that a row can come to: 1 to 14, 16 to 18, 25. The others are those of a deadlock, of borrows that are left, of refused
 -- starts and runs, of the hook, and of a store that can't be lent.
-abbrev pub is_row_trap : Trap → Bool
-is_row_trap trap.AsyncDeadlock = false
-is_row_trap trap.ScopeExit = false
-is_row_trap trap.CannotEnterComponent = false
-is_row_trap trap.RecursiveRun = false
-is_row_trap trap.HookFailed = false
-is_row_trap trap.StoreTaken = false
-is_row_trap trap.StoreAbsent = false
-is_row_trap _ = true
+abbrev pub is_rule_trap : Trap → Bool
+is_rule_trap trap.AsyncDeadlock = false
+is_rule_trap trap.ScopeExit = false
+is_rule_trap trap.CannotEnterComponent = false
+is_rule_trap trap.RecursiveRun = false
+is_rule_trap trap.HookFailed = false
+is_rule_trap trap.StoreTaken = false
+is_rule_trap trap.StoreAbsent = false
+is_rule_trap _ = true
 
 -- What it shows, where it goes on or stops, is such a label; and where it traps, it comes to such a trap.
 abbrev pub Shows : (Label → Type 0) → Progress → Type 0
-Shows P (Goes l new m) = P l
+Shows P (Continues l new m) = P l
 Shows P (Stops l new) = P l
 Shows P (Ordered held next) = (order : List ℕ) → Shows P (next order)
 Shows P (Asks next) = (answer : HostPoll) → Shows P (next answer)
-Shows P (Traps t) = is_row_trap t ≡ true
+Shows P (Traps t) = is_rule_trap t ≡ true
 Shows P (Fails i) = Unit {0}
 Shows P Never = Unit {0}
 
@@ -148,12 +148,12 @@ is_deadlock_trap trap.AsyncDeadlock = true
 is_deadlock_trap _ = false
 
 -- a trap is one of a row, and a deadlock's is one of its own
-abbrev pub is_of_rows : Outcome → Bool
-is_of_rows (outcome.Trap t) = is_row_trap t
-is_of_rows (outcome.Deadlock t) = is_deadlock_trap t
-is_of_rows _ = true
+abbrev pub is_of_rules : Outcome → Bool
+is_of_rules (outcome.Trap t) = is_rule_trap t
+is_of_rules (outcome.Deadlock t) = is_deadlock_trap t
+is_of_rules _ = true
 
 -- so is the outcome that the label of a step gives
-abbrev pub EndsAreOfRows : Type 0
-EndsAreOfRows = (x : Setting) (s : State) (l : Label) (t : State) → Step x s l t →
-    (o : Outcome) → outcome_of_label l ≡ Some o → is_of_rows o ≡ true
+abbrev pub EndsAreOfRules : Type 0
+EndsAreOfRules = (x : Setting) (s : State) (l : Label) (t : State) → Step x s l t →
+    (o : Outcome) → outcome_of_label l ≡ Some o → is_of_rules o ≡ true

@@ -3,8 +3,8 @@
 //! and by which traps a run ends.
 #![tactic(auto)]
 
-mod laws;
+mod laws_of_labels;
 
-pub use laws::{
-    ends_are_of_rows, ends_take_none, goings_show_next, main_at_its_turns, takings_show_marks,
+pub use laws_of_labels::{
+    ends_are_of_rules, ends_take_none, goings_show_next, main_at_its_turns, takings_show_marks,
 };

@@ -3,8 +3,8 @@ use Rattle.std.proofs.Common.{◌≡◌, ℕ, ◌+◌, ◌<◌, ◌≤◌, List,
 use Rattle.std.specs.Prelude.{eqb}
 use Rattle.std.proofs.lemmas.List.{take-append-le, drop-append-le, take_all}
 use Rattle.label_trace.specs.declared.kinds.Head.{Head}
-use Rattle.label_trace.specs.declared.kinds.Kind.{Kind}
-use Rattle.label_trace.specs.declared.kinds.Kind.TheVariants as kind
+use Rattle.label_trace.specs.declared.kinds.LabelKind.{LabelKind}
+use Rattle.label_trace.specs.declared.kinds.LabelKind.TheVariants as kind
 use Rattle.label_trace.specs.Labels.{count_of, label_of, labels_of}
 use Rattle.label_trace.specs.Opened.{all, has_first, opened}
 
@@ -41,7 +41,7 @@ not_large n lt = grind arith
 pub all_small : (n : ℕ) (xs : List ℕ) → n < 4294967295 → all n xs ≡ n ∷ xs
 all_small n xs lt = rw (not_large n lt) refl
 
-pub opened_first : (k : Kind) (s : ℕ) (xs ys : List ℕ) → has_first k ≡ true → opened k s xs ys ≡ opened k 0 [] ys
+pub opened_first : (k : LabelKind) (s : ℕ) (xs ys : List ℕ) → has_first k ≡ true → opened k s xs ys ≡ opened k 0 [] ys
 opened_first (kind.Loop k) s xs ys h = refl
 opened_first (kind.Take m k) s xs ys h = refl
 opened_first (kind.Own m k) s xs ys h = refl

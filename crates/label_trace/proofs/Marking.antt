@@ -6,14 +6,14 @@ use Rattle.label_trace.specs.Opened.{opened}
 use Rattle.label_trace.specs.declared.kinds.CallKind.TheVariants as call
 use Rattle.label_trace.specs.declared.kinds.HandleKind.TheVariants as handle
 use Rattle.label_trace.specs.declared.kinds.Head.{Head}
-use Rattle.label_trace.specs.declared.kinds.Kind.{Kind}
-use Rattle.label_trace.specs.declared.kinds.Kind.TheVariants as kind
+use Rattle.label_trace.specs.declared.kinds.LabelKind.{LabelKind}
+use Rattle.label_trace.specs.declared.kinds.LabelKind.TheVariants as kind
 use Rattle.label_trace.specs.declared.kinds.OwnKind.TheVariants as owned
 use Rattle.label_trace.specs.declared.kinds.TakeKind.TheVariants as taken
 use Rattle.std.proofs.Common.{List, [], ap, arith, drop, length, refl, suc, sym, zero, ℕ, ◌<◌, ◌≡◌, ◌≤◌, ◌∙◌, ◌∷◌}
 use Rattle.std.specs.Prelude.{None, map, slice_index_or}
 
-kind_shows : (k : Kind) (s : ℕ) (xs ys : List ℕ) → mark_taken (opened k s xs ys) ≡ mark_in k
+kind_shows : (k : LabelKind) (s : ℕ) (xs ys : List ℕ) → mark_taken (opened k s xs ys) ≡ mark_in k
 kind_shows (kind.Main k) s xs ys = refl
 kind_shows (kind.Loop k) s xs ys = refl
 kind_shows (kind.Take m taken.Thread) s xs ys = refl

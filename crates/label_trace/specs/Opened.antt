@@ -20,9 +20,9 @@ use Rattle.task_machine.specs.declared.label.TaskLabel.TheVariants as task_label
 use Rattle.task_machine.specs.declared.label.ThreadLabel.TheVariants as thread_label
 use Rattle.task_machine.specs.declared.words.Mark.{Mark}
 use Rattle.task_machine.specs.declared.words.Given.TheVariants as given
-use Rattle.task_machine.specs.declared.words.OwnEvent.TheVariants as own
-use Rattle.label_trace.specs.declared.kinds.Kind.{Kind}
-use Rattle.label_trace.specs.declared.kinds.Kind.TheVariants as kind
+use Rattle.task_machine.specs.declared.words.TaskEvent.TheVariants as own
+use Rattle.label_trace.specs.declared.kinds.LabelKind.{LabelKind}
+use Rattle.label_trace.specs.declared.kinds.LabelKind.TheVariants as kind
 use Rattle.label_trace.specs.declared.kinds.MainKind.{MainKind}
 use Rattle.label_trace.specs.declared.kinds.MainKind.TheVariants as main
 use Rattle.label_trace.specs.declared.kinds.LoopKind.{LoopKind}
@@ -147,7 +147,7 @@ handle_of handle.ThreadIndex s n m = label.Thread (thread_label.Index s n)
 
 -- ---- All kinds: s is the head's number, xs the numbers that stand in the list, and ys all numbers
 
-abbrev pub opened : Kind → ℕ → List ℕ → List ℕ → Label
+abbrev pub opened : LabelKind → ℕ → List ℕ → List ℕ → Label
 opened (kind.Main k) s xs ys = label.Main (main_of k s (at xs 0))
 opened (kind.Loop k) s xs ys = label.Loop (loop_of k (at ys 0))
 opened (kind.Take m k) s xs ys = label.Take (take_of m k (at ys 0) (at ys 1))
@@ -161,7 +161,7 @@ opened (kind.Thread k) s xs ys = label.Thread (thread_of k (at ys 0))
 opened (kind.Handle k) s xs ys = handle_of k s (at xs 0) (at xs 1)
 
 -- the head's number is the first of all numbers, where it isn't one that the kind shows beside them
-abbrev pub has_first : Kind → Bool
+abbrev pub has_first : LabelKind → Bool
 has_first (kind.Main k) = false
 has_first (kind.Given m x) = false
 has_first (kind.Handle k) = false

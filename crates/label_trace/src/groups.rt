@@ -5,13 +5,13 @@ ghost use Rattle.task_machine.specs.declared.label.TakeLabel.TheVariants as Take
 ghost use Rattle.task_machine.specs.declared.label.SetLabel.TheVariants as SetLabel;
 
 use crate::kinds::{
-    CallKind, DataKind, HandleKind, Kind, LoopKind, MainKind, OwnKind, SetKind, TakeKind, TaskKind,
+    CallKind, DataKind, HandleKind, LabelKind, LoopKind, MainKind, OwnKind, SetKind, TakeKind, TaskKind,
     ThreadKind,
 };
 use crate::packed::PackedLabels;
 use std::alloc::AllocError;
 use task_machine::{
-    CallLabel, DataLabel, Given, LoopLabel, MainLabel, Mark, OwnEvent, SetLabel, TakeLabel,
+    CallLabel, DataLabel, Given, LoopLabel, MainLabel, Mark, TaskEvent, SetLabel, TakeLabel,
     TaskLabel, ThreadLabel,
 };
 
@@ -24,21 +24,21 @@ impl PackedLabels {
     {
         let (kind, shown) = match label {
             MainLabel::Start(start, thread) => return self.put_one(
-                Kind::Main(MainKind::Start),
+                LabelKind::Main(MainKind::Start),
                 start,
                 thread,
             ),
             MainLabel::Finish(start, value) => return self.put_one(
-                Kind::Main(MainKind::Finish),
+                LabelKind::Main(MainKind::Finish),
                 start,
                 value,
             ),
             MainLabel::Spawn(spawn, work) => return self.put_one(
-                Kind::Main(MainKind::Spawn),
+                LabelKind::Main(MainKind::Spawn),
                 spawn,
                 work,
             ),
-            MainLabel::Answer(value) => return self.put_one(Kind::Main(MainKind::Answer), 0, value),
+            MainLabel::Answer(value) => return self.put_one(LabelKind::Main(MainKind::Answer), 0, value),
             MainLabel::StartRefused(trap, start) => (MainKind::StartRefused(trap), start),
             MainLabel::FinishRefused(trap, start) => (MainKind::FinishRefused(trap), start),
             MainLabel::Abort(phase, spawn) => (MainKind::Abort(phase), spawn),
@@ -46,7 +46,7 @@ impl PackedLabels {
             MainLabel::Quiet => (MainKind::Quiet, 0),
             MainLabel::Ready => (MainKind::Ready, 0),
         };
-        self.put_none(Kind::Main(kind), shown)
+        self.put_none(LabelKind::Main(kind), shown)
     }
 
     // A label of the loop.
@@ -65,7 +65,7 @@ impl PackedLabels {
             LoopLabel::Deadlock(trap) => (LoopKind::Deadlock(trap), 0),
             LoopLabel::Trap(trap, thread) => (LoopKind::Trap(trap), thread),
         };
-        self.one(Kind::Loop(kind), number)
+        self.one(LabelKind::Loop(kind), number)
     }
 
     // A taking that hands out an event.
@@ -76,14 +76,14 @@ impl PackedLabels {
     {
         let kind = match given {
             Given::Subtask { status, handle } => return self.put_one(
-                Kind::Given(mark, status),
+                LabelKind::Given(mark, status),
                 handle,
                 thread,
             ),
             Given::Nothing => OwnKind::Nothing,
             Given::Cancelled => OwnKind::Cancelled,
         };
-        self.one(Kind::Own(mark, kind), thread)
+        self.one(LabelKind::Own(mark, kind), thread)
     }
 
     // A taking. Those that wake a thread are seldom.
@@ -100,29 +100,29 @@ impl PackedLabels {
             TakeLabel::Push(mark, work) => (mark, TakeKind::Push, work),
             TakeLabel::Host(mark, work) => (mark, TakeKind::Host, work),
             TakeLabel::ThreadWakes(mark, thread, woken) => return self.two_apart(
-                Kind::Take(mark, TakeKind::ThreadWakes),
+                LabelKind::Take(mark, TakeKind::ThreadWakes),
                 thread,
                 woken,
             ),
             TakeLabel::HeldWakes(mark, thread, woken) => return self.two_apart(
-                Kind::Take(mark, TakeKind::HeldWakes),
+                LabelKind::Take(mark, TakeKind::HeldWakes),
                 thread,
                 woken,
             ),
             TakeLabel::HostWakes(mark, work, woken) => return self.two_apart(
-                Kind::Take(mark, TakeKind::HostWakes),
+                LabelKind::Take(mark, TakeKind::HostWakes),
                 work,
                 woken,
             ),
             TakeLabel::EventWakes(mark, event, thread, woken) => {
                 let kind = match event {
-                    OwnEvent::None => OwnKind::NothingWakes,
-                    OwnEvent::Cancelled => OwnKind::CancelledWakes,
+                    TaskEvent::None => OwnKind::NothingWakes,
+                    TaskEvent::Cancelled => OwnKind::CancelledWakes,
                 };
-                return self.two_apart(Kind::Own(mark, kind), thread, woken);
+                return self.two_apart(LabelKind::Own(mark, kind), thread, woken);
             }
         };
-        self.one(Kind::Take(mark, kind), number)
+        self.one(LabelKind::Take(mark, kind), number)
     }
 
     // An op on registers and words.
@@ -137,9 +137,9 @@ impl PackedLabels {
             DataLabel::Handle(thread, value) => (DataKind::Handle, thread, value),
             DataLabel::Load(thread, value) => (DataKind::Load, thread, value),
             DataLabel::Store(thread, value) => (DataKind::Store, thread, value),
-            DataLabel::SkipEq(thread) => return self.one(Kind::Data(DataKind::SkipEq), thread),
+            DataLabel::SkipEq(thread) => return self.one(LabelKind::Data(DataKind::SkipEq), thread),
         };
-        self.two(Kind::Data(kind), thread, value)
+        self.two(LabelKind::Data(kind), thread, value)
     }
 
     // An end of a task, an activation or a thread, or backpressure.
@@ -150,17 +150,17 @@ impl PackedLabels {
     {
         let (kind, thread) = match label {
             TaskLabel::Ret(thread, value) => return self.two(
-                Kind::Task(TaskKind::Ret),
+                LabelKind::Task(TaskKind::Ret),
                 thread,
                 value,
             ),
             TaskLabel::TaskCancelWakes(thread, woken) => return self.two_apart(
-                Kind::Task(TaskKind::TaskCancelWakes),
+                LabelKind::Task(TaskKind::TaskCancelWakes),
                 thread,
                 woken,
             ),
             TaskLabel::ExitWakes(thread, woken) => return self.two(
-                Kind::Task(TaskKind::ExitWakes),
+                LabelKind::Task(TaskKind::ExitWakes),
                 thread,
                 woken,
             ),
@@ -172,7 +172,7 @@ impl PackedLabels {
             TaskLabel::BpInc(thread) => (TaskKind::BpInc, thread),
             TaskLabel::BpDec(thread) => (TaskKind::BpDec, thread),
         };
-        self.one(Kind::Task(kind), thread)
+        self.one(LabelKind::Task(kind), thread)
     }
 
     // A wait that got this.
@@ -183,14 +183,14 @@ impl PackedLabels {
     {
         let kind = match given {
             Given::Subtask { status, handle } => return self.put_one(
-                Kind::Handle(HandleKind::Wait(status)),
+                LabelKind::Handle(HandleKind::Wait(status)),
                 handle,
                 thread,
             ),
             Given::Nothing => SetKind::WaitNothing,
             Given::Cancelled => SetKind::WaitCancelled,
         };
-        self.one(Kind::Set(kind), thread)
+        self.one(LabelKind::Set(kind), thread)
     }
 
     // A poll that got this.
@@ -201,14 +201,14 @@ impl PackedLabels {
     {
         let kind = match given {
             Given::Subtask { status, handle } => return self.put_one(
-                Kind::Handle(HandleKind::Poll(status)),
+                LabelKind::Handle(HandleKind::Poll(status)),
                 handle,
                 thread,
             ),
             Given::Nothing => SetKind::PollNothing,
             Given::Cancelled => SetKind::PollCancelled,
         };
-        self.one(Kind::Set(kind), thread)
+        self.one(LabelKind::Set(kind), thread)
     }
 
     // An op on sets.
@@ -219,26 +219,26 @@ impl PackedLabels {
     {
         let (kind, thread) = match label {
             SetLabel::New(handle, thread) => return self.put_one(
-                Kind::Handle(HandleKind::SetNew),
+                LabelKind::Handle(HandleKind::SetNew),
                 handle,
                 thread,
             ),
             SetLabel::Wait(given, thread) => return self.push_wait(given, thread),
             SetLabel::Poll(given, thread) => return self.push_poll(given, thread),
             SetLabel::WaitWakes(event, thread, woken) => return self.two_apart(
-                Kind::Set(SetKind::WaitWakes(event)),
+                LabelKind::Set(SetKind::WaitWakes(event)),
                 thread,
                 woken,
             ),
             SetLabel::JoinWakes(thread, woken) => return self.two(
-                Kind::Set(SetKind::JoinWakes),
+                LabelKind::Set(SetKind::JoinWakes),
                 thread,
                 woken,
             ),
             SetLabel::Drop(thread) => (SetKind::Drop, thread),
             SetLabel::Join(thread) => (SetKind::Join, thread),
         };
-        self.one(Kind::Set(kind), thread)
+        self.one(LabelKind::Set(kind), thread)
     }
 
     // An op on subtasks.
@@ -254,20 +254,20 @@ impl PackedLabels {
             CallLabel::PausesPolls(thread, work) => (CallKind::PausesPolls, thread, work),
             CallLabel::Fails(thread, work) => (CallKind::Fails, thread, work),
             CallLabel::Call(answer, thread) => {
-                return self.put_one(Kind::Handle(HandleKind::Call), answer, thread);
+                return self.put_one(LabelKind::Handle(HandleKind::Call), answer, thread);
             }
             CallLabel::CallPolls(answer, thread, work) => {
-                return self.put_two(Kind::Handle(HandleKind::CallPolls), answer, thread, work);
+                return self.put_two(LabelKind::Handle(HandleKind::CallPolls), answer, thread, work);
             }
             CallLabel::Cancel(answer, thread) => {
-                return self.put_one(Kind::Handle(HandleKind::Cancel), answer, thread);
+                return self.put_one(LabelKind::Handle(HandleKind::Cancel), answer, thread);
             }
             CallLabel::CancelSync(answer, thread) => {
-                return self.put_one(Kind::Handle(HandleKind::CancelSync), answer, thread);
+                return self.put_one(LabelKind::Handle(HandleKind::CancelSync), answer, thread);
             }
-            CallLabel::Drop(thread) => return self.one(Kind::Call(CallKind::Drop), thread),
+            CallLabel::Drop(thread) => return self.one(LabelKind::Call(CallKind::Drop), thread),
         };
-        self.two(Kind::Call(kind), thread, second)
+        self.two(LabelKind::Call(kind), thread, second)
     }
 
     // An op on threads.
@@ -278,13 +278,13 @@ impl PackedLabels {
     {
         let (kind, thread) = match label {
             ThreadLabel::New(handle, thread, made) => return self.put_two(
-                Kind::Handle(HandleKind::ThreadNew),
+                LabelKind::Handle(HandleKind::ThreadNew),
                 handle,
                 thread,
                 made,
             ),
             ThreadLabel::Index(handle, thread) => return self.put_one(
-                Kind::Handle(HandleKind::ThreadIndex),
+                LabelKind::Handle(HandleKind::ThreadIndex),
                 handle,
                 thread,
             ),
@@ -297,6 +297,6 @@ impl PackedLabels {
             ThreadLabel::SuspendThenPromote(thread) => (ThreadKind::SuspendThenPromote, thread),
             ThreadLabel::YieldThenPromote(thread) => (ThreadKind::YieldThenPromote, thread),
         };
-        self.one(Kind::Thread(kind), thread)
+        self.one(LabelKind::Thread(kind), thread)
     }
 }

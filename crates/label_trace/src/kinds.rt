@@ -1,10 +1,10 @@
 //! What a label is apart from its numbers. Each kind fits three bytes, so that a label's head has eight.
 
-use task_machine::{Mark, OwnEvent, Phase, Status, Trap};
+use task_machine::{Mark, TaskEvent, Phase, Status, Trap};
 
 /// What a label is apart from its numbers, by the group that it stands in.
 #[derive(Clone, Copy)]
-pub enum Kind {
+pub enum LabelKind {
     Main(MainKind),
     Loop(LoopKind),
     Take(Mark, TakeKind),
@@ -101,7 +101,7 @@ pub enum SetKind {
     Drop,
     WaitNothing,
     WaitCancelled,
-    WaitWakes(OwnEvent),
+    WaitWakes(TaskEvent),
     PollNothing,
     PollCancelled,
     Join,
@@ -153,7 +153,7 @@ pub enum HandleKind {
 /// number, the thread's or the work's mostly, and `LARGE` where that stands in the list too.
 #[derive(Clone, Copy)]
 pub struct Head {
-    pub kind: Kind,
+    pub kind: LabelKind,
     pub count: u8,
     pub small: u32,
 }

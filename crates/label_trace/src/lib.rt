@@ -10,7 +10,7 @@ mod pack;
 mod packed;
 
 pub use kinds::{
-    CallKind, DataKind, HandleKind, Head, Kind, LARGE, LoopKind, MainKind, OwnKind, SetKind,
+    CallKind, DataKind, HandleKind, Head, LabelKind, LARGE, LoopKind, MainKind, OwnKind, SetKind,
     TakeKind, TaskKind, ThreadKind,
 };
 pub use open::{Labels, first, later, listed};

@@ -3,16 +3,16 @@ ghost use Rattle.label_laws.specs.Own.{mark_taken};
 ghost use Rattle.label_trace.specs.Marks.{mark_in};
 ghost use Rattle.std.specs.Prelude.{◌≡◌, None, map, slice_index_or};
 
-use crate::kinds::Kind;
+use crate::kinds::LabelKind;
 use crate::packed::PackedLabels;
 use task_machine::Mark;
 
 // The mark that a label of this kind shows.
-fn mark_of(kind: Kind) -> Option<Mark>
+fn mark_of(kind: LabelKind) -> Option<Mark>
     ensures { result ≡ mark_in kind }
 {
     match kind {
-        Kind::Take(mark, _) | Kind::Own(mark, _) | Kind::Given(mark, _) => Some(mark),
+        LabelKind::Take(mark, _) | LabelKind::Own(mark, _) | LabelKind::Given(mark, _) => Some(mark),
         _ => None,
     }
 }

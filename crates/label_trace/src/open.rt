@@ -4,12 +4,12 @@ ghost use Rattle.label_trace.specs.Labels.{label_of};
 ghost use Rattle.label_trace.specs.Opened.{all, call_of, data_of, handle_of, loop_of, main_of, own_of, set_of, take_of, task_of, thread_of};
 
 use crate::kinds::{
-    CallKind, DataKind, HandleKind, Head, Kind, LARGE, LoopKind, MainKind, OwnKind, SetKind,
+    CallKind, DataKind, HandleKind, Head, LabelKind, LARGE, LoopKind, MainKind, OwnKind, SetKind,
     TakeKind, TaskKind, ThreadKind,
 };
 use std::marker::Model;
 use task_machine::{
-    CallLabel, DataLabel, Given, Label, LoopLabel, MainLabel, Mark, OwnEvent, SetLabel, TakeLabel,
+    CallLabel, DataLabel, Given, Label, LoopLabel, MainLabel, Mark, TaskEvent, SetLabel, TakeLabel,
     TaskLabel, ThreadLabel,
 };
 
@@ -170,8 +170,8 @@ fn open_own(mark: Mark, kind: OwnKind, thread: u64, woken: u64) -> TakeLabel
     match kind {
         OwnKind::Nothing => TakeLabel::Event(mark, Given::Nothing, thread),
         OwnKind::Cancelled => TakeLabel::Event(mark, Given::Cancelled, thread),
-        OwnKind::NothingWakes => TakeLabel::EventWakes(mark, OwnEvent::None, thread, woken),
-        OwnKind::CancelledWakes => TakeLabel::EventWakes(mark, OwnEvent::Cancelled, thread, woken),
+        OwnKind::NothingWakes => TakeLabel::EventWakes(mark, TaskEvent::None, thread, woken),
+        OwnKind::CancelledWakes => TakeLabel::EventWakes(mark, TaskEvent::Cancelled, thread, woken),
     }
 }
 
@@ -290,22 +290,22 @@ pub(crate) fn open(head: Head, numbers: &[u64]) -> Label
     );
     let (x, y) = (listed(numbers, 0), listed(numbers, 1));
     match head.kind {
-        Kind::Main(kind) => Label::Main(open_main(kind, small, x)),
-        Kind::Loop(kind) => Label::Loop(open_loop(kind, a)),
-        Kind::Take(mark, kind) => Label::Take(open_take(mark, kind, a, b)),
-        Kind::Own(mark, kind) => Label::Take(open_own(mark, kind, a, b)),
-        Kind::Given(mark, status) => {
+        LabelKind::Main(kind) => Label::Main(open_main(kind, small, x)),
+        LabelKind::Loop(kind) => Label::Loop(open_loop(kind, a)),
+        LabelKind::Take(mark, kind) => Label::Take(open_take(mark, kind, a, b)),
+        LabelKind::Own(mark, kind) => Label::Take(open_own(mark, kind, a, b)),
+        LabelKind::Given(mark, status) => {
             let given = Given::Subtask {
                 status,
                 handle: small,
             };
             Label::Take(TakeLabel::Event(mark, given, x))
         }
-        Kind::Data(kind) => Label::Data(open_data(kind, a, b)),
-        Kind::Task(kind) => Label::Task(open_task(kind, a, b)),
-        Kind::Set(kind) => Label::Set(open_set(kind, a, b)),
-        Kind::Call(kind) => open_call(kind, a, b, c),
-        Kind::Thread(kind) => Label::Thread(open_thread(kind, a)),
-        Kind::Handle(kind) => open_handle(kind, small, x, y),
+        LabelKind::Data(kind) => Label::Data(open_data(kind, a, b)),
+        LabelKind::Task(kind) => Label::Task(open_task(kind, a, b)),
+        LabelKind::Set(kind) => Label::Set(open_set(kind, a, b)),
+        LabelKind::Call(kind) => open_call(kind, a, b, c),
+        LabelKind::Thread(kind) => Label::Thread(open_thread(kind, a)),
+        LabelKind::Handle(kind) => open_handle(kind, small, x, y),
     }
 }

@@ -4,7 +4,7 @@ ghost use Rattle.label_trace.specs.Opened.{all, has_first, opened};
 ghost use Rattle.label_trace.specs.Rest.{rest_of};
 ghost use Rattle.std.specs.Prelude.{◌≡◌, ◌+◌, ◌<◌, ◌≤◌, [], ◌∷◌, ◌++◌, OnOk, OnErr, true, vec_capacity, vec_len};
 
-use crate::kinds::{Head, Kind, LARGE};
+use crate::kinds::{Head, LabelKind, LARGE};
 use crate::packed::PackedLabels;
 use std::alloc::AllocError;
 
@@ -43,7 +43,7 @@ pub(crate) enum Rest {
 impl PackedLabels {
     // Adds a head that has all numbers of its label.
     #[inline(always)]
-    pub(crate) fn put_none(&mut self, kind: Kind, small: u32) -> Result<(), AllocError>
+    pub(crate) fn put_none(&mut self, kind: LabelKind, small: u32) -> Result<(), AllocError>
         ensures ok { OnOk result (self.new ≡ self.old ++ opened kind small [] (all small []) ∷ []) }
         ensures err { OnErr result (self.new ≡ self.old) }
     {
@@ -58,7 +58,7 @@ impl PackedLabels {
 
     // Adds a head and a number.
     #[inline(always)]
-    pub(crate) fn put_one(&mut self, kind: Kind, small: u32, number: u64) -> Result<(), AllocError>
+    pub(crate) fn put_one(&mut self, kind: LabelKind, small: u32, number: u64) -> Result<(), AllocError>
         ensures ok { OnOk result (self.new ≡ self.old ++ opened kind small (number ∷ []) (all small (number ∷ [])) ∷ []) }
         ensures err { OnErr result (self.new ≡ self.old) }
     {
@@ -77,7 +77,7 @@ impl PackedLabels {
     #[inline(always)]
     pub(crate) fn put_two(
         &mut self,
-        kind: Kind,
+        kind: LabelKind,
         small: u32,
         number: u64,
         next: u64,
@@ -100,7 +100,7 @@ impl PackedLabels {
     // Adds a head and three numbers.
     fn put_three(
         &mut self,
-        kind: Kind,
+        kind: LabelKind,
         small: u32,
         number: u64,
         next: u64,
@@ -126,7 +126,7 @@ impl PackedLabels {
     #[cold]
     #[inline(never)]
     #[tactic(auto, using(crate::proofs::Appending::opened_first))]
-    fn put_large(&mut self, kind: Kind, first: u64, rest: Rest) -> Result<(), AllocError>
+    fn put_large(&mut self, kind: LabelKind, first: u64, rest: Rest) -> Result<(), AllocError>
         requires first { has_first kind ≡ true }
         ensures ok { OnOk result (self.new ≡ self.old ++ opened kind 0 [] (first ∷ rest_of rest) ∷ []) }
         ensures err { OnErr result (self.new ≡ self.old) }
@@ -140,7 +140,7 @@ impl PackedLabels {
 
     // Calls `put_large`. It is inlined, so that what such a label needs in memory is made where one comes.
     #[inline(always)]
-    fn large(&mut self, kind: Kind, first: u64, rest: Rest) -> Result<(), AllocError>
+    fn large(&mut self, kind: LabelKind, first: u64, rest: Rest) -> Result<(), AllocError>
         requires first { has_first kind ≡ true }
         ensures ok { OnOk result (self.new ≡ self.old ++ opened kind 0 [] (first ∷ rest_of rest) ∷ []) }
         ensures err { OnErr result (self.new ≡ self.old) }
@@ -151,7 +151,7 @@ impl PackedLabels {
     // A label of one number.
     #[inline(always)]
     #[tactic(auto, using(crate::proofs::Appending::all_small, crate::proofs::Appending::opened_first))]
-    pub(crate) fn one(&mut self, kind: Kind, first: u64) -> Result<(), AllocError>
+    pub(crate) fn one(&mut self, kind: LabelKind, first: u64) -> Result<(), AllocError>
         requires first { has_first kind ≡ true }
         ensures ok { OnOk result (self.new ≡ self.old ++ opened kind 0 [] (first ∷ []) ∷ []) }
         ensures err { OnErr result (self.new ≡ self.old) }
@@ -166,7 +166,7 @@ impl PackedLabels {
     // A label of two numbers.
     #[inline(always)]
     #[tactic(auto, using(crate::proofs::Appending::all_small, crate::proofs::Appending::opened_first))]
-    pub(crate) fn two(&mut self, kind: Kind, first: u64, second: u64) -> Result<(), AllocError>
+    pub(crate) fn two(&mut self, kind: LabelKind, first: u64, second: u64) -> Result<(), AllocError>
         requires first { has_first kind ≡ true }
         ensures ok { OnOk result (self.new ≡ self.old ++ opened kind 0 [] (first ∷ second ∷ []) ∷ []) }
         ensures err { OnErr result (self.new ≡ self.old) }
@@ -182,7 +182,7 @@ impl PackedLabels {
     #[inline(never)]
     pub(crate) fn two_apart(
         &mut self,
-        kind: Kind,
+        kind: LabelKind,
         first: u64,
         second: u64,
     ) -> Result<(), AllocError>
@@ -198,7 +198,7 @@ impl PackedLabels {
     #[tactic(auto, using(crate::proofs::Appending::all_small, crate::proofs::Appending::opened_first))]
     pub(crate) fn three(
         &mut self,
-        kind: Kind,
+        kind: LabelKind,
         first: u64,
         second: u64,
         third: u64,
@@ -218,7 +218,7 @@ impl PackedLabels {
     #[inline(never)]
     pub(crate) fn three_apart(
         &mut self,
-        kind: Kind,
+        kind: LabelKind,
         first: u64,
         second: u64,
         third: u64,

@@ -1,6 +1,6 @@
 ghost use Rattle.std.specs.Prelude.{◌≡◌, [], ◌∷◌, ◌++◌, OnOk, OnErr, length};
 
-use crate::kinds::{CallKind, Head, Kind};
+use crate::kinds::{CallKind, Head, LabelKind};
 use crate::open::Labels;
 use std::alloc::{AllocError, Global};
 use std::marker::Model;
@@ -73,10 +73,10 @@ impl PackedLabels {
             Label::Call(label) => self.push_call(label),
             Label::Thread(label) => self.push_thread(label),
             Label::RetWakes(thread, value, woken) => {
-                self.three(Kind::Call(CallKind::RetWakes), thread, value, woken)
+                self.three(LabelKind::Call(CallKind::RetWakes), thread, value, woken)
             }
             Label::CallSyncPolls(thread, value, work) => {
-                self.three_apart(Kind::Call(CallKind::CallSyncPolls), thread, value, work)
+                self.three_apart(LabelKind::Call(CallKind::CallSyncPolls), thread, value, work)
             }
         }
     }

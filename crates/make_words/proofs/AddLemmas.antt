@@ -1,7 +1,7 @@
 -- An instance more, as contracts see it.
-use Rattle.task_records.proofs.Core.{[], ap, ap₂, AreHandlesNamed, bare, bare_instance, bare_thread, by_place, cases_eq, EachEntry, Err, get, Global, handle_table, Handles, held_by, image, inl, inr, insert, IsSome, IsSound, IsWhole, kinds, length, length-map, List, live_in, map, map-append, Named, named_of, nat_cmp, no_handles, None, Ok, on_core, on_item, OnErr, Option, option_and_then, OwnsHandle, parts_of, place_at, place_at-mapped, Placed, placed_as, Records, refl, Result, same_Some, seen, size, slice_get, Some, Sound, subst, sym, untouched, Vec, ℕ, ◌++◌, ◌+◌, ◌∙◌, ◌∷◌, ◌≡◌}
-use Rattle.task_machine.specs.Core.{Table}
-use Rattle.task_records.specs.declared.{instances.InstanceRecord.InstanceRecord, parts.CoreParts.CoreParts, single.Single.Single, threads.GuestThread.GuestThread}
+use Rattle.task_records.proofs.Core.{[], ap, ap₂, AreHandlesNamed, bare, bare_instance, bare_thread, by_place, cases_eq, EachEntry, Err, get, Global, handle_table, Handles, held_by, image, inl, inr, insert, IsSome, IsSoundCore, IsWhole, kinds, length, length-map, List, live_in, map, map-append, Named, named_of, nat_cmp, no_handles, None, Ok, on_core, on_item, OnErr, Option, option_and_then, OwnsHandle, parts_of, place_at, place_at-mapped, Placed, placed_as, Records, refl, Result, same_Some, seen, size, slice_get, Some, Sound, subst, sym, untouched, Vec, ℕ, ◌++◌, ◌+◌, ◌∙◌, ◌∷◌, ◌≡◌}
+use Rattle.task_machine.specs.Core.{NameTable}
+use Rattle.task_records.specs.declared.{instance_records.InstanceRecord.InstanceRecord, parts.CoreParts.CoreParts, single.Single.Single, thread_records.GuestThread.GuestThread}
 use Rattle.std.specs.FinMap as fin
 use Rattle.make_words.proofs.InstanceLemmas.{grown_whole, pushed_last, pushed_other, there_before}
 use Rattle.make_words.specs.Instances.{with_instance}
@@ -58,9 +58,9 @@ module _ (a : CoreParts) where
     unfolding seen with_instance
     instance_seen = rw (instances_more, handles_more, threads_more) refl
 
-    module _ (sound : IsSound a) (loose : AreLoose (bare (parts_of a)) r.held r.starts r.high r.low) (high : IsSome a.high) (low : IsSome a.low) where
+    module _ (sound : IsSoundCore a) (loose : AreLoose (bare (parts_of a)) r.held r.starts r.high r.low) (high : IsSome a.high) (low : IsSome a.low) where
       whole_more : IsWhole (bare (parts_of more))
-      unfolding IsSound
+      unfolding IsSoundCore
       whole_more = subst (λ (xs : List InstanceRecord). IsWhole (record (bare (parts_of a)) { instances = xs })) (sym (map_more bare_instance)) (grown_whole (bare (parts_of a)) sound.whole (bare_instance r) loose high low)
 
       new_named : AreHandlesNamed (kinds (bare (parts_of a))) r
@@ -72,7 +72,7 @@ module _ (a : CoreParts) where
       }
 
       named_more : (j : ℕ) (q : InstanceRecord) → slice_get v.items j ≡ Some q → AreHandlesNamed (kinds (bare (parts_of a))) q
-      unfolding IsSound
+      unfolding IsSoundCore
       named_more j q at = elim (cases_eq j (length a.instances.items)) [
         | inl same ↦ subst (λ (x : InstanceRecord). AreHandlesNamed (kinds (bare (parts_of a))) x) (same_Some r q (sym (pushed_last a.instances.items r) ∙ (sym (ap₂ (λ (xs : List InstanceRecord) (i : ℕ). slice_get xs i) is same) ∙ at))) new_named
         | inr other ↦ sound.handles j q (sym (ap (λ (xs : List InstanceRecord). slice_get xs j) is ∙ pushed_other a.instances.items j r other) ∙ at)
@@ -80,7 +80,7 @@ module _ (a : CoreParts) where
 
       -- a thread's instance is one that was there
       thread_before : (rep : ℕ) (q : Placed (Single GuestThread)) → place_at a.threads rep ≡ Some q → q.entry.item.instance ≡ length a.instances.items → ⊥
-      unfolding IsSound
+      unfolding IsSoundCore
       thread_before rep q at same = there_before (map bare_instance a.instances.items) q.entry.item.instance
           (sound.whole.named.threads rep _ (place_at-mapped (on_item bare_thread) a.threads rep ∙ ap (placed_as (on_item bare_thread)) at)).within
           (same ∙ sym (length-map a.instances.items bare_instance))
@@ -88,32 +88,32 @@ module _ (a : CoreParts) where
       table_kept : (i : ℕ) → (i ≡ length a.instances.items → ⊥) → get (seen more).core.thread_handles i ≡ get (seen a).core.thread_handles i
       unfolding seen
       table_kept i other =
-          let f : InstanceRecord → Table ℕ = λ x. handle_table thread_named x.thread_handles in
+          let f : InstanceRecord → NameTable ℕ = λ x. handle_table thread_named x.thread_handles in
           get-by_place i (map f v.items)
-          ∙ (ap (λ (xs : List (Table ℕ)). slice_get xs i) (map_more f)
+          ∙ (ap (λ (xs : List (NameTable ℕ)). slice_get xs i) (map_more f)
           ∙ (pushed_other (map f a.instances.items) i (f r) (λ same. other (same ∙ length-map a.instances.items f))
           ∙ sym (get-by_place i (map f a.instances.items))))
 
       owned_more : EachEntry (OwnsHandle (parts_of more)) a.threads
-      unfolding IsSound seen
+      unfolding IsSoundCore seen
       owned_more rep q at h has =
-          ap (λ (o : Option (Table ℕ)). option_and_then (λ (t : Table ℕ). get t.live h) o) (table_kept q.entry.item.instance (thread_before rep q at))
+          ap (λ (o : Option (NameTable ℕ)). option_and_then (λ (t : NameTable ℕ). get t.live h) o) (table_kept q.entry.item.instance (thread_before rep q at))
           ∙ sound.owned rep q at h has
 
       past : {Y : Type 0} (f : InstanceRecord → Y) → get (by_place (map f a.instances.items)) (size (seen a).core.instances) ≡ None
       past f = get-by_place_past (size (seen a).core.instances) (map f a.instances.items) (length-map a.instances.items f ∙ instance_count)
 
       live_more : a.counter.live ≡ live_in (seen more).core.handles + live_in (seen more).core.thread_handles
-      unfolding IsSound seen
+      unfolding IsSoundCore seen
       live_more =
           sound.live
-          ∙ sym (ap₂ (λ (h : Records (Table Named)) (t : Records (Table ℕ)). live_in h + live_in t) handles_more threads_more
+          ∙ sym (ap₂ (λ (h : Records (NameTable Named)) (t : Records (NameTable ℕ)). live_in h + live_in t) handles_more threads_more
           ∙ ap₂ (λ (m n : ℕ). m + n)
           (live_in-more (seen a).core.handles (size (seen a).core.instances) (past (λ x. handle_table named_of x.handles)))
           (live_in-more (seen a).core.thread_handles (size (seen a).core.instances) (past (λ x. handle_table thread_named x.thread_handles))))
 
-      pub instance_sound : IsSound more
-      unfolding IsSound seen
+      pub instance_sound : IsSoundCore more
+      unfolding IsSoundCore seen
       instance_sound = record {
         tables = record { threads = sound.tables.threads; calls = sound.tables.calls; works = sound.tables.works; sets = sound.tables.sets; groups = sound.tables.groups };
         whole = whole_more;
@@ -131,8 +131,8 @@ module _ (a : CoreParts) (v : Vec InstanceRecord Global) (is : v.items ≡ a.ins
   unfolding seen
   same_seen = ap (λ (xs : List InstanceRecord). image (record (parts_of a) { instances = xs })) is
 
-  pub same_sound : IsSound a → IsSound (record a { instances = v })
-  unfolding IsSound
+  pub same_sound : IsSoundCore a → IsSoundCore (record a { instances = v })
+  unfolding IsSoundCore
   same_sound sound = subst (λ (xs : List InstanceRecord). Sound (record (parts_of a) { instances = xs })) (sym is) sound
 
 pub on_err : {X E P : Type 0} (o : Result X E) → P → OnErr o P

@@ -1,5 +1,5 @@
 -- A number that was not made yet: no record names it, so that nothing is filed or counted under it.
-use Rattle.task_records.proofs.Core.{[], ap, ap₂, AreApart, arith, BlockedOn, Bool, cond, Delivery, EachEntry, eq-eqb, false, found_record, HeldIn, how_far_target, HowFar, is_delivery_for, is_in_set, is_inside_wait, is_resumption, IsNamedAt, IsTable, Join, join_target, keeps_set, key_in, Kinds, List, nat_lt, ne_eqb, next_place, None, none_in_records, Option, passing, Place, place_at, place_at-pushed, place_target, Placed, pushed, PutsRecord, PutsRecord-pushed, ready_in, record_at, records, refl, same_Some, Some, Status, subst, sym, Table, Thread, true, UnderOf, WaitsOn, Where, where_at, Why, why_target, ℕ, ◌&&◌, ◌<◌, ◌==◌, ◌||◌, ◌∙◌, ◌∷◌, ◌≡◌, ◌≤◌, StartsIn, held_list}
+use Rattle.task_records.proofs.Core.{[], ap, ap₂, AreApart, arith, BlockedOn, Bool, cond, Delivery, EachEntry, eq-eqb, false, found_record, HeldIn, op_progress_target, OpProgress, is_delivery_for, is_in_set, is_inside_wait, is_resumption, IsNamedAt, IsTable, Join, join_target, keeps_set, key_in, Kinds, List, nat_lt, ne_eqb, next_place, None, none_in_records, Option, passing, Place, place_at, place_at-pushed, place_target, Placed, pushed, PutsRecord, PutsRecord-pushed, ready_in, record_at, records, refl, same_Some, Some, Status, subst, sym, Table, Thread, true, UnderOf, WaitsOn, Where, where_at, Why, why_target, ℕ, ◌&&◌, ◌<◌, ◌==◌, ◌||◌, ◌∙◌, ◌∷◌, ◌≡◌, ◌≤◌, StartsIn, held_list}
 use Rattle.task_rules.specs.Places.{is_for_start}
 use Rattle.task_records.specs.declared.{single.Single.Single}
 use Rattle.task_records.proofs.KeptLemmas.{any_passing}
@@ -105,26 +105,26 @@ module _ (k : Kinds) (n : ℕ) (new : k.made.sets < n) where
   none_delivered (Why.Delivery Delivery.Cancel) rep at = refl
   none_delivered Why.Resumption rep at = refl
 
-  none_inside : (h : HowFar) (rep : ℕ) → IsNamedAt k rep (how_far_target h) → is_inside_wait n h ≡ false
-  none_inside HowFar.Fresh rep at = refl
-  none_inside (HowFar.Waits x) rep at = ne_eqb n x (not_new x at.0)
-  none_inside (HowFar.Calls sub) rep at = refl
-  none_inside (HowFar.Answered v) rep at = refl
-  none_inside (HowFar.Cancels sub) rep at = refl
-  none_inside (HowFar.AwaitsEnd sub) rep at = refl
-  none_inside HowFar.Suspends rep at = refl
-  none_inside HowFar.Yields rep at = refl
+  none_inside : (h : OpProgress) (rep : ℕ) → IsNamedAt k rep (op_progress_target h) → is_inside_wait n h ≡ false
+  none_inside OpProgress.Fresh rep at = refl
+  none_inside (OpProgress.Waits x) rep at = ne_eqb n x (not_new x at.0)
+  none_inside (OpProgress.Calls sub) rep at = refl
+  none_inside (OpProgress.Answered v) rep at = refl
+  none_inside (OpProgress.Cancels sub) rep at = refl
+  none_inside (OpProgress.AwaitsEnd sub) rep at = refl
+  none_inside OpProgress.Suspends rep at = refl
+  none_inside OpProgress.Yields rep at = refl
 
   neither : (a b c : Bool) → a ≡ false → c ≡ false → (a || (b && c)) ≡ false
   neither a true c no_a no_c = ap₂ (λ (x y : Bool). x || (true && y)) no_a no_c
   neither a false c no_a no_c = ap (λ (x : Bool). x || false) no_a
 
-  pub none_keeps : (t : Thread) (beside awaited : ℕ) → IsNamedAt k beside (place_target t.place) → IsNamedAt k awaited (how_far_target t.how_far) → keeps_set n t t.place ≡ false
+  pub none_keeps : (t : Thread) (beside awaited : ℕ) → IsNamedAt k beside (place_target t.place) → IsNamedAt k awaited (op_progress_target t.op_progress) → keeps_set n t t.place ≡ false
   none_keeps t beside awaited at far = by_place t.place at
     where
       by_place : (x : Place) → IsNamedAt k beside (place_target x) → keeps_set n t x ≡ false
       by_place Place.New at = refl
-      by_place (Place.Ready m w) at = neither (is_delivery_for n w) (is_resumption w) (is_inside_wait n t.how_far) (none_delivered w beside at) (none_inside t.how_far awaited far)
+      by_place (Place.Ready m w) at = neither (is_delivery_for n w) (is_resumption w) (is_inside_wait n t.op_progress) (none_delivered w beside at) (none_inside t.op_progress awaited far)
       by_place Place.Running at = refl
       by_place (Place.Under m) at = refl
       by_place (Place.Behind m) at = refl

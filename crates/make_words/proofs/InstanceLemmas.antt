@@ -1,11 +1,11 @@
 -- An instance more, with chains that hung on nothing: the parts stay whole.
-use Rattle.task_records.proofs.Core.{[], ap, ap₂, BlockedOn, Bool, cases_eq, chained, cond, Each, Entry, entry_seated, false, Filing, filings, filter, HasHome, HeldIn, High, host_entry, inl, inr, is_of_instance, IsCallNamed, IsIndex, IsRows, IsRows-opened, IsSeated, IsSome, IsWhole, IsWorkNamed, length, List, Low, ne_eqb, None, Option, option_map, part, Parts, Place, place_at, place_chain, place_filing, Placed, push_entry, refl, Row, row, row_chain, said, same_Some, shelf_chain, shelf_in, slice_get, Some, subst, Subtask, suc, sym, table_use, thread_entry, UnderOf, WaitsOn, Where, where_at, zero, ℕ, ◌++◌, ◌∙◌, ◌∷◌, ◌≡◌, ◌⊎◌, held_list, StartsIn, true, ◌&&◌}
-use Rattle.task_records.specs.declared.{calls.GuestTask.GuestTask, instances.InstanceRecord.InstanceRecord, single.Single.Single, threads.GuestThread.GuestThread, threads.Queued.Queued, works.HostWork.HostWork}
+use Rattle.task_records.proofs.Core.{[], ap, ap₂, BlockedOn, Bool, cases_eq, chained, cond, Each, Entry, entry_keyed, false, Filing, filings, filter, HasHome, HeldIn, High, host_entry, inl, inr, is_of_instance, IsCallNamed, IsIndex, IsRows, IsRows-opened, IsKeyed, IsSome, IsWhole, IsWorkNamed, length, List, Low, ne_eqb, None, Option, option_map, part, CoreImage, Place, place_at, place_chain, place_filing, Placed, push_entry, refl, Row, row, row_chain, said, same_Some, instance_queue_chain, instance_queue_in, slice_get, Some, subst, Subtask, suc, sym, table_use, thread_entry, UnderOf, WaitsOn, Where, where_at, zero, ℕ, ◌++◌, ◌∙◌, ◌∷◌, ◌≡◌, ◌⊎◌, held_list, StartsIn, true, ◌&&◌}
+use Rattle.task_records.specs.declared.{call_records.GuestTask.GuestTask, instance_records.InstanceRecord.InstanceRecord, single.Single.Single, thread_records.GuestThread.GuestThread, thread_records.Queued.Queued, work_records.WorkRecord.WorkRecord}
 use Rattle.task_rules.specs.Places.{is_for_start}
 use Rattle.make_words.proofs.LooseLemmas.{IsIndex-opened}
 use Rattle.make_words.proofs.MarkLemmas.{row_is}
 use Rattle.make_words.specs.Loose.{AreLoose}
-use Rattle.table_order.specs.declared.seat_links.Seat.{Seat}
+use Rattle.table_order.specs.declared.ordered_lists.OrderKey.{OrderKey}
 
 module _ {X : Type 0} where
   pub pushed_last : (xs : List X) (x : X) → slice_get (xs ++ x ∷ []) (length xs) ≡ Some x
@@ -62,8 +62,8 @@ starts_is n (StartsIn i) = elim (cases_eq i n) [
 starts_is n (UnderOf m) = inr (λ same. absurd (cc))
 starts_is n (BlockedOn sub) = inr (λ same. absurd (cc))
 
-shelf_is : (n : ℕ) (r : Row) (k : ℕ × Row) → (k ≡ (n, r)) ⊎ (k ≡ (n, r) → ⊥)
-shelf_is n r k = elim (cases_eq k.0 n) [
+instance_queue_is : (n : ℕ) (r : Row) (k : ℕ × Row) → (k ≡ (n, r)) ⊎ (k ≡ (n, r) → ⊥)
+instance_queue_is n r k = elim (cases_eq k.0 n) [
   | inl same ↦ elim (row_is k.1 r) [
     | inl one ↦ inl (ap₂ (λ (i : ℕ) (s : Row). (i, s)) same one)
     | inr other ↦ inr (λ same. other (ap (λ (j : ℕ × Row). j.1) same))
@@ -99,20 +99,20 @@ held_where i n b (Place.Blocked sub) w list is = let one = same_Some (BlockedOn 
 held_where i n b (Place.Held y) w list is = sym (held_list_is i (b && is_for_start y)) ∙ (ap held_number (same_Some (held_list i b y) w is) ∙ held_number_is n w list)
 held_where i n b Place.Suspended w list is = absurd (cc)
 
-module _ (p : Parts) (whole : IsWhole p) (r : InstanceRecord) (loose : AreLoose p r.held r.starts r.high r.low) (high : IsSome p.high) (low : IsSome p.low) where
-  abbrev pub grown : Parts
+module _ (p : CoreImage) (whole : IsWhole p) (r : InstanceRecord) (loose : AreLoose p r.held r.starts r.high r.low) (high : IsSome p.high) (low : IsSome p.low) where
+  abbrev pub grown : CoreImage
   grown = record p { instances = p.instances ++ r ∷ [] }
 
   abbrev next : ℕ
   next = length p.instances
 
   home_grown : (g : GuestThread) → HasHome p g → HasHome grown g
-  home_grown g h = record { call = h.call; there = h.there; instance = h.instance; barred = h.barred; within = there_still p.instances r g.instance h.within; place = h.place; how_far = h.how_far }
+  home_grown g h = record { call = h.call; there = h.there; instance = h.instance; barred = h.barred; within = there_still p.instances r g.instance h.within; place = h.place; op_progress = h.op_progress }
 
   call_grown : (g : GuestTask) → IsCallNamed p g → IsCallNamed grown g
   call_grown g h = record { caller = h.caller; first = h.first; join = h.join; group = h.group; positive = h.positive }
 
-  work_grown : (w : HostWork) → IsWorkNamed p w → IsWorkNamed grown w
+  work_grown : (w : WorkRecord) → IsWorkNamed p w → IsWorkNamed grown w
   work_grown w h = record { caller = h.caller; join = h.join; group = h.group }
 
   -- no thread is of the new instance
@@ -140,7 +140,7 @@ module _ (p : Parts) (whole : IsWhole p) (r : InstanceRecord) (loose : AreLoose 
   starts_others (BlockedOn (Subtask.Guest k)) other = refl
   starts_others (BlockedOn (Subtask.Host i)) other = refl
 
-  none_held : (w : Where) → IsHeldList next w → (rep : ℕ) (f : Filing Where Seat) → filings place_filing p.threads rep ≡ Some f → f.key ≡ Some w → ⊥
+  none_held : (w : Where) → IsHeldList next w → (rep : ℕ) (f : Filing Where OrderKey) → filings place_filing p.threads rep ≡ Some f → f.key ≡ Some w → ⊥
   unfolding filings
   none_held w list rep f is key = by_place (place_at p.threads rep) refl is
     where
@@ -148,7 +148,7 @@ module _ (p : Parts) (whole : IsWhole p) (r : InstanceRecord) (loose : AreLoose 
       by_place None at is = absurd (cc)
       by_place (Some q) at is =
           let g = q.entry.item in
-          let one : where_at g.instance g.barred g.thread.place ≡ f.key = ap (λ (h : Filing Where Seat). h.key) (same_Some _ f is) in
+          let one : where_at g.instance g.barred g.thread.place ≡ f.key = ap (λ (h : Filing Where OrderKey). h.key) (same_Some _ f is) in
           not_next rep q at (held_where g.instance next g.barred g.thread.place w list (one ∙ key))
 
   held_new : held_alone (HeldIn next) ≡ Some r.held
@@ -168,56 +168,56 @@ module _ (p : Parts) (whole : IsWhole p) (r : InstanceRecord) (loose : AreLoose 
 
   -- ---- Its entries at the marks
 
-  by_seat : (rep : ℕ) (q : Queued) (o : Option (Placed (Single GuestThread))) → place_at p.threads rep ≡ o → option_map (λ (x : Placed (Single GuestThread)). thread_entry rep x.entry.item) o ≡ Some q → is_of_instance next q ≡ false
-  by_seat rep q None at is = absurd (cc)
-  by_seat rep q (Some x) at is = ap (is_of_instance next) (sym (same_Some (thread_entry rep x.entry.item) q is)) ∙ ne_eqb x.entry.item.instance next (not_next rep x at)
+  by_order_key : (rep : ℕ) (q : Queued) (o : Option (Placed (Single GuestThread))) → place_at p.threads rep ≡ o → option_map (λ (x : Placed (Single GuestThread)). thread_entry rep x.entry.item) o ≡ Some q → is_of_instance next q ≡ false
+  by_order_key rep q None at is = absurd (cc)
+  by_order_key rep q (Some x) at is = ap (is_of_instance next) (sym (same_Some (thread_entry rep x.entry.item) q is)) ∙ ne_eqb x.entry.item.instance next (not_next rep x at)
 
-  by_work : {E : Type 0} (seat : ℕ → E → Queued) (rep : ℕ) (q : Queued) → ((x : E) → is_of_instance next (seat rep x) ≡ false) → (o : Option (Placed (Single E))) → option_map (λ (x : Placed (Single E)). seat rep x.entry.item) o ≡ Some q → is_of_instance next q ≡ false
-  by_work seat rep q out None is = absurd (cc)
-  by_work seat rep q out (Some x) is = ap (is_of_instance next) (sym (same_Some (seat rep x.entry.item) q is)) ∙ out x.entry.item
+  by_work : {E : Type 0} (order_key : ℕ → E → Queued) (rep : ℕ) (q : Queued) → ((x : E) → is_of_instance next (order_key rep x) ≡ false) → (o : Option (Placed (Single E))) → option_map (λ (x : Placed (Single E)). order_key rep x.entry.item) o ≡ Some q → is_of_instance next q ≡ false
+  by_work order_key rep q out None is = absurd (cc)
+  by_work order_key rep q out (Some x) is = ap (is_of_instance next) (sym (same_Some (order_key rep x.entry.item) q is)) ∙ out x.entry.item
 
-  seat_apart : (e : Entry) (rep : ℕ) (q : Queued) → entry_seated p e rep ≡ Some q → is_of_instance next q ≡ false
-  seat_apart (Entry.Thread n) rep q is = by_seat rep q (place_at p.threads rep) refl is
-  seat_apart (Entry.Push i) rep q is = by_work push_entry rep q (λ w. refl) (place_at p.works rep) is
-  seat_apart (Entry.Host i) rep q is = by_work host_entry rep q (λ w. refl) (place_at p.works rep) is
+  order_key_apart : (e : Entry) (rep : ℕ) (q : Queued) → entry_keyed p e rep ≡ Some q → is_of_instance next q ≡ false
+  order_key_apart (Entry.Thread n) rep q is = by_order_key rep q (place_at p.threads rep) refl is
+  order_key_apart (Entry.Push i) rep q is = by_work push_entry rep q (λ w. refl) (place_at p.works rep) is
+  order_key_apart (Entry.Host i) rep q is = by_work host_entry rep q (λ w. refl) (place_at p.works rep) is
 
   none_there : (s : Row) → filter (is_of_instance next) (row p s) ≡ []
   none_there s = by_chain (row_chain p s) refl
     where
       by_chain : (o : Option ℕ) → row_chain p s ≡ o → filter (is_of_instance next) (row p s) ≡ []
       by_chain None is = ap (λ o. filter (is_of_instance next) (chained p.marks o)) is
-      by_chain (Some c) is = filter_none (IsSeated p) (is_of_instance next) (λ q seat. seat_apart q.entry q.place q seat) (row p s) (whole.chained.marks.all_known s c is)
+      by_chain (Some c) is = filter_none (IsKeyed p) (is_of_instance next) (λ q order_key. order_key_apart q.entry q.place q order_key) (row p s) (whole.chained.marks.all_known s c is)
 
   -- with the chain of high alone
   abbrev mid : ℕ × Row → Option ℕ
-  mid (i, High) = shelf_chain grown (i, High)
-  mid (i, Low) = shelf_chain p (i, Low)
+  mid (i, High) = instance_queue_chain grown (i, High)
+  mid (i, Low) = instance_queue_chain p (i, Low)
 
-  mid_others : (k : ℕ × Row) → (k ≡ (next, High) → ⊥) → mid k ≡ shelf_chain p k
-  mid_others (i, High) other = ap (option_map (shelf_in High)) (pushed_other p.instances i r (λ same. other (ap (λ (j : ℕ). (j, High)) same)))
+  mid_others : (k : ℕ × Row) → (k ≡ (next, High) → ⊥) → mid k ≡ instance_queue_chain p k
+  mid_others (i, High) other = ap (option_map (instance_queue_in High)) (pushed_other p.instances i r (λ same. other (ap (λ (j : ℕ). (j, High)) same)))
   mid_others (i, Low) other = refl
 
-  last_others : (k : ℕ × Row) → (k ≡ (next, Low) → ⊥) → shelf_chain grown k ≡ mid k
+  last_others : (k : ℕ × Row) → (k ≡ (next, Low) → ⊥) → instance_queue_chain grown k ≡ mid k
   last_others (i, High) other = refl
-  last_others (i, Low) other = ap (option_map (shelf_in Low)) (pushed_other p.instances i r (λ same. other (ap (λ (j : ℕ). (j, Low)) same)))
+  last_others (i, Low) other = ap (option_map (instance_queue_in Low)) (pushed_other p.instances i r (λ same. other (ap (λ (j : ℕ). (j, Low)) same)))
 
-  shelf_none : (s : Row) → shelf_chain p (next, s) ≡ None
-  shelf_none s = ap (option_map (shelf_in s)) (no_last p.instances)
+  instance_queue_none : (s : Row) → instance_queue_chain p (next, s) ≡ None
+  instance_queue_none s = ap (option_map (instance_queue_in s)) (no_last p.instances)
 
-  shelf_new : (s : Row) → shelf_chain grown (next, s) ≡ Some (shelf_in s r)
-  shelf_new s = ap (option_map (shelf_in s)) (pushed_last p.instances r)
+  instance_queue_new : (s : Row) → instance_queue_chain grown (next, s) ≡ Some (instance_queue_in s r)
+  instance_queue_new s = ap (option_map (instance_queue_in s)) (pushed_last p.instances r)
 
   low_apart : (k : ℕ × Row) → mid k ≡ Some r.low → ⊥
-  low_apart k at = elim (shelf_is next High k) [
-    | inl same ↦ loose.two (same_Some r.high r.low (sym (shelf_new High) ∙ (sym (ap mid same) ∙ at)))
+  low_apart k at = elim (instance_queue_is next High k) [
+    | inl same ↦ loose.two (same_Some r.high r.low (sym (instance_queue_new High) ∙ (sym (ap mid same) ∙ at)))
     | inr other ↦ loose.low.apart k (sym (mid_others k other) ∙ at)
   ]
 
-  mid_rows : IsRows mid (λ q. q.shelf.index) (IsSeated p) p.shelves (part is_of_instance (row p))
-  mid_rows = IsRows-opened (shelf_chain p) (λ q. q.shelf.index) (IsSeated p) p.shelves (part is_of_instance (row p)) whole.chained.shelves mid (part is_of_instance (row p)) (next, High) (shelf_is next High) mid_others (λ k other. refl) r.high (shelf_none High) (shelf_new High) (none_there High) loose.high.empty loose.high.apart
+  mid_rows : IsRows mid (λ q. q.instance_queue.index) (IsKeyed p) p.instance_queues (part is_of_instance (row p))
+  mid_rows = IsRows-opened (instance_queue_chain p) (λ q. q.instance_queue.index) (IsKeyed p) p.instance_queues (part is_of_instance (row p)) whole.chained.instance_queues mid (part is_of_instance (row p)) (next, High) (instance_queue_is next High) mid_others (λ k other. refl) r.high (instance_queue_none High) (instance_queue_new High) (none_there High) loose.high.empty loose.high.apart
 
-  shelves_grown : IsRows (shelf_chain grown) (λ q. q.shelf.index) (IsSeated p) p.shelves (part is_of_instance (row p))
-  shelves_grown = IsRows-opened mid (λ q. q.shelf.index) (IsSeated p) p.shelves (part is_of_instance (row p)) mid_rows (shelf_chain grown) (part is_of_instance (row p)) (next, Low) (shelf_is next Low) last_others (λ k other. refl) r.low (shelf_none Low) (shelf_new Low) (none_there Low) loose.low.empty low_apart
+  instance_queues_grown : IsRows (instance_queue_chain grown) (λ q. q.instance_queue.index) (IsKeyed p) p.instance_queues (part is_of_instance (row p))
+  instance_queues_grown = IsRows-opened mid (λ q. q.instance_queue.index) (IsKeyed p) p.instance_queues (part is_of_instance (row p)) mid_rows (instance_queue_chain grown) (part is_of_instance (row p)) (next, Low) (instance_queue_is next Low) last_others (λ k other. refl) r.low (instance_queue_none Low) (instance_queue_new Low) (none_there Low) loose.low.empty low_apart
 
   pub grown_whole : IsWhole grown
   unfolding table_use
@@ -235,11 +235,11 @@ module _ (p : Parts) (whole : IsWhole p) (r : InstanceRecord) (loose : AreLoose 
       polled = whole.chained.polled;
       rising = whole.chained.rising;
       marks = whole.chained.marks;
-      shelves = shelves_grown;
+      instance_queues = instance_queues_grown;
       low = whole.chained.low;
       behind = whole.chained.behind;
     };
-    nodes = record { marks = whole.nodes.marks; shelves = whole.nodes.shelves; callers = whole.nodes.callers; works = whole.nodes.works; apart = whole.nodes.apart };
+    nodes = record { marks = whole.nodes.marks; instance_queues = whole.nodes.instance_queues; callers = whole.nodes.callers; works = whole.nodes.works; apart = whole.nodes.apart };
     counted = record {
       kept = record { used = whole.counted.kept.used; groups = whole.counted.kept.groups; live = whole.counted.kept.live };
       calls = whole.counted.calls;

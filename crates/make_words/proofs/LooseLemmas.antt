@@ -1,6 +1,6 @@
 -- Chains that hang on nothing: how they are made, what keeps them, and how a key gets one.
-use Rattle.task_records.proofs.Core.{[], ap, bare, ChainOf, Filing, filings, inl, inr, is_of_instance, IsIndex, IsIndex-rechained, IsRows, IsSeated, IsSome, IsSound, List, list_of, new_for_chains, no_chain, None, Option, part, parts_of, place_chain, place_filing, ready_call, ready_call_chain, ready_work, ready_work_chain, refl, Renames, row, same_Some, shelf_chain, Some, Spot, spot_list, subst, sym, Unmade, ℕ, ◌∙◌, ◌≡◌, ◌⊎◌}
-use Rattle.task_records.specs.declared.{parts.CoreParts.CoreParts, sets.WaitSet.WaitSet}
+use Rattle.task_records.proofs.Core.{[], ap, bare, ChainOf, Filing, filings, inl, inr, is_of_instance, IsIndex, IsIndex-rechained, IsRows, IsKeyed, IsSome, IsSoundCore, List, list_of, new_for_chains, no_chain, None, Option, part, parts_of, place_chain, place_filing, ready_call, ready_call_chain, ready_work, ready_work_chain, refl, Renames, row, same_Some, instance_queue_chain, Some, Spot, spot_list, subst, sym, Unmade, ℕ, ◌∙◌, ◌≡◌, ◌⊎◌}
+use Rattle.task_records.specs.declared.{parts.CoreParts.CoreParts, set_records.WaitSet.WaitSet}
 use Rattle.make_words.specs.Loose.{AreLoose, AreSetLoose, IsLoose}
 
 no_list : {P X : Type 0} (o : Option (List (ℕ × P))) → o ≡ None → o ≡ Some [] → X
@@ -50,13 +50,13 @@ module _ {K P : Type 0} (chain : K → Option ℕ) where
 
 -- ---- Those of an instance, made one after another
 
-module _ (a b e c d : CoreParts) (h s i l : ℕ) (sound_a : IsSound a) (sound_b : IsSound b) (sound_e : IsSound e) (sound_c : IsSound c) (only_b : b ≡ record a { places = b.places }) (only_e : e ≡ record b { places = e.places }) (only_c : c ≡ record e { shelves = c.shelves }) (only_d : d ≡ record c { shelves = d.shelves }) (made_h : Renames a.places b.places h Unmade (ChainOf [])) (made_s : Renames b.places e.places s Unmade (ChainOf [])) (made_i : Renames e.shelves c.shelves i Unmade (ChainOf [])) (made_l : Renames c.shelves d.shelves l Unmade (ChainOf [])) where
+module _ (a b e c d : CoreParts) (h s i l : ℕ) (sound_a : IsSoundCore a) (sound_b : IsSoundCore b) (sound_e : IsSoundCore e) (sound_c : IsSoundCore c) (only_b : b ≡ record a { places = b.places }) (only_e : e ≡ record b { places = e.places }) (only_c : c ≡ record e { instance_queues = c.instance_queues }) (only_d : d ≡ record c { instance_queues = d.instance_queues }) (made_h : Renames a.places b.places h Unmade (ChainOf [])) (made_s : Renames b.places e.places s Unmade (ChainOf [])) (made_i : Renames e.instance_queues c.instance_queues i Unmade (ChainOf [])) (made_l : Renames c.instance_queues d.instance_queues l Unmade (ChainOf [])) where
   held_new : IsLoose (place_chain (bare (parts_of a))) b.places h
-  unfolding IsSound
+  unfolding IsSoundCore
   held_new = loose_index (place_chain (bare (parts_of a))) a.places b.places (filings place_filing (bare (parts_of a)).threads) sound_a.whole.chained.places h made_h
 
   starts_new : IsLoose (place_chain (bare (parts_of b))) e.places s
-  unfolding IsSound
+  unfolding IsSoundCore
   starts_new = loose_index (place_chain (bare (parts_of b))) b.places e.places (filings place_filing (bare (parts_of b)).threads) sound_b.whole.chained.places s made_s
 
   held_b : IsLoose (place_chain (bare (parts_of b))) b.places h
@@ -74,40 +74,40 @@ module _ (a b e c d : CoreParts) (h s i l : ℕ) (sound_a : IsSound a) (sound_b 
   place_last : (n : ℕ) → IsLoose (place_chain (bare (parts_of b))) e.places n → IsHeldChain n d
   place_last n loose = subst (IsHeldChain n) (sym only_d) (subst (IsHeldChain n) (sym only_c) (subst (IsPlaceChain n) (sym only_e) loose))
 
-  high_new : IsLoose (shelf_chain (bare (parts_of e))) c.shelves i
-  unfolding IsSound
-  high_new = let p = bare (parts_of e) in loose_row (shelf_chain p) (λ q. q.shelf.index) (IsSeated p) e.shelves c.shelves (part is_of_instance (row p)) sound_e.whole.chained.shelves i made_i
+  high_new : IsLoose (instance_queue_chain (bare (parts_of e))) c.instance_queues i
+  unfolding IsSoundCore
+  high_new = let p = bare (parts_of e) in loose_row (instance_queue_chain p) (λ q. q.instance_queue.index) (IsKeyed p) e.instance_queues c.instance_queues (part is_of_instance (row p)) sound_e.whole.chained.instance_queues i made_i
 
-  low_new : IsLoose (shelf_chain (bare (parts_of c))) d.shelves l
-  unfolding IsSound
-  low_new = let p = bare (parts_of c) in loose_row (shelf_chain p) (λ q. q.shelf.index) (IsSeated p) c.shelves d.shelves (part is_of_instance (row p)) sound_c.whole.chained.shelves l made_l
+  low_new : IsLoose (instance_queue_chain (bare (parts_of c))) d.instance_queues l
+  unfolding IsSoundCore
+  low_new = let p = bare (parts_of c) in loose_row (instance_queue_chain p) (λ q. q.instance_queue.index) (IsKeyed p) c.instance_queues d.instance_queues (part is_of_instance (row p)) sound_c.whole.chained.instance_queues l made_l
 
-  abbrev IsShelfChain : ℕ → CoreParts → Type 0
-  IsShelfChain n x = IsLoose (shelf_chain (bare (parts_of x))) d.shelves n
+  abbrev IsInstanceQueueChain : ℕ → CoreParts → Type 0
+  IsInstanceQueueChain n x = IsLoose (instance_queue_chain (bare (parts_of x))) d.instance_queues n
 
   pub made_loose : AreLoose (bare (parts_of d)) h s i l
   made_loose = record {
     held = place_last h held_e;
     starts = place_last s starts_new;
     apart = next_other (place_chain (bare (parts_of b))) b.places e.places h s held_b (ChainOf []) made_s;
-    high = subst (IsShelfChain i) (sym only_d) (subst (IsShelfChain i) (sym only_c) (loose_kept (shelf_chain (bare (parts_of e))) c.shelves d.shelves i l high_new (ChainOf []) made_l));
-    low = subst (IsShelfChain l) (sym only_d) low_new;
-    two = next_other (shelf_chain (bare (parts_of e))) c.shelves d.shelves i l high_new (ChainOf []) made_l;
+    high = subst (IsInstanceQueueChain i) (sym only_d) (subst (IsInstanceQueueChain i) (sym only_c) (loose_kept (instance_queue_chain (bare (parts_of e))) c.instance_queues d.instance_queues i l high_new (ChainOf []) made_l));
+    low = subst (IsInstanceQueueChain l) (sym only_d) low_new;
+    two = next_other (instance_queue_chain (bare (parts_of e))) c.instance_queues d.instance_queues i l high_new (ChainOf []) made_l;
   }
 
 -- ---- Those of a set, made one after another
 
-module _ (a b c d : CoreParts) (x : WaitSet) (sound_a : IsSound a) (sound_b : IsSound b) (sound_c : IsSound c) (only_b : b ≡ record a { places = b.places }) (only_c : c ≡ record b { ready_calls = c.ready_calls }) (only_d : d ≡ record c { ready_works = d.ready_works }) (made_w : Renames a.places b.places x.waiters Unmade (ChainOf [])) (made_c : Renames b.ready_calls c.ready_calls x.ready_calls Unmade (ChainOf [])) (made_d : Renames c.ready_works d.ready_works x.ready_works Unmade (ChainOf [])) where
+module _ (a b c d : CoreParts) (x : WaitSet) (sound_a : IsSoundCore a) (sound_b : IsSoundCore b) (sound_c : IsSoundCore c) (only_b : b ≡ record a { places = b.places }) (only_c : c ≡ record b { ready_calls = c.ready_calls }) (only_d : d ≡ record c { ready_works = d.ready_works }) (made_w : Renames a.places b.places x.waiters Unmade (ChainOf [])) (made_c : Renames b.ready_calls c.ready_calls x.ready_calls Unmade (ChainOf [])) (made_d : Renames c.ready_works d.ready_works x.ready_works Unmade (ChainOf [])) where
   waiters_new : IsLoose (place_chain (bare (parts_of a))) b.places x.waiters
-  unfolding IsSound
+  unfolding IsSoundCore
   waiters_new = loose_index (place_chain (bare (parts_of a))) a.places b.places (filings place_filing (bare (parts_of a)).threads) sound_a.whole.chained.places x.waiters made_w
 
   calls_new : IsLoose (ready_call_chain (bare (parts_of b))) c.ready_calls x.ready_calls
-  unfolding IsSound
+  unfolding IsSoundCore
   calls_new = loose_index (ready_call_chain (bare (parts_of b))) b.ready_calls c.ready_calls (filings ready_call (bare (parts_of b)).calls) sound_b.whole.chained.ready_calls x.ready_calls made_c
 
   works_new : IsLoose (ready_work_chain (bare (parts_of c))) d.ready_works x.ready_works
-  unfolding IsSound
+  unfolding IsSoundCore
   works_new = loose_index (ready_work_chain (bare (parts_of c))) c.ready_works d.ready_works (filings ready_work (bare (parts_of c)).works) sound_c.whole.chained.ready_works x.ready_works made_d
 
   abbrev HasWaiters : CoreParts → Type 0

@@ -1,5 +1,5 @@
 -- A table with an entry more: what stood there stands there still, and the new one has nodes of its own.
-use Rattle.task_records.proofs.Core.{[], ap, arith, Bool, cases_eq, children_of-mapped, cond, Each, EachEntry, entry_put, eq-eqb, false, Filing, filings, found_record, found_record_at, get, get-insert, get-records, HasNumber, HaveNodes, inl, inr, insert, is_made, IsIndex, IsIndex-pushed, IsRows, IsTable, IsTable-mapped, key_in, link_for, List, mapped, nat_lt, ne_eqb, next_place, next_place_free, None, number_in, on_item, one_if_passes, Option, option_map, passing, passing-with_at, place_at, place_at-mapped, place_at-pushed, place_at-with_entry, Placed, placed_as, pushed, record_at, Records, records, refl, said, same_Some, seated, size, size-insert_new, Some, SoundTable, Spot, subst, sym, Table, true, with_entry, ℕ, ◌+◌, ◌<◌, ◌==◌, ◌∙◌, ◌∷◌, ◌≡◌, ◌≤◌, ◌⊎◌}
+use Rattle.task_records.proofs.Core.{[], ap, arith, Bool, cases_eq, children_of-mapped, cond, Each, EachEntry, entry_put, eq-eqb, false, Filing, filings, found_record, found_record_at, get, get-insert, get-records, HasNumber, HaveNodes, inl, inr, insert, is_made, IsIndex, IsIndex-pushed, IsRows, IsTable, IsTable-mapped, key_in, link_for, List, mapped, nat_lt, ne_eqb, next_place, next_place_free, None, number_in, on_item, one_if_passes, Option, option_map, passing, passing-with_at, place_at, place_at-mapped, place_at-pushed, place_at-with_entry, Placed, placed_as, pushed, record_at, Records, records, refl, said, same_Some, keyed, size, size-insert_new, Some, SoundTable, Spot, subst, sym, Table, true, with_entry, ℕ, ◌+◌, ◌<◌, ◌==◌, ◌∙◌, ◌∷◌, ◌≡◌, ◌≤◌, ◌⊎◌}
 use Rattle.task_records.specs.declared.{single.Single.Single}
 use Rattle.make_words.specs.Loose.{IsSpare}
 use Rattle.task_records.proofs.MakeLemmas.{records_more}
@@ -50,12 +50,12 @@ module _ {T : Type 0} (t : Table (Single T)) (g : T) (table : IsTable t) where
     | inr other ↦ inr (sym (at_other r other) ∙ at)
   ]
 
-  pub seat_stays : {Q : Type 0} (seat : ℕ → T → Q) (r : ℕ) (x : Q) → seated seat t r ≡ Some x → seated seat more r ≡ Some x
-  seat_stays {Q} seat r x is = by (place_at t r) refl is
+  pub order_key_stays : {Q : Type 0} (order_key : ℕ → T → Q) (r : ℕ) (x : Q) → keyed order_key t r ≡ Some x → keyed order_key more r ≡ Some x
+  order_key_stays {Q} order_key r x is = by (place_at t r) refl is
     where
-      by : (o : Option (Placed (Single T))) → place_at t r ≡ o → option_map (λ (p : Placed (Single T)). seat r p.entry.item) o ≡ Some x → seated seat more r ≡ Some x
+      by : (o : Option (Placed (Single T))) → place_at t r ≡ o → option_map (λ (p : Placed (Single T)). order_key r p.entry.item) o ≡ Some x → keyed order_key more r ≡ Some x
       by None at is = absurd (cc)
-      by (Some q) at is = ap (option_map (λ (p : Placed (Single T)). seat r p.entry.item)) (stays r q at) ∙ is
+      by (Some q) at is = ap (option_map (λ (p : Placed (Single T)). order_key r p.entry.item)) (stays r q at) ∙ is
 
   pub number_stays : {X : Type 0} (key : Single T → Option (ℕ × X)) (r n : ℕ) → HasNumber key t r n → 0 < n → HasNumber key more r n
   number_stays key r n has some = elim (cases_eq r (next_place t)) [

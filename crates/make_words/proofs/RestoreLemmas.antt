@@ -1,6 +1,6 @@
 -- Tables that hold at each place what they held: the core is sound, and nothing is seen of it.
-use Rattle.task_records.proofs.Core.{AreEnded, [], ap, ap₂, AreHandlesNamed, AreKept, arith, AtPlace, bare, bare_call, bare_thread, bare_work, blocked_key, BlockedOn, Call, call_instance, call_key, callers_chain, callers_in, callers_key, callers_row, CallOf, cases_eq, chained, children_of, children_of-deleted, children_of-pushed, children_of-with_entry, cond, Core, core_of, deleted, Each, Entry, entry_seated, eq-eqb, Filing, filings, follower, found, found_record, get, get-records, group_key, HandleKind, HasHome, HaveNodes, HeldIn, host_entry, IfSome, image, inl, inr, is_moving, IsCallKept, IsCallNamed, IsFollower, IsGroupKept, IsHeldNamed, IsIndex-same, IsIndex-same_chains, IsNamedAt, IsRows, IsSeated, IsSetKept, IsSome, IsTable, IsTable-with_entry, IsWhole, IsWorkNamed, item_at, item_in, item_of, key_in, Kinds, kinds, known_in, known_of, List, live_chain, live_work, map, mapped, ne_eqb, next_place, next_place_free, None, Nothing, number_in, of_serial, on_item, Option, option_map, or_record, Parts, passing, place_at, place_at-deleted, place_at-mapped, place_at-pushed, place_chain, place_filing, Placed, placed_as, push_entry, pushed, ready_call, ready_call_chain, ready_calls_key, ready_work, ready_work_chain, ready_works_key, records, refl, Rep, said, same_map, set_key, SetOf, slice_get, slice_get-map, Some, Sound, SoundTable, Spot, standing, StandsAt, subst, Subtask, suc, sym, Table, Tag, tag_of, tags_in, Target, thread_entry, thread_key, ThreadOf, trimmed, under_key, UnderOf, WaitableKind, waiters_key, WaitsOn, Where, with_entry, with_first, with_nodes, work_blocked_key, work_key, WorkOf, ℕ, ◌∙◌, ◌∷◌, ◌≡◌, StartsIn}
-use Rattle.task_records.specs.declared.{calls.GuestTask.GuestTask, calls.TaskGroup.TaskGroup, instances.InstanceRecord.InstanceRecord, sets.WaitSet.WaitSet, single.Single.Single, threads.Follower.Follower, threads.GuestThread.GuestThread, threads.Queued.Queued, works.HostWork.HostWork}
+use Rattle.task_records.proofs.Core.{AreEnded, [], ap, ap₂, AreHandlesNamed, AreKept, arith, AtPlace, bare, bare_call, bare_thread, bare_work, blocked_key, BlockedOn, Call, call_instance, call_key, callers_chain, callers_in, callers_key, callers_row, CallOf, cases_eq, chained, children_of, children_of-deleted, children_of-pushed, children_of-with_entry, cond, Core, core_of, deleted, Each, Entry, entry_keyed, eq-eqb, Filing, filings, follower, found, found_record, get, get-records, group_key, HandleKind, HasHome, HaveNodes, HeldIn, host_entry, IfSome, image, inl, inr, is_moving, IsCallKept, IsCallNamed, IsFollower, IsGroupKept, IsHeldNamed, IsIndex-same, IsIndex-same_chains, IsNamedAt, IsRows, IsKeyed, IsSetKept, IsSome, IsTable, IsTable-with_entry, IsWhole, IsWorkNamed, item_at, item_in, item_of, key_in, Kinds, kinds, tracked_in, tracked_of, List, live_chain, live_work, map, mapped, ne_eqb, next_place, next_place_free, None, Nothing, number_in, of_serial, on_item, Option, option_map, or_record, CoreImage, passing, place_at, place_at-deleted, place_at-mapped, place_at-pushed, place_chain, place_filing, Placed, placed_as, push_entry, pushed, ready_call, ready_call_chain, ready_calls_key, ready_work, ready_work_chain, ready_works_key, records, refl, Rep, said, same_map, set_key, SetOf, slice_get, slice_get-map, Some, Sound, SoundTable, Spot, standing, StandsAt, subst, Subtask, suc, sym, Table, Tag, tag_of, tags_in, Target, thread_entry, thread_key, ThreadOf, trimmed, under_key, UnderOf, WaitableKind, waiters_key, WaitsOn, Where, with_entry, with_first, with_nodes, work_blocked_key, work_key, WorkOf, ℕ, ◌∙◌, ◌∷◌, ◌≡◌, StartsIn}
+use Rattle.task_records.specs.declared.{call_records.GuestTask.GuestTask, call_records.TaskGroup.TaskGroup, instance_records.InstanceRecord.InstanceRecord, set_records.WaitSet.WaitSet, single.Single.Single, thread_records.Follower.Follower, thread_records.GuestThread.GuestThread, thread_records.Queued.Queued, work_records.WorkRecord.WorkRecord}
 use Rattle.make_words.proofs.MoreLemmas.{IsRows-known, at_unwritten, at_written}
 use Rattle.make_words.specs.Restored.{IsRestored, Restores}
 use Rattle.task_machine.specs.Read.{kind_of}
@@ -98,9 +98,9 @@ IsRows-same_chains chain chain' node Known links list list' chains lists rows = 
 
 -- ---- The parts of a core
 
-module _ (p : Parts) (threads : Table (Single GuestThread)) (calls : Table (Single GuestTask)) (works : Table (Single HostWork)) (sets : Table (Single WaitSet)) (groups : Table (Single TaskGroup))
+module _ (p : CoreImage) (threads : Table (Single GuestThread)) (calls : Table (Single GuestTask)) (works : Table (Single WorkRecord)) (sets : Table (Single WaitSet)) (groups : Table (Single TaskGroup))
     (same_threads : SamePlaces p.threads threads) (same_calls : SamePlaces p.calls calls) (same_works : SamePlaces p.works works) (same_sets : SamePlaces p.sets sets) (same_groups : SamePlaces p.groups groups) where
-  abbrev pub restored : Parts
+  abbrev pub restored : CoreImage
   restored = record p { threads = threads; calls = calls; works = works; sets = sets; groups = groups }
 
   pub core_same : core_of restored ≡ core_of p
@@ -121,13 +121,13 @@ module _ (p : Parts) (threads : Table (Single GuestThread)) (calls : Table (Sing
     barred = ap (λ s. bars_start g.thread.explicit (kind_of g.thread.call s)) core_same ∙ h.barred;
     within = h.within;
     place = at_restored g.beside _ h.place;
-    how_far = at_restored g.awaited _ h.how_far;
+    op_progress = at_restored g.awaited _ h.op_progress;
   }
 
   call_kept : (g : GuestTask) → IsCallNamed p g → IsCallNamed restored g
   call_kept g h = record { caller = at_restored g.maker _ h.caller; first = at_restored g.first (ThreadOf g.number) h.first; join = at_restored g.joined _ h.join; group = ap (λ o. number_in (key_in group_key o)) (same_groups g.group) ∙ h.group; positive = h.positive }
 
-  work_kept : (w : HostWork) → IsWorkNamed p w → IsWorkNamed restored w
+  work_kept : (w : WorkRecord) → IsWorkNamed p w → IsWorkNamed restored w
   work_kept w h = record { caller = at_restored w.maker _ h.caller; join = at_restored w.joined _ h.join; group = λ n is. let one = h.group n is in (ap (λ o. number_in (key_in group_key o)) (same_groups w.group) ∙ one.0, one.1) }
 
   follower_kept : (f : Follower) → IsFollower p f → IsFollower restored f
@@ -145,13 +145,13 @@ module _ (p : Parts) (threads : Table (Single GuestThread)) (calls : Table (Sing
   chains_kept (BlockedOn (Subtask.Guest k)) = found_same blocked_key p.calls calls same_calls k
   chains_kept (BlockedOn (Subtask.Host i)) = found_same work_blocked_key p.works works same_works i
 
-  seat_kept : (x : Queued) → IsSeated p x → IsSeated restored x
-  seat_kept x is = by x.entry is
+  order_key_kept : (x : Queued) → IsKeyed p x → IsKeyed restored x
+  order_key_kept x is = by x.entry is
     where
-      by : (e : Entry) → entry_seated p e x.place ≡ Some x → entry_seated restored e x.place ≡ Some x
+      by : (e : Entry) → entry_keyed p e x.place ≡ Some x → entry_keyed restored e x.place ≡ Some x
       by (Entry.Thread n) is = ap (option_map (λ (q : Placed (Single GuestThread)). thread_entry x.place q.entry.item)) (same_threads x.place) ∙ is
-      by (Entry.Push i) is = ap (option_map (λ (q : Placed (Single HostWork)). push_entry x.place q.entry.item)) (same_works x.place) ∙ is
-      by (Entry.Host i) is = ap (option_map (λ (q : Placed (Single HostWork)). host_entry x.place q.entry.item)) (same_works x.place) ∙ is
+      by (Entry.Push i) is = ap (option_map (λ (q : Placed (Single WorkRecord)). push_entry x.place q.entry.item)) (same_works x.place) ∙ is
+      by (Entry.Host i) is = ap (option_map (λ (q : Placed (Single WorkRecord)). host_entry x.place q.entry.item)) (same_works x.place) ∙ is
 
   pub whole_restored : IsWhole p → IsWhole restored
   whole_restored whole = record {
@@ -167,15 +167,15 @@ module _ (p : Parts) (threads : Table (Single GuestThread)) (calls : Table (Sing
       ready_works = IsIndex-same (ready_work_chain restored) p.ready_works (filings ready_work p.works) (IsIndex-same_chains (ready_work_chain p) p.ready_works (filings ready_work p.works) whole.chained.ready_works (ready_work_chain restored) (found_same ready_works_key p.sets sets same_sets)) (filings ready_work works) (filings_same ready_work p.works works same_works);
       polled = IsIndex-same (live_chain p) p.polled (filings live_work p.works) whole.chained.polled (filings live_work works) (filings_same live_work p.works works same_works);
       rising = whole.chained.rising;
-      marks = IsRows-known _ _ (IsSeated p) (IsSeated restored) _ _ seat_kept whole.chained.marks;
-      shelves = IsRows-known _ _ (IsSeated p) (IsSeated restored) _ _ seat_kept whole.chained.shelves;
+      marks = IsRows-known _ _ (IsKeyed p) (IsKeyed restored) _ _ order_key_kept whole.chained.marks;
+      instance_queues = IsRows-known _ _ (IsKeyed p) (IsKeyed restored) _ _ order_key_kept whole.chained.instance_queues;
       low = whole.chained.low;
       behind = IsRows-same_chains (callers_chain p) (callers_chain restored) _ (IsFollower restored) p.behind (callers_row p) (callers_row restored) (found_same callers_key p.threads threads same_threads) (λ n. ap (chained p.behind) (found_same callers_key p.threads threads same_threads n))
           (IsRows-known _ _ (IsFollower p) (IsFollower restored) _ _ follower_kept whole.chained.behind);
     };
     nodes = record {
       marks = nodes_kept _ p.threads threads p.marks same_threads whole.nodes.marks;
-      shelves = nodes_kept _ p.threads threads p.shelves same_threads whole.nodes.shelves;
+      instance_queues = nodes_kept _ p.threads threads p.instance_queues same_threads whole.nodes.instance_queues;
       callers = nodes_kept _ p.threads threads p.behind same_threads whole.nodes.callers;
       works = nodes_kept _ p.works works p.marks same_works whole.nodes.works;
       apart = λ r s q w at_q at_w. whole.nodes.apart r s q w (sym (same_threads r) ∙ at_q) (sym (same_works s) ∙ at_w);
@@ -206,15 +206,15 @@ module _ {E X : Type 0} (key : E → Option (ℕ × X)) (t u : Table E) (made : 
     later = λ n later. found_same key t u back.places n ∙ sound.later n later;
   }
 
-module _ (p q : Parts) (back : IsRestored p q) where
-  abbrev again : Parts
+module _ (p q : CoreImage) (back : IsRestored p q) where
+  abbrev again : CoreImage
   again = restored p q.threads q.calls q.works q.sets q.groups back.threads.places back.calls.places back.works.places back.sets.places back.groups.places
 
   core_again : core_of again ≡ core_of p
   core_again = core_same p q.threads q.calls q.works q.sets q.groups back.threads.places back.calls.places back.works.places back.sets.places back.groups.places
 
-  known_again : known_in again ≡ known_in p
-  known_again = ap (λ (s : Core). known_of p.ended s.groups p.made.groups) core_again
+  known_again : tracked_in again ≡ tracked_in p
+  known_again = ap (λ (s : Core). tracked_of p.ended s.groups p.made.groups) core_again
 
   pub image_restored : image q ≡ image p
   image_restored =
@@ -279,14 +279,14 @@ module _ {E : Type 0} (t u v : Table E) (e : E) (table : IsTable t) (back : Rest
 -- ---- What is restored
 
 -- the parts differ in these tables alone, each of which is restored
-pub restored_from : (p q : Parts) (t : Table (Single GuestThread)) (k : Table (Single GuestTask)) (w : Table (Single HostWork)) (x : Table (Single WaitSet)) (g : Table (Single TaskGroup)) → q ≡ record p { threads = t; calls = k; works = w; sets = x; groups = g } → Restores p.threads t → Restores p.calls k → Restores p.works w → Restores p.sets x → Restores p.groups g → IsRestored p q
+pub restored_from : (p q : CoreImage) (t : Table (Single GuestThread)) (k : Table (Single GuestTask)) (w : Table (Single WorkRecord)) (x : Table (Single WaitSet)) (g : Table (Single TaskGroup)) → q ≡ record p { threads = t; calls = k; works = w; sets = x; groups = g } → Restores p.threads t → Restores p.calls k → Restores p.works w → Restores p.sets x → Restores p.groups g → IsRestored p q
 restored_from p q t k w x g is rt rk rw_ rx rg = record {
-  threads = subst (Restores p.threads) (sym (ap (λ (y : Parts). y.threads) is)) rt;
-  calls = subst (Restores p.calls) (sym (ap (λ (y : Parts). y.calls) is)) rk;
-  works = subst (Restores p.works) (sym (ap (λ (y : Parts). y.works) is)) rw_;
-  sets = subst (Restores p.sets) (sym (ap (λ (y : Parts). y.sets) is)) rx;
-  groups = subst (Restores p.groups) (sym (ap (λ (y : Parts). y.groups) is)) rg;
-  rest = is ∙ sym (ap (λ (y : Parts). record p { threads = y.threads; calls = y.calls; works = y.works; sets = y.sets; groups = y.groups }) is);
+  threads = subst (Restores p.threads) (sym (ap (λ (y : CoreImage). y.threads) is)) rt;
+  calls = subst (Restores p.calls) (sym (ap (λ (y : CoreImage). y.calls) is)) rk;
+  works = subst (Restores p.works) (sym (ap (λ (y : CoreImage). y.works) is)) rw_;
+  sets = subst (Restores p.sets) (sym (ap (λ (y : CoreImage). y.sets) is)) rx;
+  groups = subst (Restores p.groups) (sym (ap (λ (y : CoreImage). y.groups) is)) rg;
+  rest = is ∙ sym (ap (λ (y : CoreImage). record p { threads = y.threads; calls = y.calls; works = y.works; sets = y.sets; groups = y.groups }) is);
 }
 
 -- an id finds in a restored table what it found

@@ -1,11 +1,11 @@
 -- A set more, with chains that hung on nothing: the parts stay whole.
-use Rattle.task_records.proofs.Core.{ap, ap₂, arith, AtPlace, BlockedOn, Call, call_key, CallOf, cases_eq, core_of, EachEntry, entries_for, false, Filing, filings, found_record, get-records, HasHome, HeldIn, inl, inr, is_in_set, IsCallNamed, IsSetKept, IsWhole, IsWorkNamed, keeps_set, key_in, kinds, members_of, None, Nothing, Option, Parts, place_at, place_chain, place_filing, Placed, pushed, ready_call, ready_call_chain, ready_in, ready_work, ready_work_chain, Records, records, refl, said, same_Some, Set, set_key, SetOf, size, size-insert_new, Some, SoundTable, Subtask, sym, Table, table_use, Target, Thread, thread_key, ThreadOf, UnderOf, WaitsOn, Where, where_at, Work, work_key, WorkOf, ℕ, ◌+◌, ◌<◌, ◌∙◌, ◌≡◌, ◌⊎◌, StartsIn}
-use Rattle.task_records.specs.declared.{calls.GuestTask.GuestTask, sets.WaitSet.WaitSet, single.Single.Single, threads.GuestThread.GuestThread, works.HostWork.HostWork}
+use Rattle.task_records.proofs.Core.{ap, ap₂, arith, AtPlace, BlockedOn, Call, call_key, CallOf, cases_eq, core_of, EachEntry, entries_for, false, Filing, filings, found_record, get-records, HasHome, HeldIn, inl, inr, is_in_set, IsCallNamed, IsSetKept, IsWhole, IsWorkNamed, keeps_set, key_in, kinds, members_of, None, Nothing, Option, CoreImage, place_at, place_chain, place_filing, Placed, pushed, ready_call, ready_call_chain, ready_in, ready_work, ready_work_chain, Records, records, refl, said, same_Some, Set, set_key, SetOf, size, size-insert_new, Some, SoundTable, Subtask, sym, Table, table_use, Target, Thread, thread_key, ThreadOf, UnderOf, WaitsOn, Where, where_at, Work, work_key, WorkOf, ℕ, ◌+◌, ◌<◌, ◌∙◌, ◌≡◌, ◌⊎◌, StartsIn}
+use Rattle.task_records.specs.declared.{call_records.GuestTask.GuestTask, set_records.WaitSet.WaitSet, single.Single.Single, thread_records.GuestThread.GuestThread, work_records.WorkRecord.WorkRecord}
 use Rattle.make_words.proofs.FreshLemmas.{chain_new, chain_other, each_more, none_in, none_keeps, none_passing, none_ready, waits_on_none}
 use Rattle.make_words.proofs.LooseLemmas.{IsIndex-opened}
 use Rattle.make_words.specs.Loose.{AreSetLoose}
 use Rattle.task_records.proofs.MakeLemmas.{records_more, stands_more}
-use Rattle.table_order.specs.declared.seat_links.Seat.{Seat}
+use Rattle.table_order.specs.declared.ordered_lists.OrderKey.{OrderKey}
 
 abbrev set_in : Where → ℕ
 set_in (WaitsOn x) = x
@@ -21,11 +21,11 @@ waits_is n (HeldIn i) = inr (λ same. absurd (cc))
 waits_is n (UnderOf m) = inr (λ same. absurd (cc))
 waits_is n (BlockedOn sub) = inr (λ same. absurd (cc))
 
-module _ (p : Parts) (whole : IsWhole p) (tables : SoundTable set_key p.sets p.made.sets) (x : WaitSet) (next : x.number ≡ p.made.sets + 1) (loose : AreSetLoose p x) (no_members : x.members ≡ 0) (no_entries : x.entries ≡ 0) where
+module _ (p : CoreImage) (whole : IsWhole p) (tables : SoundTable set_key p.sets p.made.sets) (x : WaitSet) (next : x.number ≡ p.made.sets + 1) (loose : AreSetLoose p x) (no_members : x.members ≡ 0) (no_entries : x.entries ≡ 0) where
   abbrev sets_more : Table (Single WaitSet)
   sets_more = pushed (record { item = x }) p.sets
 
-  abbrev pub with_set : Parts
+  abbrev pub with_set : CoreImage
   with_set = record p { sets = sets_more; made = record p.made { sets = p.made.sets + 1 }; kept = record p.kept { used = p.kept.used + 1 } }
 
   later : p.made.sets < x.number
@@ -41,12 +41,12 @@ module _ (p : Parts) (whole : IsWhole p) (tables : SoundTable set_key p.sets p.m
   at_more rep (SetOf n) at = (let few = at.0 in omega arith, stands_more (λ (y : WaitSet). y.number) (λ (y : WaitSet). y.set) p.sets p.made.sets tables x next rep n at.0 at.1)
 
   home_more : (g : GuestThread) → HasHome p g → HasHome with_set g
-  home_more g h = record { call = h.call; there = h.there; instance = h.instance; barred = h.barred; within = h.within; place = at_more g.beside _ h.place; how_far = at_more g.awaited _ h.how_far }
+  home_more g h = record { call = h.call; there = h.there; instance = h.instance; barred = h.barred; within = h.within; place = at_more g.beside _ h.place; op_progress = at_more g.awaited _ h.op_progress }
 
   call_more : (g : GuestTask) → IsCallNamed p g → IsCallNamed with_set g
   call_more g h = record { caller = at_more g.maker _ h.caller; first = at_more g.first (ThreadOf g.number) h.first; join = at_more g.joined _ h.join; group = h.group; positive = h.positive }
 
-  work_more : (w : HostWork) → IsWorkNamed p w → IsWorkNamed with_set w
+  work_more : (w : WorkRecord) → IsWorkNamed p w → IsWorkNamed with_set w
   work_more w h = record { caller = at_more w.maker _ h.caller; join = at_more w.joined _ h.join; group = h.group }
 
   -- ---- Chains
@@ -66,7 +66,7 @@ module _ (p : Parts) (whole : IsWhole p) (tables : SoundTable set_key p.sets p.m
   place_others (BlockedOn (Subtask.Guest k)) other = refl
   place_others (BlockedOn (Subtask.Host i)) other = refl
 
-  none_waits : (rep : ℕ) (f : Filing Where Seat) → filings place_filing p.threads rep ≡ Some f → f.key ≡ Some (WaitsOn x.number) → ⊥
+  none_waits : (rep : ℕ) (f : Filing Where OrderKey) → filings place_filing p.threads rep ≡ Some f → f.key ≡ Some (WaitsOn x.number) → ⊥
   unfolding filings
   none_waits rep f is key = by_place (place_at p.threads rep) refl is
     where
@@ -74,10 +74,10 @@ module _ (p : Parts) (whole : IsWhole p) (tables : SoundTable set_key p.sets p.m
       by_place None at is = absurd (cc)
       by_place (Some q) at is =
           let g = q.entry.item in
-          let one : where_at g.instance g.barred g.thread.place ≡ f.key = ap (λ (h : Filing Where Seat). h.key) (same_Some _ f is) in
+          let one : where_at g.instance g.barred g.thread.place ≡ f.key = ap (λ (h : Filing Where OrderKey). h.key) (same_Some _ f is) in
           waits_on_none (kinds p) x.number later g.instance g.barred g.thread.place g.beside (whole.named.threads rep q at).place (one ∙ key)
 
-  none_call : (rep : ℕ) (f : Filing ℕ Seat) → filings ready_call p.calls rep ≡ Some f → f.key ≡ Some x.number → ⊥
+  none_call : (rep : ℕ) (f : Filing ℕ OrderKey) → filings ready_call p.calls rep ≡ Some f → f.key ≡ Some x.number → ⊥
   unfolding filings
   none_call rep f is key = by_place (place_at p.calls rep) refl is
     where
@@ -85,18 +85,18 @@ module _ (p : Parts) (whole : IsWhole p) (tables : SoundTable set_key p.sets p.m
       by_place None at is = absurd (cc)
       by_place (Some q) at is =
           let g = q.entry.item in
-          let one : ready_in g.call.event g.call.join ≡ f.key = ap (λ (h : Filing ℕ Seat). h.key) (same_Some _ f is) in
+          let one : ready_in g.call.event g.call.join ≡ f.key = ap (λ (h : Filing ℕ OrderKey). h.key) (same_Some _ f is) in
           none_ready (kinds p) x.number later g.call.event g.call.join g.joined (whole.named.calls rep q at).join (one ∙ key)
 
-  none_work : (rep : ℕ) (f : Filing ℕ Seat) → filings ready_work p.works rep ≡ Some f → f.key ≡ Some x.number → ⊥
+  none_work : (rep : ℕ) (f : Filing ℕ OrderKey) → filings ready_work p.works rep ≡ Some f → f.key ≡ Some x.number → ⊥
   unfolding filings
   none_work rep f is key = by_place (place_at p.works rep) refl is
     where
-      by_place : (o : Option (Placed (Single HostWork))) → place_at p.works rep ≡ o → said ready_work rep o ≡ Some f → ⊥
+      by_place : (o : Option (Placed (Single WorkRecord))) → place_at p.works rep ≡ o → said ready_work rep o ≡ Some f → ⊥
       by_place None at is = absurd (cc)
       by_place (Some q) at is =
           let w = q.entry.item in
-          let one : ready_in w.work.event w.work.join ≡ f.key = ap (λ (h : Filing ℕ Seat). h.key) (same_Some _ f is) in
+          let one : ready_in w.work.event w.work.join ≡ f.key = ap (λ (h : Filing ℕ OrderKey). h.key) (same_Some _ f is) in
           none_ready (kinds p) x.number later w.work.event w.work.join w.joined (whole.named.works rep q at).join (one ∙ key)
 
   -- ---- Kept numbers
@@ -110,7 +110,7 @@ module _ (p : Parts) (whole : IsWhole p) (tables : SoundTable set_key p.sets p.m
       by_call r e None at is = absurd (cc)
       by_call r e (Some q) at is = ap (λ (d : ℕ × Call). is_in_set x.number d.1.join) (sym (same_Some (q.entry.item.number, q.entry.item.call) e is)) ∙ none_in (kinds p) x.number later q.entry.item.call.join q.entry.item.joined (whole.named.calls r q at).join
 
-      by_work : (r : ℕ) (e : ℕ × Work) (o : Option (Placed (Single HostWork))) → place_at p.works r ≡ o → key_in work_key o ≡ Some e → is_in_set x.number e.1.join ≡ false
+      by_work : (r : ℕ) (e : ℕ × Work) (o : Option (Placed (Single WorkRecord))) → place_at p.works r ≡ o → key_in work_key o ≡ Some e → is_in_set x.number e.1.join ≡ false
       by_work r e None at is = absurd (cc)
       by_work r e (Some q) at is = ap (λ (d : ℕ × Work). is_in_set x.number d.1.join) (sym (same_Some (q.entry.item.number, q.entry.item.work) e is)) ∙ none_in (kinds p) x.number later q.entry.item.work.join q.entry.item.joined (whole.named.works r q at).join
 
@@ -122,7 +122,7 @@ module _ (p : Parts) (whole : IsWhole p) (tables : SoundTable set_key p.sets p.m
       by_thread r e (Some q) at is =
           let g = q.entry.item in
           let home = whole.named.threads r q at in
-          ap (λ (d : ℕ × Thread). keeps_set x.number d.1 d.1.place) (sym (same_Some (g.number, g.thread) e is)) ∙ none_keeps (kinds p) x.number later g.thread g.beside g.awaited home.place home.how_far
+          ap (λ (d : ℕ × Thread). keeps_set x.number d.1 d.1.place) (sym (same_Some (g.number, g.thread) e is)) ∙ none_keeps (kinds p) x.number later g.thread g.beside g.awaited home.place home.op_progress
 
   set_kept : (y : WaitSet) → IsSetKept (core_of p) y → IsSetKept (core_of with_set) y
   set_kept y h = record { members = h.members; entries = h.entries }
@@ -151,11 +151,11 @@ module _ (p : Parts) (whole : IsWhole p) (tables : SoundTable set_key p.sets p.m
       polled = whole.chained.polled;
       rising = whole.chained.rising;
       marks = whole.chained.marks;
-      shelves = whole.chained.shelves;
+      instance_queues = whole.chained.instance_queues;
       low = whole.chained.low;
       behind = whole.chained.behind;
     };
-    nodes = record { marks = whole.nodes.marks; shelves = whole.nodes.shelves; callers = whole.nodes.callers; works = whole.nodes.works; apart = whole.nodes.apart };
+    nodes = record { marks = whole.nodes.marks; instance_queues = whole.nodes.instance_queues; callers = whole.nodes.callers; works = whole.nodes.works; apart = whole.nodes.apart };
     counted = record {
       kept = record { used = let was = whole.counted.kept.used in let more = size_more in omega arith; groups = whole.counted.kept.groups; live = whole.counted.kept.live };
       calls = whole.counted.calls;

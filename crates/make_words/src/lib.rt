@@ -2,10 +2,10 @@
 //! that what was made for nothing hangs on nothing and isn't seen.
 #![tactic(auto)]
 
-mod instances;
-mod marks;
-mod sets;
+mod instance_makes;
+mod mark_makes;
+mod set_makes;
 
-pub use instances::add_instance;
-pub use marks::{open_high, open_low};
-pub use sets::open_set;
+pub use instance_makes::add_instance;
+pub use mark_makes::{open_high, open_low};
+pub use set_makes::open_set;

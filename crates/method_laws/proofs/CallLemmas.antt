@@ -1,14 +1,14 @@
 -- A call of an export loses no wake, wherever its thread is in its script.
 use Rattle.method_laws.proofs.MethodLemmas.{enters, starts_keep}
-use Rattle.method_laws.proofs.WakeLemmas.{sits_loses}
+use Rattle.method_laws.proofs.WakeLemmas.{core_in_order_loses}
 use Rattle.method_laws.specs.Methods.{Rests, StartsKeep}
-use Rattle.method_laws.specs.Wakes.{EntersLose, StartsLose}
+use Rattle.method_laws.specs.MethodWakes.{EntersLose, StartsLose}
 use Rattle.order_laws.specs.Given.{given}
 use Rattle.std.proofs.Common.{refl, subst, sym}
 use Rattle.std.specs.Prelude.{Some, [], true, ℕ, ◌≡◌}
 use Rattle.task_calls.proofs.AskLemmas.{running_is}
-use Rattle.task_calls.specs.Asks.{Does, SitsAs}
-use Rattle.task_calls.specs.Directs.{enters_row}
+use Rattle.task_calls.specs.Asks.{Does, CoreInOrderAs}
+use Rattle.task_calls.specs.Directs.{enters_rule}
 use Rattle.task_laws.specs.Order.{is_open}
 use Rattle.task_machine.specs.Core.{Core, Unscripted}
 use Rattle.task_machine.specs.declared.component.Callee.{Callee}
@@ -18,8 +18,8 @@ use Rattle.task_machine.specs.declared.op.Op.{Op}
 use Rattle.task_machine.specs.declared.op.Op.TheVariants as op
 use Rattle.task_machine.specs.declared.records.Turn.{Turn}
 use Rattle.task_machine.specs.declared.records.Turn.TheVariants as turn
-use Rattle.task_ops.specs.declared.came.Came.{Came}
-use Rattle.task_ops.specs.declared.came.Came.TheVariants as came
+use Rattle.task_ops.specs.declared.op_result.OpResult.{OpResult}
+use Rattle.task_ops.specs.declared.op_result.OpResult.TheVariants as op_result
 use Rattle.task_rules.specs.Scripts.{ops_of}
 use Rattle.task_turns.specs.Turn.{state_at}
 use Rattle.task_words.specs.StateView.{StateView}
@@ -31,13 +31,13 @@ abbrev calls : Callee → Op
 calls e = op.Call (call_op.CallSync 0 e [])
 
 -- in order, whichever op each thread has, no wake is lost
-sits_as_loses : (ops : ℕ → Op) (c : Component) (p : Turn) (s : Core) → is_open p ≡ true → SitsAs ops c p s → NoWakeLost s
+sits_as_loses : (ops : ℕ → Op) (c : Component) (p : Turn) (s : Core) → is_open p ≡ true → CoreInOrderAs ops c p s → NoWakeLost s
 unfolding OrderStandsAs
 sits_as_loses ops c p s on sits = order_stands_as ops c (state_at s Unscripted p) (sits.order Unscripted) on
 
 -- nothing is changed
 none_lost : (c : Component) (n : ℕ) (s t : StateView) → Rests c n s → t ≡ s → NoWakeLost t.core
-none_lost c n s t h same = subst (λ (v : StateView). NoWakeLost v.core) (sym same) (sits_loses c (Some n) s.core h.order)
+none_lost c n s t h same = subst (λ (v : StateView). NoWakeLost v.core) (sym same) (core_in_order_loses c (Some n) s.core h.order)
 
 pub starts_lose : StartsLose
 unfolding StartsLose StartsKeep
@@ -47,10 +47,10 @@ starts_lose c n s t id h ready is =
 
 pub enters_lose : EntersLose
 unfolding EntersLose
-enters_lose c n e words r s t h plain did = by r (running_is s n h.runs (λ k. Does (enters_row c e words s.core k) k s r t) did)
+enters_lose c n e words r s t h plain did = by r (running_is s n h.runs (λ k. Does (enters_rule c e words s.core k) k s r t) did)
   where
-    by : (r : Came) → Does (enters_row c e words s.core n) n s r t → NoWakeLost t.core
-    by (came.Goes l m said) does = sits_as_loses (given n (calls e) (ops_of c t.core)) c (turn.Run m) t.core refl (enters c (calls e) n e words s t h refl refl plain (came.Goes l m said) does)
-    by (came.Stops l) does = none_lost c n s t h (enters c (calls e) n e words s t h refl refl plain (came.Stops l) does)
-    by (came.Traps why) does = none_lost c n s t h does.stays
-    by (came.Fails i) does = none_lost c n s t h does.stays
+    by : (r : OpResult) → Does (enters_rule c e words s.core n) n s r t → NoWakeLost t.core
+    by (op_result.Continues l m said) does = sits_as_loses (given n (calls e) (ops_of c t.core)) c (turn.Run m) t.core refl (enters c (calls e) n e words s t h refl refl plain (op_result.Continues l m said) does)
+    by (op_result.Stops l) does = none_lost c n s t h (enters c (calls e) n e words s t h refl refl plain (op_result.Stops l) does)
+    by (op_result.Traps why) does = none_lost c n s t h does.stays
+    by (op_result.Fails i) does = none_lost c n s t h does.stays

@@ -12,12 +12,12 @@ use Rattle.state_calls.specs.declared.error.TaskError.{TaskError}
 use Rattle.std.specs.Prelude.{Err, Ok, Result}
 use Rattle.subtask_ops.specs.Starts.{call_starts}
 use Rattle.task_calls.proofs.AskLemmas.{running_is}
-use Rattle.task_calls.specs.Asks.{Did, Does, SitsAs, turn_for}
-use Rattle.task_calls.specs.Answers.{answered}
-use Rattle.task_calls.specs.declared.answers.Step.{Step}
+use Rattle.task_calls.specs.Asks.{Did, Does, CoreInOrderAs, turn_for}
+use Rattle.task_calls.specs.OpAnswers.{answered}
+use Rattle.task_calls.specs.declared.answer_calls.Step.{Step}
 use Rattle.task_machine.specs.declared.op.Op.{Op}
-use Rattle.task_calls.specs.Calls.{Returned}
-use Rattle.task_calls.specs.Directs.{IsDirect, enters_row, exits_row, thread_entered}
+use Rattle.task_calls.specs.MainCalls.{Returned}
+use Rattle.task_calls.specs.Directs.{IsDirect, enters_rule, exits_rule, thread_entered}
 use Rattle.task_calls.specs.Prepared.{goal_for}
 use Rattle.task_calls.specs.Resumes.{Resumed, first_in}
 use Rattle.task_calls.specs.declared.intrinsics.ResumeThread.{ResumeThread}
@@ -27,12 +27,12 @@ use Rattle.task_machine.specs.Read.{fits, has_ended, is_async_lifted, register_o
 use Rattle.task_machine.specs.declared.component.Callee.{Callee}
 use Rattle.task_machine.specs.declared.label.CallLabel.{CallLabel}
 use Rattle.task_machine.specs.declared.records.Caller.{Caller}
-use Rattle.task_ops.specs.Came.{Meets}
+use Rattle.task_ops.specs.OpResult.{Implements}
 use Rattle.task_ops.specs.Halting.{GoesFirst, or_refused, promoted_found, promoted_if, refused_if, resumed_found}
 use Rattle.task_ops.specs.Shown.{goes_as}
-use Rattle.task_ops.specs.declared.came.Came.{Came}
-use Rattle.task_places.proofs.Laws.{Bool, Component, Core, ExportKind, Goes, HowFar, Label, List, None, Option, Place, Progress, Some, Trap, Turn, Unscripted, Why, ap, arith, at_handle_limit, call_made, callee_of, false, get-change, goal_of, how_far_of, instance_of, is_direct, is_explicit, is_some, is_sync_call, kind_of, may_tell, nat_tests, next_thread, not, on_thread, plain, put_switch, refl, set_register, subst, sym, task_of, trap_if, true, under_of, ℕ, ◌+◌, ◌==◌, ◌∙◌, ◌≡◌, ◌≤◌}
-use Rattle.task_rules.specs.Calls.{enter_row, enter_runs}
+use Rattle.task_ops.specs.declared.op_result.OpResult.{OpResult}
+use Rattle.task_places.proofs.Laws.{Bool, Component, Core, ExportKind, Continues, OpProgress, Label, List, None, Option, Place, Progress, Some, Trap, Turn, Unscripted, Why, ap, arith, at_handle_limit, call_made, callee_of, false, get-change, goal_of, op_progress_of, instance_of, is_direct, is_explicit, is_some, is_sync_call, kind_of, may_tell, nat_tests, next_thread, not, on_thread, plain, put_switch, refl, set_register, subst, sym, task_of, trap_if, true, under_of, ℕ, ◌+◌, ◌==◌, ◌∙◌, ◌≡◌, ◌≤◌}
+use Rattle.task_rules.specs.Calls.{enter_rule, enter_runs}
 use Rattle.task_rules.specs.OpParts.{callee_of_op}
 use Rattle.task_rules.specs.Progress.{may, Traps}
 use Rattle.task_rules.specs.Scripts.{export_kind, ops_of}
@@ -45,16 +45,16 @@ use Rattle.task_machine.specs.declared.op.TaskOp.{TaskOp}
 use Rattle.task_machine.specs.declared.op.ThreadOp.{ThreadOp}
 use Rattle.task_rules.specs.Task.{ret_rule}
 use Rattle.task_rules.specs.Threads.{has_yielded, resume_later_rule, resume_why}
-use Rattle.task_turns.specs.Turn.{Sits, state_at}
+use Rattle.task_turns.specs.Turn.{CoreInOrder, state_at}
 use Rattle.task_words.specs.StateView.{StateView, thread_of, with_core}
 
-kept : (c : Component) (p q : Turn) (s t : Core) → KeepsOrder c p s q t → Sits c p s → Sits c q t
+kept : (c : Component) (p q : Turn) (s t : Core) → KeepsOrder c p s q t → CoreInOrder c p s → CoreInOrder c q t
 kept c p q s t keeps sits = let r = keeps sits.order in
     record { order = r.0; there = λ i low. r.1.instances i ∙ sits.there i low; handles = λ i low. r.1.handles i ∙ sits.handles i low }
 
 -- n runs in t as in s
-runs_on : (c : Component) (n : ℕ) (s : StateView) (t : Core) → Rests c n s → Sits c (Turn.Run n) t → InTurn c (with_core t s)
-runs_on c n s t h sits = subst (λ (o : Option ℕ). Sits c (turn_for o) t) (sym h.runs) sits
+runs_on : (c : Component) (n : ℕ) (s : StateView) (t : Core) → Rests c n s → CoreInOrder c (Turn.Run n) t → InTurn c (with_core t s)
+runs_on c n s t h sits = subst (λ (o : Option ℕ). CoreInOrder c (turn_for o) t) (sym h.runs) sits
 
 -- ---- Another thread
 
@@ -88,10 +88,10 @@ module _ (c : Component) (n i : ℕ) (s t : StateView) (r : Result Bool TaskErro
   later = Op.Thread (ThreadOp.ResumeLater (Operand.Number i))
 
   later_so : (p : Progress) → resume_later_rule SomeHost n i s.core ≡ p → Resumed (first_in p) s r t → InTurn c t
-  later_so (Goes l new m) is q =
+  later_so (Continues l new m) is q =
       let done = done_as c n s h later l m new refl
       (λ z. subst (λ (d : Progress). Progresses (state_at s.core z (Turn.Run n)) s.core n d l (state_at new z (Turn.Run m))) (sym is) (refl, sym (settled (goes_as l m) s.core z (Turn.Run n) new))) in
-      subst (InTurn c) (sym q.1) (runs_on c n s new h (subst (λ (k : ℕ). Sits c (Turn.Run k) new) done.0 done.1))
+      subst (InTurn c) (sym q.1) (runs_on c n s new h (subst (λ (k : ℕ). CoreInOrder c (Turn.Run k) new) done.0 done.1))
   later_so (Traps why) is q = stays c n s t h q.1
   later_so p is q = stays c n s t h q.1
 
@@ -117,7 +117,7 @@ module _ (c : Component) (n v : ℕ) (w : Option ℕ) (s t : StateView) (h : Res
   done = finish SomeHost n NoAnswer (returned k v w s.core)
 
   abbrev row : (a b d : Bool) → Progress
-  row a b d = trap_if a Trap.TaskCancelOrReturnTwice (trap_if b Trap.TaskReturnInvalid (may d (Goes (ret_label n v w) done n)))
+  row a b d = trap_if a Trap.TaskCancelOrReturnTwice (trap_if b Trap.TaskReturnInvalid (may d (Continues (ret_label n v w) done n)))
 
   returned_so : (r : Result (Unit {0}) TaskError) → (a b d : Bool) → row (has_ended k s.core) (not (is_async_lifted (kind_of k s.core))) (may_tell k w s.core) ≡ row a b d → Returned (row a b d) s r t → InTurn c t
   returned_so r true b d is q = stays c n s t h q.1
@@ -142,28 +142,28 @@ returns_keep c n v false s t r h q = refused_so c n s t r h (has_ended (task_of 
 -- ---- Direct calls
 
 -- What a row that goes on or is refused is, by what it came to.
-abbrev Met : Progress → Core → Came → Type 0
-Met p t (Came.Goes l m said) = p ≡ Goes l t m
-Met p t (Came.Traps why) = Unit {0}
+abbrev Met : Progress → Core → OpResult → Type 0
+Met p t (OpResult.Continues l m said) = p ≡ Continues l t m
+Met p t (OpResult.Traps why) = Unit {0}
 Met p t _ = ⊥
 
-met_goes : (k : Label) (new : Core) (d : ℕ) (s t : Core) (r : Came) → Meets (Goes k new d) s r t → Met (Goes k new d) t r
-met_goes k new d s t (Came.Goes l m said) h = let e = h.0 in let is = h.1 in cc
-met_goes k new d s t (Came.Stops l) h = absurd (let e = h.0 in cc)
-met_goes k new d s t (Came.Traps why) h = tt
-met_goes k new d s t (Came.Fails i) h = absurd (let e = h.0 in cc)
+met_goes : (k : Label) (new : Core) (d : ℕ) (s t : Core) (r : OpResult) → Implements (Continues k new d) s r t → Met (Continues k new d) t r
+met_goes k new d s t (OpResult.Continues l m said) h = let e = h.0 in let is = h.1 in cc
+met_goes k new d s t (OpResult.Stops l) h = absurd (let e = h.0 in cc)
+met_goes k new d s t (OpResult.Traps why) h = tt
+met_goes k new d s t (OpResult.Fails i) h = absurd (let e = h.0 in cc)
 
-met_traps : (why : Trap) (s t : Core) (r : Came) → Meets (Traps why) s r t → Met (Traps why) t r
-met_traps why s t (Came.Goes l m said) h = absurd (let e = h.0 in cc)
-met_traps why s t (Came.Stops l) h = absurd (let e = h.0 in cc)
-met_traps why s t (Came.Traps w) h = tt
-met_traps why s t (Came.Fails i) h = absurd (let e = h.0 in cc)
+met_traps : (why : Trap) (s t : Core) (r : OpResult) → Implements (Traps why) s r t → Met (Traps why) t r
+met_traps why s t (OpResult.Continues l m said) h = absurd (let e = h.0 in cc)
+met_traps why s t (OpResult.Stops l) h = absurd (let e = h.0 in cc)
+met_traps why s t (OpResult.Traps w) h = tt
+met_traps why s t (OpResult.Fails i) h = absurd (let e = h.0 in cc)
 
-met_if : (b : Bool) (why : Trap) (p : Progress) (s t : Core) (r : Came) → (Meets p s r t → Met p t r) → Meets (trap_if b why p) s r t → Met (trap_if b why p) t r
+met_if : (b : Bool) (why : Trap) (p : Progress) (s t : Core) (r : OpResult) → (Implements p s r t → Met p t r) → Implements (trap_if b why p) s r t → Met (trap_if b why p) t r
 met_if true why p s t r next h = met_traps why s t r h
 met_if false why p s t r next h = next h
 
-exit_met : (n : ℕ) (x : ExportKind) (o : Option ℕ) (u s t : Core) (r : Came) → Meets (direct_exit_to n x u o) s r t → Met (direct_exit_to n x u o) t r
+exit_met : (n : ℕ) (x : ExportKind) (o : Option ℕ) (u s t : Core) (r : OpResult) → Implements (direct_exit_to n x u o) s r t → Met (direct_exit_to n x u o) t r
 exit_met n x None u s t r h = absurd h
 exit_met n ExportKind.Sync (Some d) u s t r h = met_goes (exit_label n None) (direct_exits n d (register_of n 0 u) (exit_restores n u)) d s t r h
 exit_met n ExportKind.Blocking (Some d) u s t r h = met_if (not (passes_check (instance_of n u) u)) Trap.CannotBlockSyncTask _ s t r (λ q. met_goes (exit_label n None) (direct_exits n d (register_of n 0 u) (checked (instance_of n u) u)) d s t r q) h
@@ -175,7 +175,7 @@ module _ (c : Component) (n v : ℕ) (s t : StateView) (h : Rests c n s) (direct
   abbrev u : Core
   u = set_register n 0 v s.core
 
-  written : Sits c (Turn.Run n) u
+  written : CoreInOrder c (Turn.Run n) u
   unfolding RegisterKeeps
   written = kept c (Turn.Run n) (Turn.Run n) s.core u (register_keeps c n 0 v s.core) h.order
 
@@ -188,20 +188,20 @@ module _ (c : Component) (n v : ℕ) (s t : StateView) (h : Rests c n s) (direct
   is_so = let was = direct.direct in let same : task_of n (set_register n 0 v s.core) ≡ task_of n s.core = grind (arith, nat_tests, get-change) in
       ap (λ (k : ℕ). is_direct (goal_of k s.core)) same ∙ was
 
-  fresh : how_far_of n u ≡ HowFar.Fresh
+  fresh : op_progress_of n u ≡ OpProgress.Fresh
   unfolding set_register on_thread
   fresh = let was = h.fresh in grind (arith, nat_tests, get-change, was)
 
-  exits : (r : Came) → Does (exits_row v s.core n) n s r t → InTurn c t
+  exits : (r : OpResult) → Does (exits_rule v s.core n) n s r t → InTurn c t
   unfolding ExitKeeps
-  exits (Came.Goes l m said) does = then_runs c n m t does.running (kept c (Turn.Run n) (Turn.Run m) u t.core
-      (exit_keeps c n m l t.core u implicit is_so fresh (exit_met n (kind_of (task_of n u) u) (under_of n u) u s.core t.core (Came.Goes l m said) does.meets)) written)
-  exits (Came.Stops l) does = absurd (exit_met n (kind_of (task_of n u) u) (under_of n u) u s.core t.core (Came.Stops l) does.meets)
-  exits (Came.Traps why) does = stays c n s t h does.stays
-  exits (Came.Fails i) does = absurd (exit_met n (kind_of (task_of n u) u) (under_of n u) u s.core t.core (Came.Fails i) does.meets)
+  exits (OpResult.Continues l m said) does = then_runs c n m t does.running (kept c (Turn.Run n) (Turn.Run m) u t.core
+      (exit_keeps c n m l t.core u implicit is_so fresh (exit_met n (kind_of (task_of n u) u) (under_of n u) u s.core t.core (OpResult.Continues l m said) does.meets)) written)
+  exits (OpResult.Stops l) does = absurd (exit_met n (kind_of (task_of n u) u) (under_of n u) u s.core t.core (OpResult.Stops l) does.meets)
+  exits (OpResult.Traps why) does = stays c n s t h does.stays
+  exits (OpResult.Fails i) does = absurd (exit_met n (kind_of (task_of n u) u) (under_of n u) u s.core t.core (OpResult.Fails i) does.meets)
 
-  does_exit : (r : Came) → Did (exits_row v s.core) s r t → InTurn c t
-  does_exit r did = exits r (running_is s n h.runs (λ k. Does (exits_row v s.core k) k s r t) did)
+  does_exit : (r : OpResult) → Did (exits_rule v s.core) s r t → InTurn c t
+  does_exit r did = exits r (running_is s n h.runs (λ k. Does (exits_rule v s.core k) k s r t) did)
 
 pub exits_keep : ExitsKeep
 unfolding ExitsKeep
@@ -212,33 +212,33 @@ exits_keep c n v s t (Ok a) h direct q = does_exit c n v s t h direct q.0 q.1.0
 
 module _ (c : Component) (o : Op) (n : ℕ) (e : Callee) (words : List ℕ) (s t : StateView) (h : Rests c n s) (callee : callee_of_op o ≡ Some e)
     (sync : is_sync_call o ≡ true) (plain : is_async_lifted (export_kind c e) ≡ false) where
-  entered_met : (r : Came) → Meets (enter_row n e (export_kind c e) words s.core) s.core r t.core → Met (enter_row n e (export_kind c e) words s.core) t.core r
+  entered_met : (r : OpResult) → Implements (enter_rule n e (export_kind c e) words s.core) s.core r t.core → Met (enter_rule n e (export_kind c e) words s.core) t.core r
   entered_met r q = met_if (not (fits 3 s.core)) Trap.TableFull _ s.core t.core r
       (λ p. met_if (at_handle_limit s.core) Trap.HandleLimit _ s.core t.core r
       (λ q. met_goes (Label.Call (CallLabel.Enters n (next_thread s.core))) (enter_runs n e (export_kind c e) words s.core) (next_thread s.core) s.core t.core r q) p) q
 
   -- what the op came to, where it goes on; a refusal changes nothing
-  abbrev pub Entered : Came → Type 0
-  Entered (Came.Goes l m said) = SitsAs (given n o (ops_of c t.core)) c (Turn.Run m) t.core
+  abbrev pub Entered : OpResult → Type 0
+  Entered (OpResult.Continues l m said) = CoreInOrderAs (given n o (ops_of c t.core)) c (Turn.Run m) t.core
   Entered _ = t ≡ s
 
-  pub enters : (r : Came) → Does (enters_row c e words s.core n) n s r t → Entered r
+  pub enters : (r : OpResult) → Does (enters_rule c e words s.core n) n s r t → Entered r
   unfolding EnterKeeps
-  enters (Came.Goes l m said) does =
-      let r = enter_keeps c o e words n m l t.core s.core callee sync plain h.fresh (entered_met (Came.Goes l m said) does.meets) h.order.order in
+  enters (OpResult.Continues l m said) does =
+      let r = enter_keeps c o e words n m l t.core s.core callee sync plain h.fresh (entered_met (OpResult.Continues l m said) does.meets) h.order.order in
       same_there c n s h (given n o (ops_of c t.core)) (Turn.Run m) t.core r.1 r.0
-  enters (Came.Stops l) does = absurd (entered_met (Came.Stops l) does.meets)
-  enters (Came.Traps why) does = does.stays
-  enters (Came.Fails i) does = does.stays
+  enters (OpResult.Stops l) does = absurd (entered_met (OpResult.Stops l) does.meets)
+  enters (OpResult.Traps why) does = does.stays
+  enters (OpResult.Fails i) does = does.stays
 
-  entered_by : (r : Came) → Does (enters_row c e words s.core n) n s r t → KeepsEntered c o n (answered thread_entered r) t
-  entered_by (Came.Goes l m said) does = subst (λ (k : Option ℕ). SitsAs (given n o (ops_of c t.core)) c (turn_for k) t.core) (sym does.running) (enters (Came.Goes l m said) does)
-  entered_by (Came.Stops l) does = absurd (entered_met (Came.Stops l) does.meets)
-  entered_by (Came.Traps why) does = stays c n s t h does.stays
-  entered_by (Came.Fails i) does = stays c n s t h does.stays
+  entered_by : (r : OpResult) → Does (enters_rule c e words s.core n) n s r t → KeepsEntered c o n (answered thread_entered r) t
+  entered_by (OpResult.Continues l m said) does = subst (λ (k : Option ℕ). CoreInOrderAs (given n o (ops_of c t.core)) c (turn_for k) t.core) (sym does.running) (enters (OpResult.Continues l m said) does)
+  entered_by (OpResult.Stops l) does = absurd (entered_met (OpResult.Stops l) does.meets)
+  entered_by (OpResult.Traps why) does = stays c n s t h does.stays
+  entered_by (OpResult.Fails i) does = stays c n s t h does.stays
 
-  enters_by : (a : Result (Step ℕ) TaskError) (r : Came) → Did (enters_row c e words s.core) s r t → a ≡ answered thread_entered r → KeepsEntered c o n a t
-  enters_by a r did is = subst (λ (b : Result (Step ℕ) TaskError). KeepsEntered c o n b t) (sym is) (entered_by r (running_is s n h.runs (λ k. Does (enters_row c e words s.core k) k s r t) did))
+  enters_by : (a : Result (Step ℕ) TaskError) (r : OpResult) → Did (enters_rule c e words s.core) s r t → a ≡ answered thread_entered r → KeepsEntered c o n a t
+  enters_by a r did is = subst (λ (b : Result (Step ℕ) TaskError). KeepsEntered c o n b t) (sym is) (entered_by r (running_is s n h.runs (λ k. Does (enters_rule c e words s.core k) k s r t) did))
 
 pub enters_keep : EntersKeep
 unfolding EntersKeep
@@ -255,10 +255,10 @@ goal_apart false q = refl
 
 pub prepares_keep : PreparesKeep
 unfolding PreparesKeep PrepareKeeps
-prepares_keep c p n q b false e words s t r sits made = subst (λ (v : StateView). Sits c p v.core) (sym made.1) sits
-prepares_keep c p n q b true e words s t (Err why) sits made = subst (λ (v : StateView). Sits c p v.core) (sym made.1) sits
+prepares_keep c p n q b false e words s t r sits made = subst (λ (v : StateView). CoreInOrder c p v.core) (sym made.1) sits
+prepares_keep c p n q b true e words s t (Err why) sits made = subst (λ (v : StateView). CoreInOrder c p v.core) (sym made.1) sits
 prepares_keep c p n q b true e words s t (Ok id) sits made =
-    subst (Sits c p) (sym made.becomes.core)
+    subst (CoreInOrder c p) (sym made.becomes.core)
     (kept c p p s.core (call_made (Caller.Thread n) e (export_kind c e) (goal_for b q) (thread_group n s.core) words s.core)
     (prepare_keeps c p (Caller.Thread n) e (goal_for b q) (thread_group n s.core) words s.core (goal_apart b q)) sits)
 
@@ -278,7 +278,7 @@ unfolding StartsKeep StartKeeps
 starts_keep c o n s t id h ready op is =
     let m = thread_of s id.thread in
     let r = start_keeps c o n m s.core ready op h.order.order in
-    subst (λ (v : StateView). SitsAs (given n o (ops_of c v.core)) c Turn.Main v.core) (sym is)
-    (subst (λ (k : ℕ). let u = call_starts n m k (callee_of k s.core).instance (kind_of k s.core) s.core in SitsAs (given n o (ops_of c u)) c Turn.Main u)
+    subst (λ (v : StateView). CoreInOrderAs (given n o (ops_of c v.core)) c Turn.Main v.core) (sym is)
+    (subst (λ (k : ℕ). let u = call_starts n m k (callee_of k s.core).instance (kind_of k s.core) s.core in CoreInOrderAs (given n o (ops_of c u)) c Turn.Main u)
     (sym (own_task c n m s.core ready h.order.order))
     (same_there c n s h (given n o (ops_of c (start_queued n m s.core))) Turn.Main (start_queued n m s.core) r.1 r.0))

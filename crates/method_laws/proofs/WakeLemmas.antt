@@ -1,8 +1,8 @@
 -- An op loses no wake: a state in order loses none, whichever op its thread has.
 use Rattle.method_laws.proofs.DidLemmas.{hosts_keep, ops_keep}
 use Rattle.method_laws.specs.Methods.{HostsKeep, KeepsDone, KeepsFor, OpsKeep}
-use Rattle.method_laws.specs.Wakes.{HostsLose, OpsLoseNone}
-use Rattle.op_dispatch.specs.Goes.{running_of}
+use Rattle.method_laws.specs.MethodWakes.{HostsLose, OpsLoseNone}
+use Rattle.op_dispatch.specs.Continues.{running_of}
 use Rattle.order_laws.specs.Given.{given, host_op}
 use Rattle.std.proofs.Common.{refl}
 use Rattle.std.specs.Prelude.{None, Option, Some, true, ℕ, ◌≡◌}
@@ -11,11 +11,11 @@ use Rattle.task_machine.specs.Core.{Core, Unscripted}
 use Rattle.task_machine.specs.declared.component.Component.{Component}
 use Rattle.task_machine.specs.declared.op.Op.{Op}
 use Rattle.task_machine.specs.declared.records.Turn.TheVariants as turn
-use Rattle.task_ops.specs.declared.came.Came.{Came}
-use Rattle.task_ops.specs.declared.came.Came.TheVariants as came
+use Rattle.task_ops.specs.declared.op_result.OpResult.{OpResult}
+use Rattle.task_ops.specs.declared.op_result.OpResult.TheVariants as op_result
 use Rattle.task_places.proofs.Laws.{is_open}
 use Rattle.task_rules.specs.Scripts.{ops_of}
-use Rattle.task_turns.specs.Turn.{Sits, state_at}
+use Rattle.task_turns.specs.Turn.{CoreInOrder, state_at}
 use Rattle.task_words.specs.StateView.{StateView}
 use Rattle.wake_laws.proofs.GroundLemmas.{order_stands, order_stands_as}
 use Rattle.wake_laws.specs.Stands.{NoWakeLost, OrderStands, OrderStandsAs}
@@ -25,24 +25,24 @@ open_for None = refl
 open_for (Some n) = refl
 
 -- in order, whichever the component is, no wake is lost
-pub sits_loses : (c : Component) (o : Option ℕ) (s : Core) → Sits c (turn_for o) s → NoWakeLost s
+pub core_in_order_loses : (c : Component) (o : Option ℕ) (s : Core) → CoreInOrder c (turn_for o) s → NoWakeLost s
 unfolding OrderStands
-sits_loses c o s sits = order_stands c (state_at s Unscripted (turn_for o)) (sits.order Unscripted) (open_for o)
+core_in_order_loses c o s sits = order_stands c (state_at s Unscripted (turn_for o)) (sits.order Unscripted) (open_for o)
 
 -- nor in order in which the thread has the op
-pub kept_loses : (c : Component) (o : Op) (n : ℕ) (r : Came) (t : StateView) → KeepsFor c o n r t → NoWakeLost t.core
+pub kept_loses : (c : Component) (o : Op) (n : ℕ) (r : OpResult) (t : StateView) → KeepsFor c o n r t → NoWakeLost t.core
 unfolding OrderStandsAs
-kept_loses c o n (came.Goes l m said) t k = order_stands_as (given n o (ops_of c t.core)) c (state_at t.core Unscripted (turn.Run m)) (k.order Unscripted) refl
-kept_loses c o n (came.Stops l) t k = order_stands_as (given n o (ops_of c t.core)) c (state_at t.core Unscripted turn.Main) (k.order Unscripted) refl
-kept_loses c o n (came.Traps why) t k = sits_loses c (running_of t) t.core k
-kept_loses c o n (came.Fails i) t k = sits_loses c (running_of t) t.core k
+kept_loses c o n (op_result.Continues l m said) t k = order_stands_as (given n o (ops_of c t.core)) c (state_at t.core Unscripted (turn.Run m)) (k.order Unscripted) refl
+kept_loses c o n (op_result.Stops l) t k = order_stands_as (given n o (ops_of c t.core)) c (state_at t.core Unscripted turn.Main) (k.order Unscripted) refl
+kept_loses c o n (op_result.Traps why) t k = core_in_order_loses c (running_of t) t.core k
+kept_loses c o n (op_result.Fails i) t k = core_in_order_loses c (running_of t) t.core k
 
-done_loses : (c : Component) (o : Op) (n : ℕ) (r : Came) (t : StateView) → KeepsDone c o n r t → NoWakeLost t.core
+done_loses : (c : Component) (o : Op) (n : ℕ) (r : OpResult) (t : StateView) → KeepsDone c o n r t → NoWakeLost t.core
 unfolding OrderStandsAs
-done_loses c o n (came.Stops l) t k = order_stands_as (given n o (ops_of c t.core)) c (state_at t.core Unscripted turn.Main) (k.order Unscripted) refl
-done_loses c o n (came.Goes l m said) t k = sits_loses c (running_of t) t.core k
-done_loses c o n (came.Traps why) t k = sits_loses c (running_of t) t.core k
-done_loses c o n (came.Fails i) t k = sits_loses c (running_of t) t.core k
+done_loses c o n (op_result.Stops l) t k = order_stands_as (given n o (ops_of c t.core)) c (state_at t.core Unscripted turn.Main) (k.order Unscripted) refl
+done_loses c o n (op_result.Continues l m said) t k = core_in_order_loses c (running_of t) t.core k
+done_loses c o n (op_result.Traps why) t k = core_in_order_loses c (running_of t) t.core k
+done_loses c o n (op_result.Fails i) t k = core_in_order_loses c (running_of t) t.core k
 
 pub ops_lose_none : OpsLoseNone
 unfolding OpsKeep OpsLoseNone

@@ -1,2 +1,2 @@
 pub mod Methods
-pub mod Wakes
+pub mod MethodWakes

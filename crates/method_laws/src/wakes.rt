@@ -1,4 +1,4 @@
-ghost use Rattle.method_laws.specs.Wakes.{EntersLose, HostsLose, OpsLoseNone, StartsLose};
+ghost use Rattle.method_laws.specs.MethodWakes.{EntersLose, HostsLose, OpsLoseNone, StartsLose};
 
 /// An op that a host has the running thread do, where none of it is under way, loses no wake, as far as it came, wherever the thread is
 /// in its script: any op but one on registers and words or one that ends an activation.

@@ -3,12 +3,12 @@ use Rattle.std.specs.Prelude.{◌≡◌, ℕ, [], List, IfOk, OnErr, Result}
 use Rattle.task_links.specs.Links.{ChainOf, FreeNode, Renames, Spot, Unmade}
 use Rattle.task_links.specs.declared.links.Node.{Node}
 use Rattle.task_machine.specs.declared.memory.NoMemory.{NoMemory}
-use Rattle.task_records.specs.Seen.{IsSound, seen}
+use Rattle.task_records.specs.Seen.{IsSoundCore, seen}
 use Rattle.task_records.specs.declared.parts.CoreParts.{CoreParts}
 
 -- In one list a number that named nothing names this, and nothing of it is seen. Where memory is wanting, all is as before.
 pub record MakesSpot {X P : Type 0} (number : X → ℕ) (spot : Spot P) (old new : List (Spot P)) (a b with_new : CoreParts) (result : Result X NoMemory) : Type 0 where
-  pub sound : IsSound b
+  pub sound : IsSoundCore b
   pub seen : seen b ≡ seen a
   pub made : IfOk result (λ x. Renames old new (number x) Unmade spot)
   pub only : b ≡ with_new

@@ -1,5 +1,5 @@
 ghost use Rattle.node_words.specs.Makes.{MakesChain, MakesNode};
-ghost use Rattle.task_records.specs.Seen.{IsSound};
+ghost use Rattle.task_records.specs.Seen.{IsSoundCore};
 
 use task_links::Node;
 use task_machine::NoMemory;
@@ -8,7 +8,7 @@ use task_records::CoreParts;
 /// A new chain among the callers of threads, which hangs on nothing yet. Where memory is wanting, all is as before.
 #[inline(always)]
 pub fn make_caller_chain(parts: &mut CoreParts) -> Result<usize, NoMemory>
-    requires { IsSound parts.old }
+    requires { IsSoundCore parts.old }
     ensures { MakesChain parts.old.behind parts.new.behind parts.old parts.new (record parts.old { behind = parts.new.behind }) result }
 {
     match parts.behind.make_chain() {
@@ -20,7 +20,7 @@ pub fn make_caller_chain(parts: &mut CoreParts) -> Result<usize, NoMemory>
 /// A new node among the callers of threads, which hangs on nothing yet. Where memory is wanting, all is as before.
 #[inline(always)]
 pub fn make_caller_node(parts: &mut CoreParts) -> Result<Node, NoMemory>
-    requires { IsSound parts.old }
+    requires { IsSoundCore parts.old }
     ensures { MakesNode parts.old.behind parts.new.behind parts.old parts.new (record parts.old { behind = parts.new.behind }) result }
 {
     match parts.behind.make_node() {

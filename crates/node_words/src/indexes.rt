@@ -1,5 +1,5 @@
 ghost use Rattle.node_words.specs.Makes.{MakesChain, MakesNode};
-ghost use Rattle.task_records.specs.Seen.{IsSound};
+ghost use Rattle.task_records.specs.Seen.{IsSoundCore};
 
 use task_links::Node;
 use task_machine::NoMemory;
@@ -8,7 +8,7 @@ use task_records::CoreParts;
 /// A new chain among the places of threads, which hangs on nothing yet. Where memory is wanting, all is as before.
 #[inline(always)]
 pub fn make_place_chain(parts: &mut CoreParts) -> Result<usize, NoMemory>
-    requires { IsSound parts.old }
+    requires { IsSoundCore parts.old }
     ensures { MakesChain parts.old.places parts.new.places parts.old parts.new (record parts.old { places = parts.new.places }) result }
 {
     match parts.places.make_chain() {
@@ -20,7 +20,7 @@ pub fn make_place_chain(parts: &mut CoreParts) -> Result<usize, NoMemory>
 /// A new node among the places of threads, which hangs on nothing yet. Where memory is wanting, all is as before.
 #[inline(always)]
 pub fn make_place_node(parts: &mut CoreParts) -> Result<Node, NoMemory>
-    requires { IsSound parts.old }
+    requires { IsSoundCore parts.old }
     ensures { MakesNode parts.old.places parts.new.places parts.old parts.new (record parts.old { places = parts.new.places }) result }
 {
     match parts.places.make_node() {
@@ -32,7 +32,7 @@ pub fn make_place_node(parts: &mut CoreParts) -> Result<Node, NoMemory>
 /// A new chain among the ready calls of sets, which hangs on nothing yet. Where memory is wanting, all is as before.
 #[inline(always)]
 pub fn make_ready_call_chain(parts: &mut CoreParts) -> Result<usize, NoMemory>
-    requires { IsSound parts.old }
+    requires { IsSoundCore parts.old }
     ensures { MakesChain parts.old.ready_calls parts.new.ready_calls parts.old parts.new (record parts.old { ready_calls = parts.new.ready_calls }) result }
 {
     match parts.ready_calls.make_chain() {
@@ -44,7 +44,7 @@ pub fn make_ready_call_chain(parts: &mut CoreParts) -> Result<usize, NoMemory>
 /// A new node among the ready calls of sets, which hangs on nothing yet. Where memory is wanting, all is as before.
 #[inline(always)]
 pub fn make_ready_call_node(parts: &mut CoreParts) -> Result<Node, NoMemory>
-    requires { IsSound parts.old }
+    requires { IsSoundCore parts.old }
     ensures { MakesNode parts.old.ready_calls parts.new.ready_calls parts.old parts.new (record parts.old { ready_calls = parts.new.ready_calls }) result }
 {
     match parts.ready_calls.make_node() {
@@ -56,7 +56,7 @@ pub fn make_ready_call_node(parts: &mut CoreParts) -> Result<Node, NoMemory>
 /// A new chain among the ready host works of sets, which hangs on nothing yet. Where memory is wanting, all is as before.
 #[inline(always)]
 pub fn make_ready_work_chain(parts: &mut CoreParts) -> Result<usize, NoMemory>
-    requires { IsSound parts.old }
+    requires { IsSoundCore parts.old }
     ensures { MakesChain parts.old.ready_works parts.new.ready_works parts.old parts.new (record parts.old { ready_works = parts.new.ready_works }) result }
 {
     match parts.ready_works.make_chain() {
@@ -68,7 +68,7 @@ pub fn make_ready_work_chain(parts: &mut CoreParts) -> Result<usize, NoMemory>
 /// A new node among the ready host works of sets, which hangs on nothing yet. Where memory is wanting, all is as before.
 #[inline(always)]
 pub fn make_ready_work_node(parts: &mut CoreParts) -> Result<Node, NoMemory>
-    requires { IsSound parts.old }
+    requires { IsSoundCore parts.old }
     ensures { MakesNode parts.old.ready_works parts.new.ready_works parts.old parts.new (record parts.old { ready_works = parts.new.ready_works }) result }
 {
     match parts.ready_works.make_node() {
@@ -80,7 +80,7 @@ pub fn make_ready_work_node(parts: &mut CoreParts) -> Result<Node, NoMemory>
 /// A new chain among the host works that are polled, which hangs on nothing yet. Where memory is wanting, all is as before.
 #[inline(always)]
 pub fn make_live_chain(parts: &mut CoreParts) -> Result<usize, NoMemory>
-    requires { IsSound parts.old }
+    requires { IsSoundCore parts.old }
     ensures { MakesChain parts.old.polled parts.new.polled parts.old parts.new (record parts.old { polled = parts.new.polled }) result }
 {
     match parts.polled.make_chain() {
@@ -92,7 +92,7 @@ pub fn make_live_chain(parts: &mut CoreParts) -> Result<usize, NoMemory>
 /// A new node among the host works that are polled, which hangs on nothing yet. Where memory is wanting, all is as before.
 #[inline(always)]
 pub fn make_live_node(parts: &mut CoreParts) -> Result<Node, NoMemory>
-    requires { IsSound parts.old }
+    requires { IsSoundCore parts.old }
     ensures { MakesNode parts.old.polled parts.new.polled parts.old parts.new (record parts.old { polled = parts.new.polled }) result }
 {
     match parts.polled.make_node() {

@@ -11,4 +11,4 @@ pub use indexes::{
     make_live_chain, make_live_node, make_place_chain, make_place_node, make_ready_call_chain,
     make_ready_call_node, make_ready_work_chain, make_ready_work_node,
 };
-pub use rows::{make_mark_chain, make_mark_node, make_shelf_chain, make_shelf_node};
+pub use rows::{make_mark_chain, make_mark_node, make_instance_queue_chain, make_instance_queue_node};

@@ -1,5 +1,5 @@
 ghost use Rattle.node_words.specs.Makes.{MakesChain, MakesNode};
-ghost use Rattle.task_records.specs.Seen.{IsSound};
+ghost use Rattle.task_records.specs.Seen.{IsSoundCore};
 
 use task_links::Node;
 use task_machine::NoMemory;
@@ -8,7 +8,7 @@ use task_records::CoreParts;
 /// A new chain among the entries of marks, which hangs on nothing yet. Where memory is wanting, all is as before.
 #[inline(always)]
 pub fn make_mark_chain(parts: &mut CoreParts) -> Result<usize, NoMemory>
-    requires { IsSound parts.old }
+    requires { IsSoundCore parts.old }
     ensures { MakesChain parts.old.marks parts.new.marks parts.old parts.new (record parts.old { marks = parts.new.marks }) result }
 {
     match parts.marks.make_chain() {
@@ -20,7 +20,7 @@ pub fn make_mark_chain(parts: &mut CoreParts) -> Result<usize, NoMemory>
 /// A new node among the entries of marks, which hangs on nothing yet. Where memory is wanting, all is as before.
 #[inline(always)]
 pub fn make_mark_node(parts: &mut CoreParts) -> Result<Node, NoMemory>
-    requires { IsSound parts.old }
+    requires { IsSoundCore parts.old }
     ensures { MakesNode parts.old.marks parts.new.marks parts.old parts.new (record parts.old { marks = parts.new.marks }) result }
 {
     match parts.marks.make_node() {
@@ -31,11 +31,11 @@ pub fn make_mark_node(parts: &mut CoreParts) -> Result<Node, NoMemory>
 
 /// A new chain among the entries of instances at a mark, which hangs on nothing yet. Where memory is wanting, all is as before.
 #[inline(always)]
-pub fn make_shelf_chain(parts: &mut CoreParts) -> Result<usize, NoMemory>
-    requires { IsSound parts.old }
-    ensures { MakesChain parts.old.shelves parts.new.shelves parts.old parts.new (record parts.old { shelves = parts.new.shelves }) result }
+pub fn make_instance_queue_chain(parts: &mut CoreParts) -> Result<usize, NoMemory>
+    requires { IsSoundCore parts.old }
+    ensures { MakesChain parts.old.instance_queues parts.new.instance_queues parts.old parts.new (record parts.old { instance_queues = parts.new.instance_queues }) result }
 {
-    match parts.shelves.make_chain() {
+    match parts.instance_queues.make_chain() {
         Ok(chain) => Ok(chain),
         Err(why) => Err(why),
     }
@@ -43,11 +43,11 @@ pub fn make_shelf_chain(parts: &mut CoreParts) -> Result<usize, NoMemory>
 
 /// A new node among the entries of instances at a mark, which hangs on nothing yet. Where memory is wanting, all is as before.
 #[inline(always)]
-pub fn make_shelf_node(parts: &mut CoreParts) -> Result<Node, NoMemory>
-    requires { IsSound parts.old }
-    ensures { MakesNode parts.old.shelves parts.new.shelves parts.old parts.new (record parts.old { shelves = parts.new.shelves }) result }
+pub fn make_instance_queue_node(parts: &mut CoreParts) -> Result<Node, NoMemory>
+    requires { IsSoundCore parts.old }
+    ensures { MakesNode parts.old.instance_queues parts.new.instance_queues parts.old parts.new (record parts.old { instance_queues = parts.new.instance_queues }) result }
 {
-    match parts.shelves.make_node() {
+    match parts.instance_queues.make_node() {
         Ok(node) => Ok(node),
         Err(why) => Err(why),
     }

@@ -2,7 +2,7 @@
 use Rattle.nursery_tests.specs.Stage.{IsReady, TakesNone}
 use Rattle.std.proofs.Common.{ap, arith, inr, refl, subst, sym, ⊎_elim, ◌∙◌}
 use Rattle.std.specs.Prelude.{Err, List, None, Ok, OnErr, Option, Result, Some, [], false, length, option_map, true, ℕ, ◌+◌, ◌∷◌, ◌≡◌, ◌<◌}
-use Rattle.task_calls.specs.Calls.{Starts}
+use Rattle.task_calls.specs.MainCalls.{Starts}
 use Rattle.task_loop.proofs.StartLemmas.{start_current}
 use Rattle.task_machine.specs.Core.{Core}
 use Rattle.task_machine.specs.Moves.{put_high}

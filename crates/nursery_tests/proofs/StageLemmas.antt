@@ -1,5 +1,5 @@
 -- A new store with one instance is ready for a run.
-use Rattle.host_works.specs.Kept.{HoldsNone}
+use Rattle.host_works.specs.KeptWorks.{HoldsNone}
 use Rattle.nursery_tests.specs.Stage.{IsReady}
 use Rattle.std.proofs.Common.{ap, arith, subst, sym, ◌∙◌}
 use Rattle.std.specs.Prelude.{None, length, option_map, ℕ, ◌≡◌}
@@ -15,9 +15,9 @@ use Rattle.task_words.specs.Groups.{IsAsked}
 use Rattle.task_store.specs.Hosts.{WorksNumbered}
 use Rattle.task_store.specs.declared.store.Store.{Store}
 use Rattle.task_turns.proofs.CoveredLemmas.{codes_of}
-use Rattle.task_turns.proofs.FreshLemmas.{given_fresh, sits_fresh}
+use Rattle.task_turns.proofs.FreshLemmas.{given_fresh, core_in_order_fresh}
 use Rattle.task_turns.specs.Covered.{HasPlainExports}
-use Rattle.task_turns.specs.Turn.{Sits, given}
+use Rattle.task_turns.specs.Turn.{CoreInOrder, given}
 use Rattle.task_words.specs.StateView.{StateView, thread_of, with_core}
 
 none_at_first : (n h k : ℕ) → WorksNumbered (fresh n h k)
@@ -35,7 +35,7 @@ module _ (s : StateView) (is : s ≡ with_core (fresh 1 100000 1000000) nothing)
 pub first_ready : {T H G : Type 0} (course : H → HostDef) (c : Component) (store : Store T H G) → HasPlainExports c → length c.instances ≡ 1 →
     store.state ≡ with_core (fresh 1 100000 1000000) nothing → HoldsNone store.works → IsAsked store.state → IsReady course c store
 first_ready course c store plain one is works groups = record {
-  order = subst (λ (u : StateView). Sits c turn.Main u.core) (sym is) (sits_fresh c (codes_of c plain) 1 100000 1000000 (omega (arith, one)));
+  order = subst (λ (u : StateView). CoreInOrder c turn.Main u.core) (sym is) (core_in_order_fresh c (codes_of c plain) 1 100000 1000000 (omega (arith, one)));
   few = let none = first_given store.state is in omega (arith, none);
   current = ap (option_map (λ k. thread_of store.state k)) (ap (λ (u : StateView). u.current) is);
   hosts = new_holds course store 1 100000 1000000 works (ap (λ (v : StateView). v.core) is);

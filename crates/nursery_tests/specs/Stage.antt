@@ -1,6 +1,6 @@
 -- What the tests run.
 use Rattle.std.specs.Prelude.{IfSome, IsSome, None, false, length, true, ◌≡◌, ◌≤◌, ◌⊎◌}
-use Rattle.task_loop.specs.Calls.{callee_of}
+use Rattle.task_loop.specs.LoopCalls.{callee_of}
 use Rattle.task_loop.specs.declared.call.Func.{Func}
 use Rattle.task_machine.specs.declared.component.Component.{Component}
 use Rattle.task_machine.specs.declared.component.HostDef.{HostDef}
@@ -12,7 +12,7 @@ use Rattle.task_rules.specs.Scripts.{export_at}
 use Rattle.task_words.specs.Groups.{IsAsked}
 use Rattle.task_store.specs.Hosts.{HoldsHosts}
 use Rattle.task_store.specs.declared.store.Store.{Store}
-use Rattle.task_turns.specs.Turn.{Sits, given, running_of}
+use Rattle.task_turns.specs.Turn.{CoreInOrder, given, running_of}
 
 -- the export is there, and takes one word
 abbrev pub TakesOne : Component → Func → Type 0
@@ -20,7 +20,7 @@ TakesOne c f = IsSome (export_at c (callee_of f)) × IfSome (export_at c (callee
 
 -- between runs at main's turn, with few numbers given: calls may be started, and a run driven
 pub record IsReady {T H G : Type 0} (course : H → HostDef) (c : Component) (s : Store T H G) : Type 0 where
-  pub order : Sits c turn.Main s.state.core
+  pub order : CoreInOrder c turn.Main s.state.core
   pub few : given s.state.core ≤ 8
   pub current : running_of s.state ≡ None
   pub hosts : HoldsHosts course s

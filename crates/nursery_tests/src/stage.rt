@@ -1,6 +1,6 @@
 //! What the tests run: a component of one export, a store for it, and a main that waits.
 ghost use Rattle.std.specs.Prelude.{◌≡◌, IfOk, length};
-ghost use Rattle.host_works.specs.Kept.{HoldsNone};
+ghost use Rattle.host_works.specs.KeptWorks.{HoldsNone};
 ghost use Rattle.nursery_tests.specs.Stage.{IsReady, TakesOne};
 ghost use Rattle.task_loop.specs.Says.{unscripted};
 ghost use Rattle.task_machine.specs.Core.{fresh};

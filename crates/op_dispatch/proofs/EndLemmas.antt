@@ -1,6 +1,6 @@
 -- The end of an op that the thread's script had it do: what its row says is done.
-use Rattle.task_rules.specs.Ends.{exit_row}
-use Rattle.task_rules.specs.Data.{data_row}
+use Rattle.task_rules.specs.Ends.{exit_rule}
+use Rattle.task_rules.specs.Data.{data_rule}
 use Rattle.task_ops.proofs.DoesLemmas.{same_rest}
 use Rattle.task_machine.specs.declared.op.DataOp.{DataOp}
 use Rattle.op_dispatch.proofs.StayLemmas.{same_stays}
@@ -9,7 +9,7 @@ use Rattle.op_dispatch.proofs.GoesLemmas.{same_goes}
 use Rattle.op_dispatch.proofs.OpLemmas.{told_names}
 use Rattle.op_dispatch.proofs.StandsLemmas.{exit_unanswered}
 use Rattle.op_dispatch.specs.Fits.{calls_host, is_data_op, is_plain, op_fits}
-use Rattle.op_dispatch.specs.Goes.{DoesOp, GoesOn, running_of}
+use Rattle.op_dispatch.specs.Continues.{DoesOp, OpGoesOn, running_of}
 use Rattle.op_dispatch.specs.Polls.{DoesPolled, MakesWork, Polls}
 use Rattle.op_dispatch.specs.Rules.{exits, rule_of}
 use Rattle.op_dispatch.specs.declared.done.Done.{Done}
@@ -21,7 +21,7 @@ use Rattle.subtask_ops.specs.Queued.{GoesOnWith}
 use Rattle.task_machine.specs.Core.{Core}
 use Rattle.task_machine.specs.Labels.{choice_of}
 use Rattle.task_machine.specs.Maps.{Records, get}
-use Rattle.task_machine.specs.Read.{how_far_of, is_explicit}
+use Rattle.task_machine.specs.Read.{op_progress_of, is_explicit}
 use Rattle.task_machine.specs.declared.component.Component.{Component}
 use Rattle.task_machine.specs.declared.component.HostDef.{HostDef}
 use Rattle.task_machine.specs.declared.op.CallOp.TheVariants as call_op
@@ -32,15 +32,15 @@ use Rattle.task_machine.specs.declared.records.Course.TheVariants as course
 use Rattle.task_machine.specs.declared.records.Work.{Work}
 use Rattle.task_machine.specs.declared.words.HostPoll.{HostPoll}
 use Rattle.task_ops.proofs.EndedLemmas.{ended_threads, unended}
-use Rattle.task_ops.specs.Came.{Meets}
+use Rattle.task_ops.specs.OpResult.{Implements}
 use Rattle.task_ops.specs.Does.{Rule}
 use Rattle.task_ops.specs.Ended.{ended, ends_op}
 use Rattle.task_ops.specs.Stays.{StaysAfter}
 use Rattle.task_ops.specs.Steps.{label_of}
 use Rattle.task_ops.specs.Works.{KeepsTold, NamesTold}
-use Rattle.task_ops.specs.declared.came.Came.{Came}
-use Rattle.task_ops.specs.declared.came.Came.TheVariants as came
-use Rattle.task_ops.specs.declared.came.OpAnswer.TheVariants as op_answer
+use Rattle.task_ops.specs.declared.op_result.OpResult.{OpResult}
+use Rattle.task_ops.specs.declared.op_result.OpResult.TheVariants as op_result
+use Rattle.task_ops.specs.declared.op_result.OpAnswer.TheVariants as op_answer
 use Rattle.task_rules.specs.Calls.{AtOnce, Failing, FirstPoll, Later}
 use Rattle.task_rules.specs.Finish.{Doer, NoAnswer, OneEvent, OneNumber, SomeHost, finish}
 use Rattle.task_rules.specs.Step.{own_script}
@@ -89,29 +89,29 @@ not_data (op.Thread x) none = refl
 -- ---- What the end changes
 
 -- it asks for the thread's number where an answer is due alone
-ends_same : (d : Doer) (n m : ℕ) (r : Came) (t : Core) → (ends_op r ≡ true → n ≡ m) → ended d n r t ≡ ended d m r t
-ends_same d n m (came.Goes l k op_answer.Nothing) t h = ap (λ (j : ℕ). finish d j NoAnswer t) (h refl)
-ends_same d n m (came.Goes l k (op_answer.Number v)) t h = ap (λ (j : ℕ). finish d j (OneNumber v) t) (h refl)
-ends_same d n m (came.Goes l k (op_answer.Value v)) t h = ap (λ (j : ℕ). finish d j (OneNumber v) t) (h refl)
-ends_same d n m (came.Goes l k (op_answer.Event g)) t h = ap (λ (j : ℕ). finish d j (OneEvent g) t) (h refl)
-ends_same d n m (came.Goes l k (op_answer.Entered j)) t h = refl
-ends_same d n m (came.Goes l k op_answer.NoneDue) t h = refl
-ends_same d n m (came.Stops l) t h = refl
-ends_same d n m (came.Traps why) t h = refl
-ends_same d n m (came.Fails i) t h = refl
+ends_same : (d : Doer) (n m : ℕ) (r : OpResult) (t : Core) → (ends_op r ≡ true → n ≡ m) → ended d n r t ≡ ended d m r t
+ends_same d n m (op_result.Continues l k op_answer.Nothing) t h = ap (λ (j : ℕ). finish d j NoAnswer t) (h refl)
+ends_same d n m (op_result.Continues l k (op_answer.Number v)) t h = ap (λ (j : ℕ). finish d j (OneNumber v) t) (h refl)
+ends_same d n m (op_result.Continues l k (op_answer.Value v)) t h = ap (λ (j : ℕ). finish d j (OneNumber v) t) (h refl)
+ends_same d n m (op_result.Continues l k (op_answer.Event g)) t h = ap (λ (j : ℕ). finish d j (OneEvent g) t) (h refl)
+ends_same d n m (op_result.Continues l k (op_answer.Entered j)) t h = refl
+ends_same d n m (op_result.Continues l k op_answer.NoneDue) t h = refl
+ends_same d n m (op_result.Stops l) t h = refl
+ends_same d n m (op_result.Traps why) t h = refl
+ends_same d n m (op_result.Fails i) t h = refl
 
 module _ (d : Doer) (n : ℕ) (s v u : StateView) where
-  stays_ended : (r : Came) → u ≡ on_core (ended d n r) v → StaysAfter r s v → StaysAfter r s u
-  stays_ended (came.Goes l m said) e h = tt
-  stays_ended (came.Stops l) e h = tt
-  stays_ended (came.Traps why) e h = e ∙ h
-  stays_ended (came.Fails i) e h = e ∙ h
+  stays_ended : (r : OpResult) → u ≡ on_core (ended d n r) v → StaysAfter r s v → StaysAfter r s u
+  stays_ended (op_result.Continues l m said) e h = tt
+  stays_ended (op_result.Stops l) e h = tt
+  stays_ended (op_result.Traps why) e h = e ∙ h
+  stays_ended (op_result.Fails i) e h = e ∙ h
 
-  goes_ended : (r : Came) → u ≡ on_core (ended d n r) v → GoesOn r v → GoesOn r u
-  goes_ended (came.Goes l m said) e h = (ap running_of e ∙ h.0, h.1)
-  goes_ended (came.Stops l) e h = h
-  goes_ended (came.Traps why) e h = tt
-  goes_ended (came.Fails i) e h = tt
+  goes_ended : (r : OpResult) → u ≡ on_core (ended d n r) v → OpGoesOn r v → OpGoesOn r u
+  goes_ended (op_result.Continues l m said) e h = (ap running_of e ∙ h.0, h.1)
+  goes_ended (op_result.Stops l) e h = h
+  goes_ended (op_result.Traps why) e h = tt
+  goes_ended (op_result.Fails i) e h = tt
 
 -- what is said of the work that was made holds whatever becomes of the threads
 module _ (v u : StateView) (works : u.core.works ≡ v.core.works) (tags : u.tags ≡ v.tags) where
@@ -127,7 +127,7 @@ module _ (v u : StateView) (works : u.core.works ≡ v.core.works) (tags : u.tag
 
 -- ---- The op is ended by whoever had it done
 
-module _ (AreKept : StateView → StateView → Type 0) (rule : Rule) (d : Doer) (id : TableId ThreadKey) (s v u : StateView) (r : Came) (did : DoesOp AreKept rule id s r v) (over : u ≡ on_core (ended d (thread_of v id) r) v) where
+module _ (AreKept : StateView → StateView → Type 0) (rule : Rule) (d : Doer) (id : TableId ThreadKey) (s v u : StateView) (r : OpResult) (did : DoesOp AreKept rule id s r v) (over : u ≡ on_core (ended d (thread_of v id) r) v) where
   abbrev number : ℕ
   number = thread_of s id
 
@@ -137,13 +137,13 @@ module _ (AreKept : StateView → StateView → Type 0) (rule : Rule) (d : Doer)
   threads_alone : u ≡ with_core (record v.core { threads = (ended d number r v.core).threads }) v
   threads_alone = is_ended ∙ ap (λ (x : Core). with_core x v) (ended_threads d number r v.core)
 
-  pub end_meets : Meets (rule d number (choice_of (label_of number r)) s.core) s.core r u.core
-  end_meets = subst (λ (x : Core). Meets (rule d number (choice_of (label_of number r)) s.core) s.core r x) (sym (ap (λ (w : StateView). w.core) is_ended)) (did.meets d)
+  pub end_meets : Implements (rule d number (choice_of (label_of number r)) s.core) s.core r u.core
+  end_meets = subst (λ (x : Core). Implements (rule d number (choice_of (label_of number r)) s.core) s.core r x) (sym (ap (λ (w : StateView). w.core) is_ended)) (did.meets d)
 
   pub end_stays : StaysAfter r s u
   end_stays = stays_ended d number s v u r is_ended did.stays
 
-  pub end_goes : GoesOn r u
+  pub end_goes : OpGoesOn r u
   end_goes = goes_ended d number s v u r is_ended did.goes
 
   pub end_works : NamesTold s v → NamesTold s u
@@ -156,11 +156,11 @@ module _ (AreKept : StateView → StateView → Type 0) (rule : Rule) (d : Doer)
   end_tags = ap (λ (w : StateView). w.tags) threads_alone
 
 -- so is one that may have polled a host, by the thread's script
-module _ (answer : HostPoll) (c : Component) (o : Op) (id : TableId ThreadKey) (s v u : StateView) (done : Done) (did : DoesPolled answer c o id s done v) (over : u ≡ on_core (ended (own_script o) (thread_of v id) done.came) v) where
-  end_polls : Polls answer c (how_far_of (thread_of s id) s.core) o s done u
+module _ (answer : HostPoll) (c : Component) (o : Op) (id : TableId ThreadKey) (s v u : StateView) (done : Done) (did : DoesPolled answer c o id s done v) (over : u ≡ on_core (ended (own_script o) (thread_of v id) done.op_result) v) where
+  end_polls : Polls answer c (op_progress_of (thread_of s id) s.core) o s done u
   end_polls =
-      let works = end_kept NamesTold (rule_of c o) (own_script o) id s v u done.came did.does over in
-      let tags = end_tags NamesTold (rule_of c o) (own_script o) id s v u done.came did.does over in
+      let works = end_kept NamesTold (rule_of c o) (own_script o) id s v u done.op_result did.does over in
+      let tags = end_tags NamesTold (rule_of c o) (own_script o) id s v u done.op_result did.does over in
       let p = did.polls in
       record {
         polled = p.polled;
@@ -174,27 +174,27 @@ module _ (answer : HostPoll) (c : Component) (o : Op) (id : TableId ThreadKey) (
 
   pub end_op : DidOp answer c o id s done u
   end_op = record {
-    meets = end_meets NamesTold (rule_of c o) (own_script o) id s v u done.came did.does over;
-    goes = end_goes NamesTold (rule_of c o) (own_script o) id s v u done.came did.does over;
-    stays = end_stays NamesTold (rule_of c o) (own_script o) id s v u done.came did.does over;
+    meets = end_meets NamesTold (rule_of c o) (own_script o) id s v u done.op_result did.does over;
+    goes = end_goes NamesTold (rule_of c o) (own_script o) id s v u done.op_result did.does over;
+    stays = end_stays NamesTold (rule_of c o) (own_script o) id s v u done.op_result did.does over;
     polls = end_polls;
-    works = end_works NamesTold (rule_of c o) (own_script o) id s v u done.came did.does over did.does.kept;
+    works = end_works NamesTold (rule_of c o) (own_script o) id s v u done.op_result did.does over did.does.kept;
   }
 
 -- ---- At a script's end
 
 -- an exit leaves nothing to end
-pub exit_meets : (id : TableId ThreadKey) (s t : StateView) (r : Came) → DoesOp KeepsTold exits id s r t → Meets (exit_row (thread_of s id) (choice_of (label_of (thread_of s id) r)).woken s.core) s.core r t.core
+pub exit_meets : (id : TableId ThreadKey) (s t : StateView) (r : OpResult) → DoesOp KeepsTold exits id s r t → Implements (exit_rule (thread_of s id) (choice_of (label_of (thread_of s id) r)).woken s.core) s.core r t.core
 exit_meets id s t r did =
     let n = thread_of s id in
     let w = (choice_of (label_of n r)).woken in
-    let p = exit_row n w s.core in
+    let p = exit_rule n w s.core in
     let met = did.meets SomeHost in
-    subst (λ (x : Core). Meets p s.core r x) (unended p s.core r (ended SomeHost n r t.core) (exit_unanswered n w s.core (is_explicit n s.core)) met SomeHost n t.core) met
+    subst (λ (x : Core). Implements p s.core r x) (unended p s.core r (ended SomeHost n r t.core) (exit_unanswered n w s.core (is_explicit n s.core)) met SomeHost n t.core) met
 
 -- it did the op that stands for the end, which polls no host
-pub exit_op : (answer : HostPoll) (c : Component) (id : TableId ThreadKey) (s t : StateView) (r : Came) → DoesOp KeepsTold exits id s r t
-    → DidOp answer c (op.Task task_op.Exit) id s (record { came = r; polled = None; work = None }) t
+pub exit_op : (answer : HostPoll) (c : Component) (id : TableId ThreadKey) (s t : StateView) (r : OpResult) → DoesOp KeepsTold exits id s r t
+    → DidOp answer c (op.Task task_op.Exit) id s (record { op_result = r; polled = None; work = None }) t
 exit_op answer c id s t r did = record {
   meets = exit_meets id s t r did;
   goes = did.goes;
@@ -205,12 +205,12 @@ exit_op answer c id s t r did = record {
 
 -- ---- On registers and words
 
-pub data_op : (answer : HostPoll) (c : Component) (o : DataOp) (id : TableId ThreadKey) (s t : StateView) (r : Came) → s.current ≡ Some id → Meets (data_row c (thread_of s id) s.core o) s.core r t.core → t.tags ≡ s.tags → t.current ≡ s.current
-    → DidOp answer c (op.Data o) id s (record { came = r; polled = None; work = None }) t
+pub data_op : (answer : HostPoll) (c : Component) (o : DataOp) (id : TableId ThreadKey) (s t : StateView) (r : OpResult) → s.current ≡ Some id → Implements (data_rule c (thread_of s id) s.core o) s.core r t.core → t.tags ≡ s.tags → t.current ≡ s.current
+    → DidOp answer c (op.Data o) id s (record { op_result = r; polled = None; work = None }) t
 data_op answer c o id s t r runs meets tags current = record {
   meets = meets;
-  goes = same_goes id (data_row c (thread_of s id) s.core o) s t r (data_shows c (thread_of s id) s.core o) meets runs tags current;
-  stays = same_stays (data_row c (thread_of s id) s.core o) s t r meets tags current;
+  goes = same_goes id (data_rule c (thread_of s id) s.core o) s t r (data_shows c (thread_of s id) s.core o) meets runs tags current;
+  stays = same_stays (data_rule c (thread_of s id) s.core o) s t r meets tags current;
   polls = record { polled = refl; work = refl; course = tt; none = λ e. inl refl };
   works = told_names s t (same_rest s t (tags, current)).0;
 }

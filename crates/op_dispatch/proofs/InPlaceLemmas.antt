@@ -8,9 +8,9 @@ use Rattle.task_machine.proofs.CommuteLemmas.{get-change}
 use Rattle.task_machine.proofs.MapLemmas.{change-field}
 use Rattle.task_machine.specs.Core.{Core}
 use Rattle.task_machine.specs.Maps.{get, get-insert, get-remove}
-use Rattle.task_machine.specs.Moves.{Gift, MemberGift, NoGift, OwnGift, behind, behind_one, call_settled, checked, displaced, first_entry, group_settled, handed_on, held_why_of, hands_on, is_callback_waiter, is_deletable, is_group_done, less_switch, newest, older, passed_on, promoted, promoted_first, promoted_unless, published, put_high, put_low, put_switch, released, released_one, resumed_all, resumed_callers, stopped, stopped_at, taken, unblocked, unqueued, wake, wake_joined, waken_by, why_of, withdrawn}
+use Rattle.task_machine.specs.Moves.{PickedEvent, PickedMember, NothingPicked, PickedTaskEvent, behind, behind_one, call_settled, checked, displaced, first_entry, group_settled, handed_on, held_why_of, hands_on, is_callback_waiter, is_deletable, is_group_done, less_switch, newest, older, passed_on, promoted, promoted_first, promoted_unless, published, put_high, put_low, put_switch, released, released_one, resumed_all, resumed_callers, stopped, stopped_at, taken, unblocked, unqueued, wake, wake_joined, waken_by, why_of, withdrawn}
 use Rattle.task_machine.specs.Read.{blocked_on, call_group, caller_of, callers_of, foot_of, goal_of, join_of, position_of}
-use Rattle.task_machine.specs.Write.{add_call, add_thread, count_work, give_result, on_call, on_thread, on_work, push_high, push_high_first, push_low, remove_call, remove_group, remove_thread, remove_work, set_callers, set_cancel_delivered, set_end, set_event, set_exited, set_high, set_how_far, set_join, set_low, set_own_event, set_place, set_register, set_result, set_saved_callee, set_saved_own, set_subtask_handle, set_switch, set_thread_handle, set_uninteresting}
+use Rattle.task_machine.specs.Write.{add_call, add_thread, count_work, give_result, on_call, on_thread, on_work, push_high, push_high_first, push_low, remove_call, remove_group, remove_thread, remove_work, set_callers, set_cancel_delivered, set_end, set_event, set_exited, set_high, set_op_progress, set_join, set_low, set_task_event, set_place, set_register, set_result, set_saved_callee, set_saved_own, set_subtask_handle, set_switch, set_thread_handle, set_uninteresting}
 use Rattle.task_machine.specs.declared.component.Callee.{Callee}
 use Rattle.task_machine.specs.declared.component.ExportKind.{ExportKind}
 use Rattle.task_machine.specs.declared.records.CallEnd.{CallEnd}
@@ -19,8 +19,8 @@ use Rattle.task_machine.specs.declared.records.Caller.{Caller}
 use Rattle.task_machine.specs.declared.records.Caller.TheVariants as caller
 use Rattle.task_machine.specs.declared.records.Goal.{Goal}
 use Rattle.task_machine.specs.declared.records.Goal.TheVariants as goal
-use Rattle.task_machine.specs.declared.records.HowFar.{HowFar}
-use Rattle.task_machine.specs.declared.records.HowFar.TheVariants as how_far
+use Rattle.task_machine.specs.declared.records.OpProgress.{OpProgress}
+use Rattle.task_machine.specs.declared.records.OpProgress.TheVariants as op_progress
 use Rattle.task_machine.specs.declared.records.Join.{Join}
 use Rattle.task_machine.specs.declared.records.Join.TheVariants as join
 use Rattle.task_machine.specs.declared.records.Place.{Place}
@@ -32,7 +32,7 @@ use Rattle.task_machine.specs.declared.records.Why.{Why}
 use Rattle.task_machine.specs.declared.records.Why.TheVariants as why
 use Rattle.task_machine.specs.declared.words.Given.{Given}
 use Rattle.task_machine.specs.declared.words.Mark.TheVariants as mark
-use Rattle.task_machine.specs.declared.words.OwnEvent.TheVariants as own
+use Rattle.task_machine.specs.declared.words.TaskEvent.TheVariants as own
 use Rattle.task_machine.specs.declared.words.Status.{Status}
 use Rattle.task_machine.specs.declared.words.Status.TheVariants as status
 use Rattle.task_ops.proofs.PositionLemmas.{position_register}
@@ -59,9 +59,9 @@ module _ (n : ℕ) where
   unfolding set_place
   at_place m p s = on m (λ t. record t { place = p }) s (λ t. refl) (λ t. refl)
 
-  pub at_far : (m : ℕ) (h : HowFar) (s : Core) → in_script n (set_how_far m h s) ≡ in_script n s
-  unfolding set_how_far
-  at_far m h s = on m (λ t. record t { how_far = h }) s (λ t. refl) (λ t. refl)
+  pub at_far : (m : ℕ) (h : OpProgress) (s : Core) → in_script n (set_op_progress m h s) ≡ in_script n s
+  unfolding set_op_progress
+  at_far m h s = on m (λ t. record t { op_progress = h }) s (λ t. refl) (λ t. refl)
 
   pub at_saved_own : (m : ℕ) (o : Option Bool) (s : Core) → in_script n (set_saved_own m o s) ≡ in_script n s
   unfolding set_saved_own
@@ -88,8 +88,8 @@ module _ (n : ℕ) where
   unfolding remove_thread
   at_gone m s other = grind (arith, nat_tests, get-remove, other)
 
-  pub at_done : (s : Core) → in_script n (set_how_far n how_far.Fresh s) ≡ in_script n s
-  at_done s = at_far n how_far.Fresh s
+  pub at_done : (s : Core) → in_script n (set_op_progress n op_progress.Fresh s) ≡ in_script n s
+  at_done s = at_far n op_progress.Fresh s
 
   -- ---- Entries
 
@@ -237,14 +237,14 @@ module _ (n : ℕ) where
   unfolding cancelled
   at_cancelled k w s = at_told k status.ReturnCancelled w _ ∙ at_ended k call_end.ReturnCancelled s
 
-  pub at_taken : (g : Gift) (k : ℕ) (s : Core) → in_script n (taken g k s) ≡ in_script n s
-  unfolding taken set_own_event set_cancel_delivered on_call
-  at_taken (OwnGift own.None) k s = refl
-  at_taken (OwnGift own.Cancelled) k s = refl
-  at_taken (MemberGift sub) k s = at_event sub None s
-  at_taken NoGift k s = refl
+  pub at_taken : (g : PickedEvent) (k : ℕ) (s : Core) → in_script n (taken g k s) ≡ in_script n s
+  unfolding taken set_task_event set_cancel_delivered on_call
+  at_taken (PickedTaskEvent own.None) k s = refl
+  at_taken (PickedTaskEvent own.Cancelled) k s = refl
+  at_taken (PickedMember sub) k s = at_event sub None s
+  at_taken NothingPicked k s = refl
 
-  pub at_handed : (x : ℕ) (g : Gift) (w : Option ℕ) (s : Core) → in_script n (handed_on x g w s) ≡ in_script n s
+  pub at_handed : (x : ℕ) (g : PickedEvent) (w : Option ℕ) (s : Core) → in_script n (handed_on x g w s) ≡ in_script n s
   unfolding handed_on
   at_handed x g w s = if_at (hands_on x g s) (wake x w s) s s (at_wake x w s) refl
 

@@ -7,9 +7,9 @@ use Rattle.op_dispatch.proofs.InPlaceLemmas.{at_behind, at_cancelled, at_checked
 use Rattle.op_dispatch.specs.InPlace.{ANumber, AnEvent, AnswerKind, CallsItself, HostLeavesInPlace, IsInPlace, IsUnderWay, KeepsPlace, LeavesPlace, LeftAt, NoNumber, OpsLeavePlaces, answers_of, call_answers, in_script, is_finished, is_return, may_answer, set_answers, thread_answers}
 use Rattle.task_machine.specs.Core.{Core}
 use Rattle.task_machine.specs.Labels.{Choice, join_label, ret_label, task_cancel_label, wait_label}
-use Rattle.task_machine.specs.Moves.{Gift, MemberGift, NoGift, OwnGift, behind, gift, may_hand_on, passes_check, put_switch}
-use Rattle.task_machine.specs.Read.{at_handle_limit, backpressure_of, cancel_was_delivered, event_of, fits, foot_of, has_ended, has_member, has_waiters, how_far_of, instance_of, is_async_lifted, is_at, is_callback_yield, is_joined, is_watched, join_of, kind_of, registers_of, saved_callee_of, set_at, subtask_at, subtask_ended, task_of, thread_at, thread_group, undelivered_end, was_cancelled, was_started}
-use Rattle.task_machine.specs.Write.{add_set, add_work, count_work, free_handle, give_handle, give_thread_handle, on_call, on_instance, on_work, push_high, remove_set, set_backpressure, set_cancelled, set_do_not_suspend, set_join, set_own_event, set_phase, set_result, set_started}
+use Rattle.task_machine.specs.Moves.{PickedEvent, PickedMember, NothingPicked, PickedTaskEvent, behind, picked_event, may_hand_on, passes_check, put_switch}
+use Rattle.task_machine.specs.Read.{at_handle_limit, backpressure_of, cancel_was_delivered, event_of, fits, foot_of, has_ended, has_member, has_waiters, op_progress_of, instance_of, is_async_lifted, is_at, is_callback_yield, is_joined, is_watched, join_of, kind_of, registers_of, saved_callee_of, set_at, subtask_at, subtask_ended, task_of, thread_at, thread_group, undelivered_end, was_cancelled, was_started}
+use Rattle.task_machine.specs.Write.{add_set, add_work, count_work, free_handle, give_handle, give_thread_handle, on_call, on_instance, on_work, push_high, remove_set, set_backpressure, set_cancelled, set_do_not_suspend, set_join, set_task_event, set_phase, set_result, set_started}
 use Rattle.task_machine.specs.declared.component.Callee.{Callee}
 use Rattle.task_machine.specs.declared.component.Component.{Component}
 use Rattle.task_machine.specs.declared.component.ExportKind.{ExportKind}
@@ -33,8 +33,8 @@ use Rattle.task_machine.specs.declared.op.ThreadOp.TheVariants as thread_op
 use Rattle.task_machine.specs.declared.records.Caller.TheVariants as caller
 use Rattle.task_machine.specs.declared.records.Goal.{Goal}
 use Rattle.task_machine.specs.declared.records.Goal.TheVariants as goal
-use Rattle.task_machine.specs.declared.records.HowFar.{HowFar}
-use Rattle.task_machine.specs.declared.records.HowFar.TheVariants as how_far
+use Rattle.task_machine.specs.declared.records.OpProgress.{OpProgress}
+use Rattle.task_machine.specs.declared.records.OpProgress.TheVariants as op_progress
 use Rattle.task_machine.specs.declared.records.Join.TheVariants as join
 use Rattle.task_machine.specs.declared.records.Subtask.{Subtask}
 use Rattle.task_machine.specs.declared.records.Subtask.TheVariants as subtask
@@ -51,12 +51,12 @@ use Rattle.task_rules.specs.Cancels.{AlreadyEnded, Async, CallbackWaits, Callbac
 use Rattle.task_rules.specs.Ends.{may_tell}
 use Rattle.task_rules.specs.Finish.{SomeHost}
 use Rattle.task_rules.specs.OpParts.{calls_host}
-use Rattle.task_rules.specs.Progress.{Asks, Fails, Goes, Never, Ordered, Progress, Stops, Traps, may, or_never, or_trap, trap_if}
+use Rattle.task_rules.specs.Progress.{Asks, Fails, Continues, Never, Ordered, Progress, Stops, Traps, may, or_never, or_trap, trap_if}
 use Rattle.task_rules.specs.Scripts.{export_kind, host_at, slot_at, value_of, values_in}
 use Rattle.task_rules.specs.Sets.{chosen, finds_nothing, join_done_by, join_to_by, may_wake_new, moved_over, poll_takes_by, set_closed, set_drop_by, set_opened, set_rule, wait_begins_by, wait_goes_on_by, wait_rule, wait_stops, wait_stops_checked, wait_takes_by, wakes_joined}
 use Rattle.task_rules.specs.Step.{op_rule}
 use Rattle.task_rules.specs.Task.{dec_by, pressure_gone, pressure_lowered, pressure_raised, task_rule}
-use Rattle.task_rules.specs.Threads.{Halt, Suspension, Yielding, halted, halted_checked, halted_promoting, halted_resuming, halts_by, has_yielded, resume_later_by, resume_why, resumed_by, then_promote_by, then_promote_found_by, then_promote_rule, then_resume_found, then_resume_row, thread_added, thread_new_rule, thread_rule}
+use Rattle.task_rules.specs.Threads.{Halt, Suspension, Yielding, halted, halted_checked, halted_promoting, halted_resuming, halts_by, has_yielded, resume_later_by, resume_why, resumed_by, then_promote_by, then_promote_found_by, then_promote_rule, then_resume_found, then_resume_rule, thread_added, thread_new_rule, thread_rule}
 
 -- ---- What the rules write
 
@@ -115,7 +115,7 @@ module _ (n : ℕ) where
       let made = call_made (caller.Thread n) e x g (thread_group n s) words s in
       let queued = put_switch m why.Start made in
       let cleared = call_clears_flag n e.instance x queued in
-      at_far n n (how_far.Calls (subtask.Guest m)) (behind m (n ∷ []) cleared) ∙ (at_behind n m (n ∷ []) cleared ∙ (at_clears e.instance x queued ∙ at_switch n m why.Start made))
+      at_far n n (op_progress.Calls (subtask.Guest m)) (behind m (n ∷ []) cleared) ∙ (at_behind n m (n ∷ []) cleared ∙ (at_clears e.instance x queued ∙ at_switch n m why.Start made))
 
   at_back : (o : Option Bool) (j : ℕ) (s : Core) → in_script n (put_back o j s) ≡ in_script n s
   unfolding set_do_not_suspend on_instance
@@ -188,7 +188,7 @@ module _ (n : ℕ) where
   at_cancel_stops sub s = at_far n n _ _ ∙ (at_stopped_at n n _ _ ∙ (at_checked n _ _ ∙ (at_join n sub _ _ ∙ at_saved_callee n n None s)))
 
   at_asks : (k : ℕ) (s : Core) → in_script n (cancel_asks k s) ≡ in_script n s
-  unfolding cancel_asks set_own_event on_call
+  unfolding cancel_asks set_task_event on_call
   at_asks k s = refl
 
   at_cancel_resumed : (sub : Subtask) (s : Core) → in_script n (cancel_resumed n sub s) ≡ in_script n s
@@ -340,15 +340,15 @@ module _ (A : Type 0) (n : ℕ) (s : Core) where
 
   begins_by : (ch : Choice) (x : ℕ) (f : Bool) → Hears (wait_begins_by SomeHost n ch s x f)
   begins_by ch x true = if_traps A AnEvent n s (not (passes_check (instance_of n s) s)) _ _ (at (at_waits_checked n x s))
-  begins_by ch x false = if_given A AnEvent n s (gift false (task_of n s) x (chosen n ch s) s) (wait_takes_by SomeHost n ch s) (λ g. (at (at_done n _ ∙ at_taken n g _ s), refl))
+  begins_by ch x false = if_given A AnEvent n s (picked_event false (task_of n s) x (chosen n ch s) s) (wait_takes_by SomeHost n ch s) (λ g. (at (at_done n _ ∙ at_taken n g _ s), refl))
 
-  goes_on : (x : ℕ) (ch : Choice) (g : Gift) → Hears (wait_goes_on_by SomeHost n x ch s g)
-  goes_on x ch NoGift = at (at_waits n x s)
-  goes_on x ch (OwnGift e) = if_lawful A AnEvent n s (may_hand_on x (OwnGift e) ch.woken s) _ (at (at_done n _ ∙ (at_taken n (OwnGift e) _ _ ∙ at_handed n x (OwnGift e) ch.woken s)), waited_said n _ ch.woken)
-  goes_on x ch (MemberGift sub) = if_lawful A AnEvent n s (may_hand_on x (MemberGift sub) ch.woken s) _ (at (at_done n _ ∙ (at_taken n (MemberGift sub) _ _ ∙ at_handed n x (MemberGift sub) ch.woken s)), waited_said n _ ch.woken)
+  goes_on : (x : ℕ) (ch : Choice) (g : PickedEvent) → Hears (wait_goes_on_by SomeHost n x ch s g)
+  goes_on x ch NothingPicked = at (at_waits n x s)
+  goes_on x ch (PickedTaskEvent e) = if_lawful A AnEvent n s (may_hand_on x (PickedTaskEvent e) ch.woken s) _ (at (at_done n _ ∙ (at_taken n (PickedTaskEvent e) _ _ ∙ at_handed n x (PickedTaskEvent e) ch.woken s)), waited_said n _ ch.woken)
+  goes_on x ch (PickedMember sub) = if_lawful A AnEvent n s (may_hand_on x (PickedMember sub) ch.woken s) _ (at (at_done n _ ∙ (at_taken n (PickedMember sub) _ _ ∙ at_handed n x (PickedMember sub) ch.woken s)), waited_said n _ ch.woken)
 
-  waits : (h : ℕ) (ch : Choice) (f : HowFar) → Hears (wait_rule SomeHost n h ch s f)
-  waits h ch (how_far.Waits x) = if_given A AnEvent n s (gift false (task_of n s) x (chosen n ch s) s) (wait_goes_on_by SomeHost n x ch s) (goes_on x ch)
+  waits : (h : ℕ) (ch : Choice) (f : OpProgress) → Hears (wait_rule SomeHost n h ch s f)
+  waits h ch (op_progress.Waits x) = if_given A AnEvent n s (picked_event false (task_of n s) x (chosen n ch s) s) (wait_goes_on_by SomeHost n x ch s) (goes_on x ch)
   waits h ch _ = if_found A AnEvent n s (set_at (instance_of n s) h s) _ (λ x. wait_begins_by SomeHost n ch s x (finds_nothing n x s)) (λ x. begins_by ch x (finds_nothing n x s))
 
   joined : (w : Option ℕ) (x : Option ℕ) (sub : Subtask) → Left (join_done_by SomeHost n sub w s x)
@@ -364,10 +364,10 @@ module _ (A : Type 0) (n : ℕ) (s : Core) where
       let h = value_of n s x in
       if_found A NoNumber n s (set_at (instance_of n s) h s) _ (set_drop_by SomeHost n h s)
       (λ y. if_traps A NoNumber n s (has_waiters y s) _ _ (if_traps A NoNumber n s (has_member y s) _ _ (at (at_done n _ ∙ at_closed n h y s), refl)))
-  sets ch (set_op.Wait r x) = waits (value_of n s x) ch (how_far_of n s)
+  sets ch (set_op.Wait r x) = waits (value_of n s x) ch (op_progress_of n s)
   sets ch (set_op.Poll r x) =
-      if_found A AnEvent n s (set_at (instance_of n s) (value_of n s x) s) _ (λ y. or_never (gift false (task_of n s) y (chosen n ch s) s) (poll_takes_by SomeHost n ch s))
-      (λ y. if_given A AnEvent n s (gift false (task_of n s) y (chosen n ch s) s) (poll_takes_by SomeHost n ch s) (λ g. (at (at_done n _ ∙ at_taken n g _ s), refl)))
+      if_found A AnEvent n s (set_at (instance_of n s) (value_of n s x) s) _ (λ y. or_never (picked_event false (task_of n s) y (chosen n ch s) s) (poll_takes_by SomeHost n ch s))
+      (λ y. if_given A AnEvent n s (picked_event false (task_of n s) y (chosen n ch s) s) (poll_takes_by SomeHost n ch s) (λ g. (at (at_done n _ ∙ at_taken n g _ s), refl)))
   sets ch (set_op.Join x y) =
       if_found A NoNumber n s (subtask_at (instance_of n s) (value_of n s x) s) _ (join_to_by SomeHost n (value_of n s y) ch.woken s) (joins (value_of n s y) ch.woken)
 
@@ -384,8 +384,8 @@ module _ (A : Type 0) (n : ℕ) (s : Core) where
   sync_hosts Failing = tt
   sync_hosts (Later host) = if_traps A ANumber n s (not (fits 1 s)) _ _ (if_traps A ANumber n s (not (passes_check (instance_of n s) s)) _ _ (at (at_host_stops n host s)))
 
-  sync_host_calls : (c : Component) (h : ℕ) (f : HowFar) → Gives (call_sync_host_rule SomeHost c n h s f)
-  sync_host_calls c h (how_far.Calls (subtask.Host i)) = (at (at_done n _ ∙ at_deleted n i s), refl)
+  sync_host_calls : (c : Component) (h : ℕ) (f : OpProgress) → Gives (call_sync_host_rule SomeHost c n h s f)
+  sync_host_calls c h (op_progress.Calls (subtask.Host i)) = (at (at_done n _ ∙ at_deleted n i s), refl)
   sync_host_calls c h _ = firsts A ANumber n s (host_at c h) (call_sync_host_by SomeHost n s) sync_hosts
 
   statuses : (k : ℕ) (e : Status) → Gives (call_status_by SomeHost n k s e)
@@ -426,9 +426,9 @@ module _ (A : Type 0) (n : ℕ) (s : Core) where
 
   -- ---- Threads
 
-  resumed : (x : ThreadLabel) (f : HowFar) (p : Progress) → may_answer NoNumber (shown (label.Thread x)) ≡ true → Left p → Left (resumed_by SomeHost f n (label.Thread x) s p)
-  resumed x how_far.Suspends p said h = (at (at_done n s), said)
-  resumed x how_far.Yields p said h = (at (at_done n s), said)
+  resumed : (x : ThreadLabel) (f : OpProgress) (p : Progress) → may_answer NoNumber (shown (label.Thread x)) ≡ true → Left p → Left (resumed_by SomeHost f n (label.Thread x) s p)
+  resumed x op_progress.Suspends p said h = (at (at_done n s), said)
+  resumed x op_progress.Yields p said h = (at (at_done n s), said)
   resumed x _ p said h = h
 
   halts : (x : Halt) (l : ThreadLabel) (o : Bool) → may_answer NoNumber (shown (label.Thread l)) ≡ true → Left (halts_by SomeHost x n (label.Thread l) s o)
@@ -436,7 +436,7 @@ module _ (A : Type 0) (n : ℕ) (s : Core) where
   halts Suspension l false said = tt
   halts Yielding l false said = (at (at_done n s), said)
 
-  then_resumes : (x : Halt) (h : ℕ) → Left (then_resume_row x n h s)
+  then_resumes : (x : Halt) (h : ℕ) → Left (then_resume_rule x n h s)
   then_resumes x h = if_found A NoNumber n s (thread_at (instance_of n s) h s) _ (then_resume_found x n s)
       (λ m. if_traps A NoNumber n s (m == n) _ _ (if_found A NoNumber n s (resume_why m s) _ _ (λ w. at (at_resuming n x m w s))))
 
@@ -454,8 +454,8 @@ module _ (A : Type 0) (n : ℕ) (s : Core) where
     queues c e g words =
         if_traps A ANumber n s (not (fits 3 s)) _ _ (from (at_queues n e (export_kind c e) g words s) (left_made A n (caller.Thread n) e (export_kind c e) g (thread_group n s) words s (λ a. (under a).made)))
 
-    calls : (c : Component) (q : ℕ) (e : Callee) (words : List ℕ) (f : HowFar) → Gives (call_rule SomeHost c n q e words s f)
-    calls c q e words (how_far.Calls (subtask.Guest k)) = statuses k (status_found k s)
+    calls : (c : Component) (q : ℕ) (e : Callee) (words : List ℕ) (f : OpProgress) → Gives (call_rule SomeHost c n q e words s f)
+    calls c q e words (op_progress.Calls (subtask.Guest k)) = statuses k (status_found k s)
     calls c q e words _ = queues c e (goal.Register q) words
 
     sync_begins : (c : Component) (e : Callee) (words : List ℕ) (x : Bool) → Gives (call_sync_begins c n e words s x)
@@ -464,9 +464,9 @@ module _ (A : Type 0) (n : ℕ) (s : Core) where
         if_traps A ANumber n s (not (fits 3 s)) _ _ (if_traps A ANumber n s (at_handle_limit s) _ _
         (from (at_enters n e (export_kind c e) words s) (left_made A n (caller.Thread n) e (export_kind c e) goal.Direct (thread_group n s) words s (λ a. (under a).made)), refl))
 
-    sync_calls : (c : Component) (e : Callee) (words : List ℕ) (f : HowFar) → Gives (call_sync_rule SomeHost c n e words s f)
-    sync_calls c e words (how_far.Answered v) = (at (at_done n s), refl)
-    sync_calls c e words (how_far.Calls (subtask.Guest k)) = sync_statuses k (status_found k s)
+    sync_calls : (c : Component) (e : Callee) (words : List ℕ) (f : OpProgress) → Gives (call_sync_rule SomeHost c n e words s f)
+    sync_calls c e words (op_progress.Answered v) = (at (at_done n s), refl)
+    sync_calls c e words (op_progress.Calls (subtask.Guest k)) = sync_statuses k (status_found k s)
     sync_calls c e words _ = sync_begins c e words (is_async_lifted (export_kind c e))
 
     module _ (mode : Mode) where
@@ -492,18 +492,18 @@ module _ (A : Type 0) (n : ℕ) (s : Core) where
       found None own = tt
       found (Some sub) own = if_traps A ANumber n s (is_joined (join_of sub s)) _ _ (subtasks sub (λ a k e. own a k (ap (λ (x : Subtask). Some x) e)))
 
-      cancels : (h : ℕ) (f : HowFar) → Gives (cancel_rule SomeHost mode n h s f)
-      cancels h (how_far.Cancels sub) = afterwards mode sub (cancel_resumed n sub s) (at_cancel_resumed n sub s)
-      cancels h (how_far.AwaitsEnd sub) = ended mode sub (set_join sub join.Nowhere s) (undelivered_end (event_of sub (set_join sub join.Nowhere s))) (at_join n sub join.Nowhere s)
+      cancels : (h : ℕ) (f : OpProgress) → Gives (cancel_rule SomeHost mode n h s f)
+      cancels h (op_progress.Cancels sub) = afterwards mode sub (cancel_resumed n sub s) (at_cancel_resumed n sub s)
+      cancels h (op_progress.AwaitsEnd sub) = ended mode sub (set_join sub join.Nowhere s) (undelivered_end (event_of sub (set_join sub join.Nowhere s))) (at_join n sub join.Nowhere s)
       cancels h _ = found (subtask_at (instance_of n s) h s) (λ a. (under a).begun h)
 
     call_ops : (c : Component) (o : CallOp) → (A → calls_host (op.Call o) ≡ false) → LeavesPlace A (call_answers o) n s (subtask_rule SomeHost c n s o)
-    call_ops c (call_op.Call r q e xs) apart = calls c q e (values_in (registers_of n s) xs) (how_far_of n s)
-    call_ops c (call_op.CallSync r e xs) apart = sync_calls c e (values_in (registers_of n s) xs) (how_far_of n s)
+    call_ops c (call_op.Call r q e xs) apart = calls c q e (values_in (registers_of n s) xs) (op_progress_of n s)
+    call_ops c (call_op.CallSync r e xs) apart = sync_calls c e (values_in (registers_of n s) xs) (op_progress_of n s)
     call_ops c (call_op.CallHost r q h) apart = firsts A ANumber n s (host_at c h) (call_host_by SomeHost n q s) (λ p. hosts q p (λ a. absurd (let e = apart a in cc)))
-    call_ops c (call_op.CallSyncHost r h) apart = sync_host_calls c h (how_far_of n s)
-    call_ops c (call_op.Cancel r x) apart = cancels Async (value_of n s x) (how_far_of n s)
-    call_ops c (call_op.CancelSync r x) apart = cancels Sync (value_of n s x) (how_far_of n s)
+    call_ops c (call_op.CallSyncHost r h) apart = sync_host_calls c h (op_progress_of n s)
+    call_ops c (call_op.Cancel r x) apart = cancels Async (value_of n s x) (op_progress_of n s)
+    call_ops c (call_op.CancelSync r x) apart = cancels Sync (value_of n s x) (op_progress_of n s)
     call_ops c (call_op.Drop x) apart = if_found A NoNumber n s (subtask_at (instance_of n s) (value_of n s x) s) _ (drop_by SomeHost n (value_of n s x) s) (drops (value_of n s x))
 
     makes : (x v : ℕ) (o : Slot) → Gives (thread_new_rule SomeHost n x v s o)
@@ -517,12 +517,12 @@ module _ (A : Type 0) (n : ℕ) (s : Core) where
     threads c (thread_op.Index r) = (at (at_done n s), refl)
     threads c (thread_op.ResumeLater x) = if_found A NoNumber n s (thread_at (instance_of n s) (value_of n s x) s) _ (resume_later_by SomeHost n s)
         (λ m. if_traps A NoNumber n s (m == n) _ _ (if_found A NoNumber n s (resume_why m s) _ _ (λ w. (at (at_done n _ ∙ at_low n m w s), refl))))
-    threads c thread_op.Suspend = let l = thread_label.Suspend n in resumed l (how_far_of n s) _ refl (halts Suspension l (passes_check (instance_of n s) s) refl)
-    threads c thread_op.Yield = let l = thread_label.Yield n in resumed l (how_far_of n s) _ refl (halts Yielding l (passes_check (instance_of n s) s) refl)
-    threads c (thread_op.SuspendThenResume x) = resumed (thread_label.SuspendThenResume n) (how_far_of n s) _ refl (then_resumes Suspension (value_of n s x))
-    threads c (thread_op.YieldThenResume x) = resumed (thread_label.YieldThenResume n) (how_far_of n s) _ refl (then_resumes Yielding (value_of n s x))
-    threads c (thread_op.SuspendThenPromote x) = let l = thread_label.SuspendThenPromote n in resumed l (how_far_of n s) _ refl (then_promotes Suspension (value_of n s x) l refl)
-    threads c (thread_op.YieldThenPromote x) = let l = thread_label.YieldThenPromote n in resumed l (how_far_of n s) _ refl (then_promotes Yielding (value_of n s x) l refl)
+    threads c thread_op.Suspend = let l = thread_label.Suspend n in resumed l (op_progress_of n s) _ refl (halts Suspension l (passes_check (instance_of n s) s) refl)
+    threads c thread_op.Yield = let l = thread_label.Yield n in resumed l (op_progress_of n s) _ refl (halts Yielding l (passes_check (instance_of n s) s) refl)
+    threads c (thread_op.SuspendThenResume x) = resumed (thread_label.SuspendThenResume n) (op_progress_of n s) _ refl (then_resumes Suspension (value_of n s x))
+    threads c (thread_op.YieldThenResume x) = resumed (thread_label.YieldThenResume n) (op_progress_of n s) _ refl (then_resumes Yielding (value_of n s x))
+    threads c (thread_op.SuspendThenPromote x) = let l = thread_label.SuspendThenPromote n in resumed l (op_progress_of n s) _ refl (then_promotes Suspension (value_of n s x) l refl)
+    threads c (thread_op.YieldThenPromote x) = let l = thread_label.YieldThenPromote n in resumed l (op_progress_of n s) _ refl (then_promotes Yielding (value_of n s x) l refl)
 
 pub ops_leave_places : OpsLeavePlaces
 unfolding OpsLeavePlaces
@@ -535,7 +535,7 @@ ops_leave_places c n s ch (op.Thread o) e = threads (KeepsPlace n s (op.Thread o
 -- ---- A thread that keeps its place
 
 in_place : (A : Type 0) (k : AnswerKind) (n : ℕ) (s : Core) (p : Progress) → A → LeavesPlace A k n s p → IsInPlace n (in_script n s) p
-in_place A k n s (Goes l t m) a h = h.0.still a
+in_place A k n s (Continues l t m) a h = h.0.still a
 in_place A k n s (Stops l t) a h = h.still a
 in_place A k n s (Traps why) a h = tt
 in_place A k n s (Fails i) a h = tt

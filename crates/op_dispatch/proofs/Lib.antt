@@ -1,7 +1,7 @@
 pub mod RowLemmas
 pub mod GoesLemmas
 pub mod StayLemmas
-pub mod SubtaskRows
+pub mod SubtaskRules
 pub mod OpLemmas
 pub mod CallLemmas
 pub mod InPlaceLemmas

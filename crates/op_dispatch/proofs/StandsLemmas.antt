@@ -4,7 +4,7 @@ use Rattle.op_dispatch.proofs.LeavesLemmas.{ops_leave_places}
 use Rattle.op_dispatch.proofs.OpLemmas.{direct_unanswered, stops_unanswered}
 use Rattle.op_dispatch.proofs.RowLemmas.{blocking_exit_stops, code_stops, sync_exit_stops, thread_exit_stops}
 use Rattle.op_dispatch.specs.Fits.{is_data_op, op_fits}
-use Rattle.op_dispatch.specs.Goes.{DoesOp}
+use Rattle.op_dispatch.specs.Continues.{DoesOp}
 use Rattle.op_dispatch.specs.InPlace.{AnswerKind, KeepsPlace, LeavesPlace, OpsLeavePlaces, answers_of, answers_so, in_script, is_finished, may_answer}
 use Rattle.op_dispatch.specs.Rules.{rule_of}
 use Rattle.std.proofs.Common.{ap, arith, refl, subst, sym, ◌∙◌}
@@ -26,15 +26,15 @@ use Rattle.task_machine.specs.declared.op.TaskOp.{TaskOp}
 use Rattle.task_machine.specs.declared.op.TaskOp.TheVariants as task_op
 use Rattle.task_machine.specs.declared.op.ThreadOp.TheVariants as thread_op
 use Rattle.task_ops.proofs.EndedLemmas.{IsUnanswered, undue}
-use Rattle.task_ops.specs.Came.{Meets}
+use Rattle.task_ops.specs.OpResult.{Implements}
 use Rattle.task_ops.specs.Ended.{ended, ends_op, gives_event}
 use Rattle.task_ops.specs.Steps.{label_of}
-use Rattle.task_ops.specs.declared.came.Came.{Came}
-use Rattle.task_ops.specs.declared.came.Came.TheVariants as came
-use Rattle.task_ops.specs.declared.came.OpAnswer.TheVariants as op_answer
-use Rattle.task_rules.specs.Ends.{exit_row_for, implicit_exit_row, kind_exit_row}
+use Rattle.task_ops.specs.declared.op_result.OpResult.{OpResult}
+use Rattle.task_ops.specs.declared.op_result.OpResult.TheVariants as op_result
+use Rattle.task_ops.specs.declared.op_result.OpAnswer.TheVariants as op_answer
+use Rattle.task_rules.specs.Ends.{exit_rule_for, implicit_exit_rule, kind_exit_rule}
 use Rattle.task_rules.specs.Finish.{Doer, SomeHost}
-use Rattle.task_rules.specs.Progress.{Asks, Fails, Goes, Never, Ordered, Progress, Stops, Traps}
+use Rattle.task_rules.specs.Progress.{Asks, Fails, Continues, Never, Ordered, Progress, Stops, Traps}
 use Rattle.task_rules.specs.Scripts.{value_of}
 use Rattle.task_rules.specs.Step.{answer_register, op_rule}
 use Rattle.task_rules.specs.Task.{task_rule}
@@ -45,8 +45,8 @@ use Rattle.task_words.specs.StateView.{StateView, thread_of}
 -- ---- By what it came to
 
 module _ (A : Type 0) (k : AnswerKind) (n : ℕ) (s : Core) where
-  met_below : (p : Progress) (r : Came) (t : Core) → LeavesPlace A k n s p → Meets p s r t → position_of n t ≤ position_of n s
-  met_below (Goes l new m) r t h e = subst (λ (c : Core). position_of n c ≤ position_of n s) (sym e.1) h.0.below
+  met_below : (p : Progress) (r : OpResult) (t : Core) → LeavesPlace A k n s p → Implements p s r t → position_of n t ≤ position_of n s
+  met_below (Continues l new m) r t h e = subst (λ (c : Core). position_of n c ≤ position_of n s) (sym e.1) h.0.below
   met_below (Stops l new) r t h e = subst (λ (c : Core). position_of n c ≤ position_of n s) (sym e.1) h.below
   met_below (Traps why) r t h e = let p = ap (λ (c : Core). position_of n c) e.1 in grind (arith, p)
   met_below (Fails i) r t h e = let p = ap (λ (c : Core). position_of n c) e.1 in grind (arith, p)
@@ -54,8 +54,8 @@ module _ (A : Type 0) (k : AnswerKind) (n : ℕ) (s : Core) where
   met_below (Ordered ns next) r t h e = met_below (next e.0) r t (h e.0) e.1.1
   met_below (Asks next) r t h e = met_below (next e.0) r t (h e.0) e.1
 
-  met_said : (p : Progress) (r : Came) (t : Core) → LeavesPlace A k n s p → Meets p s r t → answers_so k r ≡ true
-  met_said (Goes l new m) r t h e = ap (answers_so k) e.0 ∙ h.1
+  met_said : (p : Progress) (r : OpResult) (t : Core) → LeavesPlace A k n s p → Implements p s r t → answers_so k r ≡ true
+  met_said (Continues l new m) r t h e = ap (answers_so k) e.0 ∙ h.1
   met_said (Stops l new) r t h e = ap (answers_so k) e.0
   met_said (Traps why) r t h e = ap (answers_so k) e.0
   met_said (Fails i) r t h e = ap (answers_so k) e.0
@@ -63,44 +63,44 @@ module _ (A : Type 0) (k : AnswerKind) (n : ℕ) (s : Core) where
   met_said (Ordered ns next) r t h e = met_said (next e.0) r t (h e.0) e.1.1
   met_said (Asks next) r t h e = met_said (next e.0) r t (h e.0) e.1
 
-ended_place : (n : ℕ) (r : Came) (t : Core) → in_script n (ended SomeHost n r t) ≡ in_script n t
-ended_place n (came.Goes l m op_answer.Nothing) t = at_done n t
-ended_place n (came.Goes l m (op_answer.Number v)) t = at_done n t
-ended_place n (came.Goes l m (op_answer.Value v)) t = at_done n t
-ended_place n (came.Goes l m (op_answer.Event g)) t = at_done n t
-ended_place n (came.Goes l m (op_answer.Entered k)) t = refl
-ended_place n (came.Goes l m op_answer.NoneDue) t = refl
-ended_place n (came.Stops l) t = refl
-ended_place n (came.Traps why) t = refl
-ended_place n (came.Fails i) t = refl
+ended_place : (n : ℕ) (r : OpResult) (t : Core) → in_script n (ended SomeHost n r t) ≡ in_script n t
+ended_place n (op_result.Continues l m op_answer.Nothing) t = at_done n t
+ended_place n (op_result.Continues l m (op_answer.Number v)) t = at_done n t
+ended_place n (op_result.Continues l m (op_answer.Value v)) t = at_done n t
+ended_place n (op_result.Continues l m (op_answer.Event g)) t = at_done n t
+ended_place n (op_result.Continues l m (op_answer.Entered k)) t = refl
+ended_place n (op_result.Continues l m op_answer.NoneDue) t = refl
+ended_place n (op_result.Stops l) t = refl
+ended_place n (op_result.Traps why) t = refl
+ended_place n (op_result.Fails i) t = refl
 
 -- what isn't due any op may answer
-undue_said : (k : AnswerKind) (r : Came) → ends_op r ≡ false → answers_so k r ≡ true
-undue_said k (came.Goes l m op_answer.Nothing) e = absurd (cc)
-undue_said k (came.Goes l m (op_answer.Number v)) e = absurd (cc)
-undue_said k (came.Goes l m (op_answer.Value v)) e = absurd (cc)
-undue_said k (came.Goes l m (op_answer.Event g)) e = absurd (cc)
-undue_said k (came.Goes l m (op_answer.Entered j)) e = refl
-undue_said k (came.Goes l m op_answer.NoneDue) e = refl
-undue_said k (came.Stops l) e = refl
-undue_said k (came.Traps why) e = refl
-undue_said k (came.Fails i) e = refl
+undue_said : (k : AnswerKind) (r : OpResult) → ends_op r ≡ false → answers_so k r ≡ true
+undue_said k (op_result.Continues l m op_answer.Nothing) e = absurd (cc)
+undue_said k (op_result.Continues l m (op_answer.Number v)) e = absurd (cc)
+undue_said k (op_result.Continues l m (op_answer.Value v)) e = absurd (cc)
+undue_said k (op_result.Continues l m (op_answer.Event g)) e = absurd (cc)
+undue_said k (op_result.Continues l m (op_answer.Entered j)) e = refl
+undue_said k (op_result.Continues l m op_answer.NoneDue) e = refl
+undue_said k (op_result.Stops l) e = refl
+undue_said k (op_result.Traps why) e = refl
+undue_said k (op_result.Fails i) e = refl
 
 -- ---- An op that ends its thread or its activation answers nothing
 
 module _ (n : ℕ) (w : Option ℕ) (s : Core) where
-  kinds : (x : ExportKind) → IsUnanswered (kind_exit_row n w s x)
-  kinds kind.Sync = stops_unanswered (kind_exit_row n w s kind.Sync) (sync_exit_stops n w s)
-  kinds kind.Blocking = stops_unanswered (kind_exit_row n w s kind.Blocking) (blocking_exit_stops n w s)
-  kinds kind.Stackful = stops_unanswered (kind_exit_row n w s kind.Stackful) (thread_exit_stops n w s)
-  kinds kind.Callback = stops_unanswered (kind_exit_row n w s kind.Callback) (code_stops (exit_label n None) refl n s 0)
+  kinds : (x : ExportKind) → IsUnanswered (kind_exit_rule n w s x)
+  kinds kind.Sync = stops_unanswered (kind_exit_rule n w s kind.Sync) (sync_exit_stops n w s)
+  kinds kind.Blocking = stops_unanswered (kind_exit_rule n w s kind.Blocking) (blocking_exit_stops n w s)
+  kinds kind.Stackful = stops_unanswered (kind_exit_rule n w s kind.Stackful) (thread_exit_stops n w s)
+  kinds kind.Callback = stops_unanswered (kind_exit_rule n w s kind.Callback) (code_stops (exit_label n None) refl n s 0)
 
-  implicits : (b : Bool) → IsUnanswered (implicit_exit_row n w s b)
+  implicits : (b : Bool) → IsUnanswered (implicit_exit_rule n w s b)
   implicits true = direct_unanswered n (kind_of (task_of n s) s) s (under_of n s)
   implicits false = kinds (kind_of (task_of n s) s)
 
-  pub exit_unanswered : (b : Bool) → IsUnanswered (exit_row_for n w s b)
-  exit_unanswered true = stops_unanswered (exit_row_for n w s true) (thread_exit_stops n w s)
+  pub exit_unanswered : (b : Bool) → IsUnanswered (exit_rule_for n w s b)
+  exit_unanswered true = stops_unanswered (exit_rule_for n w s true) (thread_exit_stops n w s)
   exit_unanswered false = implicits (is_direct (goal_of (task_of n s) s))
 
 tasks : (d : Doer) (n : ℕ) (s : Core) (ch : Choice) (o : TaskOp) → is_finished (op.Task o) ≡ false → IsUnanswered (task_rule d n s ch o)
@@ -123,7 +123,7 @@ unfinished d c n s ch (op.Thread o) e f = absurd (cc)
 
 -- ---- An op of the running thread
 
-module _ (AreKept : StateView → StateView → Type 0) (c : Component) (o : Op) (id : TableId ThreadKey) (s t : StateView) (r : Came) (other : is_data_op o ≡ false) (did : DoesOp AreKept (rule_of c o) id s r t) (due : ends_op r ≡ true) where
+module _ (AreKept : StateView → StateView → Type 0) (c : Component) (o : Op) (id : TableId ThreadKey) (s t : StateView) (r : OpResult) (other : is_data_op o ≡ false) (did : DoesOp AreKept (rule_of c o) id s r t) (due : ends_op r ≡ true) where
   abbrev number : ℕ
   number = thread_of s id
 
@@ -154,7 +154,7 @@ module _ (AreKept : StateView → StateView → Type 0) (c : Component) (o : Op)
   said_due = met_said (KeepsPlace number s.core o) (answers_of o) number s.core _ r (ended SomeHost number r t.core) leaves (did.meets SomeHost)
 
 -- it answers what such an op may answer
-pub answers_right : (AreKept : StateView → StateView → Type 0) (c : Component) (o : Op) (id : TableId ThreadKey) (s t : StateView) (r : Came) → is_data_op o ≡ false → DoesOp AreKept (rule_of c o) id s r t → answers_so (answers_of o) r ≡ true
+pub answers_right : (AreKept : StateView → StateView → Type 0) (c : Component) (o : Op) (id : TableId ThreadKey) (s t : StateView) (r : OpResult) → is_data_op o ≡ false → DoesOp AreKept (rule_of c o) id s r t → answers_so (answers_of o) r ≡ true
 answers_right AreKept c o id s t r other did = by (ends_op r) refl
   where
     by : (b : Bool) → ends_op r ≡ b → answers_so (answers_of o) r ≡ true
@@ -162,8 +162,8 @@ answers_right AreKept c o id s t r other did = by (ends_op r) refl
     by false none = undue_said (answers_of o) r none
 
 -- the register of an op that receives an event has two after it
-pub event_fits : (c : Component) (o : Op) (r : Came) → op_fits c o ≡ true → answers_so (answers_of o) r ≡ true → gives_event r ≡ true → answer_register o ≤ 13
-event_fits c o (came.Goes l m (op_answer.Event g)) fits said e = by o fits said
+pub event_fits : (c : Component) (o : Op) (r : OpResult) → op_fits c o ≡ true → answers_so (answers_of o) r ≡ true → gives_event r ≡ true → answer_register o ≤ 13
+event_fits c o (op_result.Continues l m (op_answer.Event g)) fits said e = by o fits said
   where
     by : (o : Op) → op_fits c o ≡ true → may_answer (answers_of o) (op_answer.Event g) ≡ true → answer_register o ≤ 13
     by (op.Set (set_op.Wait r x)) fits said = grind (arith, nat_tests, fits)
@@ -189,11 +189,11 @@ event_fits c o (came.Goes l m (op_answer.Event g)) fits said e = by o fits said
     by (op.Thread (thread_op.YieldThenResume x)) fits said = absurd (cc)
     by (op.Thread (thread_op.SuspendThenPromote x)) fits said = absurd (cc)
     by (op.Thread (thread_op.YieldThenPromote x)) fits said = absurd (cc)
-event_fits c o (came.Goes l m op_answer.Nothing) fits said e = absurd (cc)
-event_fits c o (came.Goes l m (op_answer.Number v)) fits said e = absurd (cc)
-event_fits c o (came.Goes l m (op_answer.Value v)) fits said e = absurd (cc)
-event_fits c o (came.Goes l m (op_answer.Entered k)) fits said e = absurd (cc)
-event_fits c o (came.Goes l m op_answer.NoneDue) fits said e = absurd (cc)
-event_fits c o (came.Stops l) fits said e = absurd (cc)
-event_fits c o (came.Traps why) fits said e = absurd (cc)
-event_fits c o (came.Fails i) fits said e = absurd (cc)
+event_fits c o (op_result.Continues l m op_answer.Nothing) fits said e = absurd (cc)
+event_fits c o (op_result.Continues l m (op_answer.Number v)) fits said e = absurd (cc)
+event_fits c o (op_result.Continues l m (op_answer.Value v)) fits said e = absurd (cc)
+event_fits c o (op_result.Continues l m (op_answer.Entered k)) fits said e = absurd (cc)
+event_fits c o (op_result.Continues l m op_answer.NoneDue) fits said e = absurd (cc)
+event_fits c o (op_result.Stops l) fits said e = absurd (cc)
+event_fits c o (op_result.Traps why) fits said e = absurd (cc)
+event_fits c o (op_result.Fails i) fits said e = absurd (cc)

@@ -10,11 +10,11 @@ use Rattle.task_machine.specs.declared.component.Callee.{Callee}
 use Rattle.task_machine.specs.declared.component.Component.{Component}
 use Rattle.task_machine.specs.declared.component.ExportDef.{ExportDef}
 use Rattle.task_machine.specs.declared.component.InstanceDef.{InstanceDef}
-use Rattle.task_ops.specs.Came.{Meets}
+use Rattle.task_ops.specs.OpResult.{Implements}
 use Rattle.task_ops.specs.Stays.{StaysAfter}
-use Rattle.task_ops.specs.declared.came.Came.{Came}
+use Rattle.task_ops.specs.declared.op_result.OpResult.{OpResult}
 use Rattle.task_rules.specs.MainOps.{takes_words}
-use Rattle.task_rules.specs.Progress.{Asks, Fails, Goes, Never, Ordered, Progress, Stops, Traps}
+use Rattle.task_rules.specs.Progress.{Asks, Fails, Continues, Never, Ordered, Progress, Stops, Traps}
 use Rattle.task_words.specs.StateView.{StateView}
 
 same_view : (s t : StateView) → t.core ≡ s.core → t.tags ≡ s.tags → t.current ≡ s.current → t ≡ s
@@ -24,11 +24,11 @@ same_view s t core tags current =
     ∙ ap (λ d. let v : StateView = record { core = s.core; tags = s.tags; current = d } in v) current)
 
 -- an op that changes no name, and not who is current
-pub same_stays : (p : Progress) (s t : StateView) (r : Came) → Meets p s.core r t.core → t.tags ≡ s.tags → t.current ≡ s.current → StaysAfter r s t
-same_stays (Goes l new m) s t r h tags current = subst (λ (q : Came). StaysAfter q s t) (sym h.0) tt
-same_stays (Stops l new) s t r h tags current = subst (λ (q : Came). StaysAfter q s t) (sym h.0) tt
-same_stays (Traps why) s t r h tags current = subst (λ (q : Came). StaysAfter q s t) (sym h.0) (same_view s t h.1 tags current)
-same_stays (Fails i) s t r h tags current = subst (λ (q : Came). StaysAfter q s t) (sym h.0) (same_view s t h.1 tags current)
+pub same_stays : (p : Progress) (s t : StateView) (r : OpResult) → Implements p s.core r t.core → t.tags ≡ s.tags → t.current ≡ s.current → StaysAfter r s t
+same_stays (Continues l new m) s t r h tags current = subst (λ (q : OpResult). StaysAfter q s t) (sym h.0) tt
+same_stays (Stops l new) s t r h tags current = subst (λ (q : OpResult). StaysAfter q s t) (sym h.0) tt
+same_stays (Traps why) s t r h tags current = subst (λ (q : OpResult). StaysAfter q s t) (sym h.0) (same_view s t h.1 tags current)
+same_stays (Fails i) s t r h tags current = subst (λ (q : OpResult). StaysAfter q s t) (sym h.0) (same_view s t h.1 tags current)
 same_stays Never s t r h tags current = absurd h
 same_stays (Ordered ns next) s t r h tags current = same_stays (next h.0) s t r h.1.1 tags current
 same_stays (Asks next) s t r h tags current = same_stays (next h.0) s t r h.1 tags current

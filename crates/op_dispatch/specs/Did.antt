@@ -1,29 +1,29 @@
 -- What an op came to that the thread's script had it do, and that was ended.
 use Rattle.std.specs.Prelude.{length, ℕ, ◌<◌, ◌≡◌}
-use Rattle.op_dispatch.specs.Goes.{GoesOn}
+use Rattle.op_dispatch.specs.Continues.{OpGoesOn}
 use Rattle.op_dispatch.specs.Polls.{Polls}
 use Rattle.op_dispatch.specs.declared.done.Done.{Done}
 use Rattle.task_machine.specs.Core.{Core}
 use Rattle.task_machine.specs.Labels.{choice_of}
-use Rattle.task_machine.specs.Read.{how_far_of, position_of}
+use Rattle.task_machine.specs.Read.{op_progress_of, position_of}
 use Rattle.task_machine.specs.declared.component.Component.{Component}
 use Rattle.task_machine.specs.declared.op.Op.{Op}
 use Rattle.task_machine.specs.declared.words.HostPoll.{HostPoll}
-use Rattle.task_ops.specs.Came.{Meets}
+use Rattle.task_ops.specs.OpResult.{Implements}
 use Rattle.task_ops.specs.Stays.{StaysAfter}
 use Rattle.task_ops.specs.Steps.{label_of}
 use Rattle.task_ops.specs.Works.{NamesTold}
-use Rattle.task_ops.specs.declared.came.Came.{Came}
+use Rattle.task_ops.specs.declared.op_result.OpResult.{OpResult}
 use Rattle.task_rules.specs.Progress.{Progress}
 use Rattle.task_rules.specs.Scripts.{script_of}
-use Rattle.task_rules.specs.Step.{op_row}
+use Rattle.task_rules.specs.Step.{scripted_op_rule}
 use Rattle.task_table.specs.declared.id.TableId.{TableId}
 use Rattle.task_wait.specs.declared.keys.ThreadKey.{ThreadKey}
 use Rattle.task_words.specs.StateView.{StateView, thread_of}
 
 -- the op of the thread, as its script has it done, by what it came to
-abbrev pub row_of : Component → Op → TableId ThreadKey → StateView → Came → Progress
-row_of c o id s r = op_row c (thread_of s id) s.core (choice_of (label_of (thread_of s id) r)) o
+abbrev pub scripted_rule_of : Component → Op → TableId ThreadKey → StateView → OpResult → Progress
+scripted_rule_of c o id s r = scripted_op_rule c (thread_of s id) s.core (choice_of (label_of (thread_of s id) r)) o
 
 -- the thread is before the end of its script
 abbrev pub StandsBefore : (end : ℕ) → Component → ℕ → Core → Type 0
@@ -31,8 +31,8 @@ StandsBefore end c n s = (position_of n s < end) × (length (script_of c n s) �
 
 -- The op was done and ended: t is what its row says, a thread that goes on runs, and what polled is so.
 pub record DidOp (answer : HostPoll) (c : Component) (o : Op) (id : TableId ThreadKey) (s : StateView) (done : Done) (t : StateView) : Type 0 where
-  pub meets : Meets (row_of c o id s done.came) s.core done.came t.core
-  pub goes : GoesOn done.came t
-  pub stays : StaysAfter done.came s t
-  pub polls : Polls answer c (how_far_of (thread_of s id) s.core) o s done t
+  pub meets : Implements (scripted_rule_of c o id s done.op_result) s.core done.op_result t.core
+  pub goes : OpGoesOn done.op_result t
+  pub stays : StaysAfter done.op_result s t
+  pub polls : Polls answer c (op_progress_of (thread_of s id) s.core) o s done t
   pub works : NamesTold s t

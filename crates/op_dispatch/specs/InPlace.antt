@@ -19,14 +19,14 @@ use Rattle.task_machine.specs.declared.records.Caller.TheVariants as caller
 use Rattle.task_machine.specs.declared.records.Subtask.TheVariants as subtask
 use Rattle.task_machine.specs.declared.words.HostPoll.{HostPoll}
 use Rattle.task_ops.specs.Shown.{shown}
-use Rattle.task_ops.specs.declared.came.Came.{Came}
-use Rattle.task_ops.specs.declared.came.Came.TheVariants as came
-use Rattle.task_ops.specs.declared.came.OpAnswer.{OpAnswer}
-use Rattle.task_ops.specs.declared.came.OpAnswer.TheVariants as op_answer
+use Rattle.task_ops.specs.declared.op_result.OpResult.{OpResult}
+use Rattle.task_ops.specs.declared.op_result.OpResult.TheVariants as op_result
+use Rattle.task_ops.specs.declared.op_result.OpAnswer.{OpAnswer}
+use Rattle.task_ops.specs.declared.op_result.OpAnswer.TheVariants as op_answer
 use Rattle.task_rules.specs.Calls.{next_thread}
 use Rattle.task_rules.specs.Finish.{SomeHost}
 use Rattle.task_rules.specs.OpParts.{calls_host}
-use Rattle.task_rules.specs.Progress.{Asks, Goes, Ordered, Progress, Stops}
+use Rattle.task_rules.specs.Progress.{Asks, Continues, Ordered, Progress, Stops}
 use Rattle.task_rules.specs.Step.{op_rule}
 
 -- the thread's place in its script, and its registers; None: no thread
@@ -35,7 +35,7 @@ in_script n s = option_map (λ t. (t.position, t.registers)) (get s.threads n)
 
 -- where the thread goes on or stops, they are these
 abbrev pub IsInPlace : ℕ → Option (ℕ × List ℕ) → Progress → Type 0
-IsInPlace n x (Goes l t m) = in_script n t ≡ x
+IsInPlace n x (Continues l t m) = in_script n t ≡ x
 IsInPlace n x (Stops l t) = in_script n t ≡ x
 IsInPlace n x (Ordered ns next) = (order : List ℕ) → IsInPlace n x (next order)
 IsInPlace n x (Asks next) = (answer : HostPoll) → IsInPlace n x (next answer)
@@ -120,8 +120,8 @@ may_answer AnEvent (op_answer.Event g) = true
 may_answer k (op_answer.Event g) = false
 
 -- the same of what the op came to
-abbrev pub answers_so : AnswerKind → Came → Bool
-answers_so k (came.Goes l m said) = may_answer k said
+abbrev pub answers_so : AnswerKind → OpResult → Bool
+answers_so k (op_result.Continues l m said) = may_answer k said
 answers_so k _ = true
 
 -- A thread that a host has do the op keeps its place and its registers: it is under way, the op calls no host, whose value may go to a
@@ -138,7 +138,7 @@ pub record LeftAt (Still : Type 0) (n : ℕ) (s t : Core) : Type 0 where
 
 -- so is each core that the rule leads to, and it answers so
 abbrev pub LeavesPlace : Type 0 → AnswerKind → ℕ → Core → Progress → Type 0
-LeavesPlace A k n s (Goes l t m) = LeftAt A n s t × (may_answer k (shown l) ≡ true)
+LeavesPlace A k n s (Continues l t m) = LeftAt A n s t × (may_answer k (shown l) ≡ true)
 LeavesPlace A k n s (Stops l t) = LeftAt A n s t
 LeavesPlace A k n s (Ordered ns next) = (order : List ℕ) → LeavesPlace A k n s (next order)
 LeavesPlace A k n s (Asks next) = (answer : HostPoll) → LeavesPlace A k n s (next answer)

@@ -1,5 +1,5 @@
 pub mod Runner
-pub mod Goes
+pub mod Continues
 pub mod InPlace
 pub mod Fits
 pub mod Polls

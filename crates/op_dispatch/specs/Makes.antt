@@ -5,8 +5,8 @@ use Rattle.task_machine.specs.declared.op.Op.{Op}
 use Rattle.task_machine.specs.declared.op.Op.TheVariants as op
 use Rattle.task_machine.specs.declared.op.SetOp.TheVariants as set_op
 use Rattle.task_machine.specs.declared.op.ThreadOp.TheVariants as thread_op
-use Rattle.task_machine.specs.declared.records.HowFar.{HowFar}
-use Rattle.task_machine.specs.declared.records.HowFar.TheVariants as how_far
+use Rattle.task_machine.specs.declared.records.OpProgress.{OpProgress}
+use Rattle.task_machine.specs.declared.records.OpProgress.TheVariants as op_progress
 use Rattle.task_machine.specs.declared.records.Subtask.TheVariants as subtask
 
 -- The calls, `set_new` and `thread_new` may take memory. No other op does, and so none answers that memory is wanting.
@@ -20,9 +20,9 @@ takes_memory (op.Thread (thread_op.New r x v)) = true
 takes_memory _ = false
 
 -- They make a thread, a work or a set, which gets a new number. A call makes nothing more once it is inside of what it made, or answered.
-abbrev pub makes : HowFar → Op → Bool
-makes (how_far.Calls (subtask.Guest k)) (op.Call (call_op.Call r q e xs)) = false
-makes (how_far.Calls (subtask.Guest k)) (op.Call (call_op.CallSync r e xs)) = false
-makes (how_far.Calls (subtask.Host i)) (op.Call (call_op.CallSyncHost r h)) = false
-makes (how_far.Answered v) (op.Call (call_op.CallSync r e xs)) = false
+abbrev pub makes : OpProgress → Op → Bool
+makes (op_progress.Calls (subtask.Guest k)) (op.Call (call_op.Call r q e xs)) = false
+makes (op_progress.Calls (subtask.Guest k)) (op.Call (call_op.CallSync r e xs)) = false
+makes (op_progress.Calls (subtask.Host i)) (op.Call (call_op.CallSyncHost r h)) = false
+makes (op_progress.Answered v) (op.Call (call_op.CallSync r e xs)) = false
 makes h o = takes_memory o

@@ -1,13 +1,13 @@
 ghost use Rattle.std.specs.Prelude.{◌≡◌, None};
 
 use task_machine::HostDef;
-use task_ops::Came;
+use task_ops::OpResult;
 use task_words::WorkId;
 
 /// What an op of the running thread came to.
 #[derive(Clone, Copy)]
 pub struct Done {
-    pub came: Came,
+    pub op_result: OpResult,
     /// The host that was polled first in it.
     pub polled: Option<HostDef>,
     /// The work that was made.
@@ -15,11 +15,11 @@ pub struct Done {
 }
 
 /// An op that polled no host.
-pub(crate) fn plain(came: Came) -> Done
-    ensures { result ≡ record { came = came; polled = None; work = None } }
+pub(crate) fn plain(op_result: OpResult) -> Done
+    ensures { result ≡ record { op_result = op_result; polled = None; work = None } }
 {
     Done {
-        came,
+        op_result,
         polled: None,
         work: None,
     }

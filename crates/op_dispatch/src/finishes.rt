@@ -10,8 +10,8 @@ ghost use Rattle.task_rules.specs.Threads.{thread_answer};
 ghost use Rattle.task_words.specs.StateView.{on_core, thread_of};
 
 use task_machine::{CallOp, Given, Op, SetOp, ThreadOp};
-use task_ops::{Came, OpAnswer};
-use task_words::{ThreadId, Words};
+use task_ops::{OpResult, OpAnswer};
+use task_words::{ThreadId, Primitives};
 
 fn words_of(given: Given) -> (u64, u64, u64)
     ensures code { result.0 ≡ given_code given }
@@ -27,7 +27,7 @@ fn words_of(given: Given) -> (u64, u64, u64)
 
 // Code, handle and result go to the register and the two after it.
 #[tactic(auto, unfolding(task_rules::specs::Sets::set_given))]
-fn write_given<W: Words>(w: &mut W, thread: ThreadId, to: u8, given: Given)
+fn write_given<W: Primitives>(w: &mut W, thread: ThreadId, to: u8, given: Given)
     requires { to ≤ 13 }
     ensures { W.view w.new ≡ on_core (set_given (thread_of (W.view w.old) thread) to given) (W.view w.old) }
 {
@@ -94,13 +94,13 @@ fn answer_register(op: &Op) -> u8
 
 /// Ends the op of the thread's script that came to this, if an answer is due: it goes to the op's register, and the thread to the next op.
 #[inline(always)]
-pub fn finish<W: Words>(w: &mut W, thread: ThreadId, op: &Op, came: Came)
-    requires position { ends_op came ≡ true → position_of (thread_of (W.view w.old) thread) (W.view w.old).core + 1 < 2 ^ 32 }
-    requires answers { answers_so (answers_of op.now) came ≡ true }
-    requires register { gives_event came ≡ true → answer_register op.now ≤ 13 }
-    ensures { W.view w.new ≡ on_core (ended (own_script op.now) (thread_of (W.view w.old) thread) came) (W.view w.old) }
+pub fn finish<W: Primitives>(w: &mut W, thread: ThreadId, op: &Op, op_result: OpResult)
+    requires position { ends_op op_result ≡ true → position_of (thread_of (W.view w.old) thread) (W.view w.old).core + 1 < 2 ^ 32 }
+    requires answers { answers_so (answers_of op.now) op_result ≡ true }
+    requires register { gives_event op_result ≡ true → answer_register op.now ≤ 13 }
+    ensures { W.view w.new ≡ on_core (ended (own_script op.now) (thread_of (W.view w.old) thread) op_result) (W.view w.old) }
 {
-    let Came::Goes(_, _, answer) = came else {
+    let OpResult::Continues(_, _, answer) = op_result else {
         return;
     };
     let value = match answer {

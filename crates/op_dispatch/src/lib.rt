@@ -1,19 +1,19 @@
 //! The op of the running thread over the words of a core: its row is done, whatever op it is.
 #![tactic(auto)]
 
-mod calls;
+mod call_dispatch;
 mod done;
-mod exits;
+mod exit_dispatch;
 mod finishes;
 mod ops;
 mod scripts;
-mod sets;
-mod tasks;
-mod threads;
+mod set_dispatch;
+mod task_dispatch;
+mod thread_dispatch;
 
-pub use calls::{called_host, do_host_call, is_host_call};
+pub use call_dispatch::{called_host, do_host_call, is_host_call};
 pub use done::Done;
-pub use exits::exit;
+pub use exit_dispatch::exit;
 pub use finishes::finish;
 pub use ops::{do_op, do_other_op, do_plain_op};
 pub use scripts::{export_def, op_at, script_ops};

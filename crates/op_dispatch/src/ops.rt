@@ -1,43 +1,43 @@
 //! An op of the running thread, by its group.
 ghost use Rattle.op_dispatch.specs.Did.{DidOp, StandsBefore};
 ghost use Rattle.op_dispatch.specs.Fits.{HasInstances, is_data_op, is_plain, op_fits};
-ghost use Rattle.op_dispatch.specs.Goes.{DoesOp, given};
+ghost use Rattle.op_dispatch.specs.Continues.{DoesOp, given};
 ghost use Rattle.op_dispatch.specs.Makes.{makes, takes_memory};
 ghost use Rattle.op_dispatch.specs.Polls.{DoesPolled};
 ghost use Rattle.op_dispatch.specs.Rules.{rule_of};
 ghost use Rattle.op_dispatch.specs.Runner.{Runner};
 ghost use Rattle.std.specs.Prelude.{◌≡◌, ◌<◌, ◌^◌, IfOk, OnErr, false, is_some, true};
 ghost use Rattle.task_machine.specs.Maps.{get};
-ghost use Rattle.task_machine.specs.Read.{how_far_of, instance_of};
+ghost use Rattle.task_machine.specs.Read.{op_progress_of, instance_of};
 ghost use Rattle.task_ops.specs.Works.{NamesTold};
 ghost use Rattle.task_words.specs.StateView.{thread_of};
 
-use crate::calls::{do_host_call, do_plain_call, is_host_call};
+use crate::call_dispatch::{do_host_call, do_plain_call, is_host_call};
 use crate::done::{Done, plain};
 use crate::finishes::finish;
-use crate::sets::do_set_op;
-use crate::tasks::do_task_op;
-use crate::threads::do_thread_op;
+use crate::set_dispatch::do_set_op;
+use crate::task_dispatch::do_task_op;
+use crate::thread_dispatch::do_thread_op;
 use task_machine::{Component, HostPoll, NoMemory, Op};
-use task_ops::{Came, compute};
-use task_words::{ThreadId, Words};
+use task_ops::{OpResult, compute};
+use task_words::{ThreadId, Primitives};
 
 /// An op that isn't on registers and words, and calls no host, is done by the running thread, whether or not it is the one at its place
 /// and whoever has it done: whoever that is ends it with what it answers. Where memory is wanting, all is as before.
 #[inline(always)]
-pub fn do_plain_op<W: Words>(
+pub fn do_plain_op<W: Primitives>(
     component: &Component,
     w: &mut W,
     thread: ThreadId,
     op: &Op,
-) -> Result<Came, NoMemory>
+) -> Result<OpResult, NoMemory>
     requires runner { Runner thread (W.view w.old) }
     requires plain { is_plain op.now ≡ true }
     requires fits { op_fits component.now op.now ≡ true }
     requires instances { HasInstances component.now (W.view w.old).core }
     requires handles { is_some (get (W.view w.old).core.handles (instance_of (thread_of (W.view w.old) thread) (W.view w.old).core)) ≡ true }
-    requires few { makes (how_far_of (thread_of (W.view w.old) thread) (W.view w.old).core) op.now ≡ true → given (W.view w.old).core < 2 ^ 61 }
-    ensures does { IfOk result (λ came. DoesOp NamesTold (rule_of component.now op.now) thread (W.view w.old) came (W.view w.new)) }
+    requires few { makes (op_progress_of (thread_of (W.view w.old) thread) (W.view w.old).core) op.now ≡ true → given (W.view w.old).core < 2 ^ 61 }
+    ensures does { IfOk result (λ op_result. DoesOp NamesTold (rule_of component.now op.now) thread (W.view w.old) op_result (W.view w.new)) }
     ensures err { OnErr result ((takes_memory op.now ≡ true) × (W.view w.new ≡ W.view w.old)) }
 {
     match op {
@@ -52,7 +52,7 @@ pub fn do_plain_op<W: Words>(
 /// An op that isn't on registers and words is done by the running thread, whether or not it is the one at its place and whoever has it
 /// done: whoever that is ends it with what it answers. An open host that it polls first has answered so. Where memory is wanting, all is
 /// as before.
-pub fn do_other_op<W: Words>(
+pub fn do_other_op<W: Primitives>(
     component: &Component,
     w: &mut W,
     thread: ThreadId,
@@ -64,22 +64,22 @@ pub fn do_other_op<W: Words>(
     requires fits { op_fits component.now op.now ≡ true }
     requires instances { HasInstances component.now (W.view w.old).core }
     requires handles { is_some (get (W.view w.old).core.handles (instance_of (thread_of (W.view w.old) thread) (W.view w.old).core)) ≡ true }
-    requires few { makes (how_far_of (thread_of (W.view w.old) thread) (W.view w.old).core) op.now ≡ true → given (W.view w.old).core < 2 ^ 61 }
+    requires few { makes (op_progress_of (thread_of (W.view w.old) thread) (W.view w.old).core) op.now ≡ true → given (W.view w.old).core < 2 ^ 61 }
     ensures does { IfOk result (λ done. DoesPolled answer component.now op.now thread (W.view w.old) done (W.view w.new)) }
     ensures err { OnErr result ((takes_memory op.now ≡ true) × (W.view w.new ≡ W.view w.old)) }
 {
     match op {
         Op::Call(call) if is_host_call(call) => do_host_call(component, w, thread, call, answer),
         _ => {
-            let came = do_plain_op(component, w, thread, op)?;
-            Ok(plain(came))
+            let op_result = do_plain_op(component, w, thread, op)?;
+            Ok(plain(op_result))
         }
     }
 }
 
 /// The op of the thread's script, which ends at `end`, is done and ended. An open host that it polls first has answered so. Where memory
 /// is wanting, all is as before.
-pub fn do_op<W: Words>(
+pub fn do_op<W: Primitives>(
     component: &Component,
     w: &mut W,
     thread: ThreadId,
@@ -92,18 +92,18 @@ pub fn do_op<W: Words>(
     requires instances { HasInstances component.now (W.view w.old).core }
     requires within { StandsBefore end component.now (thread_of (W.view w.old) thread) (W.view w.old).core }
     requires handles { is_some (get (W.view w.old).core.handles (instance_of (thread_of (W.view w.old) thread) (W.view w.old).core)) ≡ true }
-    requires few { makes (how_far_of (thread_of (W.view w.old) thread) (W.view w.old).core) op.now ≡ true → given (W.view w.old).core < 2 ^ 61 }
+    requires few { makes (op_progress_of (thread_of (W.view w.old) thread) (W.view w.old).core) op.now ≡ true → given (W.view w.old).core < 2 ^ 61 }
     ensures did { IfOk result (λ done. DidOp answer component.now op.now thread (W.view w.old) done (W.view w.new)) }
     ensures err { OnErr result ((takes_memory op.now ≡ true) × (W.view w.new ≡ W.view w.old)) }
 {
     if let Op::Data(op) = op {
         return Ok(Done {
-            came: compute(w, thread, *op, end),
+            op_result: compute(w, thread, *op, end),
             polled: None,
             work: None,
         });
     }
     let done = do_other_op(component, w, thread, op, answer)?;
-    finish(w, thread, op, done.came);
+    finish(w, thread, op, done.op_result);
     Ok(done)
 }

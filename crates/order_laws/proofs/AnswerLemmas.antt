@@ -1,5 +1,5 @@
 -- A step in which main answers.
-use Rattle.order_laws.specs.Answers.{AnswersLoseNone, NoneLost}
+use Rattle.order_laws.specs.MainAnswers.{AnswersLoseNone, NoneLost}
 use Rattle.label_laws.proofs.TurnLemmas.{main_at_its_turns}
 use Rattle.label_laws.specs.Own.{is_main_turn}
 use Rattle.std.proofs.Common.{ap, refl, subst, sym}
@@ -14,7 +14,7 @@ use Rattle.task_machine.specs.declared.records.Turn.{Turn}
 use Rattle.task_machine.specs.declared.records.Turn.TheVariants as turn
 use Rattle.task_machine.specs.declared.scenario.MainOpDef.{MainOpDef}
 use Rattle.task_rules.proofs.LawLemmas.{step_ends}
-use Rattle.task_rules.specs.MainOps.{Answers, Does, MainProgress, Pends, act_of, line_of, main_row, op_at}
+use Rattle.task_rules.specs.MainOps.{Answers, Does, MainProgress, Pends, act_of, line_of, main_rule, op_at}
 use Rattle.task_rules.specs.Stalled.{Setting}
 use Rattle.task_rules.specs.Step.{MainProgresses, MainStep, OpenProgresses, ScriptStep, Step, TurnStep}
 use Rattle.task_rules.specs.Turns.{at_turn}
@@ -29,7 +29,7 @@ script_kept s p o (Answers v) l t is over = ap (λ (u : State). u.core) is.1
 line_kept : (x : Setting) (s : State) (p : MainPlace) (o : Option MainOpDef) (l : Label) (t : State) → ScriptStep x s p o l t → t.turn ≡ turn.Over → t.core ≡ s.core
 unfolding at_turn
 line_kept x s p None l t is over = ap (λ (u : State). u.core) is.1
-line_kept x s p (Some o) l t is over = script_kept s p o (main_row x.component (line_of p o) s.core (act_of p o)) l t is over
+line_kept x s p (Some o) l t is over = script_kept s p o (main_rule x.component (line_of p o) s.core (act_of p o)) l t is over
 
 open_kept : (s : State) (a : MainProgress) (l : Label) (t : State) → OpenProgresses s a l t → t.turn ≡ turn.Over → t.core ≡ s.core
 unfolding at_turn
@@ -39,7 +39,7 @@ open_kept s (Answers v) l t is over = ap (λ (u : State). u.core) is.1
 
 main_kept : (x : Setting) (s : State) (m : Main) (v : ℕ) (t : State) → MainStep x s m (label.Main (main_label.Answer v)) t → t.turn ≡ turn.Over → t.core ≡ s.core
 main_kept x s (Scripted p) v t is over = line_kept x s p (op_at x.script p) (label.Main (main_label.Answer v)) t is over
-main_kept x s Unscripted v t is over = open_kept s (main_row x.component is.0 s.core is.1.0) (label.Main (main_label.Answer v)) t is.1.1.1 over
+main_kept x s Unscripted v t is over = open_kept s (main_rule x.component is.0 s.core is.1.0) (label.Main (main_label.Answer v)) t is.1.1.1 over
 
 core_kept : (x : Setting) (s : State) (u : Turn) (v : ℕ) (t : State) → is_main_turn u ≡ true → TurnStep x s u (label.Main (main_label.Answer v)) t → t.turn ≡ turn.Over → t.core ≡ s.core
 core_kept x s turn.Main v t main is over = main_kept x s s.main v t is over

@@ -2,22 +2,22 @@
 use Rattle.order_laws.proofs.StayLemmas.{PlacesFit, places_in_order}
 use Rattle.order_laws.proofs.QuietLemmas.{put_others, put_place}
 use Rattle.order_laws.proofs.PieceLemmas.{placing_counted}
-use Rattle.order_laws.specs.Kept.{BackInOrder, put_back}
-use Rattle.order_laws.specs.Pieces.{Orderly, SameInstances, state_in}
+use Rattle.order_laws.specs.KeptOrder.{BackInOrder, put_back}
+use Rattle.order_laws.specs.Pieces.{InOrderForAnyMain, SameInstances, state_in}
 use Rattle.std.proofs.Common.{ap, arith, inl, inr, refl, subst, sym, ⊎_elim, ◌∙◌}
 use Rattle.std.proofs.lemmas.Bool.Decides.{nat_tests}
 use Rattle.std.specs.Option.{option_map_or}
 use Rattle.std.specs.Prelude.{Bool, List, None, Option, Some, [], false, if◌then◌else◌, is_some, option_and_then, suc, true, zero, ℕ, ◌+◌, ◌++◌, ◌==◌, ◌∷◌, ◌≡◌, ◌⊎◌}
 use Rattle.task_laws.proofs.WakeCounts.{woken_place}
 use Rattle.task_laws.specs.Order.{Awake, InOrder, is_delivered, is_open, set_of_place, stands}
-use Rattle.task_laws.specs.Wakes.{goes_on_at, goes_on_within}
+use Rattle.task_laws.specs.WakeLaw.{goes_on_at, goes_on_within}
 use Rattle.task_machine.specs.Core.{Core, Unscripted}
 use Rattle.task_machine.specs.Moves.{put_high, put_low}
-use Rattle.task_machine.specs.Read.{callers_of, event_of, how_far_of, is_waiting_on, place_of, undelivered_end}
+use Rattle.task_machine.specs.Read.{callers_of, event_of, op_progress_of, is_waiting_on, place_of, undelivered_end}
 use Rattle.task_machine.specs.Write.{on_thread, push_high, push_low, set_place}
 use Rattle.task_machine.specs.declared.component.Component.{Component}
 use Rattle.task_machine.specs.declared.records.Entry.{Entry}
-use Rattle.task_machine.specs.declared.records.HowFar.{HowFar}
+use Rattle.task_machine.specs.declared.records.OpProgress.{OpProgress}
 use Rattle.task_machine.specs.declared.records.Place.{Place}
 use Rattle.task_machine.specs.declared.records.Subtask.{Subtask}
 use Rattle.task_machine.specs.declared.records.Turn.{Turn}
@@ -42,7 +42,7 @@ abbrev is_queued_place : Place → Bool
 is_queued_place (Place.Ready m w) = true
 is_queued_place p = false
 
-queued_inside : (q : Place) (far : HowFar) → is_queued_place q ≡ true → is_inside q far ≡ true
+queued_inside : (q : Place) (far : OpProgress) → is_queued_place q ≡ true → is_inside q far ≡ true
 queued_inside (Place.Ready m w) far is = refl
 queued_inside q far is = absurd (grind (arith, is))
 
@@ -115,7 +115,7 @@ stands_held test Mark.High n s none = (grind (arith, none), refl)
 stands_held test Mark.Low n s none = (refl, grind (arith, none))
 
 module _ (c : Component) (p : Turn) (going : is_open p ≡ true) (m d : Mark) (n : ℕ) (w : Why) (s : Core) (at : place_of n s ≡ Some (Place.Ready d w))
-    (low : m ≡ Mark.Switch → ⊥) (plain : is_for_start w ≡ false) (free : d ≡ Mark.Switch → s.queues.switch ≡ None) (h : Orderly c p (held n d s)) where
+    (low : m ≡ Mark.Switch → ⊥) (plain : is_for_start w ≡ false) (free : d ≡ Mark.Switch → s.queues.switch ≡ None) (h : InOrderForAnyMain c p (held n d s)) where
   abbrev u : Core
   u = held n d s
 
@@ -168,7 +168,7 @@ module _ (c : Component) (p : Turn) (going : is_open p ≡ true) (m d : Mark) (n
   stays_at : (j : ℕ) (q : Place) → is_queued_place q ≡ false → place_of j s ≡ Some q → place_of j v ≡ Some q
   stays_at j q odd on = by_number j n _ (λ is. absurd (grind (arith, at, on, odd, is))) (λ apart. others j apart ∙ on)
 
-  far : (j : ℕ) → how_far_of j v ≡ how_far_of j s
+  far : (j : ℕ) → op_progress_of j v ≡ op_progress_of j s
   far j = shifted_far (placing_shifted (Put m n w) s) j
 
   placed : Placed v
@@ -215,8 +215,8 @@ module _ (c : Component) (p : Turn) (going : is_open p ≡ true) (m d : Mark) (n
       by_queued (Place.Ready e y) = inl refl
       by_queued q = inr refl
 
-      inside : (j : ℕ) (q : Place) → place_of j v ≡ Some q → (is_queued_place q ≡ true) ⊎ (is_queued_place q ≡ false) → is_inside q (how_far_of j v) ≡ true
-      inside j q on (inl is) = queued_inside q (how_far_of j v) is
+      inside : (j : ℕ) (q : Place) → place_of j v ≡ Some q → (is_queued_place q ≡ true) ⊎ (is_queued_place q ≡ false) → is_inside q (op_progress_of j v) ≡ true
+      inside j q on (inl is) = queued_inside q (op_progress_of j v) is
       inside j q on (inr odd) = ap (is_inside q) (far j) ∙ o.inside j q (was_at j q odd on)
 
   goes_same : (k j : ℕ) → goes_on_within k v j ≡ goes_on_within k u j
@@ -253,7 +253,7 @@ module _ (c : Component) (p : Turn) (going : is_open p ≡ true) (m d : Mark) (n
         };
         counted = placing_counted u v (record { only = refl; threads = λ k. (placing_shifted (Put m n w) s).threads k })
             (λ y j on. sym (same_test (λ (q : Option Place). option_map_or (is_waiting_on y) q false) refl j) ∙ on)
-            (λ y j on. same_test (λ (q : Option Place). woken_place y q (how_far_of j s)) refl j ∙ on) a.counted;
+            (λ y j on. same_test (λ (q : Option Place). woken_place y q (op_progress_of j s)) refl j ∙ on) a.counted;
       }
     where
       gone : (k : ℕ) → place_of k s ≡ None → place_of k v ≡ None
@@ -262,8 +262,8 @@ module _ (c : Component) (p : Turn) (going : is_open p ≡ true) (m d : Mark) (n
       behind : (f : ℕ) → (place_of f s ≡ Some (Place.Ready Mark.Switch Why.Start)) × ((k : ℕ) → p ≡ Turn.Run k → ⊥) → (place_of f v ≡ Some (Place.Ready Mark.Switch Why.Start)) × ((k : ℕ) → p ≡ Turn.Run k → ⊥)
       behind f q = (by_number f n _ (λ is. absurd (let e = q.0 in grind (arith, at, e, plain, is))) (λ apart. others f apart ∙ q.0), q.1)
 
-  back_keeps : Orderly c p t × SameInstances u t
-  back_keeps = subst (λ (y : Core). Orderly c p y × SameInstances u y) (placing_shifted (Put m n w) s).only (
+  back_keeps : InOrderForAnyMain c p t × SameInstances u t
+  back_keeps = subst (λ (y : Core). InOrderForAnyMain c p y × SameInstances u y) (placing_shifted (Put m n w) s).only (
     λ k. places_in_order c (state_in k p u) (is_open p) (h k) t (λ j. (placing_shifted (Put m n w) s).threads j) p fit k (is_open p) (λ e. awake),
     record { instances = λ i. refl; handles = λ i. refl },
   )

@@ -4,7 +4,7 @@ use Rattle.order_laws.proofs.StayLemmas.{with_ops}
 use Rattle.order_laws.proofs.HostCallLemmas.{host_instances}
 use Rattle.order_laws.proofs.PieceLemmas.{setting_for}
 use Rattle.order_laws.specs.Given.{EnterKeeps, HostInstances, HostKeeps, given}
-use Rattle.order_laws.specs.Pieces.{Orderly, OrderlyAs, PrepareMakes, SameInstances, state_in}
+use Rattle.order_laws.specs.Pieces.{InOrderForAnyMain, InOrderForAnyMainAs, PrepareMakes, SameInstances, state_in}
 use Rattle.task_machine.specs.Labels.{choice_of}
 use Rattle.task_machine.specs.Read.{caller_of, is_async_lifted, registers_of, subtask_handle, thread_group}
 use Rattle.task_machine.specs.declared.component.Callee.{Callee}
@@ -15,13 +15,13 @@ use Rattle.task_machine.specs.declared.op.Operand.{Operand}
 use Rattle.task_machine.specs.declared.op.Operand.TheVariants as operand
 use Rattle.task_machine.specs.declared.records.Caller.{Caller}
 use Rattle.task_machine.specs.declared.records.Goal.{Goal}
-use Rattle.task_places.proofs.Laws.{Bool, Component, Core, ExportKind, HowFar, Label, List, Main, None, Some, State, Subtask, Turn, Unscripted, [], add_call, add_thread, ap, arith, call_made, false, get-insert, how_far_of, is_direct, nat_tests, next_thread, refl, subst, sym, true, ℕ, ◌+◌, ◌==◌, ◌∙◌, ◌∷◌, ◌≡◌, ◌≤◌}
+use Rattle.task_places.proofs.Laws.{Bool, Component, Core, ExportKind, OpProgress, Label, List, Main, None, Some, State, Subtask, Turn, Unscripted, [], add_call, add_thread, ap, arith, call_made, false, get-insert, op_progress_of, is_direct, nat_tests, next_thread, refl, subst, sym, true, ℕ, ◌+◌, ◌==◌, ◌∙◌, ◌∷◌, ◌≡◌, ◌≤◌}
 use Rattle.task_rules.proofs.WalkParts.{Born, call_born}
 use Rattle.task_rules.specs.Allowed.{IsUntouched}
-use Rattle.task_rules.specs.Calls.{call_sync_begins, call_sync_rule, enter_row}
+use Rattle.task_rules.specs.Calls.{call_sync_begins, call_sync_rule, enter_rule}
 use Rattle.task_rules.specs.Finish.{SomeHost}
 use Rattle.task_rules.specs.OpParts.{callee_of_op, can_come, is_sync_call}
-use Rattle.task_rules.specs.Progress.{Goes, Progress}
+use Rattle.task_rules.specs.Progress.{Continues, Progress}
 use Rattle.task_rules.specs.Scripts.{export_kind, ops_of, values_in}
 use Rattle.task_rules.specs.Step.{Progresses, op_rule}
 use Rattle.task_rules.specs.Turns.{at_turn}
@@ -31,7 +31,7 @@ module _ (n : ℕ) (e : Callee) (x : ExportKind) (g : Goal) (words : List ℕ) (
   abbrev new_made : Core
   new_made = call_made (Caller.Thread n) e x g (thread_group n s) words s
 
-  made_far : n ≤ s.made.threads → how_far_of n new_made ≡ how_far_of n s
+  made_far : n ≤ s.made.threads → op_progress_of n new_made ≡ op_progress_of n s
   unfolding call_made add_thread add_call
   made_far low = let apart : (n == s.made.threads + 1) ≡ false = grind (arith, nat_tests, low) in grind (arith, nat_tests, get-insert, apart)
 
@@ -71,21 +71,21 @@ numbers_are registers [] = refl
 numbers_are registers (v ∷ vs) = ap (λ (rest : List ℕ). v ∷ rest) (numbers_are registers vs)
 
 -- every sync call of an export may come as far
-sync_far : (o : Op) (e : Callee) (xs : List Operand) → callee_of_op o ≡ Some e → is_sync_call o ≡ true → (f : HowFar) → can_come (op.Call (call_op.CallSync 0 e xs)) f ≡ true → can_come o f ≡ true
-sync_far (op.Call (call_op.CallSync r d ys)) e xs callee sync HowFar.Fresh h = refl
-sync_far (op.Call (call_op.CallSync r d ys)) e xs callee sync (HowFar.Waits x) h = h
-sync_far (op.Call (call_op.CallSync r d ys)) e xs callee sync (HowFar.Calls (Subtask.Guest k)) h = h
-sync_far (op.Call (call_op.CallSync r d ys)) e xs callee sync (HowFar.Calls (Subtask.Host i)) h = h
-sync_far (op.Call (call_op.CallSync r d ys)) e xs callee sync (HowFar.Answered v) h = h
-sync_far (op.Call (call_op.CallSync r d ys)) e xs callee sync (HowFar.Cancels (Subtask.Guest k)) h = h
-sync_far (op.Call (call_op.CallSync r d ys)) e xs callee sync (HowFar.Cancels (Subtask.Host i)) h = h
-sync_far (op.Call (call_op.CallSync r d ys)) e xs callee sync (HowFar.AwaitsEnd sub) h = h
-sync_far (op.Call (call_op.CallSync r d ys)) e xs callee sync HowFar.Suspends h = h
-sync_far (op.Call (call_op.CallSync r d ys)) e xs callee sync HowFar.Yields h = h
+sync_far : (o : Op) (e : Callee) (xs : List Operand) → callee_of_op o ≡ Some e → is_sync_call o ≡ true → (f : OpProgress) → can_come (op.Call (call_op.CallSync 0 e xs)) f ≡ true → can_come o f ≡ true
+sync_far (op.Call (call_op.CallSync r d ys)) e xs callee sync OpProgress.Fresh h = refl
+sync_far (op.Call (call_op.CallSync r d ys)) e xs callee sync (OpProgress.Waits x) h = h
+sync_far (op.Call (call_op.CallSync r d ys)) e xs callee sync (OpProgress.Calls (Subtask.Guest k)) h = h
+sync_far (op.Call (call_op.CallSync r d ys)) e xs callee sync (OpProgress.Calls (Subtask.Host i)) h = h
+sync_far (op.Call (call_op.CallSync r d ys)) e xs callee sync (OpProgress.Answered v) h = h
+sync_far (op.Call (call_op.CallSync r d ys)) e xs callee sync (OpProgress.Cancels (Subtask.Guest k)) h = h
+sync_far (op.Call (call_op.CallSync r d ys)) e xs callee sync (OpProgress.Cancels (Subtask.Host i)) h = h
+sync_far (op.Call (call_op.CallSync r d ys)) e xs callee sync (OpProgress.AwaitsEnd sub) h = h
+sync_far (op.Call (call_op.CallSync r d ys)) e xs callee sync OpProgress.Suspends h = h
+sync_far (op.Call (call_op.CallSync r d ys)) e xs callee sync OpProgress.Yields h = h
 sync_far o e xs callee sync f h = absurd (grind (arith, callee, sync))
 
-module _ (c : Component) (e : Callee) (words : List ℕ) (n m : ℕ) (l : Label) (new s : Core) (plain : is_async_lifted (export_kind c e) ≡ false) (fresh : how_far_of n s ≡ HowFar.Fresh)
-    (row : enter_row n e (export_kind c e) words s ≡ Goes l new m) (h : Orderly c (Turn.Run n) s) where
+module _ (c : Component) (e : Callee) (words : List ℕ) (n m : ℕ) (l : Label) (new s : Core) (plain : is_async_lifted (export_kind c e) ≡ false) (fresh : op_progress_of n s ≡ OpProgress.Fresh)
+    (row : enter_rule n e (export_kind c e) words s ≡ Continues l new m) (h : InOrderForAnyMain c (Turn.Run n) s) where
   -- the sync call with these words
   abbrev call : Op
   call = op.Call (call_op.CallSync 0 e (numbers words))
@@ -96,16 +96,16 @@ module _ (c : Component) (e : Callee) (words : List ℕ) (n m : ℕ) (l : Label)
   abbrev after : Main → State
   after z = state_in z (Turn.Run m) new
 
-  its_rule : op_rule SomeHost c n s (choice_of l) call ≡ Goes l new m
+  its_rule : op_rule SomeHost c n s (choice_of l) call ≡ Continues l new m
   its_rule =
-      ap (λ (ws : List ℕ). call_sync_rule SomeHost c n e ws s (how_far_of n s)) (numbers_are (registers_of n s) words)
-      ∙ (ap (λ (f : HowFar). call_sync_rule SomeHost c n e words s f) fresh ∙ (ap (λ (b : Bool). call_sync_begins c n e words s b) plain ∙ row))
+      ap (λ (ws : List ℕ). call_sync_rule SomeHost c n e ws s (op_progress_of n s)) (numbers_are (registers_of n s) words)
+      ∙ (ap (λ (f : OpProgress). call_sync_rule SomeHost c n e words s f) fresh ∙ (ap (λ (b : Bool). call_sync_begins c n e words s b) plain ∙ row))
 
   does : (z : Main) → Progresses (before z) s n (op_rule SomeHost c n s (choice_of l) call) l (after z)
   unfolding at_turn
   does z = subst (λ (p : Progress). Progresses (before z) s n p l (after z)) (sym its_rule) (refl, refl)
 
-  entered : (o : Op) → callee_of_op o ≡ Some e → is_sync_call o ≡ true → OrderlyAs (given n o (ops_of c new)) c (Turn.Run m) new × SameInstances s new
+  entered : (o : Op) → callee_of_op o ≡ Some e → is_sync_call o ≡ true → InOrderForAnyMainAs (given n o (ops_of c new)) c (Turn.Run m) new × SameInstances s new
   unfolding HostKeeps HostInstances
   entered o callee sync = (
     λ z.

@@ -6,7 +6,7 @@ use Rattle.task_machine.specs.Moves.{call_settled, checked, ended, exited_if, fi
 use Rattle.task_machine.specs.Read.{call_group, may_not_suspend, thread_handle_of}
 use Rattle.task_machine.specs.declared.records.CallEnd.{CallEnd}
 use Rattle.task_places.proofs.CountedSteps.{counted_stay}
-use Rattle.task_places.proofs.Laws.{Bool, Call, Core, HowFar, None, Option, Place, Placed, Records, Some, Subtask, Thread, WakesCounted, ap, arith, by_number, false, free_thread_handle, get, get-change, get-remove, how_far_of, if◌then◌else◌, inl, instance_of, is_explicit, is_ready_member, is_some, is_waiter, is_woken_at, member_same, nat_tests, not, on_call, on_instance, on_thread, option_map_or, place_of, refl, remove_call, remove_group, remove_thread, set_end, set_exited, set_how_far, set_place, set_uninteresting, sym, task_of, true, ℕ, ◌==◌, ◌||◌, ◌∙◌, ◌≡◌}
+use Rattle.task_places.proofs.Laws.{Bool, Call, Core, OpProgress, None, Option, Place, Placed, Records, Some, Subtask, Thread, WakesCounted, ap, arith, by_number, false, free_thread_handle, get, get-change, get-remove, op_progress_of, if◌then◌else◌, inl, instance_of, is_explicit, is_ready_member, is_some, is_waiter, is_woken_at, member_same, nat_tests, not, on_call, on_instance, on_thread, option_map_or, place_of, refl, remove_call, remove_group, remove_thread, set_end, set_exited, set_op_progress, set_place, set_uninteresting, sym, task_of, true, ℕ, ◌==◌, ◌||◌, ◌∙◌, ◌≡◌}
 use Rattle.task_places.proofs.PlaceLaw.{entry_ready, listed}
 use Rattle.task_rules.proofs.PromotionLemmas.{first_has_entry}
 use Rattle.task_rules.specs.Ends.{direct_exits}
@@ -105,8 +105,8 @@ ended_fewer n e =
 
 -- From s a thread that runs outside of ops has ended as a direct callee, and the one under it goes on; u is the core once the flag is back or the
 -- check was made.
-module _ (n m v : ℕ) (s u : Core) (runs : place_of n s ≡ Some Place.Running) (fresh : how_far_of n s ≡ HowFar.Fresh) (under : place_of m s ≡ Some (Place.Under n))
-    (moved : (j : ℕ) → Moved (place_of j s) (place_of j u)) (far : (j : ℕ) → how_far_of j u ≡ how_far_of j s) (calls : u.calls ≡ s.calls) (works : u.works ≡ s.works) where
+module _ (n m v : ℕ) (s u : Core) (runs : place_of n s ≡ Some Place.Running) (fresh : op_progress_of n s ≡ OpProgress.Fresh) (under : place_of m s ≡ Some (Place.Under n))
+    (moved : (j : ℕ) → Moved (place_of j s) (place_of j u)) (far : (j : ℕ) → op_progress_of j u ≡ op_progress_of j s) (calls : u.calls ≡ s.calls) (works : u.works ≡ s.works) where
   abbrev over : Core
   over = set_end (task_of n u) CallEnd.Returned u
 
@@ -121,26 +121,26 @@ module _ (n m v : ℕ) (s u : Core) (runs : place_of n s ≡ Some Place.Running)
   gone j = ap (λ (r : Records Thread). get r j) ((ended_fewer n over).0 ∙ ap (λ (r : Records Thread). remove r n) over_fewer.0) ∙ get-remove u.threads n j
 
   waits : (y j : ℕ) → is_waiter y j last ≡ true → is_waiter y j s ≡ true
-  unfolding direct_exits set_how_far set_place on_thread
+  unfolding direct_exits set_op_progress set_place on_thread
   waits y j on = moved_waits y (place_of j s) (place_of j u) (moved j) (let at = gone j in by_number j m _
       (λ is. absurd (grind (arith, nat_tests, get-change, on, is)))
       (λ apart. grind (arith, nat_tests, get-change, at, on, apart)))
 
   ready : (y : ℕ) (sub : Subtask) → is_ready_member y sub last ≡ true → is_ready_member y sub s ≡ true
-  unfolding direct_exits set_how_far set_place on_thread
+  unfolding direct_exits set_op_progress set_place on_thread
   ready y sub on = sym (member_same y s u calls works sub) ∙ over_fewer.1 y sub ((ended_fewer n over).1 y sub (sym (member_same y (ended n over) last refl refl sub) ∙ on))
 
   stays_woken : (y j : ℕ) → is_woken_at y j s ≡ true → is_woken_at y j last ≡ true
-  unfolding direct_exits set_how_far set_place on_thread
+  unfolding direct_exits set_op_progress set_place on_thread
   stays_woken y j on = by_number j n _
       (λ is. absurd (let was = sym (woken_at y j s) ∙ on in grind (arith, was, is, runs, fresh)))
       (λ apart. by_number j m _
       (λ is. absurd (let was = sym (woken_at y j s) ∙ on in grind (arith, was, is, under)))
-      (λ other. let was = moved_woken y (how_far_of j s) (place_of j s) (place_of j u) (moved j) (sym (woken_at y j s) ∙ on) in
+      (λ other. let was = moved_woken y (op_progress_of j s) (place_of j s) (place_of j u) (moved j) (sym (woken_at y j s) ∙ on) in
       let at = gone j in
       let place : place_of j last ≡ place_of j u = grind (arith, nat_tests, get-change, at, apart, other) in
-      let same : how_far_of j last ≡ how_far_of j u = grind (arith, nat_tests, get-change, at, apart, other) in
-      woken_at y j last ∙ (ap (λ (o : Option Place). woken_place y o (how_far_of j last)) place ∙ (ap (woken_place y (place_of j u)) (same ∙ far j) ∙ was))))
+      let same : op_progress_of j last ≡ op_progress_of j u = grind (arith, nat_tests, get-change, at, apart, other) in
+      woken_at y j last ∙ (ap (λ (o : Option Place). woken_place y o (op_progress_of j last)) place ∙ (ap (woken_place y (place_of j u)) (same ∙ far j) ∙ was))))
 
   pub exit_counted : WakesCounted s → WakesCounted last
   exit_counted counted = counted_stay waits ready stays_woken counted

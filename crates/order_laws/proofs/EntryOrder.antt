@@ -3,20 +3,20 @@ use Rattle.order_laws.proofs.EventOrder.{high_back, with_hand}
 use Rattle.order_laws.proofs.StayLemmas.{IsIdle}
 use Rattle.order_laws.proofs.PieceLemmas.{displaced_moved, displaced_there, moved_waits, moved_woken, piece_keeps, placing_counted, promoted_moved}
 use Rattle.order_laws.proofs.QuietLemmas.{counted_of, idle_keeps, put_from, put_keeps, shifts_keep}
-use Rattle.order_laws.specs.Kept.{FirstInOrder, Hand, PromoteInOrder, PutInOrder, StopInOrder, SwitchInOrder, TakenIsInHand, is_idle, is_off_switch, put_back}
-use Rattle.order_laws.specs.Pieces.{KeepsOrder, Orderly, SameInstances, state_in}
+use Rattle.order_laws.specs.KeptOrder.{FirstInOrder, Hand, PromoteInOrder, PutInOrder, StopInOrder, SwitchInOrder, TakenIsInHand, is_idle, is_off_switch, put_back}
+use Rattle.order_laws.specs.Pieces.{KeepsOrder, InOrderForAnyMain, SameInstances, state_in}
 use Rattle.std.proofs.Common.{ap, arith, inr, refl, subst, sym, ◌∙◌}
 use Rattle.std.proofs.lemmas.Bool.Decides.{nat_tests}
 use Rattle.std.specs.Option.{option_map_or}
 use Rattle.std.specs.Prelude.{Bool, List, None, Option, Some, [], false, if◌then◌else◌, is_some, suc, true, zero, ℕ, ◌==◌, ◌∷◌, ◌≡◌, ◌≤◌}
 use Rattle.task_laws.proofs.WakeCounts.{woken_place}
 use Rattle.task_laws.specs.Order.{is_open}
-use Rattle.task_laws.specs.Wakes.{WakesCounted}
+use Rattle.task_laws.specs.WakeLaw.{WakesCounted}
 use Rattle.task_machine.proofs.CommuteLemmas.{get-change}
 use Rattle.task_machine.specs.Core.{Core, Queues, Unscripted}
 use Rattle.task_machine.specs.Maps.{size}
 use Rattle.task_machine.specs.Moves.{behind, behind_one, displaced, first_entry, has_entry, newest, older, passed_on, promoted, promoted_first, promoted_unless, put_high, put_low, put_switch, resumed_all, resumed_callers, stopped}
-use Rattle.task_machine.specs.Read.{callers_of, foot_from, foot_of, how_far_of, is_waiting_on, next_entry, place_of, under_of}
+use Rattle.task_machine.specs.Read.{callers_of, foot_from, foot_of, op_progress_of, is_waiting_on, next_entry, place_of, under_of}
 use Rattle.task_machine.specs.Write.{on_thread, push_high_first, push_low, set_callers, set_high, set_low, set_place, set_switch}
 use Rattle.task_machine.specs.declared.component.Component.{Component}
 use Rattle.task_machine.specs.declared.records.Entry.{Entry}
@@ -29,7 +29,7 @@ use Rattle.task_rules.proofs.PlacingLemmas.{placed, placing_shifted}
 use Rattle.task_rules.proofs.PromotionLemmas.{first_has_entry}
 use Rattle.task_rules.proofs.StandLemmas.{by_number}
 use Rattle.task_rules.specs.Allowed.{Cancels, HasEntry, MayPut, Releases, Resumes, Starts, Unblocks, Wakes}
-use Rattle.task_rules.specs.Chains.{NoWord}
+use Rattle.task_rules.specs.Chains.{NoPrimitive}
 use Rattle.task_rules.specs.Places.{HasPlace, Placed, entries, is_at_high, is_at_low, says}
 use Rattle.task_rules.specs.Takes.{popped, rest_of}
 use Rattle.task_rules.specs.Words.{Promote, Put, Stop}
@@ -133,10 +133,10 @@ promoted_keeps : (c : Component) (p : Turn) (n : ℕ) (s : Core) → is_open p �
 promoted_keeps c p n s going free has h =
     let r = ready_by n s ((h Unscripted).in_place.placed n) has in
     let moved = promoted_moved n s r.0 r.1.0 r.1.1 in
-    shifts_keep c p s (promoted n s) going (placed (Promote n) (free, has) NoWord)
+    shifts_keep c p s (promoted n s) going (placed (Promote n) (free, has) NoPrimitive)
     (placing_counted s (promoted n s) (placing_shifted (Promote n) s)
     (λ y j on. moved_waits y (place_of j s) (place_of j (promoted n s)) (moved j) on)
-    (λ y j on. moved_woken y (how_far_of j s) (place_of j s) (place_of j (promoted n s)) (moved j) on)
+    (λ y j on. moved_woken y (op_progress_of j s) (place_of j s) (place_of j (promoted n s)) (moved j) on)
     (counted_of c p s going h)) h
 
 stays : (s : Core) → SameInstances s s
@@ -146,7 +146,7 @@ pub promote_in_order : PromoteInOrder
 unfolding PromoteInOrder promoted_unless
 promote_in_order c p n m w s going at h = by s.queues.switch refl
   where
-    by : (o : Option ℕ) → s.queues.switch ≡ o → let t = if is_some o then s else promoted n s in Orderly c p t × SameInstances s t
+    by : (o : Option ℕ) → s.queues.switch ≡ o → let t = if is_some o then s else promoted n s in InOrderForAnyMain c p t × SameInstances s t
     by None is = promoted_keeps c p n s going is (entry_of n m w s ((h Unscripted).in_place.placed n) is at) h
     by (Some k) is = (h, stays s)
 
@@ -154,7 +154,7 @@ pub first_in_order : FirstInOrder
 unfolding FirstInOrder
 first_in_order c p i s going h = by s.queues.switch refl (first_entry i s) refl
   where
-    by : (o : Option ℕ) → s.queues.switch ≡ o → (q : Option ℕ) → first_entry i s ≡ q → let t = if is_some o then s else promoted_first q s in Orderly c p t × SameInstances s t
+    by : (o : Option ℕ) → s.queues.switch ≡ o → (q : Option ℕ) → first_entry i s ≡ q → let t = if is_some o then s else promoted_first q s in InOrderForAnyMain c p t × SameInstances s t
     by None is (Some n) first = promoted_keeps c p n s going is (first_has_entry i s n first) h
     by None is None first = (h, stays s)
     by (Some k) is q first = (h, stays s)
@@ -167,13 +167,13 @@ module _ (n : ℕ) (w : Why) (s : Core) (standing : Placed s) (may : MayPut n w 
 
   others : (j : ℕ) → (j == n) ≡ false → (y : ℕ) →
       (option_map_or (is_waiting_on y) (place_of j t) false ≡ true → option_map_or (is_waiting_on y) (place_of j s) false ≡ true)
-      × (woken_place y (place_of j s) (how_far_of j s) ≡ true → woken_place y (place_of j t) (how_far_of j s) ≡ true)
+      × (woken_place y (place_of j s) (op_progress_of j s) ≡ true → woken_place y (place_of j t) (op_progress_of j s) ≡ true)
   unfolding put_switch set_switch set_place on_thread
   others j apart y =
       let moved = displaced_moved s.queues.switch s (λ d is. let at = (standing d).switch in grind (arith, nat_tests, at, is)) j in
       let same : place_of j t ≡ place_of j (displaced s.queues.switch s) = grind (arith, nat_tests, get-change, apart) in (
         λ on. moved_waits y (place_of j s) (place_of j (displaced s.queues.switch s)) moved (ap (λ (o : Option Place). option_map_or (is_waiting_on y) o false) (sym same) ∙ on),
-        λ on. ap (λ (o : Option Place). woken_place y o (how_far_of j s)) same ∙ moved_woken y (how_far_of j s) (place_of j s) (place_of j (displaced s.queues.switch s)) moved on,
+        λ on. ap (λ (o : Option Place). woken_place y o (op_progress_of j s)) same ∙ moved_woken y (op_progress_of j s) (place_of j s) (place_of j (displaced s.queues.switch s)) moved on,
       )
 
   to : place_of n t ≡ Some (Place.Ready Mark.Switch w)
@@ -188,7 +188,7 @@ module _ (n : ℕ) (w : Why) (s : Core) (standing : Placed s) (may : MayPut n w 
 pub switch_in_order : SwitchInOrder
 unfolding SwitchInOrder
 switch_in_order c k n w s may h = piece_keeps c k s (put_switch n w s)
-    (λ m. placed (Put Mark.Switch n w) (inr (may, ((k, refl), λ j f at. at))) NoWord)
+    (λ m. placed (Put Mark.Switch n w) (inr (may, ((k, refl), λ j f at. at))) NoPrimitive)
     (switch_counted n w s (h Unscripted).in_place.placed may (counted_of c (Turn.Run k) s refl h)) h
 
 -- ---- A stop
@@ -205,7 +205,7 @@ idle_none p is n at = grind (arith, is, at)
 
 stop_plain : (c : Component) (p : Turn) (f : ℕ) (s : Core) → is_idle p ≡ true → KeepsOrder c p s p (stopped f s)
 unfolding OrderStands StopKeeps
-stop_plain c p f s idle h = idle_keeps c p s (stopped f s) (idle_open p idle) (idle_none p idle) (λ m. placed (Stop f) (inr refl) NoWord)
+stop_plain c p f s idle h = idle_keeps c p s (stopped f s) (idle_open p idle) (idle_none p idle) (λ m. placed (Stop f) (inr refl) NoPrimitive)
     (stop_keeps f s (order_stands c (state_in Unscripted p s) (h Unscripted) (idle_open p idle))).counted h
 
 module _ (h : Hand) (off : is_off_switch h ≡ true) where

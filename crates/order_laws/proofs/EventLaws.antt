@@ -1,5 +1,5 @@
 -- What calls tell, along the words of a step.
-use Rattle.task_laws.proofs.Words.{add_call, add_group, add_set, add_thread, add_work, count_work, free_handle, free_thread_handle, give_handle, give_result, give_thread_handle, on_call, on_instance, on_thread, on_work, push_high, remove_call, remove_group, remove_set, remove_thread, remove_work, set_backpressure, set_cancel_delivered, set_cancelled, set_course, set_do_not_enter, set_do_not_suspend, set_end, set_event, set_exited, set_how_far, set_join, set_own_event, set_phase, set_position, set_register, set_result, set_saved_callee, set_saved_own, set_script, set_stage, set_started, set_starting_published, set_subtask_handle, set_thread_handle, set_trapped, set_uninteresting, set_word, take_result, call_made, with_handle, with_thread_handle, work_queued, poll_pends, after_word, Allowed, along, ap, arith, Core, get, get-change, get-empty, get-insert, get-remove, nat_tests, Scene, Setting, State, Label, Some, None, Option, Status, Step, step_walks, Subtask, Thread, true, false, Walk, Word, ℕ, ◌≡◌, ◌⊎◌, ◌∙◌, is_explicit, place_of, task_of, is_some, by_number, ⊎_elim, fresh, Reached}
+use Rattle.task_laws.proofs.Words.{add_call, add_group, add_set, add_thread, add_work, count_work, free_handle, free_thread_handle, give_handle, give_result, give_thread_handle, on_call, on_instance, on_thread, on_work, push_high, remove_call, remove_group, remove_set, remove_thread, remove_work, set_backpressure, set_cancel_delivered, set_cancelled, set_course, set_do_not_enter, set_do_not_suspend, set_end, set_event, set_exited, set_op_progress, set_join, set_task_event, set_phase, set_position, set_register, set_result, set_saved_callee, set_saved_own, set_script, set_stage, set_started, set_starting_published, set_subtask_handle, set_thread_handle, set_trapped, set_uninteresting, set_word, take_result, call_made, with_handle, with_thread_handle, work_queued, poll_pends, after_primitive, Allowed, along, ap, arith, Core, get, get-change, get-empty, get-insert, get-remove, nat_tests, Scene, Setting, State, Label, Some, None, Option, Status, Step, step_walks, Subtask, Thread, true, false, Walk, Primitive, ℕ, ◌≡◌, ◌⊎◌, ◌∙◌, is_explicit, place_of, task_of, is_some, by_number, ⊎_elim, fresh, Reached}
 use Rattle.order_laws.specs.Events.{EventsReached, level, level_of, RunsTellHigher, StepsTellHigher, TellsHigher}
 use Rattle.order_laws.proofs.WaitLemmas.{unstarted}
 use Rattle.std.proofs.Common.{refl, le_refl, le_trans, subst, inl, inr, sym}
@@ -19,7 +19,7 @@ use Rattle.task_machine.specs.declared.records.Why.{Why}
 use Rattle.task_machine.specs.declared.words.Mark.{Mark}
 use Rattle.task_places.proofs.Laws.{first_waits}
 use Rattle.task_places.proofs.OrderLemmas.{reached_in_order}
-use Rattle.task_places.specs.Kept.{ReachedInOrder}
+use Rattle.task_places.specs.KeptPlaces.{ReachedInOrder}
 use Rattle.task_rules.proofs.LawLemmas.{steady}
 use Rattle.task_rules.specs.Chains.{Walked}
 use Rattle.task_rules.specs.Laws.{LaterBy, LaterCall}
@@ -35,16 +35,16 @@ Published s = (k : ℕ) → event_of (Subtask.Guest k) s ≡ Some Status.Startin
 abbrev Started : Core → Type 0
 Started s = (k : ℕ) → event_of (Subtask.Guest k) s ≡ Some Status.Started → was_started k s ≡ true
 
-published_word : (a : Scene) (w : Word) (s : Core) → Allowed a w s → Published s → Published (after_word w s)
-unfolding add_call add_group add_set add_thread add_work count_work free_handle free_thread_handle give_handle give_result give_thread_handle on_call on_instance on_thread on_work push_high remove_call remove_group remove_set remove_thread remove_work set_backpressure set_cancel_delivered set_cancelled set_course set_do_not_enter set_do_not_suspend set_end set_event set_exited set_how_far set_join set_own_event set_phase set_position set_register set_result set_saved_callee set_saved_own set_script set_stage set_started set_starting_published set_subtask_handle set_thread_handle set_trapped set_uninteresting set_word take_result call_made with_handle with_thread_handle work_queued poll_pends
+published_word : (a : Scene) (w : Primitive) (s : Core) → Allowed a w s → Published s → Published (after_primitive w s)
+unfolding add_call add_group add_set add_thread add_work count_work free_handle free_thread_handle give_handle give_result give_thread_handle on_call on_instance on_thread on_work push_high remove_call remove_group remove_set remove_thread remove_work set_backpressure set_cancel_delivered set_cancelled set_course set_do_not_enter set_do_not_suspend set_end set_event set_exited set_op_progress set_join set_task_event set_phase set_position set_register set_result set_saved_callee set_saved_own set_script set_stage set_started set_starting_published set_subtask_handle set_thread_handle set_trapped set_uninteresting set_word take_result call_made with_handle with_thread_handle work_queued poll_pends
 published_word a (SetCallEvent j None) s ok q k h = grind (arith, nat_tests, get-change, q k)
 published_word a (SetCallEvent j (Some Status.Starting)) s ok q k h = let now = ok.1.0.1 in grind (arith, nat_tests, get-change, q k)
 published_word a (SetCallEvent j (Some Status.Started)) s ok q k h = grind (arith, nat_tests, get-change, q k)
 published_word a (SetCallEvent j (Some _)) s ok q k h = absurd ok.1.0
 published_word a w s ok q k h = grind (arith, nat_tests, get-change, get-insert, get-remove, q k)
 
-started_word : (a : Scene) (w : Word) (s : Core) → Allowed a w s → Started s → Started (after_word w s)
-unfolding add_call add_group add_set add_thread add_work count_work free_handle free_thread_handle give_handle give_result give_thread_handle on_call on_instance on_thread on_work push_high remove_call remove_group remove_set remove_thread remove_work set_backpressure set_cancel_delivered set_cancelled set_course set_do_not_enter set_do_not_suspend set_end set_event set_exited set_how_far set_join set_own_event set_phase set_position set_register set_result set_saved_callee set_saved_own set_script set_stage set_started set_starting_published set_subtask_handle set_thread_handle set_trapped set_uninteresting set_word take_result call_made with_handle with_thread_handle work_queued poll_pends
+started_word : (a : Scene) (w : Primitive) (s : Core) → Allowed a w s → Started s → Started (after_primitive w s)
+unfolding add_call add_group add_set add_thread add_work count_work free_handle free_thread_handle give_handle give_result give_thread_handle on_call on_instance on_thread on_work push_high remove_call remove_group remove_set remove_thread remove_work set_backpressure set_cancel_delivered set_cancelled set_course set_do_not_enter set_do_not_suspend set_end set_event set_exited set_op_progress set_join set_task_event set_phase set_position set_register set_result set_saved_callee set_saved_own set_script set_stage set_started set_starting_published set_subtask_handle set_thread_handle set_trapped set_uninteresting set_word take_result call_made with_handle with_thread_handle work_queued poll_pends
 started_word a (SetCallEvent j None) s ok q k h = grind (arith, nat_tests, get-change, q k)
 started_word a (SetCallEvent j (Some Status.Starting)) s ok q k h = grind (arith, nat_tests, get-change, q k)
 started_word a (SetCallEvent j (Some Status.Started)) s ok q k h = let now = ok.1.0 in grind (arith, nat_tests, get-change, q k)
@@ -89,8 +89,8 @@ waits_here : (a : Scene) → Numbered a.base → (n k : ℕ) (m : Mark) → plac
     k ≡ task_of n a.base → first_waits k a.base ≡ true
 waits_here a numbered n k m at implicit same = let own = numbered.threads n in grind (arith, own)
 
-starting_new : (a : Scene) → Numbered a.base → (w : Word) (s : Core) → Allowed a w s → NewStarting a s → NewStarting a (after_word w s)
-unfolding add_call add_group add_set add_thread add_work count_work free_handle free_thread_handle give_handle give_result give_thread_handle on_call on_instance on_thread on_work push_high remove_call remove_group remove_set remove_thread remove_work set_backpressure set_cancel_delivered set_cancelled set_course set_do_not_enter set_do_not_suspend set_end set_event set_exited set_how_far set_join set_own_event set_phase set_position set_register set_result set_saved_callee set_saved_own set_script set_stage set_started set_starting_published set_subtask_handle set_thread_handle set_trapped set_uninteresting set_word take_result call_made with_handle with_thread_handle work_queued poll_pends
+starting_new : (a : Scene) → Numbered a.base → (w : Primitive) (s : Core) → Allowed a w s → NewStarting a s → NewStarting a (after_primitive w s)
+unfolding add_call add_group add_set add_thread add_work count_work free_handle free_thread_handle give_handle give_result give_thread_handle on_call on_instance on_thread on_work push_high remove_call remove_group remove_set remove_thread remove_work set_backpressure set_cancel_delivered set_cancelled set_course set_do_not_enter set_do_not_suspend set_end set_event set_exited set_op_progress set_join set_task_event set_phase set_position set_register set_result set_saved_callee set_saved_own set_script set_stage set_started set_starting_published set_subtask_handle set_thread_handle set_trapped set_uninteresting set_word take_result call_made with_handle with_thread_handle work_queued poll_pends
 starting_new a numbered (SetCallEvent j None) s ok q k h = q k (grind (arith, nat_tests, get-change))
 starting_new a numbered (SetCallEvent j (Some Status.Starting)) s ok q k h = by_number k j _
     (λ is. let r = ok.1.1 in inr (waits_here a numbered r.0 k r.1.1.0.0 r.1.1.0.1 r.1.1.1.0 (is ∙ r.1.1.1.1.0), ap (λ (n : ℕ). starting_is_published n a.base) is ∙ ok.1.0.0))
@@ -99,8 +99,8 @@ starting_new a numbered (SetCallEvent j (Some Status.Started)) s ok q k h = q k 
 starting_new a numbered (SetCallEvent j (Some _)) s ok q k h = absurd ok.1.0
 starting_new a numbered w s ok q k h = q k (grind (arith, nat_tests, get-change, get-insert, get-remove))
 
-started_new : (a : Scene) → Numbered a.base → (w : Word) (s : Core) → Allowed a w s → NewStarted a s → NewStarted a (after_word w s)
-unfolding add_call add_group add_set add_thread add_work count_work free_handle free_thread_handle give_handle give_result give_thread_handle on_call on_instance on_thread on_work push_high remove_call remove_group remove_set remove_thread remove_work set_backpressure set_cancel_delivered set_cancelled set_course set_do_not_enter set_do_not_suspend set_end set_event set_exited set_how_far set_join set_own_event set_phase set_position set_register set_result set_saved_callee set_saved_own set_script set_stage set_started set_starting_published set_subtask_handle set_thread_handle set_trapped set_uninteresting set_word take_result call_made with_handle with_thread_handle work_queued poll_pends
+started_new : (a : Scene) → Numbered a.base → (w : Primitive) (s : Core) → Allowed a w s → NewStarted a s → NewStarted a (after_primitive w s)
+unfolding add_call add_group add_set add_thread add_work count_work free_handle free_thread_handle give_handle give_result give_thread_handle on_call on_instance on_thread on_work push_high remove_call remove_group remove_set remove_thread remove_work set_backpressure set_cancel_delivered set_cancelled set_course set_do_not_enter set_do_not_suspend set_end set_event set_exited set_op_progress set_join set_task_event set_phase set_position set_register set_result set_saved_callee set_saved_own set_script set_stage set_started set_starting_published set_subtask_handle set_thread_handle set_trapped set_uninteresting set_word take_result call_made with_handle with_thread_handle work_queued poll_pends
 started_new a numbered (SetCallEvent j None) s ok q k h = q k (grind (arith, nat_tests, get-change))
 started_new a numbered (SetCallEvent j (Some Status.Starting)) s ok q k h = q k (grind (arith, nat_tests, get-change))
 started_new a numbered (SetCallEvent j (Some Status.Started)) s ok q k h = by_number k j _

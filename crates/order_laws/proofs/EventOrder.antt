@@ -1,25 +1,25 @@
 -- What a host does to events and sets keeps order, also with an item in hand.
-use Rattle.order_laws.proofs.OneMark.{call_event_fits, call_join_fits, call_marked, own_event_fits, work_event_fits, work_join_fits, work_marked}
+use Rattle.order_laws.proofs.OneMark.{call_event_fits, call_join_fits, call_marked, task_event_fits, work_event_fits, work_join_fits, work_marked}
 use Rattle.order_laws.proofs.QuietLemmas.{put_keeps, put_others}
-use Rattle.order_laws.specs.Kept.{CanGive, CanJoin, CanTell, GiveInOrder, Hand, JoinInOrder, PublishInOrder, TakeInOrder, WakeInOrder, put_back}
-use Rattle.order_laws.specs.Pieces.{KeepsOrder, Orderly, SameInstances, state_in}
+use Rattle.order_laws.specs.KeptOrder.{CanGive, CanJoin, CanTell, GiveInOrder, Hand, JoinInOrder, PublishInOrder, TakeInOrder, WakeInOrder, put_back}
+use Rattle.order_laws.specs.Pieces.{KeepsOrder, InOrderForAnyMain, SameInstances, state_in}
 use Rattle.std.proofs.Common.{ap, arith, refl, subst, sym, ◌∙◌}
 use Rattle.std.proofs.lemmas.Bool.Decides.{nat_tests}
 use Rattle.std.specs.Option.{option_map_or}
 use Rattle.std.specs.Prelude.{Bool, None, Option, Some, false, if◌then◌else◌, is_some, option_and_then, option_map, true, ℕ, ◌&&◌, ◌≡◌}
 use Rattle.task_laws.specs.Order.{JoinNamed, is_awaited, is_open, is_uncancelled}
 use Rattle.task_machine.proofs.CommuteLemmas.{change-change_same}
-use Rattle.task_machine.specs.Core.{Core, Table, Unscripted}
+use Rattle.task_machine.specs.Core.{Core, NameTable, Unscripted}
 use Rattle.task_machine.specs.Maps.{Records, get}
-use Rattle.task_machine.specs.Moves.{Gift, MemberGift, NoGift, OwnGift, is_callback_waiter, may_publish, may_wake, may_wake_joined, published, put_high, taken, unblocked, wake, wake_joined, waken_by}
-use Rattle.task_machine.specs.Read.{blocked_on, course_value, event_of, has_waiter, how_far_of, is_async_lifted, is_in_set, is_member, is_stage_ended, is_waiter, is_waiting_on, join_of, place_of, subtask_at, subtask_handle, undelivered_end}
-use Rattle.task_machine.specs.Write.{on_call, on_thread, on_work, push_high, set_cancel_delivered, set_event, set_join, set_own_event, set_place}
+use Rattle.task_machine.specs.Moves.{PickedEvent, PickedMember, NothingPicked, PickedTaskEvent, is_callback_waiter, may_publish, may_wake, may_wake_joined, published, put_high, taken, unblocked, wake, wake_joined, waken_by}
+use Rattle.task_machine.specs.Read.{blocked_on, course_value, event_of, has_waiter, op_progress_of, is_async_lifted, is_in_set, is_member, is_stage_ended, is_waiter, is_waiting_on, join_of, place_of, subtask_at, subtask_handle, undelivered_end}
+use Rattle.task_machine.specs.Write.{on_call, on_thread, on_work, push_high, set_cancel_delivered, set_event, set_join, set_task_event, set_place}
 use Rattle.task_machine.specs.declared.component.Component.{Component}
 use Rattle.task_machine.specs.declared.records.Call.{Call}
 use Rattle.task_machine.specs.declared.records.CallEnd.{CallEnd}
 use Rattle.task_machine.specs.declared.records.Course.{Course}
 use Rattle.task_machine.specs.declared.records.Delivery.{Delivery}
-use Rattle.task_machine.specs.declared.records.HowFar.{HowFar}
+use Rattle.task_machine.specs.declared.records.OpProgress.{OpProgress}
 use Rattle.task_machine.specs.declared.records.Instance.{Instance}
 use Rattle.task_machine.specs.declared.records.Join.{Join}
 use Rattle.task_machine.specs.declared.records.Named.{Named}
@@ -31,7 +31,7 @@ use Rattle.task_machine.specs.declared.records.Why.{Why}
 use Rattle.task_machine.specs.declared.records.Work.{Work}
 use Rattle.task_machine.specs.declared.records.WorkCaller.{WorkCaller}
 use Rattle.task_machine.specs.declared.words.Mark.{Mark}
-use Rattle.task_machine.specs.declared.words.OwnEvent.{OwnEvent}
+use Rattle.task_machine.specs.declared.words.TaskEvent.{TaskEvent}
 use Rattle.task_machine.specs.declared.words.Status.{Status}
 use Rattle.task_rules.proofs.PlacingLemmas.{placing_shifted}
 use Rattle.task_rules.proofs.StandLemmas.{by_number}
@@ -108,7 +108,7 @@ handle_with (Subtask.Host i) h s = refl
 -- ---- An event is taken
 
 module _ (c : Component) (p : Turn) (going : is_open p ≡ true) where
-  lost : (s : Core) → Orderly c p s → NoWakeLost s
+  lost : (s : Core) → InOrderForAnyMain c p s → NoWakeLost s
   unfolding OrderStands
   lost s h = order_stands c (state_in Unscripted p s) (h Unscripted) going
 
@@ -139,7 +139,7 @@ take_in_order sub s named c p h going = with_hand c p (λ (u : Core). set_event 
 -- ---- A gift
 
 -- a member of a set has a handle
-member_named : (c : Component) (p : Turn) (s : Core) → Orderly c p s → (sub : Subtask) (x : ℕ) → is_member x sub s ≡ true → is_some (subtask_handle sub s) ≡ true
+member_named : (c : Component) (p : Turn) (s : Core) → InOrderForAnyMain c p s → (sub : Subtask) (x : ℕ) → is_member x sub s ≡ true → is_some (subtask_handle sub s) ≡ true
 member_named c p s h sub x on = let q = (h Unscripted).joins_named.joins sub x (in_set (join_of sub s) on) in named sub q.instance q.handle q.named
   where
     in_set : (j : Join) → is_in_set x j ≡ true → j ≡ Join.Set x
@@ -151,41 +151,41 @@ member_named c p s h sub x on = let q = (h Unscripted).joins_named.joins sub x (
     named (Subtask.Guest k) i g at = ap (λ (q : Option ℕ). is_some q) ((h Unscripted).names.there i g k at)
     named (Subtask.Host j) i g at = ap (λ (q : Option ℕ). is_some q) ((h Unscripted).works_known.there i g j at)
 
-give_plain : (c : Component) (p : Turn) → is_open p ≡ true → (g : Gift) (k : ℕ) (s : Core) → CanGive g k s → KeepsOrder c p s p (taken g k s)
-unfolding taken set_own_event set_cancel_delivered on_call GiveKeeps
-give_plain c p going (OwnGift OwnEvent.None) k s can h = (
-  call_marked c p going s h k (λ z. record z { own_event = None }) (λ z. refl) (own_event_fits c p going s h k false (λ e. absurd (cc)))
-      (give_keeps (OwnGift OwnEvent.None) k s (lost c p going s h)),
+give_plain : (c : Component) (p : Turn) → is_open p ≡ true → (g : PickedEvent) (k : ℕ) (s : Core) → CanGive g k s → KeepsOrder c p s p (taken g k s)
+unfolding taken set_task_event set_cancel_delivered on_call GiveKeeps
+give_plain c p going (PickedTaskEvent TaskEvent.None) k s can h = (
+  call_marked c p going s h k (λ z. record z { task_event = None }) (λ z. refl) (task_event_fits c p going s h k false (λ e. absurd (cc)))
+      (give_keeps (PickedTaskEvent TaskEvent.None) k s (lost c p going s h)),
   record { instances = λ i. refl; handles = λ i. refl },
 )
-give_plain c p going (OwnGift OwnEvent.Cancelled) k s can h = (
-  subst (λ (m : Records Call). Orderly c p (record s { calls = m })) (sym (change-change_same s.calls k (λ z. record z { cancel_delivered = true }) (λ z. record z { own_event = None })))
-      (call_marked c p going s h k (λ z. record z { own_event = None; cancel_delivered = true }) (λ z. refl) (own_event_fits c p going s h k true (λ e z was. (own z was, kind z was)))
-      (subst (λ (m : Records Call). NoWakeLost (record s { calls = m })) (change-change_same s.calls k (λ z. record z { cancel_delivered = true }) (λ z. record z { own_event = None }))
-      (give_keeps (OwnGift OwnEvent.Cancelled) k s (lost c p going s h)))),
+give_plain c p going (PickedTaskEvent TaskEvent.Cancelled) k s can h = (
+  subst (λ (m : Records Call). InOrderForAnyMain c p (record s { calls = m })) (sym (change-change_same s.calls k (λ z. record z { cancel_delivered = true }) (λ z. record z { task_event = None })))
+      (call_marked c p going s h k (λ z. record z { task_event = None; cancel_delivered = true }) (λ z. refl) (task_event_fits c p going s h k true (λ e z was. (own z was, kind z was)))
+      (subst (λ (m : Records Call). NoWakeLost (record s { calls = m })) (change-change_same s.calls k (λ z. record z { cancel_delivered = true }) (λ z. record z { task_event = None }))
+      (give_keeps (PickedTaskEvent TaskEvent.Cancelled) k s (lost c p going s h)))),
   record { instances = λ i. refl; handles = λ i. refl },
 )
   where
-    own : (z : Call) → get s.calls k ≡ Some z → z.own_event ≡ Some OwnEvent.Cancelled
+    own : (z : Call) → get s.calls k ≡ Some z → z.task_event ≡ Some TaskEvent.Cancelled
     own z was = let a = can.0 in grind (arith, a, was)
 
     kind : (z : Call) → get s.calls k ≡ Some z → is_async_lifted z.kind ≡ true
     kind z was = let a = can.1 in grind (arith, a, was)
-give_plain c p going (MemberGift sub) k s can h = take_plain c p going sub s (member_named c p s h sub can.0 can.1) h
-give_plain c p going NoGift k s can h = (h, same_instances s)
+give_plain c p going (PickedMember sub) k s can h = take_plain c p going sub s (member_named c p s h sub can.0 can.1) h
+give_plain c p going NothingPicked k s can h = (h, same_instances s)
 
-taken_back : (g : Gift) (k : ℕ) (h : Hand) (s : Core) → taken g k (put_back h s) ≡ put_back h (taken g k s)
-unfolding taken set_own_event set_cancel_delivered on_call
-taken_back (OwnGift OwnEvent.None) k h s = refl
-taken_back (OwnGift OwnEvent.Cancelled) k h s = refl
-taken_back (MemberGift sub) k h s = event_back sub None h s
-taken_back NoGift k h s = refl
+taken_back : (g : PickedEvent) (k : ℕ) (h : Hand) (s : Core) → taken g k (put_back h s) ≡ put_back h (taken g k s)
+unfolding taken set_task_event set_cancel_delivered on_call
+taken_back (PickedTaskEvent TaskEvent.None) k h s = refl
+taken_back (PickedTaskEvent TaskEvent.Cancelled) k h s = refl
+taken_back (PickedMember sub) k h s = event_back sub None h s
+taken_back NothingPicked k h s = refl
 
-can_give_with : (g : Gift) (k : ℕ) (h : Hand) (s : Core) → CanGive g k s → CanGive g k (put_back h s)
-can_give_with (OwnGift OwnEvent.None) k h s can = tt
-can_give_with (OwnGift OwnEvent.Cancelled) k h s can = can
-can_give_with (MemberGift sub) k h s can = (can.0, ap (λ (j : Join). is_in_set can.0 j) (join_with sub h s) ∙ can.1)
-can_give_with NoGift k h s can = tt
+can_give_with : (g : PickedEvent) (k : ℕ) (h : Hand) (s : Core) → CanGive g k s → CanGive g k (put_back h s)
+can_give_with (PickedTaskEvent TaskEvent.None) k h s can = tt
+can_give_with (PickedTaskEvent TaskEvent.Cancelled) k h s can = can
+can_give_with (PickedMember sub) k h s can = (can.0, ap (λ (j : Join). is_in_set can.0 j) (join_with sub h s) ∙ can.1)
+can_give_with NothingPicked k h s can = tt
 
 pub give_in_order : GiveInOrder
 unfolding GiveInOrder
@@ -247,7 +247,7 @@ joins_named : (sub : Subtask) (x : Option ℕ) (s : Core) → CanJoin sub x s �
 joins_named sub None s can y is = absurd (cc)
 joins_named sub (Some x) s can y is = can.named y (grind (arith, is))
 
-set_plain : (c : Component) (p : Turn) → is_open p ≡ true → (sub : Subtask) (x : Option ℕ) (s : Core) → CanJoin sub x s → NoWakeLost (set_join sub (joins x) s) → Orderly c p s → Orderly c p (set_join sub (joins x) s)
+set_plain : (c : Component) (p : Turn) → is_open p ≡ true → (sub : Subtask) (x : Option ℕ) (s : Core) → CanJoin sub x s → NoWakeLost (set_join sub (joins x) s) → InOrderForAnyMain c p s → InOrderForAnyMain c p (set_join sub (joins x) s)
 unfolding set_join on_call on_work
 set_plain c p going (Subtask.Guest k) x s can after h =
     call_marked c p going s h k (λ z. record z { join = joins x }) (λ z. refl) (call_join_fits c p going s h k (joins x) can.apart (joins_named (Subtask.Guest k) x s can)) after
@@ -259,7 +259,7 @@ can_join_placed (Subtask.Guest k) x s t can = record { apart = can.apart; named 
 can_join_placed (Subtask.Host i) x s t can = record { apart = can.apart; named = λ y is. let q = can.named y is in record { instance = q.instance; handle = q.handle; home = q.home; named = q.named } }
 
 same_tables : (s t : Core) → t.instances ≡ s.instances → t.handles ≡ s.handles → SameInstances s t
-same_tables s t instances handles = record { instances = λ i. ap (λ (r : Records Instance). is_some (get r i)) instances; handles = λ i. ap (λ (r : Records (Table Named)). is_some (get r i)) handles }
+same_tables s t instances handles = record { instances = λ i. ap (λ (r : Records Instance). is_some (get r i)) instances; handles = λ i. ap (λ (r : Records (NameTable Named)). is_some (get r i)) handles }
 
 join_tables : (sub : Subtask) (j : Join) (s : Core) → ((set_join sub j s).instances ≡ s.instances) × ((set_join sub j s).handles ≡ s.handles)
 unfolding set_join on_call on_work
@@ -281,7 +281,7 @@ join_plain c p going sub x w s may can h =
     let same = join_new sub (joins x) e x w s in
     let after : NoWakeLost (set_join sub (joins x) u) = subst (λ (t : Core). NoWakeLost t) (sym same) (join_keeps sub x w s may (lost c p going s h)) in
     let tables = join_tables sub (joins x) u in (
-      subst (λ (t : Core). Orderly c p t) same (set_plain c p going sub x u (new_rest e x w s (CanJoin sub x) (can_join_placed sub x s u can)) after first.0),
+      subst (λ (t : Core). InOrderForAnyMain c p t) same (set_plain c p going sub x u (new_rest e x w s (CanJoin sub x) (can_join_placed sub x s u can)) after first.0),
       subst (λ (t : Core). SameInstances s t) same (same_tables s (set_join sub (joins x) u)
           (tables.0 ∙ new_rest e x w s (λ (v : Core). v.instances ≡ s.instances) refl) (tables.1 ∙ new_rest e x w s (λ (v : Core). v.handles ≡ s.handles) refl)),
     )
@@ -363,7 +363,7 @@ can_tell_placed : (sub : Subtask) (e : Status) (s t : Core) → CanTell sub e s 
 can_tell_placed (Subtask.Guest k) e s t can = record { status = can.status; done = can.done }
 can_tell_placed (Subtask.Host i) e s t can = record { status = can.status; done = can.done }
 
-event_plain : (c : Component) (p : Turn) → is_open p ≡ true → (sub : Subtask) (e : Status) (s : Core) → CanTell sub e s → NoWakeLost (set_event sub (Some e) s) → Orderly c p s → Orderly c p (set_event sub (Some e) s)
+event_plain : (c : Component) (p : Turn) → is_open p ≡ true → (sub : Subtask) (e : Status) (s : Core) → CanTell sub e s → NoWakeLost (set_event sub (Some e) s) → InOrderForAnyMain c p s → InOrderForAnyMain c p (set_event sub (Some e) s)
 unfolding set_event on_call on_work
 event_plain c p going (Subtask.Guest k) e s can after h =
     call_marked c p going s h k (λ z. record z { event = Some e }) (λ z. refl) (call_event_fits c p going s h k (Some e) (λ z was d said. has z was d said)
@@ -375,7 +375,7 @@ event_plain c p going (Subtask.Guest k) e s can after h =
     has : (z : Call) → get s.calls k ≡ Some z → (d : Status) → undelivered_end (Some e) ≡ Some d → is_some z.«end» ≡ true
     has z was d said = let a = same z was in grind (arith, a, said)
 
-    awaits : (n : ℕ) (z : Call) → how_far_of n s ≡ HowFar.Calls (Subtask.Guest k) → get s.calls k ≡ Some z → is_awaited z ≡ true → is_awaited (record z { event = Some e }) ≡ true
+    awaits : (n : ℕ) (z : Call) → op_progress_of n s ≡ OpProgress.Calls (Subtask.Guest k) → get s.calls k ≡ Some z → is_awaited z ≡ true → is_awaited (record z { event = Some e }) ≡ true
     awaits n z far was on =
         let touched = ((h Unscripted).names.called n k far z was).1.1 in
         by z.«end» refl (same z was) touched on
@@ -414,7 +414,7 @@ publish_plain c p going sub e w s may can h =
     let after : NoWakeLost (set_event sub (Some e) v) = subst (λ (t : Core). NoWakeLost t) (sym same) (publish_keeps sub e w s may (lost c p going s h)) in
     let can_then : CanTell sub e v = joined_rest j w u (CanTell sub e) (can_tell_placed sub e u v (unblocked_rest b s (CanTell sub e) (can_tell_placed sub e s u can))) in
     let tables = event_tables sub (Some e) v in (
-      subst (λ (t : Core). Orderly c p t) same (event_plain c p going sub e v can_then after next.0),
+      subst (λ (t : Core). InOrderForAnyMain c p t) same (event_plain c p going sub e v can_then after next.0),
       subst (λ (t : Core). SameInstances s t) same (same_tables s (set_event sub (Some e) v)
           (tables.0 ∙ (joined_rest j w u (λ (q : Core). q.instances ≡ u.instances) refl ∙ unblocked_rest b s (λ (q : Core). q.instances ≡ s.instances) refl))
           (tables.1 ∙ (joined_rest j w u (λ (q : Core). q.handles ≡ u.handles) refl ∙ unblocked_rest b s (λ (q : Core). q.handles ≡ s.handles) refl))),

@@ -3,7 +3,7 @@ use Rattle.task_rules.specs.Chains.{HostRulesAreWalks, RulesAreWalks, WalkedAs}
 use Rattle.task_laws.specs.Order.{FitsAs, has_one_on_top, InOrder, InOrderAs, ThreadFits, is_open}
 use Rattle.task_machine.specs.declared.label.Label.{Label}
 use Rattle.task_rules.specs.Stalled.{Setting}
-use Rattle.task_machine.specs.declared.records.HowFar.{HowFar}
+use Rattle.task_machine.specs.declared.records.OpProgress.{OpProgress}
 use Rattle.std.proofs.Common.{ap, arith, refl, subst, sym, ◌∙◌}
 use Rattle.std.specs.Prelude.{Bool, Option, Some, false, if◌then◌else◌, is_some, length, option_map, true, ℕ, ◌+◌, ◌==◌, ◌≡◌, ◌≤◌}
 use Rattle.task_rules.specs.Finish.{Doer, SomeHost}
@@ -20,10 +20,10 @@ use Rattle.task_laws.proofs.FitLemmas.{SameOp}
 use Rattle.task_machine.specs.Core.{Core, State}
 use Rattle.task_machine.specs.Labels.{choice_of}
 use Rattle.task_machine.specs.Maps.{get}
-use Rattle.task_machine.specs.Read.{callee_of, how_far_of, place_of, position_of}
+use Rattle.task_machine.specs.Read.{callee_of, op_progress_of, place_of, position_of}
 use Rattle.task_machine.specs.declared.component.Component.{Component}
 use Rattle.task_machine.specs.declared.op.Op.{Op}
-use Rattle.task_machine.specs.declared.records.HowFar.TheVariants as how_far
+use Rattle.task_machine.specs.declared.records.OpProgress.TheVariants as op_progress
 use Rattle.task_machine.specs.declared.records.Place.{Place}
 use Rattle.task_machine.specs.declared.records.Place.TheVariants as place
 use Rattle.task_machine.specs.declared.records.Thread.{Thread}
@@ -32,35 +32,35 @@ use Rattle.task_places.proofs.OrderLemmas.{at_places, calls_kept, same_callee, s
 use Rattle.task_rules.proofs.LawLemmas.{walk_steady}
 use Rattle.task_rules.specs.Scenes.{runner_at}
 use Rattle.task_rules.specs.Scripts.{op_of, ops_of, script_of}
-use Rattle.task_rules.specs.Step.{Progresses, Step, StepAs, TurnStep, TurnStepAs, did, op_row, op_rule, own_script}
+use Rattle.task_rules.specs.Step.{Progresses, Step, StepAs, TurnStep, TurnStepAs, did, scripted_op_rule, op_rule, own_script}
 
 pub own : (n : ℕ) (o : Op) (ops : ℕ → Op) → given n o ops n ≡ o
 own n o ops = grind (arith, nat_tests)
 
 -- where no op of the thread is under way, and none is on top of it, it may have any op
-pub any_op : (c : Component) (n : ℕ) (o : Op) (ops : ℕ → Op) (s : Core) (p : Place) → how_far_of n s ≡ how_far.Fresh → place_of n s ≡ Some p → has_one_on_top p ≡ false → FitsAs ops c s → FitsAs (given n o ops) c s
+pub any_op : (c : Component) (n : ℕ) (o : Op) (ops : ℕ → Op) (s : Core) (p : Place) → op_progress_of n s ≡ op_progress.Fresh → place_of n s ≡ Some p → has_one_on_top p ≡ false → FitsAs ops c s → FitsAs (given n o ops) c s
 any_op c n o ops s p fresh at alone fits m t is = by (m == n) refl
   where
     by : (b : Bool) → (m == n) ≡ b → ThreadFits c s (if b then o else ops m) t
-    by true own = let f = fits m t is in let far : t.how_far ≡ how_far.Fresh = grind (arith, nat_tests, own, is, fresh) in let here : t.place ≡ p = grind (arith, nat_tests, own, is, at) in
+    by true own = let f = fits m t is in let far : t.op_progress ≡ op_progress.Fresh = grind (arith, nat_tests, own, is, fresh) in let here : t.place ≡ p = grind (arith, nat_tests, own, is, at) in
         record { script = f.script; position = f.position; op = rw far refl; under = λ d. absurd (let e = sym d ∙ (ap has_one_on_top here ∙ alone) in cc); first = f.first }
     by false own = fits m t is
 
 -- so it may have one that may come as far as its own
-pub as_far : (c : Component) (n : ℕ) (o now : Op) (ops : ℕ → Op) (s : Core) → ((f : HowFar) → can_come o f ≡ true → can_come now f ≡ true) → (is_sync_call o ≡ true → is_sync_call now ≡ true) →
+pub as_far : (c : Component) (n : ℕ) (o now : Op) (ops : ℕ → Op) (s : Core) → ((f : OpProgress) → can_come o f ≡ true → can_come now f ≡ true) → (is_sync_call o ≡ true → is_sync_call now ≡ true) →
     FitsAs (given n o ops) c s → FitsAs (given n now ops) c s
 as_far c n o now ops s far sync fits m t is = by (m == n) (fits m t is)
   where
     by : (b : Bool) → ThreadFits c s (if b then o else ops m) t → ThreadFits c s (if b then now else ops m) t
-    by true f = record { script = f.script; position = f.position; op = far t.how_far f.op; under = λ d. sync (f.under d); first = f.first }
+    by true f = record { script = f.script; position = f.position; op = far t.op_progress f.op; under = λ d. sync (f.under d); first = f.first }
     by false f = f
 
 -- and back
-own_op : (c : Component) (n : ℕ) (o : Op) (ops : ℕ → Op) (s : Core) → how_far_of n s ≡ how_far.Fresh → place_of n s ≡ Some place.Running → FitsAs (given n o ops) c s → FitsAs ops c s
+own_op : (c : Component) (n : ℕ) (o : Op) (ops : ℕ → Op) (s : Core) → op_progress_of n s ≡ op_progress.Fresh → place_of n s ≡ Some place.Running → FitsAs (given n o ops) c s → FitsAs ops c s
 own_op c n o ops s fresh runs fits m t at = by (m == n) refl (fits m t at)
   where
     by : (b : Bool) → (m == n) ≡ b → ThreadFits c s (if b then o else ops m) t → ThreadFits c s (ops m) t
-    by true is f = let far : t.how_far ≡ how_far.Fresh = grind (arith, nat_tests, is, at, fresh) in let run : t.place ≡ place.Running = grind (arith, nat_tests, is, at, runs) in
+    by true is f = let far : t.op_progress ≡ op_progress.Fresh = grind (arith, nat_tests, is, at, fresh) in let run : t.place ≡ place.Running = grind (arith, nat_tests, is, at, runs) in
         record { script = f.script; position = f.position; op = rw far refl; under = λ d. absurd (grind (arith, run, d)); first = f.first }
     by false is f = f
 
@@ -145,7 +145,7 @@ module _ (by_whom : Op → Doer) (x : Setting) (o : Op) (n : ℕ) (s t : State) 
 
 -- as its script has it done, that isn't at its end
 pub script_walk : (x : Setting) (o : Op) (n : ℕ) (s t : State) (l : Label) → s.turn ≡ turn.Run n → position_of n s.core + 1 ≤ length (script_of x.component n s.core) →
-    Progresses s s.core n (op_row x.component n s.core (choice_of l) o) l t → WalkedAs (given n o (ops_of x.component s.core)) x s l t
+    Progresses s s.core n (scripted_op_rule x.component n s.core (choice_of l) o) l t → WalkedAs (given n o (ops_of x.component s.core)) x s l t
 unfolding RulesAreWalks
 script_walk x o n s t l at within row = rules_walk (given n o (ops_of x.component s.core)) x s n l o t at (own n o (ops_of x.component s.core)) (λ e. within) row
 
@@ -156,7 +156,7 @@ unfolding HostRulesAreWalks
 host_walk x o n s t l at other row = host_rules_walk (given n o (ops_of x.component s.core)) x s n l o t at (own n o (ops_of x.component s.core)) other row
 
 -- it has the op
-begins : (x : Setting) (o : Op) (n : ℕ) (s : State) → s.turn ≡ turn.Run n → how_far_of n s.core ≡ how_far.Fresh → InOrder x.component s → InOrderAs (given n o (ops_of x.component s.core)) x.component s
+begins : (x : Setting) (o : Op) (n : ℕ) (s : State) → s.turn ≡ turn.Run n → op_progress_of n s.core ≡ op_progress.Fresh → InOrder x.component s → InOrderAs (given n o (ops_of x.component s.core)) x.component s
 begins x o n s at fresh h = with_ops h (any_op x.component n o (ops_of x.component s.core) s.core place.Running fresh (h.in_place.runs n at) refl h.fits)
 
 pub given_steps : GivenSteps

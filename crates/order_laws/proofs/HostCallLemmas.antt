@@ -10,7 +10,7 @@ use Rattle.task_machine.specs.Core.{State}
 use Rattle.task_machine.specs.declared.component.Component.{Component}
 use Rattle.task_machine.specs.declared.component.HostDef.{HostDef}
 use Rattle.task_machine.specs.declared.op.Op.{Op}
-use Rattle.task_machine.specs.declared.records.HowFar.{HowFar}
+use Rattle.task_machine.specs.declared.records.OpProgress.{OpProgress}
 use Rattle.task_rules.specs.Calls.{call_sync_host_rule}
 use Rattle.task_rules.specs.Finish.{SomeHost}
 use Rattle.task_rules.specs.Scripts.{op_of, script_of}
@@ -38,5 +38,5 @@ host_calls_keep x host (Some q) n s t l at fresh h row =
     (of_hosts x.component.hosts y.component t (host_keeps y (host_op (Some q)) n s t l at refl refl fresh (of_hosts (host ∷ []) x.component s h) row), host_instances y (host_op (Some q)) n s t l at refl row)
 host_calls_keep x host None n s t l at fresh h row =
     let y = with_only host x in
-    let ruled = subst (λ (f : HowFar). Progresses s s.core n (call_sync_host_rule SomeHost y.component n 0 s.core f) l t) (sym fresh) row in
+    let ruled = subst (λ (f : OpProgress). Progresses s s.core n (call_sync_host_rule SomeHost y.component n 0 s.core f) l t) (sym fresh) row in
     (of_hosts x.component.hosts y.component t (host_keeps y (host_op None) n s t l at refl refl fresh (of_hosts (host ∷ []) x.component s h) ruled), host_instances y (host_op None) n s t l at refl ruled)

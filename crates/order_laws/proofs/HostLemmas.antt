@@ -11,9 +11,9 @@ use Rattle.std.specs.Prelude.{Bool, List, None, Option, Some, false, is_some, na
 use Rattle.task_machine.proofs.CommuteLemmas.{get-change}
 use Rattle.task_machine.specs.Core.{Core, State}
 use Rattle.task_machine.specs.Labels.{Choice, choice_of}
-use Rattle.task_machine.specs.Moves.{Gift, MemberGift, NoGift, OwnGift, gift, may_hand_on, passes_check}
-use Rattle.task_machine.specs.Read.{at_handle_limit, backpressure_of, cancel_was_delivered, event_of, fits, has_ended, has_member, has_waiters, how_far_of, instance_of, is_async_lifted, is_joined, is_watched, join_of, kind_of, set_at, subtask_at, subtask_ended, task_of, thread_at, undelivered_end, was_cancelled}
-use Rattle.task_machine.specs.Write.{on_thread, set_how_far, set_join}
+use Rattle.task_machine.specs.Moves.{PickedEvent, PickedMember, NothingPicked, PickedTaskEvent, picked_event, may_hand_on, passes_check}
+use Rattle.task_machine.specs.Read.{at_handle_limit, backpressure_of, cancel_was_delivered, event_of, fits, has_ended, has_member, has_waiters, op_progress_of, instance_of, is_async_lifted, is_joined, is_watched, join_of, kind_of, set_at, subtask_at, subtask_ended, task_of, thread_at, undelivered_end, was_cancelled}
+use Rattle.task_machine.specs.Write.{on_thread, set_op_progress, set_join}
 use Rattle.task_machine.specs.declared.component.Component.{Component}
 use Rattle.task_machine.specs.declared.component.Slot.{Slot}
 use Rattle.task_machine.specs.declared.component.Slot.TheVariants as slot
@@ -30,8 +30,8 @@ use Rattle.task_machine.specs.declared.op.TaskOp.{TaskOp}
 use Rattle.task_machine.specs.declared.op.TaskOp.TheVariants as task_op
 use Rattle.task_machine.specs.declared.op.ThreadOp.{ThreadOp}
 use Rattle.task_machine.specs.declared.op.ThreadOp.TheVariants as thread_op
-use Rattle.task_machine.specs.declared.records.HowFar.{HowFar}
-use Rattle.task_machine.specs.declared.records.HowFar.TheVariants as how_far
+use Rattle.task_machine.specs.declared.records.OpProgress.{OpProgress}
+use Rattle.task_machine.specs.declared.records.OpProgress.TheVariants as op_progress
 use Rattle.task_machine.specs.declared.records.Join.TheVariants as join
 use Rattle.task_machine.specs.declared.records.Subtask.{Subtask}
 use Rattle.task_machine.specs.declared.records.Subtask.TheVariants as subtask
@@ -43,25 +43,25 @@ use Rattle.task_rules.specs.Cancels.{AlreadyEnded, Async, CallbackWaits, Callbac
 use Rattle.task_rules.specs.Ends.{may_tell}
 use Rattle.task_rules.specs.Finish.{SomeHost}
 use Rattle.task_rules.specs.OpParts.{ends_activation, is_data_op}
-use Rattle.task_rules.specs.Progress.{Asks, Fails, Goes, Never, Ordered, Progress, Stops, Traps, may, or_never, or_trap, trap_if}
+use Rattle.task_rules.specs.Progress.{Asks, Fails, Continues, Never, Ordered, Progress, Stops, Traps, may, or_never, or_trap, trap_if}
 use Rattle.task_rules.specs.Scripts.{slot_at, value_of}
 use Rattle.task_rules.specs.Sets.{chosen, finds_nothing, join_done_by, join_to_by, may_wake_new, poll_takes_by, set_drop_by, set_rule, wait_begins_by, wait_goes_on_by, wait_rule, wait_takes_by}
 use Rattle.task_rules.specs.Step.{Progresses, op_rule}
 use Rattle.task_rules.specs.Task.{dec_by, task_rule}
-use Rattle.task_rules.specs.Threads.{Halt, Suspension, Yielding, halt_rule, halting_by, halts_by, has_yielded, resume_later_by, resume_why, resumed_by, then_promote_by, then_promote_found_by, then_promote_rule, then_resume_found, then_resume_row, thread_new_rule, thread_rule}
+use Rattle.task_rules.specs.Threads.{Halt, Suspension, Yielding, halt_rule, halting_by, halts_by, has_yielded, resume_later_by, resume_why, resumed_by, then_promote_by, then_promote_found_by, then_promote_rule, then_resume_found, then_resume_rule, thread_new_rule, thread_rule}
 use Rattle.task_rules.specs.Turns.{at_turn}
 use Rattle.wake_laws.proofs.GroundLemmas.{order_stands_as}
 use Rattle.wake_laws.specs.Stands.{OrderStandsAs}
 
 -- this thread goes on, if one does, and no op of it is under way then
 abbrev DoneFor : ℕ → Progress → Type 0
-DoneFor n (Goes l new m) = (m ≡ n) × (how_far_of n new ≡ how_far.Fresh)
+DoneFor n (Continues l new m) = (m ≡ n) × (op_progress_of n new ≡ op_progress.Fresh)
 DoneFor n (Ordered ns next) = (order : List ℕ) → DoneFor n (next order)
 DoneFor n (Asks next) = (answer : HostPoll) → DoneFor n (next answer)
 DoneFor n p = Unit {0}
 
-fresh : (n : ℕ) (u : Core) → how_far_of n (set_how_far n how_far.Fresh u) ≡ how_far.Fresh
-unfolding set_how_far on_thread
+fresh : (n : ℕ) (u : Core) → op_progress_of n (set_op_progress n op_progress.Fresh u) ≡ op_progress.Fresh
+unfolding set_op_progress on_thread
 fresh n u = grind (arith, nat_tests, get-change)
 
 if_traps : (n : ℕ) (b : Bool) (why : Trap) (p : Progress) → DoneFor n p → DoneFor n (trap_if b why p)
@@ -81,12 +81,12 @@ if_given n None next g = tt
 if_given n (Some x) next g = g x
 
 -- what the rule of such an op leads to
-leads : (x t : State) (n m : ℕ) (l : Label) (p : Progress) → DoneFor n p → Progresses x x.core n p l t → t.turn ≡ turn.Run m → (m ≡ n) × (how_far_of n t.core ≡ how_far.Fresh)
+leads : (x t : State) (n m : ℕ) (l : Label) (p : Progress) → DoneFor n p → Progresses x x.core n p l t → t.turn ≡ turn.Run m → (m ≡ n) × (op_progress_of n t.core ≡ op_progress.Fresh)
 unfolding at_turn
-leads x t n m l (Goes k new j) g h to =
+leads x t n m l (Continues k new j) g h to =
     let run = ap (λ (v : State). v.turn) h.1 in
     let one : j ≡ m = cc in
-    (sym one ∙ g.0, ap (λ (v : State). how_far_of n v.core) h.1 ∙ g.1)
+    (sym one ∙ g.0, ap (λ (v : State). op_progress_of n v.core) h.1 ∙ g.1)
 leads x t n m l (Ordered ns next) g h to = leads x t n m l (next h.0) (g h.0) h.1.1 to
 leads x t n m l (Asks next) g h to = leads x t n m l (next h.0) (g h.0) h.1 to
 leads x t n m l (Stops k new) g h to = absurd (let main = ap (λ (v : State). v.turn) h.1 in cc)
@@ -116,15 +116,15 @@ module _ (n : ℕ) (s : Core) where
 
   begins : (ch : Choice) (x : ℕ) (b : Bool) → DoneFor n (wait_begins_by SomeHost n ch s x b)
   begins ch x true = if_traps n (not (passes_check (instance_of n s) s)) _ _ tt
-  begins ch x false = if_given n (gift false (task_of n s) x (chosen n ch s) s) (wait_takes_by SomeHost n ch s) (λ g. (refl, fresh n _))
+  begins ch x false = if_given n (picked_event false (task_of n s) x (chosen n ch s) s) (wait_takes_by SomeHost n ch s) (λ g. (refl, fresh n _))
 
-  goes_on : (ch : Choice) (x : ℕ) (g : Gift) → DoneFor n (wait_goes_on_by SomeHost n x ch s g)
-  goes_on ch x NoGift = tt
-  goes_on ch x (OwnGift e) = if_lawful n (may_hand_on x (OwnGift e) ch.woken s) _ (refl, fresh n _)
-  goes_on ch x (MemberGift sub) = if_lawful n (may_hand_on x (MemberGift sub) ch.woken s) _ (refl, fresh n _)
+  goes_on : (ch : Choice) (x : ℕ) (g : PickedEvent) → DoneFor n (wait_goes_on_by SomeHost n x ch s g)
+  goes_on ch x NothingPicked = tt
+  goes_on ch x (PickedTaskEvent e) = if_lawful n (may_hand_on x (PickedTaskEvent e) ch.woken s) _ (refl, fresh n _)
+  goes_on ch x (PickedMember sub) = if_lawful n (may_hand_on x (PickedMember sub) ch.woken s) _ (refl, fresh n _)
 
-  waits : (ch : Choice) (h : ℕ) (f : HowFar) → DoneFor n (wait_rule SomeHost n h ch s f)
-  waits ch h (how_far.Waits x) = if_given n (gift false (task_of n s) x (chosen n ch s) s) (wait_goes_on_by SomeHost n x ch s) (goes_on ch x)
+  waits : (ch : Choice) (h : ℕ) (f : OpProgress) → DoneFor n (wait_rule SomeHost n h ch s f)
+  waits ch h (op_progress.Waits x) = if_given n (picked_event false (task_of n s) x (chosen n ch s) s) (wait_goes_on_by SomeHost n x ch s) (goes_on ch x)
   waits ch h _ = if_found n (set_at (instance_of n s) h s) _ (λ x. wait_begins_by SomeHost n ch s x (finds_nothing n x s)) (λ x. begins ch x (finds_nothing n x s))
 
   joined : (w x : Option ℕ) (sub : Subtask) → DoneFor n (join_done_by SomeHost n sub w s x)
@@ -139,10 +139,10 @@ module _ (n : ℕ) (s : Core) where
   sets ch (set_op.Drop x) =
       if_found n (set_at (instance_of n s) (value_of n s x) s) _ (set_drop_by SomeHost n (value_of n s x) s)
       (λ y. if_traps n (has_waiters y s) _ _ (if_traps n (has_member y s) _ _ (refl, fresh n _)))
-  sets ch (set_op.Wait r x) = waits ch (value_of n s x) (how_far_of n s)
+  sets ch (set_op.Wait r x) = waits ch (value_of n s x) (op_progress_of n s)
   sets ch (set_op.Poll r x) =
-      if_found n (set_at (instance_of n s) (value_of n s x) s) _ (λ y. or_never (gift false (task_of n s) y (chosen n ch s) s) (poll_takes_by SomeHost n ch s))
-      (λ y. if_given n (gift false (task_of n s) y (chosen n ch s) s) (poll_takes_by SomeHost n ch s) (λ g. (refl, fresh n _)))
+      if_found n (set_at (instance_of n s) (value_of n s x) s) _ (λ y. or_never (picked_event false (task_of n s) y (chosen n ch s) s) (poll_takes_by SomeHost n ch s))
+      (λ y. if_given n (picked_event false (task_of n s) y (chosen n ch s) s) (poll_takes_by SomeHost n ch s) (λ g. (refl, fresh n _)))
   sets ch (set_op.Join x y) =
       if_found n (subtask_at (instance_of n s) (value_of n s x) s) _ (join_to_by SomeHost n (value_of n s y) ch.woken s) (joins (value_of n s y) ch.woken)
 
@@ -161,7 +161,7 @@ module _ (n : ℕ) (s : Core) where
   halted Suspension l false = tt
   halted Yielding l false = (refl, fresh n s)
 
-  resumed : (x : Halt) (h : ℕ) → DoneFor n (then_resume_row x n h s)
+  resumed : (x : Halt) (h : ℕ) → DoneFor n (then_resume_rule x n h s)
   resumed x h = if_found n (thread_at (instance_of n s) h s) _ (then_resume_found x n s) (λ m. if_traps n (m == n) _ _ (if_found n (resume_why m s) _ _ (λ w. tt)))
 
   promotes : (x : Halt) (l : Label) (m : ℕ) (b : Bool) → DoneFor n (then_promote_by SomeHost x n l s m b)
@@ -172,13 +172,13 @@ module _ (n : ℕ) (s : Core) where
   promoted x h l =
       if_found n (thread_at (instance_of n s) h s) _ (then_promote_found_by SomeHost x n l s) (λ m. if_traps n (m == n) _ _ (promotes x l m (has_yielded m s)))
 
-  far : (f : HowFar) (l : Label) (p : Progress) → DoneFor n p → DoneFor n (resumed_by SomeHost f n l s p)
-  far how_far.Suspends l p g = (refl, fresh n s)
-  far how_far.Yields l p g = (refl, fresh n s)
+  far : (f : OpProgress) (l : Label) (p : Progress) → DoneFor n p → DoneFor n (resumed_by SomeHost f n l s p)
+  far op_progress.Suspends l p g = (refl, fresh n s)
+  far op_progress.Yields l p g = (refl, fresh n s)
   far _ l p g = g
 
   halting : (k : ThreadLabel) (row : Label → Progress) → DoneFor n (row (label.Thread k)) → DoneFor n (halting_by SomeHost n s k row)
-  halting k row g = far (how_far_of n s) (label.Thread k) (row (label.Thread k)) g
+  halting k row g = far (op_progress_of n s) (label.Thread k) (row (label.Thread k)) g
 
   threads : (c : Component) (o : ThreadOp) → DoneFor n (thread_rule SomeHost c n s o)
   threads c (thread_op.New r x v) = made x (value_of n s v) (slot_at c (instance_of n s) x)
@@ -187,9 +187,9 @@ module _ (n : ℕ) (s : Core) where
   threads c thread_op.Suspend = halting (thread_label.Suspend n) (λ l. halt_rule SomeHost Suspension n l s) (halted Suspension (label.Thread (thread_label.Suspend n)) (passes_check (instance_of n s) s))
   threads c thread_op.Yield = halting (thread_label.Yield n) (λ l. halt_rule SomeHost Yielding n l s) (halted Yielding (label.Thread (thread_label.Yield n)) (passes_check (instance_of n s) s))
   threads c (thread_op.SuspendThenResume x) =
-      halting (thread_label.SuspendThenResume n) (λ l. then_resume_row Suspension n (value_of n s x) s) (resumed Suspension (value_of n s x))
+      halting (thread_label.SuspendThenResume n) (λ l. then_resume_rule Suspension n (value_of n s x) s) (resumed Suspension (value_of n s x))
   threads c (thread_op.YieldThenResume x) =
-      halting (thread_label.YieldThenResume n) (λ l. then_resume_row Yielding n (value_of n s x) s) (resumed Yielding (value_of n s x))
+      halting (thread_label.YieldThenResume n) (λ l. then_resume_rule Yielding n (value_of n s x) s) (resumed Yielding (value_of n s x))
   threads c (thread_op.SuspendThenPromote x) =
       halting (thread_label.SuspendThenPromote n) (λ l. then_promote_rule SomeHost Suspension n (value_of n s x) l s) (promoted Suspension (value_of n s x) (label.Thread (thread_label.SuspendThenPromote n)))
   threads c (thread_op.YieldThenPromote x) =
@@ -225,9 +225,9 @@ module _ (mode : Mode) (n : ℕ) where
   subtasks s (subtask.Guest k) = guests k s (cancel_case k s)
   subtasks s (subtask.Host i) = if_traps n (was_cancelled i s) _ _ (after (subtask.Host i) (cancel_aborts_host i s))
 
-  cancels : (h : ℕ) (s : Core) (f : HowFar) → DoneFor n (cancel_rule SomeHost mode n h s f)
-  cancels h s (how_far.Cancels sub) = after sub (cancel_resumed n sub s)
-  cancels h s (how_far.AwaitsEnd sub) = ended mode n sub (set_join sub join.Nowhere s) (undelivered_end (event_of sub (set_join sub join.Nowhere s)))
+  cancels : (h : ℕ) (s : Core) (f : OpProgress) → DoneFor n (cancel_rule SomeHost mode n h s f)
+  cancels h s (op_progress.Cancels sub) = after sub (cancel_resumed n sub s)
+  cancels h s (op_progress.AwaitsEnd sub) = ended mode n sub (set_join sub join.Nowhere s) (undelivered_end (event_of sub (set_join sub join.Nowhere s)))
   cancels h s _ = if_found n (subtask_at (instance_of n s) h s) _ (cancel_found_by SomeHost mode n s) (λ sub. if_traps n (is_joined (join_of sub s)) _ _ (subtasks s sub))
 
 drops : (n h : ℕ) (s : Core) (sub : Subtask) → DoneFor n (drop_by SomeHost n h s sub)
@@ -239,8 +239,8 @@ rules : (c : Component) (n : ℕ) (s : Core) (ch : Choice) (o : Op) → is_asked
 rules c n s ch (op.Task o) e = tasks n s ch o e
 rules c n s ch (op.Set o) e = sets n s ch o
 rules c n s ch (op.Thread o) e = threads n s c o
-rules c n s ch (op.Call (call_op.Cancel r x)) e = cancels Async n (value_of n s x) s (how_far_of n s)
-rules c n s ch (op.Call (call_op.CancelSync r x)) e = cancels Sync n (value_of n s x) s (how_far_of n s)
+rules c n s ch (op.Call (call_op.Cancel r x)) e = cancels Async n (value_of n s x) s (op_progress_of n s)
+rules c n s ch (op.Call (call_op.CancelSync r x)) e = cancels Sync n (value_of n s x) s (op_progress_of n s)
 rules c n s ch (op.Call (call_op.Drop x)) e = if_found n (subtask_at (instance_of n s) (value_of n s x) s) _ (drop_by SomeHost n (value_of n s x) s) (drops n (value_of n s x) s)
 rules c n s ch o e = absurd (cc)
 

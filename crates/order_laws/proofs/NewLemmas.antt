@@ -6,11 +6,11 @@ use Rattle.std.proofs.lemmas.Bool.Decides.{nat_tests}
 use Rattle.std.specs.Option.{option_map_or}
 use Rattle.std.specs.Prelude.{Bool, List, None, Option, Some, [], false, if◌then◌else◌, is_none, is_some, length, not, option_and_then, option_map, true, unwrap_or, ℕ, ◌&&◌, ◌==◌, ◌||◌, ◌≡◌, ◌≤◌}
 use Rattle.task_laws.specs.Order.{CallKind, CallKinds, CallsAwaited, CallsNamed, CallsThere, CallsTold, CancelsNamed, CancelsWatched, DeliveredByCallback, DirectsOnTop, Fits, HasNotRun, HostsAwaited, InOrderIf, InsideOps, IsOf, JoinNamed, NamesKnown, Numbered, OnlyCalled, StartsAwaited, StartsFirst, StartsThere, Strands, ThreadFits, ThreadNumbered, WaitsAtHome, WaitsPlaced, WasCall, WorksKnown, WorksNamed, cancelled_by, cancelled_call, has_one_on_top, is_awaited, is_delivered, is_open, names_script, set_of_op, set_of_place}
-use Rattle.task_laws.specs.Wakes.{NoneAdmitted, NoneBlockedOnEnd, WakesCounted}
+use Rattle.task_laws.specs.WakeLaw.{NoneAdmitted, NoneBlockedOnEnd, WakesCounted}
 use Rattle.task_machine.proofs.MapLemmas.{get-insert_same}
 use Rattle.task_machine.specs.Core.{Core, State}
 use Rattle.task_machine.specs.Maps.{get, get-insert, insert}
-use Rattle.task_machine.specs.Read.{admits, backpressure_of, callee_of, callers_of, end_of, event_of, how_far_of, instance_of, is_callback, is_direct, is_explicit, is_in_set, is_ready_member, is_sync, is_waiting_on, is_woken_for, join_of, kind_of, may_not_enter, no_callee, place_of, subtask_handle, task_of, undelivered_end}
+use Rattle.task_machine.specs.Read.{admits, backpressure_of, callee_of, callers_of, end_of, event_of, op_progress_of, instance_of, is_callback, is_direct, is_explicit, is_in_set, is_ready_member, is_sync, is_waiting_on, is_woken_for, join_of, kind_of, may_not_enter, no_callee, place_of, subtask_handle, task_of, undelivered_end}
 use Rattle.task_machine.specs.Write.{add_call, add_thread, with_threads_made}
 use Rattle.task_machine.specs.declared.component.Callee.{Callee}
 use Rattle.task_machine.specs.declared.component.Component.{Component}
@@ -19,7 +19,7 @@ use Rattle.task_machine.specs.declared.records.Call.{Call}
 use Rattle.task_machine.specs.declared.records.CallEnd.{CallEnd}
 use Rattle.task_machine.specs.declared.records.Caller.{Caller}
 use Rattle.task_machine.specs.declared.records.Goal.{Goal}
-use Rattle.task_machine.specs.declared.records.HowFar.{HowFar}
+use Rattle.task_machine.specs.declared.records.OpProgress.{OpProgress}
 use Rattle.task_machine.specs.declared.records.Join.{Join}
 use Rattle.task_machine.specs.declared.records.Place.{Place}
 use Rattle.task_machine.specs.declared.records.Script.{Script}
@@ -125,8 +125,8 @@ module _ (c : Component) (x : State) (b : Bool) (o : InOrderIf b c x) (f : Calle
       (ap (λ (q : Option Call). unwrap_or q r) (sym call_is ∙ (ap (λ (k : ℕ). get t.calls k) (sym is) ∙ at))) own))
       (λ apart. old k r (sym (other_call k apart) ∙ at) apart)
 
-  far : (n : ℕ) → how_far_of n t ≡ how_far_of n s
-  far n = threads_same (λ (q : Option Thread). option_map_or (λ (r : Thread). r.how_far) q HowFar.Fresh) refl n
+  far : (n : ℕ) → op_progress_of n t ≡ op_progress_of n s
+  far n = threads_same (λ (q : Option Thread). option_map_or (λ (r : Thread). r.op_progress) q OpProgress.Fresh) refl n
 
   explicit : (n : ℕ) → is_explicit n t ≡ is_explicit n s
   explicit n = threads_same (λ (q : Option Thread). option_map_or (λ (r : Thread). r.explicit) q false) refl n
@@ -266,15 +266,15 @@ module _ (c : Component) (x : State) (b : Bool) (o : InOrderIf b c x) (f : Calle
   was_call k w = let low = w.number in record { number = omega (arith, low); first = explicit k ∙ w.first }
 
   -- the call that an op is about isn't the new one
-  about : (n k : ℕ) → subtask_under_way (how_far_of n s) ≡ Some (Subtask.Guest k) → (k == m) ≡ false
+  about : (n k : ℕ) → subtask_under_way (op_progress_of n s) ≡ Some (Subtask.Guest k) → (k == m) ≡ false
   about n k e = low_number k (o.calls_named.by_op n k e).number
 
-  inside_of : (n k : ℕ) → how_far_of n s ≡ HowFar.Calls (Subtask.Guest k) → (k == m) ≡ false
+  inside_of : (n k : ℕ) → op_progress_of n s ≡ OpProgress.Calls (Subtask.Guest k) → (k == m) ≡ false
   inside_of n k e = about n k (ap subtask_under_way e)
 
-  cancelled_under : (h : HowFar) (sub : Subtask) → cancelled_by h ≡ Some sub → subtask_under_way h ≡ Some sub
-  cancelled_under (HowFar.Cancels q) sub e = e
-  cancelled_under (HowFar.AwaitsEnd q) sub e = e
+  cancelled_under : (h : OpProgress) (sub : Subtask) → cancelled_by h ≡ Some sub → subtask_under_way h ≡ Some sub
+  cancelled_under (OpProgress.Cancels q) sub e = e
+  cancelled_under (OpProgress.AwaitsEnd q) sub e = e
   cancelled_under h sub e = absurd (grind (arith, e))
 
   calls_named : CallsNamed t
@@ -286,7 +286,7 @@ module _ (c : Component) (x : State) (b : Bool) (o : InOrderIf b c x) (f : Calle
   works_named : WorksNamed t
   works_named = record { by_handle = o.works_named.by_handle; by_op = λ n j e. o.works_named.by_op n j (sym (ap subtask_under_way (far n)) ∙ e) }
 
-  called : (n k : ℕ) → how_far_of n t ≡ HowFar.Calls (Subtask.Guest k) → OnlyCalled n k t
+  called : (n k : ℕ) → op_progress_of n t ≡ OpProgress.Calls (Subtask.Guest k) → OnlyCalled n k t
   called n k e r at = let was = sym (far n) ∙ e in o.names.called n k was r (sym (other_call k (inside_of n k was)) ∙ at)
 
   names : NamesKnown t
@@ -358,7 +358,7 @@ module _ (c : Component) (x : State) (b : Bool) (o : InOrderIf b c x) (f : Calle
       record {
         script = subst (λ (y : Callee). names_script c y.instance r.explicit r.script ≡ true) is h.script;
         position = subst (λ (y : Callee). r.position ≤ length (script_in c y r.script)) is h.position;
-        op = subst (λ (o : Op). can_come o r.how_far ≡ true) same h.op;
+        op = subst (λ (o : Op). can_come o r.op_progress ≡ true) same h.op;
         under = subst (λ (o : Op). has_one_on_top r.place ≡ true → is_sync_call o ≡ true) same h.under;
         first = h.first;
       })
@@ -385,7 +385,7 @@ module _ (c : Component) (x : State) (b : Bool) (o : InOrderIf b c x) (f : Calle
   watched : CancelsWatched t
   watched n (Subtask.Guest k) e =
       let was = sym (ap cancelled_by (far n)) ∙ e in
-      ap (λ (q : Option Call). option_map_or (λ (r : Call). is_watched_by n r.join) q true) (other_call k (about n k (cancelled_under (how_far_of n s) (Subtask.Guest k) was)))
+      ap (λ (q : Option Call). option_map_or (λ (r : Call). is_watched_by n r.join) q true) (other_call k (about n k (cancelled_under (op_progress_of n s) (Subtask.Guest k) was)))
       ∙ o.watched n (Subtask.Guest k) was
   watched n (Subtask.Host i) e = o.watched n (Subtask.Host i) (sym (ap cancelled_by (far n)) ∙ e)
 
@@ -397,7 +397,7 @@ module _ (c : Component) (x : State) (b : Bool) (o : InOrderIf b c x) (f : Calle
   inside n Place.New at = refl
   inside n p at = by_number n m _
       (λ is. let new : Some Place.New ≡ Some p = sym (ap (option_map (λ (r : Thread). r.place)) (ap (λ (k : ℕ). get t.threads k) is ∙ new_is)) ∙ at in
-      subst (λ (q : Option Place). option_map_or (λ (p : Place). is_inside p (how_far_of n t)) q false ≡ true) new refl)
+      subst (λ (q : Option Place). option_map_or (λ (p : Place). is_inside p (op_progress_of n t)) q false ≡ true) new refl)
       (λ apart. ap (is_inside p) (far n) ∙ o.inside n p (sym (ap (option_map (λ (r : Thread). r.place)) (other_thread n apart)) ∙ at))
 
   admitted : (n : ℕ) (w : Why) → (n == m) ≡ false → admits n t w ≡ admits n s w

@@ -1,6 +1,6 @@
 -- One mark of one call or work is another: order stays.
 use Rattle.order_laws.proofs.StayLemmas.{MarksFit, change_same, marks_awake, marks_in_order, unmarked_call, unmarked_work}
-use Rattle.order_laws.specs.Pieces.{Orderly, state_in}
+use Rattle.order_laws.specs.Pieces.{InOrderForAnyMain, state_in}
 use Rattle.std.proofs.Common.{ap, arith, refl, subst, sym, inl, inr, ⊎_elim, ◌∙◌}
 use Rattle.std.proofs.lemmas.Bool.Decides.{nat_tests}
 use Rattle.std.specs.Option.{option_map_or}
@@ -9,17 +9,17 @@ use Rattle.task_laws.specs.Order.{InOrder, InOrderIf, JoinNamed, WorkTold, cance
 use Rattle.task_machine.proofs.CommuteLemmas.{get-change}
 use Rattle.task_machine.specs.Core.{Core, State, Unscripted}
 use Rattle.task_machine.specs.Maps.{Records, change, get}
-use Rattle.task_machine.specs.Read.{course_value, has_ended, how_far_of, is_async_lifted, is_stage_ended, is_watched, join_of, subtask_handle, undelivered_end}
+use Rattle.task_machine.specs.Read.{course_value, has_ended, op_progress_of, is_async_lifted, is_stage_ended, is_watched, join_of, subtask_handle, undelivered_end}
 use Rattle.task_machine.specs.Write.{on_call, on_work}
 use Rattle.task_machine.specs.declared.component.Component.{Component}
 use Rattle.task_machine.specs.declared.records.Call.{Call}
 use Rattle.task_machine.specs.declared.records.Caller.{Caller}
-use Rattle.task_machine.specs.declared.records.HowFar.{HowFar}
+use Rattle.task_machine.specs.declared.records.OpProgress.{OpProgress}
 use Rattle.task_machine.specs.declared.records.Join.{Join}
 use Rattle.task_machine.specs.declared.records.Subtask.{Subtask}
 use Rattle.task_machine.specs.declared.records.Turn.{Turn}
 use Rattle.task_machine.specs.declared.records.Work.{Work}
-use Rattle.task_machine.specs.declared.words.OwnEvent.{OwnEvent}
+use Rattle.task_machine.specs.declared.words.TaskEvent.{TaskEvent}
 use Rattle.task_machine.specs.declared.words.Status.{Status}
 use Rattle.task_rules.proofs.StandLemmas.{by_number}
 use Rattle.task_rules.specs.Allowed.{is_async_work, is_watched_by, watches}
@@ -62,16 +62,16 @@ module _ {X : Type 0} (k : ℕ) (f : X → X) (m : Records X) where
 -- What is shown of the one call, whose record was z and is y.
 pub record CallFits (u : Core) (k : ℕ) (z y : Call) : Type 0 where
   pub uncancelled : is_uncancelled z ≡ true → is_uncancelled y ≡ true
-  pub awaited : (n : ℕ) → how_far_of n u ≡ HowFar.Calls (Subtask.Guest k) → is_awaited z ≡ true → is_awaited y ≡ true
+  pub awaited : (n : ℕ) → op_progress_of n u ≡ OpProgress.Calls (Subtask.Guest k) → is_awaited z ≡ true → is_awaited y ≡ true
   pub delivered : is_async_lifted z.kind ≡ false → z.cancel_delivered ≡ false → y.cancel_delivered ≡ false
   pub joins : (x : ℕ) → y.join ≡ Join.Set x → (z.join ≡ Join.Set x) ⊎ JoinNamed (Subtask.Guest k) x u
-  pub watched : (n : ℕ) → cancelled_by (how_far_of n u) ≡ Some (Subtask.Guest k) → is_watched_by n z.join ≡ true → is_watched_by n y.join ≡ true
+  pub watched : (n : ℕ) → cancelled_by (op_progress_of n u) ≡ Some (Subtask.Guest k) → is_watched_by n z.join ≡ true → is_watched_by n y.join ≡ true
   pub told : ((d : Status) → undelivered_end z.event ≡ Some d → is_some z.«end» ≡ true) → (d : Status) → undelivered_end y.event ≡ Some d → is_some y.«end» ≡ true
 
 -- What is shown of the one work.
 pub record WorkFits (u : Core) (i : ℕ) (z y : Work) : Type 0 where
   pub joins : (x : ℕ) → y.join ≡ Join.Set x → (z.join ≡ Join.Set x) ⊎ JoinNamed (Subtask.Host i) x u
-  pub watched : (n : ℕ) → cancelled_by (how_far_of n u) ≡ Some (Subtask.Host i) → is_watched_by n z.join ≡ true → is_watched_by n y.join ≡ true
+  pub watched : (n : ℕ) → cancelled_by (op_progress_of n u) ≡ Some (Subtask.Host i) → is_watched_by n z.join ≡ true → is_watched_by n y.join ≡ true
   pub told : WorkTold z → WorkTold y
 
 module _ {c : Component} {x : State} {g : Bool} (o : InOrderIf g c x) (k : ℕ) (f : Call → Call) (same : (z : Call) → unmarked_call (f z) ≡ unmarked_call z)
@@ -82,12 +82,12 @@ module _ {c : Component} {x : State} {g : Bool} (o : InOrderIf g c x) (k : ℕ) 
   pub call_fits : MarksFit c x.core one_call
   call_fits = record {
     called = λ n j far y at. each k f x.core.calls
-        (λ (i : ℕ) (q : Call). how_far_of n x.core ≡ HowFar.Calls (Subtask.Guest i) → (q.caller ≡ Caller.Thread n) × ((q.handle ≡ None) × (is_uncancelled q ≡ true)))
+        (λ (i : ℕ) (q : Call). op_progress_of n x.core ≡ OpProgress.Calls (Subtask.Guest i) → (q.caller ≡ Caller.Thread n) × ((q.handle ≡ None) × (is_uncancelled q ≡ true)))
         (λ i z was far. o.names.called n i far z was)
         (λ z was far. let q = o.names.called n k far z was in
         (ap (λ (w : Call). w.caller) (same z) ∙ q.0, (ap (λ (w : Call). w.handle) (same z) ∙ q.1.0, (fits z was).uncancelled q.1.1))) j y at far;
     inside = λ n j far. ⊎_elim inl (λ on. inr (passes k f x.core.calls is_awaited false j
-        (λ is z was. (fits z was).awaited n (subst (λ (i : ℕ). how_far_of n x.core ≡ HowFar.Calls (Subtask.Guest i)) is far)) on)) (o.calls.inside n j far);
+        (λ is z was. (fits z was).awaited n (subst (λ (i : ℕ). op_progress_of n x.core ≡ OpProgress.Calls (Subtask.Guest i)) is far)) on)) (o.calls.inside n j far);
     joins = joins;
     uncancelled = each k f x.core.calls (λ (i : ℕ) (q : Call). is_async_lifted q.kind ≡ false → q.cancel_delivered ≡ false) (λ i z was. (o.kinds i z was).uncancelled)
         (λ z was kind. let sync : is_async_lifted z.kind ≡ false = ap (λ (w : Call). is_async_lifted w.kind) (sym (same z)) ∙ kind in
@@ -112,9 +112,9 @@ module _ {c : Component} {x : State} {g : Bool} (o : InOrderIf g c x) (k : ℕ) 
       joins (Subtask.Guest j) y at = joined j y (get one_call.calls j) refl at
       joins (Subtask.Host i) y at = named (Subtask.Host i) y (o.joins_named.joins (Subtask.Host i) y at)
 
-      watched : (n : ℕ) (sub : Subtask) → cancelled_by (how_far_of n x.core) ≡ Some sub → watches n sub one_call ≡ true
+      watched : (n : ℕ) (sub : Subtask) → cancelled_by (op_progress_of n x.core) ≡ Some sub → watches n sub one_call ≡ true
       watched n (Subtask.Guest j) far = passes k f x.core.calls (λ (z : Call). is_watched_by n z.join) true j
-          (λ is z was. (fits z was).watched n (subst (λ (i : ℕ). cancelled_by (how_far_of n x.core) ≡ Some (Subtask.Guest i)) is far)) (o.watched n (Subtask.Guest j) far)
+          (λ is z was. (fits z was).watched n (subst (λ (i : ℕ). cancelled_by (op_progress_of n x.core) ≡ Some (Subtask.Guest i)) is far)) (o.watched n (Subtask.Guest j) far)
       watched n (Subtask.Host i) far = o.watched n (Subtask.Host i) far
 
       -- what a call that was there has told, it has told as it has ended
@@ -158,17 +158,17 @@ module _ {c : Component} {x : State} {g : Bool} (o : InOrderIf g c x) (k : ℕ) 
       joins (Subtask.Guest j) y at = named (Subtask.Guest j) y (o.joins_named.joins (Subtask.Guest j) y at)
       joins (Subtask.Host j) y at = joined j y (get one_work.works j) refl at
 
-      watched : (n : ℕ) (sub : Subtask) → cancelled_by (how_far_of n x.core) ≡ Some sub → watches n sub one_work ≡ true
+      watched : (n : ℕ) (sub : Subtask) → cancelled_by (op_progress_of n x.core) ≡ Some sub → watches n sub one_work ≡ true
       watched n (Subtask.Guest j) far = o.watched n (Subtask.Guest j) far
       watched n (Subtask.Host j) far = passes k f x.core.works (λ (z : Work). is_watched_by n z.join) true j
-          (λ is z was. (fits z was).watched n (subst (λ (i : ℕ). cancelled_by (how_far_of n x.core) ≡ Some (Subtask.Host i)) is far)) (o.watched n (Subtask.Host j) far)
+          (λ is z was. (fits z was).watched n (subst (λ (i : ℕ). cancelled_by (op_progress_of n x.core) ≡ Some (Subtask.Host i)) is far)) (o.watched n (Subtask.Host j) far)
 
-module _ (c : Component) (p : Turn) (going : is_open p ≡ true) (u : Core) (h : Orderly c p u) where
+module _ (c : Component) (p : Turn) (going : is_open p ≡ true) (u : Core) (h : InOrderForAnyMain c p u) where
   o : InOrder c (state_in Unscripted p u)
   o = h Unscripted
 
   pub call_marked : (k : ℕ) (f : Call → Call) → ((z : Call) → unmarked_call (f z) ≡ unmarked_call z) → ((z : Call) → get u.calls k ≡ Some z → CallFits u k z (f z)) →
-      NoWakeLost (on_call k f u) → Orderly c p (on_call k f u)
+      NoWakeLost (on_call k f u) → InOrderForAnyMain c p (on_call k f u)
   unfolding on_call
   call_marked k f same fits lost m =
       let calls = change_same unmarked_call k f u.calls same in
@@ -176,7 +176,7 @@ module _ (c : Component) (p : Turn) (going : is_open p ≡ true) (u : Core) (h :
       (λ e. marks_awake c (state_in m p u) (is_open p) (h m) (change k f u.calls) u.works calls (λ i. refl) p lost.blocked lost.counted ((h m).awake e))
 
   pub work_marked : (i : ℕ) (f : Work → Work) → ((z : Work) → unmarked_work (f z) ≡ unmarked_work z) → ((z : Work) → get u.works i ≡ Some z → WorkFits u i z (f z)) →
-      NoWakeLost (on_work i f u) → Orderly c p (on_work i f u)
+      NoWakeLost (on_work i f u) → InOrderForAnyMain c p (on_work i f u)
   unfolding on_work
   work_marked i f same fits lost m =
       let works = change_same unmarked_work i f u.works same in
@@ -186,7 +186,7 @@ module _ (c : Component) (p : Turn) (going : is_open p ≡ true) (u : Core) (h :
   -- ---- The event of a call, and of a work
 
   pub call_event_fits : (k : ℕ) (v : Option Status) → ((z : Call) → get u.calls k ≡ Some z → (d : Status) → undelivered_end v ≡ Some d → is_some z.«end» ≡ true) →
-      ((n : ℕ) (z : Call) → how_far_of n u ≡ HowFar.Calls (Subtask.Guest k) → get u.calls k ≡ Some z → is_awaited z ≡ true → is_awaited (record z { event = v }) ≡ true) →
+      ((n : ℕ) (z : Call) → op_progress_of n u ≡ OpProgress.Calls (Subtask.Guest k) → get u.calls k ≡ Some z → is_awaited z ≡ true → is_awaited (record z { event = v }) ≡ true) →
       (z : Call) → get u.calls k ≡ Some z → CallFits u k z (record z { event = v })
   call_event_fits k v told awaits z was = record {
     uncancelled = λ on. on;
@@ -208,7 +208,7 @@ module _ (c : Component) (p : Turn) (going : is_open p ≡ true) (u : Core) (h :
   -- ---- The set that a subtask is in
 
   -- who cancels a subtask has it in its own set
-  uncancelled_of : (n : ℕ) (sub : Subtask) → cancelled_by (how_far_of n u) ≡ Some sub → is_watched (join_of sub u) ≡ false → ⊥
+  uncancelled_of : (n : ℕ) (sub : Subtask) → cancelled_by (op_progress_of n u) ≡ Some sub → is_watched (join_of sub u) ≡ false → ⊥
   uncancelled_of n (Subtask.Guest k) far apart =
       let there = o.cancelled n (Subtask.Guest k) far in
       let on = o.watched n (Subtask.Guest k) far in
@@ -247,9 +247,9 @@ module _ (c : Component) (p : Turn) (going : is_open p ≡ true) (u : Core) (h :
 
   -- ---- A task's own event
 
-  pub own_event_fits : (k : ℕ) (d : Bool) → (d ≡ true → (z : Call) → get u.calls k ≡ Some z → (z.own_event ≡ Some OwnEvent.Cancelled) × (is_async_lifted z.kind ≡ true)) →
-      (z : Call) → get u.calls k ≡ Some z → CallFits u k z (record z { own_event = None; cancel_delivered = cond d true z.cancel_delivered })
-  own_event_fits k d told z was = record {
+  pub task_event_fits : (k : ℕ) (d : Bool) → (d ≡ true → (z : Call) → get u.calls k ≡ Some z → (z.task_event ≡ Some TaskEvent.Cancelled) × (is_async_lifted z.kind ≡ true)) →
+      (z : Call) → get u.calls k ≡ Some z → CallFits u k z (record z { task_event = None; cancel_delivered = cond d true z.cancel_delivered })
+  task_event_fits k d told z was = record {
     uncancelled = λ on. untouched d refl on;
     awaited = λ n far on. on;
     delivered = λ sync off. delivered d refl sync off;
@@ -258,7 +258,7 @@ module _ (c : Component) (p : Turn) (going : is_open p ≡ true) (u : Core) (h :
     told = λ before. before;
   }
     where
-      untouched : (b : Bool) → d ≡ b → is_uncancelled z ≡ true → is_uncancelled (record z { own_event = None; cancel_delivered = cond d true z.cancel_delivered }) ≡ true
+      untouched : (b : Bool) → d ≡ b → is_uncancelled z ≡ true → is_uncancelled (record z { task_event = None; cancel_delivered = cond d true z.cancel_delivered }) ≡ true
       untouched true is q = absurd (let t = (told is z was).0 in grind (arith, t, q))
       untouched false is q = grind (arith, is, q)
 

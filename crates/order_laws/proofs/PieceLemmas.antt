@@ -1,7 +1,7 @@
 -- Pieces of rows, after which the running thread goes on, keep order.
 use Rattle.task_rules.proofs.LawLemmas.{walk_steady}
 use Rattle.order_laws.proofs.WalkedLemmas.{walked_in_order}
-use Rattle.order_laws.specs.Pieces.{KeepsOrder, Orderly, PromoteKeeps, ResumeKeeps, SameInstances, WalkedInOrder, state_in}
+use Rattle.order_laws.specs.Pieces.{KeepsOrder, InOrderForAnyMain, PromoteKeeps, ResumeKeeps, SameInstances, WalkedInOrder, state_in}
 use Rattle.task_laws.proofs.OneHolder.{instance_stays, table_stays}
 use Rattle.task_laws.proofs.WakeCounts.{woken_at, woken_place}
 use Rattle.task_machine.specs.Moves.{promoted_unless}
@@ -9,12 +9,12 @@ use Rattle.task_machine.specs.Read.{is_ready_to_resume, is_yielded}
 use Rattle.task_machine.specs.declared.label.DataLabel.{DataLabel}
 use Rattle.task_machine.specs.declared.scenario.IdleLine.{IdleLine}
 use Rattle.task_places.proofs.CountedSteps.{counted_stay}
-use Rattle.task_places.proofs.Laws.{Component, Core, HowFar, Label, LastWords, Main, Mark, None, Option, Place, Placed, Promote, Put, SameMain, Scene, Scripted, Setting, Some, Stay, Trip, Turn, Unscripted, WakesCounted, Walk, Why, [], along, and_parts, ap, arith, by_number, displaced, false, get, get-change, how_far_of, if◌then◌else◌, inl, inr, is_at, is_at_switch, is_some, is_waiter, is_waiting_on, member_same, nat_tests, on_thread, option_map_or, place_of, placing_shifted, promoted, push_high_first, put_switch, refl, set_high, set_low, set_place, set_switch, settled_turn, shifted_calls, shifted_far, shifted_works, subst, sym, true, unqueued, ℕ, ◌==◌, ◌∙◌, ◌≡◌, ◌⊎◌}
+use Rattle.task_places.proofs.Laws.{Component, Core, OpProgress, Label, LastPrimitives, Main, Mark, None, Option, Place, Placed, Promote, Put, SameMain, Scene, Scripted, Setting, Some, Stay, Trip, Turn, Unscripted, WakesCounted, Walk, Why, [], along, and_parts, ap, arith, by_number, displaced, false, get, get-change, op_progress_of, if◌then◌else◌, inl, inr, is_at, is_at_switch, is_some, is_waiter, is_waiting_on, member_same, nat_tests, on_thread, option_map_or, place_of, placing_shifted, promoted, push_high_first, put_switch, refl, set_high, set_low, set_place, set_switch, settled_turn, shifted_calls, shifted_far, shifted_works, subst, sym, true, unqueued, ℕ, ◌==◌, ◌∙◌, ◌≡◌, ◌⊎◌}
 use Rattle.task_rules.proofs.ChainLemmas.{trip_walk}
 use Rattle.task_rules.proofs.PlacingLemmas.{Shifted, placed}
 use Rattle.task_rules.proofs.WalkTask.{goes_on, seen}
 use Rattle.task_rules.specs.Allowed.{Resumes}
-use Rattle.task_rules.specs.Chains.{NoWord}
+use Rattle.task_rules.specs.Chains.{NoPrimitive}
 use Rattle.task_rules.specs.Scripts.{ops_of}
 use Rattle.task_rules.specs.Threads.{has_yielded, resume_why}
 
@@ -44,7 +44,7 @@ walk_instances {s = s} c = record {
 
 -- what a row of the running thread leads to is in order
 pub lead_keeps : (c : Component) (n : ℕ) (l : Label) (p : Turn) (s t : Core) →
-    ((m : Main) → Trip (seen (ops_of c s) (setting_for c) m (Turn.Run n) s n l p) s t × LastWords (seen (ops_of c s) (setting_for c) m (Turn.Run n) s n l p) t) →
+    ((m : Main) → Trip (seen (ops_of c s) (setting_for c) m (Turn.Run n) s n l p) s t × LastPrimitives (seen (ops_of c s) (setting_for c) m (Turn.Run n) s n l p) t) →
     p ≡ settled_turn t p → WakesCounted t → KeepsOrder c (Turn.Run n) s p t
 unfolding WalkedInOrder
 lead_keeps c n l p s t leads settled counted h = (
@@ -65,7 +65,7 @@ piece_keeps c n s t stays counted h = lead_keeps c n (silent n) (Turn.Run n) s t
 
 -- who waits on a set waited before, and who is woken stays so
 pub placing_counted : (s t : Core) → Shifted s t → ((y j : ℕ) → is_waiter y j t ≡ true → is_waiter y j s ≡ true) →
-    ((y j : ℕ) → woken_place y (place_of j s) (how_far_of j s) ≡ true → woken_place y (place_of j t) (how_far_of j s) ≡ true) →
+    ((y j : ℕ) → woken_place y (place_of j s) (op_progress_of j s) ≡ true → woken_place y (place_of j t) (op_progress_of j s) ≡ true) →
     WakesCounted s → WakesCounted t
 placing_counted s t h waits woken counted = counted_stay waits
     (λ y sub on. sym (member_same y s t (shifted_calls h) (shifted_works h) sub) ∙ on)
@@ -81,7 +81,7 @@ pub moved_waits : (y : ℕ) (o p : Option Place) → Moved o p → option_map_or
 moved_waits y o p (inl e) on = ap (λ (q : Option Place). option_map_or (is_waiting_on y) q false) (sym e) ∙ on
 moved_waits y o p (inr q) on = absurd (let to = q.1.1.1.1 in grind (arith, to, on))
 
-pub moved_woken : (y : ℕ) (far : HowFar) (o p : Option Place) → Moved o p → woken_place y o far ≡ true → woken_place y p far ≡ true
+pub moved_woken : (y : ℕ) (far : OpProgress) (o p : Option Place) → Moved o p → woken_place y o far ≡ true → woken_place y p far ≡ true
 moved_woken y far o p (inl e) on = ap (λ (q : Option Place). woken_place y q far) e ∙ on
 moved_woken y far o p (inr q) on = let from = q.1.1.1.0 in let to = q.1.1.1.1 in grind (arith, from, to, on)
 
@@ -120,12 +120,12 @@ module _ (k : ℕ) (w : Why) (s : Core) (placed : Placed s) (may : resume_why k 
   resumed_counted : WakesCounted s → WakesCounted t
   resumed_counted counted = placing_counted s t (placing_shifted (Put Mark.Switch k w) s)
       (λ y j on. by_number j k _ (λ is. absurd (let to = own in grind (arith, to, on, is))) (λ apart. moved_waits y (place_of j s) (place_of j t) (others j apart) on))
-      (λ y j on. by_number j k _ (λ is. absurd (grind (arith, may, on, is))) (λ apart. moved_woken y (how_far_of j s) (place_of j s) (place_of j t) (others j apart) on)) counted
+      (λ y j on. by_number j k _ (λ is. absurd (grind (arith, may, on, is))) (λ apart. moved_woken y (op_progress_of j s) (place_of j s) (place_of j t) (others j apart) on)) counted
 
 pub resume_keeps : ResumeKeeps
 unfolding ResumeKeeps
 resume_keeps c n k w s may h = piece_keeps c n s (put_switch k w s)
-    (λ m. placed (Put Mark.Switch k w) (inr (Resumes may, ((n, refl), λ j f at. at))) NoWord)
+    (λ m. placed (Put Mark.Switch k w) (inr (Resumes may, ((n, refl), λ j f at. at))) NoPrimitive)
     (resumed_counted k w s (h Unscripted).in_place.placed may ((h Unscripted).awake refl).counted) h
 
 -- ---- A promotion
@@ -147,16 +147,16 @@ unfolding PromoteKeeps promoted_unless has_yielded
 promote_keeps c n k s may h = by s.queues.switch refl
   where
     ready : (m : Mark) × ((w : Why) × (place_of k s ≡ Some (Place.Ready m w)))
-    ready = ready_place (place_of k s) (and_parts (option_map_or is_ready_to_resume (place_of k s) false) (is_yielded (how_far_of k s)) may).0
+    ready = ready_place (place_of k s) (and_parts (option_map_or is_ready_to_resume (place_of k s) false) (is_yielded (op_progress_of k s)) may).0
 
-    moves : s.queues.switch ≡ None → Orderly c (Turn.Run n) (promoted k s) × SameInstances s (promoted k s)
+    moves : s.queues.switch ≡ None → InOrderForAnyMain c (Turn.Run n) (promoted k s) × SameInstances s (promoted k s)
     moves free = piece_keeps c n s (promoted k s)
-        (λ m. placed (Promote k) (inr (free, (n, (refl, ready)))) NoWord)
+        (λ m. placed (Promote k) (inr (free, (n, (refl, ready)))) NoPrimitive)
         (placing_counted s (promoted k s) (placing_shifted (Promote k) s)
         (λ y j on. moved_waits y (place_of j s) (place_of j (promoted k s)) (promoted_moved k s ready.0 ready.1.0 ready.1.1 j) on)
-        (λ y j on. moved_woken y (how_far_of j s) (place_of j s) (place_of j (promoted k s)) (promoted_moved k s ready.0 ready.1.0 ready.1.1 j) on)
+        (λ y j on. moved_woken y (op_progress_of j s) (place_of j s) (place_of j (promoted k s)) (promoted_moved k s ready.0 ready.1.0 ready.1.1 j) on)
         ((h Unscripted).awake refl).counted) h
 
-    by : (o : Option ℕ) → s.queues.switch ≡ o → let t = if is_some o then s else promoted k s in Orderly c (Turn.Run n) t × SameInstances s t
+    by : (o : Option ℕ) → s.queues.switch ≡ o → let t = if is_some o then s else promoted k s in InOrderForAnyMain c (Turn.Run n) t × SameInstances s t
     by None is = moves is
     by (Some d) is = (h, record { instances = λ i. refl; handles = λ i. refl })

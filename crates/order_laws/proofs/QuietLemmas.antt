@@ -1,7 +1,7 @@
 -- Threads that get an entry beside the one that runs, whosever turn it is, leave order.
 use Rattle.order_laws.proofs.StayLemmas.{IsIdle, idle_turned}
 use Rattle.order_laws.proofs.PieceLemmas.{piece_keeps, placing_counted, same_main, setting_for, silent, walk_instances}
-use Rattle.order_laws.specs.Pieces.{KeepsOrder, Orderly, WalkedInOrder, state_in}
+use Rattle.order_laws.specs.Pieces.{KeepsOrder, InOrderForAnyMain, WalkedInOrder, state_in}
 use Rattle.order_laws.proofs.WalkedLemmas.{walked_in_order}
 use Rattle.std.proofs.Common.{ap, arith, refl, sym, ◌∙◌}
 use Rattle.std.proofs.lemmas.Bool.Decides.{nat_tests}
@@ -9,14 +9,14 @@ use Rattle.std.specs.Option.{option_map_or}
 use Rattle.std.specs.Prelude.{Bool, Option, Some, false, true, ℕ, ◌==◌, ◌≡◌}
 use Rattle.task_laws.proofs.WakeCounts.{woken_place}
 use Rattle.task_laws.specs.Order.{is_open}
-use Rattle.task_laws.specs.Wakes.{WakesCounted}
+use Rattle.task_laws.specs.WakeLaw.{WakesCounted}
 use Rattle.task_machine.proofs.CommuteLemmas.{get-change}
 use Rattle.task_machine.specs.Core.{Core, Main, Unscripted}
 use Rattle.task_machine.specs.Moves.{put_high, put_low}
-use Rattle.task_machine.specs.Read.{how_far_of, is_waiting_on, place_of}
+use Rattle.task_machine.specs.Read.{op_progress_of, is_waiting_on, place_of}
 use Rattle.task_machine.specs.Write.{on_thread, push_high, push_low, set_place}
 use Rattle.task_machine.specs.declared.component.Component.{Component}
-use Rattle.task_machine.specs.declared.records.HowFar.{HowFar}
+use Rattle.task_machine.specs.declared.records.OpProgress.{OpProgress}
 use Rattle.task_machine.specs.declared.records.Place.{Place}
 use Rattle.task_machine.specs.declared.records.Turn.{Turn}
 use Rattle.task_machine.specs.declared.records.Why.{Why}
@@ -28,7 +28,7 @@ use Rattle.task_rules.proofs.PlacingLemmas.{placed, placing_shifted}
 use Rattle.task_rules.proofs.StandLemmas.{by_number}
 use Rattle.task_rules.specs.Allowed.{Cancels, MayPut, Releases, Resumes, Starts, Unblocks, Wakes}
 use Rattle.task_rules.specs.Cancels.{is_callback_wait}
-use Rattle.task_rules.specs.Chains.{LastWords, NoWord, Remains, Shifts, Stay}
+use Rattle.task_rules.specs.Chains.{LastPrimitives, NoPrimitive, Remains, Shifts, Stay}
 use Rattle.task_rules.specs.Scenes.{Scene, scene_of}
 use Rattle.task_rules.specs.Words.{Put, put_at}
 
@@ -38,7 +38,7 @@ use Rattle.task_rules.specs.Words.{Put, put_at}
 abbrev quiet : Component → Main → Core → Scene
 quiet c m s = scene_of (setting_for c) (state_in m Turn.Main s) (silent 0) Turn.Main
 
-pub quiet_ends : (c : Component) (m : Main) (s t : Core) → LastWords (quiet c m s) t
+pub quiet_ends : (c : Component) (m : Main) (s t : Core) → LastPrimitives (quiet c m s) t
 quiet_ends c m s t = record {
   laid = λ n none take. none_said refl none;
   runs = λ n to. absurd (cc);
@@ -101,19 +101,19 @@ waiter_place : (x : ℕ) (o : Option Place) → option_map_or (is_waiting_on x) 
 waiter_place x (Some (Place.Waiting y b)) on = ((y, b), refl)
 waiter_place x o on = absurd (grind (arith, on))
 
-callback_place : (o : Option Place) → option_map_or is_callback_wait o false ≡ true → (p : Place) × ((o ≡ Some p) × ((y : ℕ) (far : HowFar) → woken_place y (Some p) far ≡ false))
+callback_place : (o : Option Place) → option_map_or is_callback_wait o false ≡ true → (p : Place) × ((o ≡ Some p) × ((y : ℕ) (far : OpProgress) → woken_place y (Some p) far ≡ false))
 callback_place (Some (Place.Waiting y b)) on = (Place.Waiting y b, (refl, λ z far. refl))
 callback_place o on = absurd (grind (arith, on))
 
-pub counted_of : (c : Component) (p : Turn) (s : Core) → is_open p ≡ true → Orderly c p s → WakesCounted s
+pub counted_of : (c : Component) (p : Turn) (s : Core) → is_open p ≡ true → InOrderForAnyMain c p s → WakesCounted s
 counted_of c p s going h = ((h Unscripted).awake going).counted
 
 -- where a thread is that gets an entry it isn't running, and where it is woken for a set the entry is for that
-pub put_from : (n : ℕ) (w : Why) (s : Core) → MayPut n w s → (p : Place) × ((place_of n s ≡ Some p) × ((y : ℕ) (m : Mark) → woken_place y (Some p) (how_far_of n s) ≡ true → woken_place y (Some (Place.Ready m w)) (how_far_of n s) ≡ true))
+pub put_from : (n : ℕ) (w : Why) (s : Core) → MayPut n w s → (p : Place) × ((place_of n s ≡ Some p) × ((y : ℕ) (m : Mark) → woken_place y (Some p) (op_progress_of n s) ≡ true → woken_place y (Some (Place.Ready m w)) (op_progress_of n s) ≡ true))
 put_from n w s (Starts at own queued is) = (Place.New, (at, λ y m on. absurd (grind (arith, on))))
 put_from n w s (Resumes may) = by (place_of n s) refl
   where
-    by : (o : Option Place) → place_of n s ≡ o → (p : Place) × ((place_of n s ≡ Some p) × ((y : ℕ) (m : Mark) → woken_place y (Some p) (how_far_of n s) ≡ true → woken_place y (Some (Place.Ready m w)) (how_far_of n s) ≡ true))
+    by : (o : Option Place) → place_of n s ≡ o → (p : Place) × ((place_of n s ≡ Some p) × ((y : ℕ) (m : Mark) → woken_place y (Some p) (op_progress_of n s) ≡ true → woken_place y (Some (Place.Ready m w)) (op_progress_of n s) ≡ true))
     by (Some Place.New) at = (Place.New, (at, λ y m on. absurd (grind (arith, on))))
     by (Some Place.Suspended) at = (Place.Suspended, (at, λ y m on. absurd (grind (arith, on))))
     by o at = absurd (grind (arith, may, at))
@@ -121,7 +121,7 @@ put_from n w s (Wakes x waits is) =
     let p = waiter_place x (place_of n s) waits in (Place.Waiting p.0.0 p.0.1, (p.1, λ y m on. absurd (grind (arith, on))))
 put_from n w s (Unblocks sub at done is) = (Place.Blocked sub, (at, λ y m on. absurd (grind (arith, on))))
 put_from n w s (Releases at) = (Place.Held w, (at, λ y m on. grind (arith, on)))
-put_from n w s (Cancels at is) = let p = callback_place (place_of n s) at in (p.0, (p.1.0, λ y m on. absurd (let none = p.1.1 y (how_far_of n s) in grind (arith, on, none))))
+put_from n w s (Cancels at is) = let p = callback_place (place_of n s) at in (p.0, (p.1.0, λ y m on. absurd (let none = p.1.1 y (op_progress_of n s) in grind (arith, on, none))))
 
 put_counted : (m : Mark) (n : ℕ) (w : Why) (s : Core) → (m ≡ Mark.Switch → ⊥) → MayPut n w s → WakesCounted s → WakesCounted (put_at m n w s)
 put_counted m n w s low may counted =
@@ -131,10 +131,10 @@ put_counted m n w s low may counted =
     (λ y j on. by_number j n _ (λ is. absurd (grind (arith, to, on, is))) (λ apart. ap (λ (o : Option Place). option_map_or (is_waiting_on y) o false) (sym (put_others m n w s low j apart)) ∙ on))
     (λ y j on. by_number j n _
     (λ is. let at = from.1.0 in let goes = from.1.1 y m in grind (arith, to, at, goes, on, is))
-    (λ apart. ap (λ (o : Option Place). woken_place y o (how_far_of j s)) (put_others m n w s low j apart) ∙ on)) counted
+    (λ apart. ap (λ (o : Option Place). woken_place y o (op_progress_of j s)) (put_others m n w s low j apart) ∙ on)) counted
 
 -- a thread that doesn't run gets an entry at high or low
 pub put_keeps : (c : Component) (p : Turn) (m : Mark) (n : ℕ) (w : Why) (s : Core) → is_open p ≡ true → (m ≡ Mark.Switch → ⊥) → MayPut n w s → KeepsOrder c p s p (put_at m n w s)
-put_keeps c p Mark.High n w s going low may h = shifts_keep c p s (put_high n w s) going (placed (Put Mark.High n w) may NoWord) (put_counted Mark.High n w s low may (counted_of c p s going h)) h
-put_keeps c p Mark.Low n w s going low may h = shifts_keep c p s (put_low n w s) going (placed (Put Mark.Low n w) may NoWord) (put_counted Mark.Low n w s low may (counted_of c p s going h)) h
+put_keeps c p Mark.High n w s going low may h = shifts_keep c p s (put_high n w s) going (placed (Put Mark.High n w) may NoPrimitive) (put_counted Mark.High n w s low may (counted_of c p s going h)) h
+put_keeps c p Mark.Low n w s going low may h = shifts_keep c p s (put_low n w s) going (placed (Put Mark.Low n w) may NoPrimitive) (put_counted Mark.Low n w s low may (counted_of c p s going h)) h
 put_keeps c p Mark.Switch n w s going low may h = absurd (low refl)

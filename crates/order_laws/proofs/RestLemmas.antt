@@ -31,13 +31,13 @@ use Rattle.task_machine.specs.declared.words.Mark.{Mark}
 use Rattle.task_machine.specs.declared.words.Phase.{Phase}
 use Rattle.task_machine.specs.declared.words.Phase.TheVariants as phase
 use Rattle.task_rules.proofs.StandLemmas.{is_eq_of}
-use Rattle.task_rules.specs.MainOps.{Answers, Does, MainProgress, Pends, act_of, line_of, main_row, op_at}
-use Rattle.task_rules.specs.Progress.{Asks, Fails, Goes, Never, Ordered, Progress, Stops, Traps}
+use Rattle.task_rules.specs.MainOps.{Answers, Does, MainProgress, Pends, act_of, line_of, main_rule, op_at}
+use Rattle.task_rules.specs.Progress.{Asks, Fails, Continues, Never, Ordered, Progress, Stops, Traps}
 use Rattle.task_rules.specs.Run.{Run}
 use Rattle.task_rules.specs.Stalled.{Setting, is_unended_take, may_deadlock}
 use Rattle.task_rules.specs.Step.{DeadlockStep, EmptyFor, FuturesStep, MainProgresses, MainStep, Polled, Progresses, RestStep, ScriptStep, Step, TakeStep, TurnStep, entry_number}
-use Rattle.task_rules.specs.Takes.{popped, take_row}
-use Rattle.task_rules.specs.Turns.{at_turn, goes_to, nothing_stands, settled_futures, settled_take, settled_turn}
+use Rattle.task_rules.specs.Takes.{popped, take_rule}
+use Rattle.task_rules.specs.Turns.{at_turn, goes_to, queues_are_empty, settled_futures, settled_take, settled_turn}
 use Rattle.task_rules.specs.Works.{Asked, heard, Ends, FailsNow, Poll, StillPends, has_moving_work, is_moving, next_polled, poll_of, poll_pends, polled_again, polled_course, polled_in}
 
 abbrev pends : ℕ → Label
@@ -64,7 +64,7 @@ taken_loud m (label.Take l) h = refl
 taken_loud m l h = grind (arith, h)
 
 loud : (m : Mark) (s : State) (base : Core) (n : ℕ) (p : Progress) → Shows (IsTaken m) p → (l : Label) (t : State) → Progresses s base n p l t → is_quiet l ≡ false
-loud m s base n (Goes k new j) h l t is = ap is_quiet is.0 ∙ taken_loud m k h
+loud m s base n (Continues k new j) h l t is = ap is_quiet is.0 ∙ taken_loud m k h
 loud m s base n (Stops k new) h l t is = ap is_quiet is.0 ∙ taken_loud m k h
 loud m s base n (Ordered held next) h l t is = loud m s base n (next is.0) (h is.0) l t is.1.1
 loud m s base n (Asks next) h l t is = loud m s base n (next is.0) (h is.0) l t is.1
@@ -85,7 +85,7 @@ quiet_take : (x : Setting) (s : State) (o : Option (Mark × Entry)) (l : Label) 
     (has_moving_work s.core ≡ true) × ((l ≡ rest) × (t ≡ goes_to s s.core turn.Main))
 quiet_take x s (Some e) l t is quiet =
     let base = popped e.0 s.core in
-    let no = loud e.0 s base (entry_number e.1) (take_row e.0 (choice_of l) base e.1) (take_shows e.0 (choice_of l) base e.1) l t is in
+    let no = loud e.0 s base (entry_number e.1) (take_rule e.0 (choice_of l) base e.1) (take_shows e.0 (choice_of l) base e.1) l t is in
     absurd (cc)
 quiet_take x s None l t is quiet = by (has_moving_work s.core) refl is
   where
@@ -97,7 +97,7 @@ quiet_take x s None l t is quiet = by (has_moving_work s.core) refl is
 
 -- what a poll that pends finds
 abbrev Found : HostDef → Course → Type 0
-Found host c = (is_never (course.Goes host) ≡ true) ⊎ ((host ≡ host_def.Open) ⊎ ((p : ℕ) × ((v : Option ℕ) × ((c ≡ course.Goes (with_polls (suc p) v)) × (host ≡ with_polls p v)))))
+Found host c = (is_never (course.Continues host) ≡ true) ⊎ ((host ≡ host_def.Open) ⊎ ((p : ℕ) × ((v : Option ℕ) × ((c ≡ course.Continues (with_polls (suc p) v)) × (host ≡ with_polls p v)))))
 
 -- what a poll finds, whatever an open work answers
 abbrev Finds : Phase → Course → Poll → Type 0
@@ -111,15 +111,15 @@ by_answer p c on host_poll.Pending = (on, inr (inl refl))
 by_answer p c on (host_poll.Value v) = tt
 by_answer p c on host_poll.Failed = tt
 
-by_polls : (p : Phase) (d : HostDef) → is_aborted p ≡ false → Finds p (course.Goes d) (polled_again d)
+by_polls : (p : Phase) (d : HostDef) → is_aborted p ≡ false → Finds p (course.Continues d) (polled_again d)
 by_polls p (host_def.Settled None v) on = (on, inl refl)
 by_polls p (host_def.Settled (Some zero) None) on = tt
 by_polls p (host_def.Settled (Some zero) (Some v)) on = tt
 by_polls p (host_def.Settled (Some (suc k)) v) on = (on, inr (inr (k, (v, (refl, refl)))))
-by_polls p host_def.Open on = by_answer p (course.Goes host_def.Open) on
+by_polls p host_def.Open on = by_answer p (course.Continues host_def.Open) on
 
 by_course : (p : Phase) (c : Course) → is_aborted p ≡ false → Finds p c (polled_course c)
-by_course p (course.Goes d) on = by_polls p d on
+by_course p (course.Continues d) on = by_polls p d on
 by_course p (course.Value v) on = tt
 by_course p course.NoValue on = tt
 
@@ -140,7 +140,7 @@ finds_at i s w at = subst (λ (p : Poll). Finds w.phase w.course p) (let is : po
 module _ (x : Setting) (b : Core) where
   record Done (i : ℕ) (w : Work) : Type 0 where
     asked : is_aborted w.phase ≡ false
-    lowered : (is_never w.course ≡ true) ⊎ ((w.course ≡ course.Goes host_def.Open) ⊎ ((p : ℕ) × ((v : Option ℕ) × ((course_of i b ≡ course.Goes (with_polls (suc p) v)) × (w.course ≡ course.Goes (with_polls p v))))))
+    lowered : (is_never w.course ≡ true) ⊎ ((w.course ≡ course.Continues host_def.Open) ⊎ ((p : ℕ) × ((v : Option ℕ) × ((course_of i b ≡ course.Continues (with_polls (suc p) v)) × (w.course ≡ course.Continues (with_polls p v))))))
 
   -- those up to n were polled, and the others are as they were
   record UpTo (n : ℕ) (s : Core) : Type 0 where
@@ -157,26 +157,26 @@ module _ (x : Setting) (b : Core) where
     above : n < i
     above = next_above n i s next
 
-    changed : (j : ℕ) → get (poll_pends i host s).works j ≡ cond (j == i) (option_map (λ (w : Work). record w { course = course.Goes host }) (get s.works j)) (get s.works j)
+    changed : (j : ℕ) → get (poll_pends i host s).works j ≡ cond (j == i) (option_map (λ (w : Work). record w { course = course.Continues host }) (get s.works j)) (get s.works j)
     unfolding poll_pends set_course on_work
     changed j = grind (arith, nat_tests, get-change)
 
-    own : (w : Work) → get s.works i ≡ Some w → Done i (record w { course = course.Goes host })
+    own : (w : Work) → get s.works i ≡ Some w → Done i (record w { course = course.Continues host })
     unfolding FindsAt
     own w at =
         let f = poll w at in
         let here : course_of i b ≡ w.course = (let e = up.same i above in grind (arith, at, e)) in
         record {
           asked = f.0;
-          lowered = ⊎_elim (λ never. inl never) (λ r. inr (⊎_elim (λ open_one. inl (ap (λ (h : HostDef). course.Goes h) open_one)) (λ q. inr (q.0, (q.1.0, (here ∙ q.1.1.0, ap (λ (h : HostDef). course.Goes h) q.1.1.1)))) r)) f.1;
+          lowered = ⊎_elim (λ never. inl never) (λ r. inr (⊎_elim (λ open_one. inl (ap (λ (h : HostDef). course.Continues h) open_one)) (λ q. inr (q.0, (q.1.0, (here ∙ q.1.1.0, ap (λ (h : HostDef). course.Continues h) q.1.1.1)))) r)) f.1;
         }
 
     done_then : (j : ℕ) (w : Work) → get (poll_pends i host s).works j ≡ Some w → is_live w ≡ true → j ≤ i → Done j w
     done_then j w at live below = by (j == i) refl (sym (changed j) ∙ at)
       where
-        at_i : (o : Option Work) → get s.works i ≡ o → option_map (λ (v : Work). record v { course = course.Goes host }) o ≡ Some w → Done i w
+        at_i : (o : Option Work) → get s.works i ≡ o → option_map (λ (v : Work). record v { course = course.Continues host }) o ≡ Some w → Done i w
         at_i None is e = absurd (cc)
-        at_i (Some v) is e = let same : record v { course = course.Goes host } ≡ w = cc in subst (Done i) same (own v is)
+        at_i (Some v) is e = let same : record v { course = course.Continues host } ≡ w = cc in subst (Done i) same (own v is)
 
         before : get s.works j ≡ Some w → (j == i) ≡ false → Done j w
         before is apart = by_order (grind (arith, nat_tests, apart, below))
@@ -185,10 +185,10 @@ module _ (x : Setting) (b : Core) where
             by_order o = ⊎_elim (λ low. up.done j w is live low)
                 (λ mid. absurd (let q = next_least n j s w is live mid.0 in let same : Some q.0 ≡ Some i = sym q.1.0 ∙ next in let is_i : q.0 ≡ i = cc in let low = q.1.1 in let less = mid.1 in omega (arith, is_i, low, less))) o
 
-        by : (t : Bool) → (j == i) ≡ t → cond t (option_map (λ (v : Work). record v { course = course.Goes host }) (get s.works j)) (get s.works j) ≡ Some w → Done j w
+        by : (t : Bool) → (j == i) ≡ t → cond t (option_map (λ (v : Work). record v { course = course.Continues host }) (get s.works j)) (get s.works j) ≡ Some w → Done j w
         by true is e =
             let same = is_eq_of j i is in
-            subst (λ (k : ℕ). Done k w) (sym same) (at_i (get s.works i) refl (subst (λ (k : ℕ). option_map (λ (v : Work). record v { course = course.Goes host }) (get s.works k) ≡ Some w) same e))
+            subst (λ (k : ℕ). Done k w) (sym same) (at_i (get s.works i) refl (subst (λ (k : ℕ). option_map (λ (v : Work). record v { course = course.Continues host }) (get s.works k) ≡ Some w) same e))
         by false is e = before e is
 
     pended : UpTo i (poll_pends i host s)
@@ -228,7 +228,7 @@ module _ (x : Setting) (b : Core) where
       by (Some i) is k =
           let q = polled_step n i s (poll_of i s.core) l t on is (finds_at i s.core) (subst (λ (o : Option ℕ). FuturesStep s o l t) is k) quiet in
           inl (q.0, (i, q.1))
-      by None is k = let q = takes (nothing_stands s.core) k in inr (is, (q.0, (q.1.0, ap (λ (u : State). u.core) q.1.1)))
+      by None is k = let q = takes (queues_are_empty s.core) k in inr (is, (q.0, (q.1.0, ap (λ (u : State). u.core) q.1.1)))
 
   -- the turn rests
   lowers : (n : ℕ) (s : Core) → UpTo n s → next_polled n s ≡ None → has_moving_work s ≡ true → LowersPolls b s ⊎ HasOpenWork s
@@ -270,7 +270,7 @@ main_progress s p o (Answers v) t is = let no = is.0 in absurd (cc)
 
 main_script : (x : Setting) (s : State) (p : MainPlace) (o : Option MainOpDef) (t : State) → ScriptStep x s p o (label.Loop loop_label.MainPends) t → t ≡ goes_to s s.core (turn.Futures 0)
 main_script x s p None t is = is.1
-main_script x s p (Some o) t is = main_progress s p o (main_row x.component (line_of p o) s.core (act_of p o)) t is
+main_script x s p (Some o) t is = main_progress s p o (main_rule x.component (line_of p o) s.core (act_of p o)) t is
 
 main_pends : (x : Setting) (s : State) (m : Main) (t : State) → MainStep x s m (label.Loop loop_label.MainPends) t → t ≡ goes_to s s.core (turn.Futures 0)
 main_pends x s (Scripted p) t is = main_script x s p (op_at x.script p) t is

@@ -5,19 +5,19 @@ use Rattle.order_laws.proofs.GivenLemmas.{any_op, own}
 use Rattle.order_laws.proofs.StayLemmas.{with_ops}
 use Rattle.std.specs.Prelude.{Bool, if◌then◌else◌}
 use Rattle.order_laws.specs.Given.{StartKeeps, given, start_queued}
-use Rattle.order_laws.specs.Pieces.{IsPrepared, KeepsOrder, Orderly, OrderlyAs, SameInstances}
+use Rattle.order_laws.specs.Pieces.{IsPrepared, KeepsOrder, InOrderForAnyMain, InOrderForAnyMainAs, SameInstances}
 use Rattle.task_laws.proofs.WakeCounts.{woken_at, woken_place}
 use Rattle.task_machine.specs.Maps.{same_map}
 use Rattle.task_machine.specs.Read.{call_instance, may_not_suspend}
 use Rattle.task_places.proofs.CountedSteps.{counted_stay}
-use Rattle.task_places.proofs.Laws.{Call, Component, Core, ExportKind, GoBehind, HowFar, Mark, None, Op, Option, Place, Put, Records, Scene, Some, Subtask, Thread, Turn, Unscripted, WakesCounted, Why, ap, arith, at_place, behind_one, by_number, false, foot_from, foot_of, get, get-change, goal_of, how_far_of, inl, inr, is_at, is_at_switch, is_direct, is_explicit, is_some, kind_of, member_same, nat_tests, on_instance, on_thread, op_of, option_map_or, place_of, placing_shifted, put_switch, refl, script_of, set_callers, set_do_not_suspend, set_how_far, set_place, set_saved_callee, set_switch, shifted_calls, shifted_far, shifted_works, size, subst, suc, sym, task_of, true, under_of, under_place, zero, ℕ, ◌==◌, ◌∙◌, ◌≡◌}
+use Rattle.task_places.proofs.Laws.{Call, Component, Core, ExportKind, GoBehind, OpProgress, Mark, None, Op, Option, Place, Put, Records, Scene, Some, Subtask, Thread, Turn, Unscripted, WakesCounted, Why, ap, arith, at_place, behind_one, by_number, false, foot_from, foot_of, get, get-change, goal_of, op_progress_of, inl, inr, is_at, is_at_switch, is_direct, is_explicit, is_some, kind_of, member_same, nat_tests, on_instance, on_thread, op_of, option_map_or, place_of, placing_shifted, put_switch, refl, script_of, set_callers, set_do_not_suspend, set_op_progress, set_place, set_saved_callee, set_switch, shifted_calls, shifted_far, shifted_works, size, subst, suc, sym, task_of, true, under_of, under_place, zero, ℕ, ◌==◌, ◌∙◌, ◌≡◌}
 use Rattle.task_rules.proofs.ChainLemmas.{Keep}
 use Rattle.task_rules.proofs.PlacingLemmas.{placed, shifted_explicit}
 use Rattle.task_rules.proofs.WalkMoves.{keep_still, lands_at, word}
 use Rattle.task_rules.proofs.WalkTask.{seen, stops_here}
 use Rattle.task_rules.specs.Allowed.{Starts}
 use Rattle.task_rules.specs.Calls.{call_clears_flag}
-use Rattle.task_rules.specs.Chains.{NoWord}
+use Rattle.task_rules.specs.Chains.{NoPrimitive}
 use Rattle.task_rules.specs.OpParts.{callee_of_op}
 use Rattle.task_rules.specs.Scripts.{ops_of}
 use Rattle.task_rules.specs.Words.{SetDoNotSuspend, SetSavedCallee}
@@ -28,7 +28,7 @@ foot_alone : (k m : ℕ) (s : Core) → under_of m s ≡ None → foot_from k s 
 foot_alone zero m s none = refl
 foot_alone (suc k) m s none = ap (λ (o : Option ℕ). option_map_or (foot_from k s) o m) none
 
-module _ (c : Component) (n m : ℕ) (s : Core) (ready : IsPrepared n m s) (h : Orderly c (Turn.Run n) s) where
+module _ (c : Component) (n m : ℕ) (s : Core) (ready : IsPrepared n m s) (h : InOrderForAnyMain c (Turn.Run n) s) where
   abbrev j : ℕ
   j = call_instance m s
 
@@ -43,7 +43,7 @@ module _ (c : Component) (n m : ℕ) (s : Core) (ready : IsPrepared n m s) (h : 
 
   -- n is behind it, as if its op were about to begin
   abbrev parked : Core
-  parked = set_how_far n HowFar.Fresh (behind_one m n cleared)
+  parked = set_op_progress n OpProgress.Fresh (behind_one m n cleared)
 
   runs : place_of n s ≡ Some Place.Running
   runs = (h Unscripted).in_place.runs n refl
@@ -51,7 +51,7 @@ module _ (c : Component) (n m : ℕ) (s : Core) (ready : IsPrepared n m s) (h : 
   apart_new : (n == m) ≡ false
   apart_new = by_number n m _ (λ is. absurd (let at = runs in let new = ready.new in grind (arith, at, new, is))) (λ apart. apart)
 
-  flag_same : (y : ExportKind) (u : Core) (i : ℕ) → (place_of i (call_clears_flag n j y u) ≡ place_of i u) × ((how_far_of i (call_clears_flag n j y u) ≡ how_far_of i u) ×
+  flag_same : (y : ExportKind) (u : Core) (i : ℕ) → (place_of i (call_clears_flag n j y u) ≡ place_of i u) × ((op_progress_of i (call_clears_flag n j y u) ≡ op_progress_of i u) ×
       (((call_clears_flag n j y u).calls ≡ u.calls) × (((call_clears_flag n j y u).works ≡ u.works) × ((call_clears_flag n j y u).queues ≡ u.queues))))
   unfolding set_do_not_suspend on_instance set_saved_callee on_thread
   flag_same ExportKind.Sync u i = (refl, (refl, (refl, (refl, refl))))
@@ -101,15 +101,15 @@ module _ (c : Component) (n m : ℕ) (s : Core) (ready : IsPrepared n m s) (h : 
   foot = foot_alone _ m cleared none_under
 
   parked_place : (i : ℕ) → (i == n) ≡ false → place_of i parked ≡ place_of i cleared
-  unfolding behind_one set_callers set_place set_how_far on_thread
+  unfolding behind_one set_callers set_place set_op_progress on_thread
   parked_place i apart = grind (arith, nat_tests, get-change, apart)
 
-  parked_far : (i : ℕ) → (i == n) ≡ false → how_far_of i parked ≡ how_far_of i cleared
-  unfolding behind_one set_callers set_place set_how_far on_thread
+  parked_far : (i : ℕ) → (i == n) ≡ false → op_progress_of i parked ≡ op_progress_of i cleared
+  unfolding behind_one set_callers set_place set_op_progress on_thread
   parked_far i apart = grind (arith, nat_tests, get-change, apart)
 
   parked_own : place_of n parked ≡ Some (Place.Behind m)
-  unfolding behind_one set_callers set_place set_how_far on_thread
+  unfolding behind_one set_callers set_place set_op_progress on_thread
   parked_own =
       let apart = apart_new in let at = runs in
       let was = cleared_moved n apart in
@@ -121,7 +121,7 @@ module _ (c : Component) (n m : ℕ) (s : Core) (ready : IsPrepared n m s) (h : 
       moved_there o p (inr q) there = let to = q.1.1.1.1 in grind (arith, to)
 
   parked_records : (parked.calls ≡ s.calls) × (parked.works ≡ s.works)
-  unfolding behind_one set_callers set_place set_how_far on_thread
+  unfolding behind_one set_callers set_place set_op_progress on_thread
   parked_records =
       let f = (flag_same x standing 0).1.1 in
       let d = placing_shifted (Put Mark.Switch m Why.Start) s in
@@ -138,7 +138,7 @@ module _ (c : Component) (n m : ℕ) (s : Core) (ready : IsPrepared n m s) (h : 
       (λ other.
       let far = parked_far i apart ∙ ((flag_same x standing i).1.0 ∙ shifted_far (placing_shifted (Put Mark.Switch m Why.Start) s) i) in
       let to = subst (λ (p : Option Place). Moved (place_of i s) p) (sym (parked_place i apart)) (cleared_moved i other) in
-      woken_at y i parked ∙ (ap (woken_place y (place_of i parked)) far ∙ moved_woken y (how_far_of i s) (place_of i s) (place_of i parked) to (sym (woken_at y i s) ∙ on)))))
+      woken_at y i parked ∙ (ap (woken_place y (place_of i parked)) far ∙ moved_woken y (op_progress_of i s) (place_of i s) (place_of i parked) to (sym (woken_at y i s) ∙ on)))))
       ((h Unscripted).awake refl).counted
 
   clears_walks : {a : Scene} {b : Core} (y : ExportKind) {t : Core} → Keep a b t → Keep a b (call_clears_flag n j y t)
@@ -152,8 +152,8 @@ module _ (c : Component) (n m : ℕ) (s : Core) (ready : IsPrepared n m s) (h : 
       (λ z. stops_here (ops_of c s) (setting_for c) z s n (silent n) Turn.Main (silent n) parked refl
       (λ leave.
       let k : Keep (seen (ops_of c s) (setting_for c) z (Turn.Run n) s n (silent n) Turn.Main) s cleared =
-      clears_walks x (placed (Put Mark.Switch m Why.Start) (inr (Starts ready.new ready.implicit ready.queued refl, ((n, refl), λ i f at. at))) NoWord) in
-      lands_at (GoBehind m n) n HowFar.Fresh refl (leave, inr (m, (ap (λ q. q.switch) (flag_same x standing 0).1.1.1.1 ∙ stands, sym foot))) refl (keep_still n refl k) refl tt k) refl refl)
+      clears_walks x (placed (Put Mark.Switch m Why.Start) (inr (Starts ready.new ready.implicit ready.queued refl, ((n, refl), λ i f at. at))) NoPrimitive) in
+      lands_at (GoBehind m n) n OpProgress.Fresh refl (leave, inr (m, (ap (λ q. q.switch) (flag_same x standing 0).1.1.1.1 ∙ stands, sym foot))) refl (keep_still n refl k) refl tt k) refl refl)
       refl parked_counted
 
   -- ---- It is inside of the call from then on
@@ -180,36 +180,36 @@ module _ (c : Component) (n m : ℕ) (s : Core) (ready : IsPrepared n m s) (h : 
   flag_explicit ExportKind.Callback u i = grind (arith, nat_tests, get-change)
 
   parked_explicit : (i : ℕ) → is_explicit i parked ≡ is_explicit i s
-  unfolding behind_one set_callers set_place set_how_far on_thread
+  unfolding behind_one set_callers set_place set_op_progress on_thread
   parked_explicit i =
       let flag = flag_explicit x standing i in
       let d = shifted_explicit (placing_shifted (Put Mark.Switch m Why.Start) s) i in
       grind (arith, nat_tests, get-change, flag, d)
 
-  again : (f : HowFar) (u : Core) → set_how_far n f (set_how_far n HowFar.Fresh u) ≡ set_how_far n f u
-  unfolding set_how_far on_thread
+  again : (f : OpProgress) (u : Core) → set_op_progress n f (set_op_progress n OpProgress.Fresh u) ≡ set_op_progress n f u
+  unfolding set_op_progress on_thread
   again f u = ap (λ (ts : Records Thread). record u { threads = ts }) (same_map _ _ (λ i. grind (arith, nat_tests, get-change)))
 
   -- each thread stays at its place
-  far_op : (f : HowFar) (i : ℕ) (u : Core) → op_of c i (set_how_far n f u) ≡ op_of c i u
-  unfolding op_of script_of set_how_far on_thread
+  far_op : (f : OpProgress) (i : ℕ) (u : Core) → op_of c i (set_op_progress n f u) ≡ op_of c i u
+  unfolding op_of script_of set_op_progress on_thread
   far_op f i u = grind (arith, nat_tests, get-change)
 
   -- instances aren't changed by it
-  same_instances : (f : HowFar) (u : Core) → SameInstances s u → SameInstances s (set_how_far n f u)
-  unfolding set_how_far on_thread
+  same_instances : (f : OpProgress) (u : Core) → SameInstances s u → SameInstances s (set_op_progress n f u)
+  unfolding set_op_progress on_thread
   same_instances f u q = record { instances = q.instances; handles = q.handles }
 
-  far_fresh : (u : Core) → how_far_of n (set_how_far n HowFar.Fresh u) ≡ HowFar.Fresh
-  unfolding set_how_far on_thread
+  far_fresh : (u : Core) → op_progress_of n (set_op_progress n OpProgress.Fresh u) ≡ OpProgress.Fresh
+  unfolding set_op_progress on_thread
   far_fresh u = grind (arith, nat_tests, get-change)
 
   -- it has the op that is given, wherever it is in its script
-  same_given : (o : Op) (f : HowFar) (i : ℕ) (b : Bool) → (if b then o else op_of c i (set_how_far n f parked)) ≡ (if b then o else op_of c i parked)
+  same_given : (o : Op) (f : OpProgress) (i : ℕ) (b : Bool) → (if b then o else op_of c i (set_op_progress n f parked)) ≡ (if b then o else op_of c i parked)
   same_given o f i true = refl
   same_given o f i false = far_op f i parked
 
-  pub starts : (o : Op) → is_some (callee_of_op o) ≡ true → OrderlyAs (given n o (ops_of c (start_queued n m s))) c Turn.Main (start_queued n m s) × SameInstances s (start_queued n m s)
+  pub starts : (o : Op) → is_some (callee_of_op o) ≡ true → InOrderForAnyMainAs (given n o (ops_of c (start_queued n m s))) c Turn.Main (start_queued n m s) × SameInstances s (start_queued n m s)
   starts o op =
       let r = parks h in
       let call = made_call in
@@ -218,9 +218,9 @@ module _ (c : Component) (n m : ℕ) (s : Core) (ready : IsPrepared n m s) (h : 
       let ended = ready.called.1.0 in let unset = ready.called.1.1.0 in let delivered = ready.called.1.1.1 in
       let queued = ap (λ (k : ℕ). is_direct (goal_of k s)) (sym own_task) ∙ ready.queued in
       let ops = given n o (ops_of c parked) in
-      let far = HowFar.Calls (Subtask.Guest m) in
-      subst (λ (t : Core). OrderlyAs (given n o (ops_of c t)) c Turn.Main t × SameInstances s t) (again far (behind_one m n cleared)) (
-        λ z. inside_keeps {ops = ops} {now_ops = given n o (ops_of c (set_how_far n far parked))} z Turn.Main n m parked
+      let far = OpProgress.Calls (Subtask.Guest m) in
+      subst (λ (t : Core). InOrderForAnyMainAs (given n o (ops_of c t)) c Turn.Main t × SameInstances s t) (again far (behind_one m n cleared)) (
+        λ z. inside_keeps {ops = ops} {now_ops = given n o (ops_of c (set_op_progress n far parked))} z Turn.Main n m parked
             (with_ops (r.0 z) (any_op c n o (ops_of c parked) parked (Place.Behind m) (far_fresh (behind_one m n cleared)) parked_own refl (r.0 z).fits)) parked_own
             (λ i. same_given o far i (i == n)) (ap (λ (k : Op). is_some (callee_of_op k)) (own n o (ops_of c parked)) ∙ op)
             call.0 (ap (λ (k : Records Call). get k m) parked_records.0 ∙ there)

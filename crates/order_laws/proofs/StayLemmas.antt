@@ -6,11 +6,11 @@ use Rattle.std.specs.Prelude.{Bool, None, Option, Some, cond, false, if◌then�
 use Rattle.task_laws.proofs.FitLemmas.{op_there}
 use Rattle.task_laws.specs.Order.{Awake, CallKinds, CallsThere, CallsTold, CallsAwaited, CancelsNamed, CancelsWatched, DeliveredByCallback, DirectsOnTop, FitsAs, HostsAwaited, InOrder, InOrderFor, InOrderIf, InPlace, InsideOps, IsOf, JoinNamed, OnlyCalled, StartsFirst, StartsThere, Strands, TableKept, ThreadNumbered, WaitsAtHome, WaitsPlaced, WasCall, WorksQueued, WorksTold, cancelled_by, cancelled_call, has_one_on_top, is_awaited, is_delivered, is_finishing, is_host_of, is_open, is_push_of, is_queued, is_unbegun, names_script, set_of_op, set_of_place, stands}
 use Rattle.task_laws.specs.Settings.{CodesInCallbacks}
-use Rattle.task_laws.specs.Wakes.{NoneBlockedOnEnd, WakesCounted}
+use Rattle.task_laws.specs.WakeLaw.{NoneBlockedOnEnd, WakesCounted}
 use Rattle.task_machine.proofs.CommuteLemmas.{get-change}
-use Rattle.task_machine.specs.Core.{Core, Main, State, Table, Unscripted}
+use Rattle.task_machine.specs.Core.{Core, Main, State, NameTable, Unscripted}
 use Rattle.task_machine.specs.Maps.{Records, change, get}
-use Rattle.task_machine.specs.Read.{admits, as_set, as_subtask, backpressure_of, call_instance, callee_of, end_of, event_of, goal_of, how_far_of, instance_of, is_async_lifted, is_callback, is_direct, is_explicit, is_stage_ended, is_sync, join_of, kind_of, may_not_enter, named_by, no_callee, place_of, set_at, stage_of, subtask_at, subtask_handle, task_of, undelivered_end, work_caller_of}
+use Rattle.task_machine.specs.Read.{admits, as_set, as_subtask, backpressure_of, call_instance, callee_of, end_of, event_of, goal_of, op_progress_of, instance_of, is_async_lifted, is_callback, is_direct, is_explicit, is_stage_ended, is_sync, join_of, kind_of, may_not_enter, named_by, no_callee, place_of, set_at, stage_of, subtask_at, subtask_handle, task_of, undelivered_end, work_caller_of}
 use Rattle.task_machine.specs.Write.{with_groups_made}
 use Rattle.task_machine.specs.declared.component.Callee.{Callee}
 use Rattle.task_machine.specs.declared.component.Component.{Component}
@@ -19,7 +19,7 @@ use Rattle.task_machine.specs.declared.op.Op.{Op}
 use Rattle.task_machine.specs.declared.records.Call.{Call}
 use Rattle.task_machine.specs.declared.records.Entry.{Entry}
 use Rattle.task_machine.specs.declared.records.Goal.{Goal}
-use Rattle.task_machine.specs.declared.records.HowFar.{HowFar}
+use Rattle.task_machine.specs.declared.records.OpProgress.{OpProgress}
 use Rattle.task_machine.specs.declared.records.Join.{Join}
 use Rattle.task_machine.specs.declared.records.Named.{Named}
 use Rattle.task_machine.specs.declared.records.Place.{Place}
@@ -91,7 +91,7 @@ turned s o m q runs b awake = same_core s m q o o.codes o.kinds o.fits runs awak
 
 -- the record of a call but for what it has to be told, its set, how far a cancel has come, and its borrows
 abbrev pub unmarked_call : Call → Call
-unmarked_call c = record c { event = None; own_event = None; join = Join.Nowhere; cancel_delivered = false; borrows = 0 }
+unmarked_call c = record c { event = None; task_event = None; join = Join.Nowhere; cancel_delivered = false; borrows = 0 }
 
 -- the record of a work but for what it has to be told, and its set
 abbrev pub unmarked_work : Work → Work
@@ -99,7 +99,7 @@ unmarked_work w = record w { event = None; join = Join.Nowhere }
 
 -- the record of a thread but for its place, and how far it has come in its op
 abbrev pub fixed : Thread → Thread
-fixed z = record z { place = Place.New; how_far = HowFar.Fresh }
+fixed z = record z { place = Place.New; op_progress = OpProgress.Fresh }
 
 module _ {X : Type 0} (plain : X → X) where
   -- what is read of both alike is the same
@@ -145,26 +145,26 @@ pub record PlacesFit (q : Turn) (s t : Core) : Type 0 where
 
 -- What order says of the marks of t, in which threads have come as far as in s.
 pub record MarksFit (c : Component) (s t : Core) : Type 0 where
-  pub called : (n k : ℕ) → how_far_of n s ≡ HowFar.Calls (Subtask.Guest k) → OnlyCalled n k t
-  pub inside : (n k : ℕ) → how_far_of n s ≡ HowFar.Calls (Subtask.Guest k) →
+  pub called : (n k : ℕ) → op_progress_of n s ≡ OpProgress.Calls (Subtask.Guest k) → OnlyCalled n k t
+  pub inside : (n k : ℕ) → op_progress_of n s ≡ OpProgress.Calls (Subtask.Guest k) →
       (place_of n s ≡ Some (Place.Under k)) ⊎ (option_map_or is_awaited (get t.calls k) false ≡ true)
   pub joins : (sub : Subtask) (x : ℕ) → join_of sub t ≡ Join.Set x → JoinNamed sub x t
   pub uncancelled : (k : ℕ) (x : Call) → get t.calls k ≡ Some x → is_async_lifted x.kind ≡ false → x.cancel_delivered ≡ false
-  pub watched : (n : ℕ) (sub : Subtask) → cancelled_by (how_far_of n s) ≡ Some sub → watches n sub t ≡ true
+  pub watched : (n : ℕ) (sub : Subtask) → cancelled_by (op_progress_of n s) ≡ Some sub → watches n sub t ≡ true
   pub works_told : WorksTold t
   pub calls_told : CallsTold t
 
 -- What order says of how far the threads of t have come, in the ops that they have then.
 pub record OpsFit (ops now_ops : ℕ → Op) (s t : Core) : Type 0 where
   pub op : (n : ℕ) (z r : Thread) → get s.threads n ≡ Some z → get t.threads n ≡ Some r → fixed r ≡ fixed z →
-      (can_come (ops n) z.how_far ≡ true → can_come (now_ops n) r.how_far ≡ true) × (is_sync_call (ops n) ≡ true → is_sync_call (now_ops n) ≡ true)
+      (can_come (ops n) z.op_progress ≡ true → can_come (now_ops n) r.op_progress ≡ true) × (is_sync_call (ops n) ≡ true → is_sync_call (now_ops n) ≡ true)
   pub awaited : HostsAwaited t
-  pub calls_named : (n k : ℕ) → subtask_under_way (how_far_of n t) ≡ Some (Subtask.Guest k) → WasCall t k
-  pub works_named : (n j : ℕ) → subtask_under_way (how_far_of n t) ≡ Some (Subtask.Host j) → j ≤ t.made.works
-  pub called : (n k : ℕ) → how_far_of n t ≡ HowFar.Calls (Subtask.Guest k) → OnlyCalled n k t
+  pub calls_named : (n k : ℕ) → subtask_under_way (op_progress_of n t) ≡ Some (Subtask.Guest k) → WasCall t k
+  pub works_named : (n j : ℕ) → subtask_under_way (op_progress_of n t) ≡ Some (Subtask.Host j) → j ≤ t.made.works
+  pub called : (n k : ℕ) → op_progress_of n t ≡ OpProgress.Calls (Subtask.Guest k) → OnlyCalled n k t
   pub calls : CallsAwaited t
-  pub works_called : (n j : ℕ) → how_far_of n t ≡ HowFar.Calls (Subtask.Host j) → (j ≤ t.made.works) × (work_caller_of j t ≡ WorkCaller.Sync n)
-  pub waits : (n y : ℕ) → set_of_op (how_far_of n t) ≡ Some y → IsOf (instance_of n t) y t
+  pub works_called : (n j : ℕ) → op_progress_of n t ≡ OpProgress.Calls (Subtask.Host j) → (j ≤ t.made.works) × (work_caller_of j t ≡ WorkCaller.Sync n)
+  pub waits : (n y : ℕ) → set_of_op (op_progress_of n t) ≡ Some y → IsOf (instance_of n t) y t
   pub watched : CancelsWatched t
   pub cancelled : CancelsNamed t
 
@@ -174,7 +174,7 @@ pub record RestStays (s t : Core) : Type 0 where
   pub calls : (k : ℕ) → option_map unmarked_call (get t.calls k) ≡ option_map unmarked_call (get s.calls k)
   pub works : (i : ℕ) → option_map unmarked_work (get t.works i) ≡ option_map unmarked_work (get s.works i)
   pub named : (i h : ℕ) → named_by t.handles i h ≡ named_by s.handles i h
-  pub tables : ((i : ℕ) (y : Table Named) → get s.handles i ≡ Some y → TableKept y) → (i : ℕ) (y : Table Named) → get t.handles i ≡ Some y → TableKept y
+  pub tables : ((i : ℕ) (y : NameTable Named) → get s.handles i ≡ Some y → TableKept y) → (i : ℕ) (y : NameTable Named) → get t.handles i ≡ Some y → TableKept y
   pub enters : (i : ℕ) → may_not_enter i t ≡ may_not_enter i s
   pub presses : (i : ℕ) → backpressure_of i t ≡ backpressure_of i s
 
@@ -446,14 +446,14 @@ module _ {ops : ℕ → Op} (c : Component) (x : State) (g : Bool) (o : InOrderF
     }
 
   -- where threads have come as far, in the same ops
-  module _ {now_ops : ℕ → Op} (q : Turn) (fit : PlacesFit q s t) (marks : MarksFit c s t) (far : (n : ℕ) → how_far_of n t ≡ how_far_of n s)
+  module _ {now_ops : ℕ → Op} (q : Turn) (fit : PlacesFit q s t) (marks : MarksFit c s t) (far : (n : ℕ) → op_progress_of n t ≡ op_progress_of n s)
       (same_op : (n : ℕ) (z r : Thread) → get s.threads n ≡ Some z → get t.threads n ≡ Some r → fixed r ≡ fixed z → now_ops n ≡ ops n) where
     ops_stay : OpsFit ops now_ops s t
     ops_stay = record {
       op = λ n z r was at same.
           let op = same_op n z r was at same in
-          let come : r.how_far ≡ z.how_far = sym (ap far_in at) ∙ (far n ∙ ap far_in was) in
-          (λ on. ap₂ (λ (p : Op) (f : HowFar). can_come p f) op come ∙ on, λ on. ap is_sync_call op ∙ on);
+          let come : r.op_progress ≡ z.op_progress = sym (ap far_in at) ∙ (far n ∙ ap far_in was) in
+          (λ on. ap₂ (λ (p : Op) (f : OpProgress). can_come p f) op come ∙ on, λ on. ap is_sync_call op ∙ on);
       awaited = λ n i at. let h = o.awaited n i (sym (far n) ∙ at) in
           (h.0, ⊎_elim (λ on. inl (fit.blocked n (Subtask.Host i) on)) (λ over. inr (ap is_stage_ended (stages i) ∙ over)) h.1);
       calls_named = λ n k at. was_call k (o.calls_named.by_op n k (sym (ap subtask_under_way (far n)) ∙ at));
@@ -469,8 +469,8 @@ module _ {ops : ℕ → Op} (c : Component) (x : State) (g : Bool) (o : InOrderF
       cancelled = λ n sub at. ap (λ (h : Option ℕ). is_some h) (handles sub) ∙ o.cancelled n sub (sym (ap cancelled_by (far n)) ∙ at);
     }
       where
-        far_in : Option Thread → HowFar
-        far_in e = option_map_or (λ (y : Thread). y.how_far) e HowFar.Fresh
+        far_in : Option Thread → OpProgress
+        far_in e = option_map_or (λ (y : Thread). y.op_progress) e OpProgress.Fresh
 
     pub stays_in_order : (m : Main) (b : Bool) → (b ≡ true → Awake q t) → InOrderFor b now_ops c (record x { core = t; main = m; turn = q })
     stays_in_order m b awake = changed_in_order q fit marks ops_stay m b awake
@@ -499,7 +499,7 @@ module _ {ops : ℕ → Op} (c : Component) (x : State) (g : Bool) (o : InOrderF
       joins (Subtask.Guest k) y at = named_still (Subtask.Guest k) y (o.joins_named.joins (Subtask.Guest k) y at)
       joins (Subtask.Host i) y at = named_still (Subtask.Host i) y (o.joins_named.joins (Subtask.Host i) y at)
 
-      watched : (n : ℕ) (sub : Subtask) → cancelled_by (how_far_of n x.core) ≡ Some sub → watches n sub v ≡ true
+      watched : (n : ℕ) (sub : Subtask) → cancelled_by (op_progress_of n x.core) ≡ Some sub → watches n sub v ≡ true
       watched n (Subtask.Guest k) far = o.watched n (Subtask.Guest k) far
       watched n (Subtask.Host i) far = o.watched n (Subtask.Host i) far
 
@@ -517,7 +517,7 @@ places_in_order c x g o u threads q fit =
       presses = λ i. refl;
     } in
     stays_in_order c x g o (placed_as u x.core) rest q fit (own_marks c x g o (placed_as u x.core) (λ i h. refl))
-    (λ n. read_same unplaced (get u.threads n) (get x.core.threads n) (threads n) (λ (q : Option Thread). option_map_or (λ (z : Thread). z.how_far) q HowFar.Fresh) (λ z. refl))
+    (λ n. read_same unplaced (get u.threads n) (get x.core.threads n) (threads n) (λ (q : Option Thread). option_map_or (λ (z : Thread). z.op_progress) q OpProgress.Fresh) (λ z. refl))
     (op_same c x g o (placed_as u x.core) rest)
 
 -- ---- Where places aren't touched

@@ -6,7 +6,7 @@ use Rattle.task_machine.specs.Core.{Core, Queues, State}
 use Rattle.task_machine.specs.Labels.{choice_of, host_label}
 use Rattle.task_machine.specs.Moves.{behind, behind_one, displaced, has_entry, is_callback_waiter, less, less_switch, may_publish, newest, older, passed_on, promoted, published, put_high, put_low, put_switch, resumed_all, stand, stopped, unblocked, unqueued, wake, wake_joined, waken_by}
 use Rattle.task_machine.specs.Read.{blocked_on, callers_of, course_of, course_value, foot_of, join_of, next_entry, work_caller_of}
-use Rattle.task_machine.specs.Write.{add_call, add_group, add_set, add_thread, add_work, count_work, free_handle, free_thread_handle, give_handle, give_result, give_thread_handle, on_call, on_instance, on_thread, on_work, push_high, push_high_first, push_low, remove_call, remove_group, remove_set, remove_thread, remove_work, set_backpressure, set_callers, set_cancel_delivered, set_cancelled, set_course, set_do_not_enter, set_do_not_suspend, set_end, set_event, set_exited, set_high, set_how_far, set_join, set_low, set_own_event, set_phase, set_place, set_position, set_register, set_result, set_saved_callee, set_saved_own, set_script, set_stage, set_started, set_starting_published, set_subtask_handle, set_switch, set_thread_handle, set_trapped, set_uninteresting, set_word, take_result, with_high, with_low, with_switch}
+use Rattle.task_machine.specs.Write.{add_call, add_group, add_set, add_thread, add_work, count_work, free_handle, free_thread_handle, give_handle, give_result, give_thread_handle, on_call, on_instance, on_thread, on_work, push_high, push_high_first, push_low, remove_call, remove_group, remove_set, remove_thread, remove_work, set_backpressure, set_callers, set_cancel_delivered, set_cancelled, set_course, set_do_not_enter, set_do_not_suspend, set_end, set_event, set_exited, set_high, set_op_progress, set_join, set_low, set_task_event, set_phase, set_place, set_position, set_register, set_result, set_saved_callee, set_saved_own, set_script, set_stage, set_started, set_starting_published, set_subtask_handle, set_switch, set_thread_handle, set_trapped, set_uninteresting, set_word, take_result, with_high, with_low, with_switch}
 use Rattle.task_machine.specs.declared.label.Label.{Label}
 use Rattle.task_machine.specs.declared.records.Entry.{Entry}
 use Rattle.task_machine.specs.declared.records.Entry.TheVariants as entry
@@ -35,23 +35,23 @@ use Rattle.task_rules.specs.Stalled.{Setting, is_unended_take, may_deadlock}
 use Rattle.task_laws.proofs.CallsSteps.{of_base}
 use Rattle.task_rules.specs.Scripts.{op_of, ops_of, script_of}
 use Rattle.task_rules.specs.SubtaskEnds.{SubtaskEnd, written_as, written_by}
-use Rattle.task_rules.specs.Takes.{host_done, host_result, host_row, host_status, popped, pushed}
+use Rattle.task_rules.specs.Takes.{host_done, host_result, scripted_host_rule, host_status, popped, pushed}
 use Rattle.task_rules.specs.Turns.{at_turn, goes_to}
-use Rattle.task_rules.specs.Words.{AddGroup, FinishWork, RemoveCall, RemoveGroup, SetTrapped, SetUninteresting, Places, Placing, Pop, Promote, Put, QueueWork, RemoveThread, Stop, TakeHost, TakePush, Withdraw, Word, after_placing, after_word}
+use Rattle.task_rules.specs.Words.{AddGroup, FinishWork, RemoveCall, RemoveGroup, SetTrapped, SetUninteresting, Places, Placing, Pop, Promote, Put, QueueWork, RemoveThread, Stop, TakeHost, TakePush, Withdraw, Primitive, after_placing, after_primitive}
 use Rattle.task_rules.specs.Works.{has_moving_work, poll_pends}
 use Rattle.order_laws.proofs.LineLemmas.{after_more, lawful_more}
 use Rattle.order_laws.specs.Moves.{AllOther, Comes, IsOther, Lawful, May, Move, MovesBy, Promotes, StepsMoveEntries, Takes, Withdraws, after, moved, one_at, taking, taking_by, taking_next, unlined}
-use Rattle.task_rules.specs.Allowed.{IsFall, IsSettling, MayHasten, MayLand, MayShift, Stays, TakesWork}
+use Rattle.task_rules.specs.Allowed.{IsUnwind, IsSettling, MayHasten, MayLand, MayShift, Stays, TakesWork}
 use Rattle.task_rules.specs.Step.{DeadlockStep, EmptyFor, Progresses, RestStep, Step, TakeStep, TurnStep}
 
-settling_same : (w : Word) (s : Core) → IsSettling w s → (after_word w s).queues ≡ s.queues
+settling_same : (w : Primitive) (s : Core) → IsSettling w s → (after_primitive w s).queues ≡ s.queues
 unfolding set_uninteresting remove_call remove_group on_call
 settling_same (SetUninteresting k) s ok = refl
 settling_same (RemoveCall k) s ok = refl
 settling_same (RemoveGroup g) s ok = refl
 settling_same _ s ok = absurd ok
 
-falling_same : (a : Scene) (w : Word) (s : Core) → IsFall a w s → (after_word w s).queues ≡ s.queues
+falling_same : (a : Scene) (w : Primitive) (s : Core) → IsUnwind a w s → (after_primitive w s).queues ≡ s.queues
 unfolding remove_thread set_trapped
 falling_same a (RemoveThread n) s ok = refl
 falling_same a SetTrapped s ok = refl
@@ -204,8 +204,8 @@ module _ (x : Setting) (first : State) (l : Label) (next : Turn) (apart : TakesW
   placing_moves (Stop f) s ok = stopped_moves x first l f s
   placing_moves p s ok = none x first l s.queues
 
-  word_moves : (w : Word) (s : Core) → Stays a w s → Moving s.queues (after_word w s).queues
-  unfolding add_call add_group add_set add_thread add_work count_work free_handle free_thread_handle give_handle give_result give_thread_handle on_call on_instance on_thread on_work push_high remove_call remove_group remove_set remove_thread remove_work set_backpressure set_cancel_delivered set_cancelled set_course set_do_not_enter set_do_not_suspend set_end set_event set_exited set_how_far set_join set_own_event set_phase set_position set_register set_result set_saved_callee set_saved_own set_script set_stage set_started set_starting_published set_subtask_handle set_thread_handle set_trapped set_uninteresting set_word take_result call_made with_handle with_thread_handle work_queued poll_pends set_switch
+  word_moves : (w : Primitive) (s : Core) → Stays a w s → Moving s.queues (after_primitive w s).queues
+  unfolding add_call add_group add_set add_thread add_work count_work free_handle free_thread_handle give_handle give_result give_thread_handle on_call on_instance on_thread on_work push_high remove_call remove_group remove_set remove_thread remove_work set_backpressure set_cancel_delivered set_cancelled set_course set_do_not_enter set_do_not_suspend set_end set_event set_exited set_op_progress set_join set_task_event set_phase set_position set_register set_result set_saved_callee set_saved_own set_script set_stage set_started set_starting_published set_subtask_handle set_thread_handle set_trapped set_uninteresting set_word take_result call_made with_handle with_thread_handle work_queued poll_pends set_switch
   word_moves (Places p) s (inl ok) = placing_moves p s (inl ok)
   word_moves (Places p) s (inr ok) = placing_moves p s (inr (inl ok))
   word_moves (Withdraw k) s ok = once x first l (Withdraws k) (says_there x first l _ ok.1.0) tt (ap (with_switch (less_switch k s.queues.switch)) (unqueued_is x first l k s))
@@ -222,11 +222,11 @@ module _ (x : Setting) (first : State) (l : Label) (next : Turn) (apart : TakesW
   settle_same : {b t : Core} → Settles b t → t.queues ≡ b.queues
   settle_same {b = b} c = along (λ (u : Core). u.queues ≡ b.queues) (λ w u ok q. settling_same w u ok ∙ q) refl c
 
-  fall_same : {b t : Core} → Chain (IsFall a) b t → t.queues ≡ b.queues
+  fall_same : {b t : Core} → Chain (IsUnwind a) b t → t.queues ≡ b.queues
   fall_same {b = b} c = along (λ (u : Core). u.queues ≡ b.queues) (λ w u ok q. falling_same a w u ok ∙ q) refl c
 
   trip_moves : {b t : Core} → Trip a b t → Moving b.queues t.queues
-  unfolding set_how_far remove_thread on_thread set_place
+  unfolding set_op_progress remove_thread on_thread set_place
   trip_moves (Remains t c still on) = stay_moves c
   trip_moves (Lands s p c ok fit halts) = more x first l (stay_moves c) (placing_moves p s (inr (inr ok)))
   trip_moves (LandsAt s p n h c ok fit comes halts) = more x first l (stay_moves c) (placing_moves p s (inr (inr ok)))
@@ -295,8 +295,8 @@ module _ (x : Setting) (s : State) (l : Label) (t : State) where
       dies true is = ap (λ (c : Core). c.queues) (core_of s (set_trapped s.core) turn.Over t is.1) ∙ trapped_same s.core
       dies false is = absurd is
 
-  host_row_moves : (m : Mark) (i : ℕ) (w : Option ℕ) (u : Core) → Progresses s u i (host_row m i w u) l t → Others x s l u.queues t.core.queues
-  host_row_moves m i w u is = by (may_publish (subtask.Host i) w u) is
+  host_rule_moves : (m : Mark) (i : ℕ) (w : Option ℕ) (u : Core) → Progresses s u i (scripted_host_rule m i w u) l t → Others x s l u.queues t.core.queues
+  host_rule_moves m i w u is = by (may_publish (subtask.Host i) w u) is
     where
       by : (b : Bool) → Progresses s u i (may b (Stops (host_label m i w) (host_done i w u))) l t → Others x s l u.queues t.core.queues
       by true is = subst (λ (c : Core). Others x s l u.queues c.queues) (sym (core_of s (host_done i w u) turn.Main t is.1)) (host_done_moves x s l i w u)
@@ -320,7 +320,7 @@ module _ (x : Setting) (s : State) (l : Label) (t : State) where
       (same x s l (ap (λ (c : Core). c.queues) (core_of s (pushed i (popped m s.core)) turn.Main t is.1) ∙ (pushed_same i (popped m s.core) ∙ left_is m (entry.Push i) s.core)))
   takes step (Some (m, entry.Host i)) next first runner base is =
       behind_taking (Takes m (entry.Host i) ∷ []) first (next_may m (entry.Host i) s.core next, tt)
-      (subst (λ (q : Queues). Others x s l q t.core.queues) (left_is m (entry.Host i) s.core) (host_row_moves m i (choice_of l).woken (popped m s.core) is))
+      (subst (λ (q : Queues). Others x s l q t.core.queues) (left_is m (entry.Host i) s.core) (host_rule_moves m i (choice_of l).woken (popped m s.core) is))
 
 pub steps_move_entries : StepsMoveEntries
 unfolding StepsMoveEntries Result

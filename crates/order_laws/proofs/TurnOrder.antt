@@ -1,24 +1,24 @@
 -- Another thread runs, and a thread ends: order stays.
 use Rattle.order_laws.proofs.PieceLemmas.{lead_keeps, silent, setting_for}
 use Rattle.order_laws.proofs.StayLemmas.{IsIdle, PlacesFit, change_same, idle_turned, places_in_order}
-use Rattle.order_laws.specs.Kept.{EndInOrder, TurnInOrder, running_in}
-use Rattle.order_laws.specs.Pieces.{KeepsOrder, Orderly, SameInstances, state_in}
+use Rattle.order_laws.specs.KeptOrder.{EndInOrder, TurnInOrder, running_in}
+use Rattle.order_laws.specs.Pieces.{KeepsOrder, InOrderForAnyMain, SameInstances, state_in}
 use Rattle.std.proofs.Common.{ap, arith, inl, inr, refl, subst, sym, ⊎_elim, ◌∙◌}
 use Rattle.std.proofs.lemmas.Bool.Decides.{nat_tests}
 use Rattle.std.specs.Option.{option_map_or}
 use Rattle.std.specs.Prelude.{Bool, List, None, Option, Some, [], false, if◌then◌else◌, is_some, option_and_then, suc, true, unwrap_or, zero, ℕ, ◌==◌, ◌≡◌, ◌⊎◌}
 use Rattle.task_laws.proofs.WakeCounts.{woken_at, woken_place}
 use Rattle.task_laws.specs.Order.{Awake, InOrder, is_delivered, is_open, set_of_place}
-use Rattle.task_laws.specs.Wakes.{WakesCounted}
+use Rattle.task_laws.specs.WakeLaw.{WakesCounted}
 use Rattle.task_machine.proofs.CommuteLemmas.{get-change}
 use Rattle.task_machine.specs.Core.{Core, Main, Unscripted}
 use Rattle.task_machine.specs.Maps.{get, get-insert, get-remove, insert, remove, same_map, size}
 use Rattle.task_machine.specs.Moves.{call_settled, ended, exited_if, freed_thread_handle, interest_settled, passed_on, stopped}
-use Rattle.task_machine.specs.Read.{callers_of, foot_from, foot_of, how_far_of, instance_of, is_explicit, is_inside_wait, place_of, task_of, thread_handle_of, under_of}
+use Rattle.task_machine.specs.Read.{callers_of, foot_from, foot_of, op_progress_of, instance_of, is_explicit, is_inside_wait, place_of, task_of, thread_handle_of, under_of}
 use Rattle.task_machine.specs.Write.{free_thread_handle, on_call, on_thread, remove_thread, set_callers, set_exited, set_place}
 use Rattle.task_machine.specs.declared.component.Component.{Component}
 use Rattle.task_machine.specs.declared.records.Call.{Call}
-use Rattle.task_machine.specs.declared.records.HowFar.{HowFar}
+use Rattle.task_machine.specs.declared.records.OpProgress.{OpProgress}
 use Rattle.task_machine.specs.declared.records.Place.{Place}
 use Rattle.task_machine.specs.declared.records.Thread.{Thread}
 use Rattle.task_machine.specs.declared.records.Turn.{Turn}
@@ -32,7 +32,7 @@ use Rattle.task_rules.proofs.StandLemmas.{by_number}
 use Rattle.task_rules.proofs.WalkMoves.{ended_halts, exits_trip, halted_from, stopped_on}
 use Rattle.task_rules.proofs.WalkTask.{seen}
 use Rattle.task_rules.specs.Allowed.{Leaves}
-use Rattle.task_rules.specs.Chains.{LastWords, NoWord}
+use Rattle.task_rules.specs.Chains.{LastPrimitives, NoPrimitive}
 use Rattle.task_rules.specs.Scenes.{Scene}
 use Rattle.task_rules.specs.Places.{Placed, is_at_high, is_at_low, is_at_switch, is_at_wait, is_behind_of, is_fresh, is_inside, is_there, one_if, says}
 use Rattle.task_rules.specs.Scripts.{ops_of}
@@ -97,7 +97,7 @@ module _ (n : ℕ) (p q : Place) (s : Core) (from : place_of n s ≡ Some p) (pl
   set_fits : (c : Component) (x : Turn) (y : Turn) → InOrder c (state_in Unscripted x s) → ((m : ℕ) → y ≡ Turn.Run m → place_of m t ≡ Some Place.Running) →
       (is_fresh (Some q) ≡ true → is_fresh (Some p) ≡ true) →
       ((k : Call) → get s.calls n ≡ Some k → k.started ≡ false → is_fresh (Some q) ≡ true) →
-      ((z : ℕ) → how_far_of n s ≡ HowFar.Waits z → is_at_wait z q ≡ true) → PlacesFit y s t
+      ((z : ℕ) → op_progress_of n s ≡ OpProgress.Waits z → is_at_wait z q ≡ true) → PlacesFit y s t
   unfolding t set_place on_thread
   set_fits c x y o runs fresh starts waits = record {
     in_place = record { placed = stay_placed o.in_place.placed; runs = runs };
@@ -111,22 +111,22 @@ module _ (n : ℕ) (p q : Place) (s : Core) (from : place_of n s ≡ Some p) (pl
     fresh = λ j on. by_number j n _ (λ is. ap (λ (k : ℕ). is_fresh (place_of k s)) is ∙ (ap is_fresh from ∙ fresh (sym (ap is_fresh now) ∙ (ap (λ (k : ℕ). is_fresh (place_of k t)) (sym is) ∙ on)))) (λ apart. ap is_fresh (sym (others j apart)) ∙ on);
     starts = λ j k at unstarted. by_number j n _ (λ is. ap (λ (k : ℕ). is_fresh (place_of k t)) is ∙ (ap is_fresh now ∙ starts k (subst (λ (i : ℕ). get s.calls i ≡ Some k) is at) unstarted)) (λ apart. ap is_fresh (others j apart) ∙ o.starts j k at unstarted);
     waits_placed = λ j z at. by_number j n _
-        (λ is. ap (λ (k : ℕ). option_map_or (is_at_wait z) (place_of k t) false) is ∙ (ap (λ (o : Option Place). option_map_or (is_at_wait z) o false) now ∙ waits z (sym (far n) ∙ subst (λ (k : ℕ). how_far_of k t ≡ HowFar.Waits z) is at)))
+        (λ is. ap (λ (k : ℕ). option_map_or (is_at_wait z) (place_of k t) false) is ∙ (ap (λ (o : Option Place). option_map_or (is_at_wait z) o false) now ∙ waits z (sym (far n) ∙ subst (λ (k : ℕ). op_progress_of k t ≡ OpProgress.Waits z) is at)))
         (λ apart. ap (λ (o : Option Place). option_map_or (is_at_wait z) o false) (others j apart) ∙ o.waits_placed j z (sym (far j) ∙ at));
-    inside = λ j r at. by_number j n _ (λ is. let e = now in let f : q ≡ r = grind (arith, e, at, is) in subst (λ (r : Place). is_inside r (how_far_of j t) ≡ true) f (plain_inside q plain (how_far_of j t)))
+    inside = λ j r at. by_number j n _ (λ is. let e = now in let f : q ≡ r = grind (arith, e, at, is) in subst (λ (r : Place). is_inside r (op_progress_of j t) ≡ true) f (plain_inside q plain (op_progress_of j t)))
         (λ apart. ap (is_inside r) (far j) ∙ o.inside j r (sym (others j apart) ∙ at));
   }
     where
-      far : (j : ℕ) → how_far_of j t ≡ how_far_of j s
+      far : (j : ℕ) → op_progress_of j t ≡ op_progress_of j s
       far j = grind (arith, nat_tests, get-change)
 
-      plain_inside : (r : Place) → is_plain r ≡ true → (h : HowFar) → is_inside r h ≡ true
+      plain_inside : (r : Place) → is_plain r ≡ true → (h : OpProgress) → is_inside r h ≡ true
       plain_inside Place.New is h = refl
       plain_inside Place.Running is h = refl
       plain_inside Place.Suspended is h = refl
       plain_inside r is h = absurd (cc)
 
-  set_keeps : (c : Component) (x y : Turn) (s_open : is_open y ≡ true) → Orderly c x s → PlacesFit y s t → Awake y t → Orderly c y t × SameInstances s t
+  set_keeps : (c : Component) (x y : Turn) (s_open : is_open y ≡ true) → InOrderForAnyMain c x s → PlacesFit y s t → Awake y t → InOrderForAnyMain c y t × SameInstances s t
   unfolding t set_place on_thread
   set_keeps c x y going h fit awake = (
     λ m. places_in_order c (state_in m x s) (is_open x) (h m) (set_place n q s) (change_same unplaced n (λ (z : Thread). record z { place = q }) s.threads (λ z. refl)) y fit m (is_open y) (λ e. awake),
@@ -159,7 +159,7 @@ module _ (n : ℕ) (p q : Place) (s : Core) (from : place_of n s ≡ Some p) (pl
 idle_of : (q : Turn) → running_in q ≡ None → IsIdle q
 idle_of q none n is = grind (arith, none, is)
 
-leave_keeps : (c : Component) (n : ℕ) (q : Turn) (s : Core) → is_open q ≡ true → running_in q ≡ None → ((x : ℕ) → is_inside_wait x (how_far_of n s) ≡ false) → callers_of (foot_of n s) s ≡ [] →
+leave_keeps : (c : Component) (n : ℕ) (q : Turn) (s : Core) → is_open q ≡ true → running_in q ≡ None → ((x : ℕ) → is_inside_wait x (op_progress_of n s) ≡ false) → callers_of (foot_of n s) s ≡ [] →
     KeepsOrder c (Turn.Run n) s q (set_place n Place.Suspended s)
 unfolding OrderStands SuspendKeeps t
 leave_keeps c n q s going none outside callers h =
@@ -192,7 +192,7 @@ resumed_from m s may = by (place_of m s) refl (is_explicit m s) refl
     by o at b is = absurd (grind (arith, at, is, may))
 
 enter_from : (c : Component) (m : ℕ) (r : Place) (p : Turn) (s : Core) → is_open p ≡ true → IsIdle p → place_of m s ≡ Some r → is_plain r ≡ true →
-    ((k : Call) → get s.calls m ≡ Some k → k.started ≡ false → ⊥) → ((x : ℕ) (far : HowFar) → woken_place x (Some r) far ≡ false) →
+    ((k : Call) → get s.calls m ≡ Some k → k.started ≡ false → ⊥) → ((x : ℕ) (far : OpProgress) → woken_place x (Some r) far ≡ false) →
     ((j f : ℕ) → place_of j s ≡ Some (Place.Behind f) → is_fresh (place_of f s) ≡ false) → KeepsOrder c p s (Turn.Run m) (set_place m Place.Running s)
 unfolding OrderStands RunKeeps t
 enter_from c m r p s going idle from plain starts unwoken nobody h =
@@ -203,7 +203,7 @@ enter_from c m r p s going idle from plain starts unwoken nobody h =
       there = ap (λ (o : Option Place). is_some o) from;
       switch = λ k at. let e = placed.switch in grind (arith, nat_tests, e, at, from, plain);
       behind = λ f at. absurd (grind (arith, from, at, plain));
-      inside = λ x on. absurd (let e = unwoken x (how_far_of m s) in let f = woken_at x m s in grind (arith, from, on, e, f));
+      inside = λ x on. absurd (let e = unwoken x (op_progress_of m s) in let f = woken_at x m s in grind (arith, from, on, e, f));
     } in
     let lost = run_keeps m s may (order_stands c (state_in Unscripted p s) o going) in
     let fit = set_fits m r Place.Running s from plain refl c p (Turn.Run m) o (λ k is. let e = now m r Place.Running s from plain refl in grind (arith, nat_tests, e, is)) (λ e. absurd (cc))
@@ -236,7 +236,7 @@ turn_of (Turn.Futures i) m is = absurd (cc)
 turn_of Turn.Over m is = absurd (cc)
 
 -- nobody is behind a start once the running thread is suspended
-nobody_then : (c : Component) (n : ℕ) (s : Core) → Orderly c (Turn.Run n) s → (j f : ℕ) → place_of j (set_place n Place.Suspended s) ≡ Some (Place.Behind f) → is_fresh (place_of f (set_place n Place.Suspended s)) ≡ false
+nobody_then : (c : Component) (n : ℕ) (s : Core) → InOrderForAnyMain c (Turn.Run n) s → (j f : ℕ) → place_of j (set_place n Place.Suspended s) ≡ Some (Place.Behind f) → is_fresh (place_of f (set_place n Place.Suspended s)) ≡ false
 unfolding t set_place
 nobody_then c n s h j f at =
     let o = h Unscripted in
@@ -266,7 +266,7 @@ turn_in_order (Some n) None s c p q from to may =
     rw (turn_of p n from.1) (leave_keeps c n q s to.0 to.1 (λ x. may.outside n x refl) (may.callers n refl))
 turn_in_order (Some n) (Some m) s c p q from to may =
     let first : KeepsOrder c (Turn.Run n) s Turn.Main (set_place n Place.Suspended s) = leave_keeps c n Turn.Main s refl refl (λ x. may.outside n x refl) (may.callers n refl) in
-    let last : Orderly c (Turn.Run n) s → KeepsOrder c Turn.Main (set_place n Place.Suspended s) (Turn.Run m) (set_place m Place.Running (set_place n Place.Suspended s)) =
+    let last : InOrderForAnyMain c (Turn.Run n) s → KeepsOrder c Turn.Main (set_place n Place.Suspended s) (Turn.Run m) (set_place m Place.Running (set_place n Place.Suspended s)) =
     λ h. enter_keeps c m Turn.Main (set_place n Place.Suspended s) refl (λ k e. absurd (cc)) (resumed_then n m s (λ e. may.apart n refl (ap (λ (k : ℕ). Some k) e)) (may.resumed m refl)) (nobody_then c n s h) in
     rw (turn_of p n from.1, turn_of q m to.1) (λ h. after {q = Turn.Main} first (last h) h)
 turn_in_order None None s c p q from to may =
@@ -319,12 +319,12 @@ end_in_order n s lasts c may =
     (λ h. lead_keeps c n (silent n) Turn.Main s (ended n (stopped (foot_of n s) s))
     (λ m.
     let leave : Leaves (end_scene c n s m) n = (refl, (refl, refl)) in
-    let c0 : Keep (end_scene c n s m) s s = NoWord in
+    let c0 : Keep (end_scene c n s m) s s = NoPrimitive in
     (exits_trip n leave (ended_halts n (last_shifted n (placing_shifted (Stop (foot_of n s)) s) (last_of n s lasts)) (stopped_on (foot_of n s) refl c0) (halted_from n c0 c0)), end_words m))
     refl
     (subst (λ (t : Core). WakesCounted t) (sym (ends_same n s may.callers may.under)) (end_keeps n s may (order_stands c (state_in Unscripted (Turn.Run n) s) (h Unscripted) refl)).counted) h)
   where
-    end_words : (m : Main) → LastWords (end_scene c n s m) (ended n (stopped (foot_of n s) s))
+    end_words : (m : Main) → LastPrimitives (end_scene c n s m) (ended n (stopped (foot_of n s) s))
     end_words m = record {
       laid = λ j is take. absurd (cc);
       runs = λ j to. absurd (cc);

@@ -10,18 +10,18 @@ use Rattle.task_laws.proofs.OnceLemmas.{covers_none}
 use Rattle.task_laws.proofs.PolledWorks.{polled_is_live}
 use Rattle.task_laws.proofs.ReachLemmas.{reached_step}
 use Rattle.task_laws.proofs.SaidEnds.{hands_at, said_at, written_at}
-use Rattle.task_laws.proofs.Words.{add_call, add_group, add_set, add_thread, add_work, AddGroup, count_work, free_handle, free_thread_handle, give_handle, give_result, give_thread_handle, on_call, on_instance, on_thread, on_work, push_high, remove_call, remove_group, remove_set, remove_thread, remove_work, set_backpressure, set_cancel_delivered, set_cancelled, set_course, set_do_not_enter, set_do_not_suspend, set_end, set_event, set_exited, set_how_far, set_join, set_own_event, set_phase, set_position, set_register, set_result, set_saved_callee, set_saved_own, set_script, set_stage, set_started, set_starting_published, set_subtask_handle, set_thread_handle, set_trapped, set_uninteresting, set_word, take_result, call_made, with_handle, with_thread_handle, work_queued, poll_pends}
+use Rattle.task_laws.proofs.Words.{add_call, add_group, add_set, add_thread, add_work, AddGroup, count_work, free_handle, free_thread_handle, give_handle, give_result, give_thread_handle, on_call, on_instance, on_thread, on_work, push_high, remove_call, remove_group, remove_set, remove_thread, remove_work, set_backpressure, set_cancel_delivered, set_cancelled, set_course, set_do_not_enter, set_do_not_suspend, set_end, set_event, set_exited, set_op_progress, set_join, set_task_event, set_phase, set_position, set_register, set_result, set_saved_callee, set_saved_own, set_script, set_stage, set_started, set_starting_published, set_subtask_handle, set_thread_handle, set_trapped, set_uninteresting, set_word, take_result, call_made, with_handle, with_thread_handle, work_queued, poll_pends}
 use Rattle.task_laws.proofs.Works.{Lasts, works_go, WorksGo}
 use Rattle.task_laws.proofs.WorksCame.{doing}
 use Rattle.task_laws.specs.Order.{InOrder}
 use Rattle.task_laws.specs.Settings.{Reached}
-use Rattle.task_machine.specs.Read.{event_of, how_far_of, is_live, is_stage_ended, stage_of, undelivered_end}
+use Rattle.task_machine.specs.Read.{event_of, op_progress_of, is_live, is_stage_ended, stage_of, undelivered_end}
 use Rattle.task_machine.specs.declared.records.Work.{Work}
-use Rattle.task_places.proofs.Laws.{after_word, Allowed, along, arith, Bool, by_number, Core, false, get, get-change, get-insert, get-remove, HowFar, IsRunner, Label, nat_tests, None, Option, Scene, scene_of, Setting, Some, State, Status, Step, step_walks, Subtask, true, Walked, Word, ⊎_elim, ℕ, ◌∙◌, ◌≡◌, ◌⊎◌}
+use Rattle.task_places.proofs.Laws.{after_primitive, Allowed, along, arith, Bool, by_number, Core, false, get, get-change, get-insert, get-remove, OpProgress, IsRunner, Label, nat_tests, None, Option, Scene, scene_of, Setting, Some, State, Status, Step, step_walks, Subtask, true, Walked, Primitive, ⊎_elim, ℕ, ◌∙◌, ◌≡◌, ◌⊎◌}
 use Rattle.task_places.proofs.OrderLemmas.{asked, reached_in_order}
 use Rattle.task_places.proofs.WorksQueued.{stands_of}
-use Rattle.task_places.specs.Kept.{ReachedInOrder}
-use Rattle.task_rules.specs.Chains.{Answers, EndWords, HandsAtOnce, HandsOut, host_taken, TakesEvent, TakesResult, Writes, WritesAtOnce, WritesCall, WritesNever, WritesPolled, WritesToo}
+use Rattle.task_places.specs.KeptPlaces.{ReachedInOrder}
+use Rattle.task_rules.specs.Chains.{Answers, EndPrimitives, HandsAtOnce, HandsOut, host_taken, TakesEvent, TakesResult, Writes, WritesAtOnce, WritesCall, WritesNever, WritesPolled, WritesToo}
 use Rattle.task_rules.specs.Laws.{LaterBy}
 use Rattle.task_rules.specs.Once.{covers_end}
 use Rattle.task_rules.specs.SubtaskEnds.{end_for, written_as, written_by}
@@ -49,8 +49,8 @@ told_as_recorded x s r i e is = by (get s.core.works i) refl
 abbrev EndsNow : Scene → ℕ → Type 0
 EndsNow a i = a.label ≡ Label.Loop (LoopLabel.FutureEnds i)
 
-recorded_word : (a : Scene) (w : Word) (s : Core) → Allowed a w s → (i : ℕ) → has_recorded i (after_word w s) ≡ true → (has_recorded i s ≡ true) ⊎ EndsNow a i
-unfolding add_call add_group add_set add_thread add_work count_work free_handle free_thread_handle give_handle give_result give_thread_handle on_call on_instance on_thread on_work push_high remove_call remove_group remove_set remove_thread remove_work set_backpressure set_cancel_delivered set_cancelled set_course set_do_not_enter set_do_not_suspend set_end set_event set_exited set_how_far set_join set_own_event set_phase set_position set_register set_result set_saved_callee set_saved_own set_script set_stage set_started set_starting_published set_subtask_handle set_thread_handle set_trapped set_uninteresting set_word take_result call_made with_handle with_thread_handle work_queued poll_pends
+recorded_word : (a : Scene) (w : Primitive) (s : Core) → Allowed a w s → (i : ℕ) → has_recorded i (after_primitive w s) ≡ true → (has_recorded i s ≡ true) ⊎ EndsNow a i
+unfolding add_call add_group add_set add_thread add_work count_work free_handle free_thread_handle give_handle give_result give_thread_handle on_call on_instance on_thread on_work push_high remove_call remove_group remove_set remove_thread remove_work set_backpressure set_cancel_delivered set_cancelled set_course set_do_not_enter set_do_not_suspend set_end set_event set_exited set_op_progress set_join set_task_event set_phase set_position set_register set_result set_saved_callee set_saved_own set_script set_stage set_started set_starting_published set_subtask_handle set_thread_handle set_trapped set_uninteresting set_word take_result call_made with_handle with_thread_handle work_queued poll_pends
 recorded_word a AddGroup s ok i h = inl h
 recorded_word a (EndWork j c) s ok i h = by_number i j _ (λ is. inr (rw is ok.0.1.0)) (λ other. inl (grind (arith, nat_tests, get-change, other, h)))
 recorded_word a (FinishWork j c) s ok i h = by_number i j _ (λ is. inr (rw is ok.0.1.0)) (λ other. inl (grind (arith, nat_tests, get-change, other, h)))
@@ -86,8 +86,8 @@ module _ (x : Setting) (s : State) (l : Label) (t : State) (r : Reached x s) (st
   unfolding ReachedInOrder
   h = reached_in_order x s r
 
-  words : EndWords a t.core
-  words = plain {ops = ops_of x.component s.core} x s l w.next (λ b. EndWords b t.core) w.ends.says
+  words : EndPrimitives a t.core
+  words = plain {ops = ops_of x.component s.core} x s l w.next (λ b. EndPrimitives b t.core) w.ends.says
 
   go : WorksGo ⊥ a t.core
   go = plain {ops = ops_of x.component s.core} x s l w.next (λ b. WorksGo ⊥ b t.core)
@@ -95,7 +95,7 @@ module _ (x : Setting) (s : State) (l : Label) (t : State) (r : Reached x s) (st
 
   -- who goes on after its sync call of a host finds the work ended
   abbrev Finds : Scene → Type 0
-  Finds c = (n i : ℕ) → IsRunner c n → how_far_of n c.base ≡ HowFar.Calls (Subtask.Host i) → is_stage_ended (stage_of i c.base) ≡ true
+  Finds c = (n i : ℕ) → IsRunner c n → op_progress_of n c.base ≡ OpProgress.Calls (Subtask.Host i) → is_stage_ended (stage_of i c.base) ≡ true
 
   finds : Finds a
   finds = plain {ops = ops_of x.component s.core} x s l w.next Finds (λ n i runner far. (asked x s l t h w (codes_at x s h.codes) n i runner far).1)

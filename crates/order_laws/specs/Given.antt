@@ -1,12 +1,12 @@
 -- An op that the running thread is given, and that isn't read off its script, keeps order.
 use Rattle.std.specs.Prelude.{Bool, List, None, Option, Some, false, if◌then◌else◌, is_some, length, true, ℕ, ◌+◌, ◌==◌, ◌≡◌, ◌≤◌}
-use Rattle.order_laws.specs.Pieces.{IsPrepared, Orderly, OrderlyAs, SameInstances}
+use Rattle.order_laws.specs.Pieces.{IsPrepared, InOrderForAnyMain, InOrderForAnyMainAs, SameInstances}
 use Rattle.task_laws.specs.Order.{InOrder, InOrderAs, is_open}
 use Rattle.task_machine.specs.Core.{Core, State}
 use Rattle.task_machine.specs.Labels.{choice_of}
 use Rattle.task_machine.specs.Moves.{behind_one, put_switch}
-use Rattle.task_machine.specs.Read.{call_instance, how_far_of, is_async_lifted, kind_of, position_of}
-use Rattle.task_machine.specs.Write.{set_how_far}
+use Rattle.task_machine.specs.Read.{call_instance, op_progress_of, is_async_lifted, kind_of, position_of}
+use Rattle.task_machine.specs.Write.{set_op_progress}
 use Rattle.task_machine.specs.declared.component.Callee.{Callee}
 use Rattle.task_machine.specs.declared.component.Component.{Component}
 use Rattle.task_machine.specs.declared.component.HostDef.{HostDef}
@@ -16,17 +16,17 @@ use Rattle.task_machine.specs.declared.op.Op.{Op}
 use Rattle.task_machine.specs.declared.op.Op.TheVariants as op
 use Rattle.task_machine.specs.declared.op.TaskOp.{TaskOp}
 use Rattle.task_machine.specs.declared.op.TaskOp.TheVariants as task_op
-use Rattle.task_machine.specs.declared.records.HowFar.TheVariants as how_far
+use Rattle.task_machine.specs.declared.records.OpProgress.TheVariants as op_progress
 use Rattle.task_machine.specs.declared.records.Subtask.TheVariants as subtask
 use Rattle.task_machine.specs.declared.records.Turn.TheVariants as turn
 use Rattle.task_machine.specs.declared.records.Why.TheVariants as why
-use Rattle.task_rules.specs.Calls.{call_clears_flag, call_host_by, call_sync_host_by, enter_row, first_polled}
+use Rattle.task_rules.specs.Calls.{call_clears_flag, call_host_by, call_sync_host_by, enter_rule, first_polled}
 use Rattle.task_rules.specs.Finish.{SomeHost}
 use Rattle.task_rules.specs.OpParts.{callee_of_op, ends_activation, is_data_op, is_sync_call}
-use Rattle.task_rules.specs.Progress.{Goes, Progress}
+use Rattle.task_rules.specs.Progress.{Continues, Progress}
 use Rattle.task_rules.specs.Scripts.{export_kind, ops_of, script_of}
 use Rattle.task_rules.specs.Stalled.{Setting}
-use Rattle.task_rules.specs.Step.{Progresses, Step, StepAs, op_row, op_rule, own_script}
+use Rattle.task_rules.specs.Step.{Progresses, Step, StepAs, scripted_op_rule, op_rule, own_script}
 use Rattle.wake_laws.specs.Stands.{NoWakeLost}
 
 -- the thread n has this op, and each other one its own
@@ -43,19 +43,19 @@ SameSteps = (x : Setting) (s : State) (l : Label) (t : State) →
 unfoldable pub GivenSteps : Type 0
 GivenSteps = (x : Setting) (o : Op) (n : ℕ) (s t : State) (l : Label) → s.turn ≡ turn.Run n → ends_activation o ≡ false →
     position_of n s.core + 1 ≤ length (script_of x.component n s.core) → InOrderAs (given n o (ops_of x.component s.core)) x.component s →
-    Progresses s s.core n (op_row x.component n s.core (choice_of l) o) l t →
+    Progresses s s.core n (scripted_op_rule x.component n s.core (choice_of l) o) l t →
     InOrderAs (given n o (ops_of x.component t.core)) x.component t
 
 -- So does any op that it does, where none of its own is under way.
 unfoldable pub GivenKeeps : Type 0
 GivenKeeps = (x : Setting) (o : Op) (n : ℕ) (s t : State) (l : Label) → s.turn ≡ turn.Run n → ends_activation o ≡ false →
-    how_far_of n s.core ≡ how_far.Fresh → position_of n s.core + 1 ≤ length (script_of x.component n s.core) → InOrder x.component s →
-    Progresses s s.core n (op_row x.component n s.core (choice_of l) o) l t →
+    op_progress_of n s.core ≡ op_progress.Fresh → position_of n s.core + 1 ≤ length (script_of x.component n s.core) → InOrder x.component s →
+    Progresses s s.core n (scripted_op_rule x.component n s.core (choice_of l) o) l t →
     InOrderAs (given n o (ops_of x.component t.core)) x.component t
 
 -- Where the op is done the thread runs on, and no op of it is under way: then the state is in order as it is.
 unfoldable pub GivenDone : Type 0
-GivenDone = (x : Setting) (o : Op) (n : ℕ) (t : State) → t.turn ≡ turn.Run n → how_far_of n t.core ≡ how_far.Fresh →
+GivenDone = (x : Setting) (o : Op) (n : ℕ) (t : State) → t.turn ≡ turn.Run n → op_progress_of n t.core ≡ op_progress.Fresh →
     InOrderAs (given n o (ops_of x.component t.core)) x.component t → InOrder x.component t
 
 -- ---- As a host has the op done
@@ -71,14 +71,14 @@ HostSteps = (x : Setting) (o : Op) (n : ℕ) (s t : State) (l : Label) → s.tur
 -- So does any such op, where none of the thread is under way.
 unfoldable pub HostKeeps : Type 0
 HostKeeps = (x : Setting) (o : Op) (n : ℕ) (s t : State) (l : Label) → s.turn ≡ turn.Run n → ends_activation o ≡ false →
-    is_data_op o ≡ false → how_far_of n s.core ≡ how_far.Fresh → InOrder x.component s →
+    is_data_op o ≡ false → op_progress_of n s.core ≡ op_progress.Fresh → InOrder x.component s →
     Progresses s s.core n (op_rule SomeHost x.component n s.core (choice_of l) o) l t →
     InOrderAs (given n o (ops_of x.component t.core)) x.component t
 
 -- No wake is lost by it, as far as it came: where it is refused the turns are over.
 unfoldable pub HostLosesNone : Type 0
 HostLosesNone = (x : Setting) (o : Op) (n : ℕ) (s t : State) (l : Label) → s.turn ≡ turn.Run n → ends_activation o ≡ false →
-    is_data_op o ≡ false → how_far_of n s.core ≡ how_far.Fresh → InOrder x.component s →
+    is_data_op o ≡ false → op_progress_of n s.core ≡ op_progress.Fresh → InOrder x.component s →
     Progresses s s.core n (op_rule SomeHost x.component n s.core (choice_of l) o) l t → is_open t.turn ≡ true → NoWakeLost t.core
 
 -- it ends neither the thread nor an activation
@@ -104,7 +104,7 @@ is_asked _ = false
 -- is in its script, also at its end.
 unfoldable pub HostDone : Type 0
 HostDone = (x : Setting) (o : Op) (n m : ℕ) (s t : State) (l : Label) → s.turn ≡ turn.Run n → is_asked o ≡ true →
-    how_far_of n s.core ≡ how_far.Fresh → InOrder x.component s →
+    op_progress_of n s.core ≡ op_progress.Fresh → InOrder x.component s →
     Progresses s s.core n (op_rule SomeHost x.component n s.core (choice_of l) o) l t → t.turn ≡ turn.Run m → (m ≡ n) × InOrder x.component t
 
 -- It makes no instance, and takes none away.
@@ -127,13 +127,13 @@ host_rule None host n s = first_polled host (call_sync_host_by SomeHost n s)
 -- Where a host has the thread call a host, which need be none of the component, order stays in which the thread has an op that calls one.
 unfoldable pub HostCallsKeep : Type 0
 HostCallsKeep = (x : Setting) (host : HostDef) (q : Option ℕ) (n : ℕ) (s t : State) (l : Label) → s.turn ≡ turn.Run n →
-    how_far_of n s.core ≡ how_far.Fresh → InOrder x.component s → Progresses s s.core n (host_rule q host n s.core) l t →
+    op_progress_of n s.core ≡ op_progress.Fresh → InOrder x.component s → Progresses s s.core n (host_rule q host n s.core) l t →
     InOrderAs (given n (host_op q) (ops_of x.component t.core)) x.component t × SameInstances s.core t.core
 
 -- Where it goes on the thread runs on, and the state is in order, wherever the thread is in its script.
 unfoldable pub HostCallsDone : Type 0
 HostCallsDone = (x : Setting) (host : HostDef) (q : Option ℕ) (n m : ℕ) (s t : State) (l : Label) → s.turn ≡ turn.Run n →
-    how_far_of n s.core ≡ how_far.Fresh → InOrder x.component s → Progresses s s.core n (host_rule q host n s.core) l t →
+    op_progress_of n s.core ≡ op_progress.Fresh → InOrder x.component s → Progresses s s.core n (host_rule q host n s.core) l t →
     t.turn ≡ turn.Run m → (m ≡ n) × InOrder x.component t
 
 -- ---- As a host calls an export
@@ -142,18 +142,18 @@ HostCallsDone = (x : Setting) (host : HostDef) (q : Option ℕ) (n m : ℕ) (s t
 -- of that export, wherever it is in its script.
 unfoldable pub EnterKeeps : Type 0
 EnterKeeps = (c : Component) (o : Op) (e : Callee) (words : List ℕ) (n m : ℕ) (l : Label) (new s : Core) → callee_of_op o ≡ Some e →
-    is_sync_call o ≡ true → is_async_lifted (export_kind c e) ≡ false → how_far_of n s ≡ how_far.Fresh →
-    enter_row n e (export_kind c e) words s ≡ Goes l new m → Orderly c (turn.Run n) s →
-    OrderlyAs (given n o (ops_of c new)) c (turn.Run m) new × SameInstances s new
+    is_sync_call o ≡ true → is_async_lifted (export_kind c e) ≡ false → op_progress_of n s ≡ op_progress.Fresh →
+    enter_rule n e (export_kind c e) words s ≡ Continues l new m → InOrderForAnyMain c (turn.Run n) s →
+    InOrderForAnyMainAs (given n o (ops_of c new)) c (turn.Run m) new × SameInstances s new
 
 -- the core in which the start of the call m is queued, and n is behind it
 abbrev pub start_queued : (n m : ℕ) → Core → Core
 start_queued n m s =
-    set_how_far n (how_far.Calls (subtask.Guest m))
+    set_op_progress n (op_progress.Calls (subtask.Guest m))
     (behind_one m n (call_clears_flag n (call_instance m s) (kind_of m s) (put_switch m why.Start s)))
 
 -- The start of a call is queued that was prepared before, whatever was done in between, and no thread goes on: order stays in which the
 -- thread has an op that calls an export, wherever it is in its script.
 unfoldable pub StartKeeps : Type 0
-StartKeeps = (c : Component) (o : Op) (n m : ℕ) (s : Core) → IsPrepared n m s → is_some (callee_of_op o) ≡ true → Orderly c (turn.Run n) s →
-    OrderlyAs (given n o (ops_of c (start_queued n m s))) c turn.Main (start_queued n m s) × SameInstances s (start_queued n m s)
+StartKeeps = (c : Component) (o : Op) (n m : ℕ) (s : Core) → IsPrepared n m s → is_some (callee_of_op o) ≡ true → InOrderForAnyMain c (turn.Run n) s →
+    InOrderForAnyMainAs (given n o (ops_of c (start_queued n m s))) c turn.Main (start_queued n m s) × SameInstances s (start_queued n m s)

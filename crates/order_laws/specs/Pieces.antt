@@ -1,7 +1,7 @@
 -- Pieces of rows keep order, whatever the op at the thread's place is.
 use Rattle.std.specs.Prelude.{is_some, List, Some, false, true, ℕ, ◌≡◌, ◌≤◌}
 use Rattle.task_laws.specs.Order.{InOrder, InOrderAs, is_open}
-use Rattle.task_laws.specs.Wakes.{WakesCounted}
+use Rattle.task_laws.specs.WakeLaw.{WakesCounted}
 use Rattle.task_machine.specs.Core.{Core, Main, One, State}
 use Rattle.task_machine.specs.Moves.{promoted_unless, put_switch}
 use Rattle.task_machine.specs.declared.component.Component.{Component}
@@ -10,10 +10,10 @@ use Rattle.task_machine.specs.declared.op.Op.{Op}
 use Rattle.task_machine.specs.declared.records.Turn.{Turn}
 use Rattle.task_machine.specs.declared.records.Turn.TheVariants as turn
 use Rattle.task_machine.specs.declared.records.Why.{Why}
-use Rattle.task_machine.specs.Read.{goal_of, how_far_of, is_direct, is_explicit, task_of}
+use Rattle.task_machine.specs.Read.{goal_of, op_progress_of, is_direct, is_explicit, task_of}
 use Rattle.task_machine.specs.Maps.{get}
 use Rattle.task_machine.specs.Write.{set_register}
-use Rattle.task_machine.specs.declared.records.HowFar.TheVariants as how_far
+use Rattle.task_machine.specs.declared.records.OpProgress.TheVariants as op_progress
 use Rattle.task_machine.specs.Read.{thread_group}
 use Rattle.task_machine.specs.declared.component.Callee.{Callee}
 use Rattle.task_machine.specs.declared.records.Caller.{Caller}
@@ -25,8 +25,8 @@ use Rattle.task_machine.specs.declared.records.Place.TheVariants as place
 use Rattle.task_rules.specs.Allowed.{HasCalled}
 use Rattle.task_rules.specs.Calls.{call_made, next_thread}
 use Rattle.task_rules.specs.Chains.{Walked}
-use Rattle.task_rules.specs.Ends.{direct_exit_row}
-use Rattle.task_rules.specs.Progress.{Goes}
+use Rattle.task_rules.specs.Ends.{direct_exit_rule}
+use Rattle.task_rules.specs.Progress.{Continues}
 use Rattle.task_rules.specs.Scripts.{export_kind}
 use Rattle.task_rules.specs.Laws.{Steady}
 use Rattle.task_rules.specs.Stalled.{Setting}
@@ -37,12 +37,12 @@ abbrev pub state_in : Main → Turn → Core → State
 state_in m p s = record { version = One; core = s; main = m; turn = p }
 
 -- the core is in order at this turn, whatever main's part is
-abbrev pub Orderly : Component → Turn → Core → Type 0
-Orderly c p s = (m : Main) → InOrder c (state_in m p s)
+abbrev pub InOrderForAnyMain : Component → Turn → Core → Type 0
+InOrderForAnyMain c p s = (m : Main) → InOrder c (state_in m p s)
 
 -- the same, in which each thread has this op
-abbrev pub OrderlyAs : (ℕ → Op) → Component → Turn → Core → Type 0
-OrderlyAs ops c p s = (m : Main) → InOrderAs ops c (state_in m p s)
+abbrev pub InOrderForAnyMainAs : (ℕ → Op) → Component → Turn → Core → Type 0
+InOrderForAnyMainAs ops c p s = (m : Main) → InOrderAs ops c (state_in m p s)
 
 -- the same instances are there, and the same tables of handles
 pub record SameInstances (s t : Core) : Type 0 where
@@ -51,7 +51,7 @@ pub record SameInstances (s t : Core) : Type 0 where
 
 -- where s is in order at the turn p, t is at q, with the same instances
 abbrev pub KeepsOrder : Component → Turn → Core → Turn → Core → Type 0
-KeepsOrder c p s q t = Orderly c p s → Orderly c q t × SameInstances s t
+KeepsOrder c p s q t = InOrderForAnyMain c p s → InOrderForAnyMain c q t × SameInstances s t
 
 -- A walk of words, each where it may be done, leads from a state in order to one, where records stay those of the same and wakes are
 -- counted at its end.
@@ -76,7 +76,7 @@ PromoteKeeps = (c : Component) (n k : ℕ) (s : Core) → has_yielded k s ≡ tr
 -- the first thread of a direct call, no op of which is under way, exits, whatever the op at its place is, and m goes on
 unfoldable pub ExitKeeps : Type 0
 ExitKeeps = (c : Component) (n m : ℕ) (l : Label) (new s : Core) → is_explicit n s ≡ false → is_direct (goal_of (task_of n s) s) ≡ true →
-    how_far_of n s ≡ how_far.Fresh → direct_exit_row n s ≡ Goes l new m → KeepsOrder c (turn.Run n) s (turn.Run m) new
+    op_progress_of n s ≡ op_progress.Fresh → direct_exit_rule n s ≡ Continues l new m → KeepsOrder c (turn.Run n) s (turn.Run m) new
 
 -- a register of the running thread is written
 unfoldable pub RegisterKeeps : Type 0
@@ -92,7 +92,7 @@ PrepareKeeps = (c : Component) (p : Turn) (f : Caller) (e : Callee) (g : Goal) (
 -- The running thread n, no op of which is under way, has made the call m, of which nothing has become: its thread is New, and its start is
 -- to be queued.
 pub record IsPrepared (n m : ℕ) (s : Core) : Type 0 where
-  pub fresh : how_far_of n s ≡ how_far.Fresh
+  pub fresh : op_progress_of n s ≡ op_progress.Fresh
   pub new : place_of m s ≡ Some place.New
   pub implicit : is_explicit m s ≡ false
   pub queued : is_direct (goal_of (task_of m s) s) ≡ false
@@ -101,5 +101,5 @@ pub record IsPrepared (n m : ℕ) (s : Core) : Type 0 where
 -- so it is of a call as it is made
 unfoldable pub PrepareMakes : Type 0
 PrepareMakes = (n : ℕ) (e : Callee) (x : ExportKind) (g : Goal) (words : List ℕ) (s : Core) → n ≤ s.made.threads →
-    how_far_of n s ≡ how_far.Fresh → is_direct g ≡ false →
+    op_progress_of n s ≡ op_progress.Fresh → is_direct g ≡ false →
     IsPrepared n (next_thread s) (call_made (caller.Thread n) e x g (thread_group n s) words s)

@@ -30,12 +30,12 @@ pub record LowersPolls (s t : Core) : Type 0 where
   pub work : ℕ
   pub polls : ℕ
   pub value : Option ℕ
-  pub before : course_of work s ≡ course.Goes (with_polls (suc polls) value)
-  pub after : course_of work t ≡ course.Goes (with_polls polls value)
+  pub before : course_of work s ≡ course.Continues (with_polls (suc polls) value)
+  pub after : course_of work t ≡ course.Continues (with_polls polls value)
 
 -- an open work goes on
 abbrev pub HasOpenWork : Core → Type 0
-HasOpenWork s = (i : ℕ) × (course_of i s ≡ course.Goes host_def.Open)
+HasOpenWork s = (i : ℕ) × (course_of i s ≡ course.Continues host_def.Open)
 
 -- A turn in which main pends, then the works that are polled, and that rests, has lowered the polls that are left of one of them, or left an
 -- open one, where no work has the number 0.

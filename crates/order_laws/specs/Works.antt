@@ -4,9 +4,9 @@ use Rattle.std.specs.Prelude.{Bool, None, Some, false, is_some, true, ℕ, ◌+�
 use Rattle.task_laws.specs.Settings.{Reached}
 use Rattle.task_machine.specs.Core.{Core, State}
 use Rattle.task_machine.specs.Maps.{get}
-use Rattle.task_machine.specs.Read.{course_of, course_value, event_of, how_far_of, is_stage_ended, stage_of, undelivered_end, work_caller_of}
+use Rattle.task_machine.specs.Read.{course_of, course_value, event_of, op_progress_of, is_stage_ended, stage_of, undelivered_end, work_caller_of}
 use Rattle.task_machine.specs.declared.label.Label.{Label}
-use Rattle.task_machine.specs.declared.records.HowFar.TheVariants as how_far
+use Rattle.task_machine.specs.declared.records.OpProgress.TheVariants as op_progress
 use Rattle.task_machine.specs.declared.records.Subtask.TheVariants as subtask
 use Rattle.task_machine.specs.declared.records.WorkCaller.TheVariants as work_caller
 use Rattle.task_machine.specs.declared.words.Status.{Status}
@@ -60,7 +60,7 @@ WorkEndsAreSaid = (x : Setting) (s : State) (l : Label) (t : State) → Step x s
 pub record Answered (i : ℕ) (e : Status) (s t : Core) : Type 0 where
   pub caller : ℕ
   pub called : work_caller_of i s ≡ work_caller.Sync caller
-  pub inside : how_far_of caller s ≡ how_far.Calls (subtask.Host i)
+  pub inside : op_progress_of caller s ≡ op_progress.Calls (subtask.Host i)
   pub over : is_stage_ended (stage_of i s) ≡ true
   pub status : e ≡ status.Returned
   pub gone : get t.works i ≡ None

@@ -4,33 +4,33 @@
 //! wake is lost. Each function here is the statement of a law, about the rules that `task_rules` defines.
 #![tactic(auto)]
 
-mod answers;
+mod answer_laws;
 mod borrows;
-mod calls;
-mod ends;
-mod events;
+mod call_laws;
+mod end_laws;
+mod event_laws;
 mod given;
-mod kept;
+mod kept_laws;
 mod pieces;
 mod rests;
 mod takes;
 mod walked;
-mod works;
+mod work_laws;
 
-pub use answers::answers_lose_none;
+pub use answer_laws::answers_lose_none;
 pub use borrows::borrows_keep_order;
-pub use calls::{enters_keep, prepares_keep, starts_keep};
-pub use ends::exits_keep;
-pub use events::{events_are_reached, runs_tell_higher, starts_wait_unstarted, steps_tell_higher};
+pub use call_laws::{enters_keep, prepares_keep, starts_keep};
+pub use end_laws::exits_keep;
+pub use event_laws::{events_are_reached, runs_tell_higher, starts_wait_unstarted, steps_tell_higher};
 pub use given::{
     given_ops_keep_order, host_calls_keep_order, host_ops_keep_order, steps_have_own_ops,
 };
-pub use kept::{entries_keep_order, events_keep_order, turns_keep_order};
+pub use kept_laws::{entries_keep_order, events_keep_order, turns_keep_order};
 pub use pieces::first_keeps;
 pub use rests::rests_lower_polls;
 pub use takes::{runs_move_entries, runs_take_in_turn, steps_move_entries};
 pub use walked::walked_in_order;
-pub use works::{
+pub use work_laws::{
     no_work_end_is_covered, work_ends_are_handed_as_told, work_ends_are_said,
     work_ends_are_told_as_recorded, written_work_ends_are_new,
 };

@@ -1,5 +1,5 @@
 -- What two tables have in common that are alike as far as a function of their entries sees.
-use Rattle.task_records.proofs.Core.{[], ap, ap₂, Filing, filings, found_record, HaveNodes, is_made, IsSome, List, map, mapped, None, number_in, number_of, number_of-mapped, on_item, Option, option_map, place_at, place_at-mapped, Placed, placed_as, record_at, refl, said, seated, Some, Spot, StandsAt, subst, sym, Table, tag_of, tags_in, trimmed, true, ℕ, ◌∙◌, ◌∷◌, ◌≡◌}
+use Rattle.task_records.proofs.Core.{[], ap, ap₂, Filing, filings, found_record, HaveNodes, is_made, IsSome, List, map, mapped, None, number_in, number_of, number_of-mapped, on_item, Option, option_map, place_at, place_at-mapped, Placed, placed_as, record_at, refl, said, keyed, Some, Spot, StandsAt, subst, sym, Table, tag_of, tags_in, trimmed, true, ℕ, ◌∙◌, ◌∷◌, ◌≡◌}
 use Rattle.task_records.specs.declared.{single.Single.Single}
 use Rattle.task_records.proofs.TableLemmas.{found_mapped, number_at_mapped, with_second}
 use Rattle.place_words.specs.Moved.{Alike}
@@ -17,16 +17,16 @@ module _ {T : Type 0} (f : T → T) (new old : Table (Single T)) (alike : Alike 
       (one.0, (one.1.0, ap (λ (e : Single T). e.item) one.1.1))
 
   -- a seat that looks no further
-  module _ {Q : Type 0} (seat : ℕ → T → Q) (blind : (r : ℕ) (x : T) → seat r (f x) ≡ seat r x) where
-    seated_mapped : (t : Table (Single T)) (r : ℕ) → seated seat (mapped (on_item f) t) r ≡ seated seat t r
-    seated_mapped t r = ap (option_map (λ (p : Placed (Single T)). seat r p.entry.item)) (place_at-mapped (on_item f) t r) ∙ by (place_at t r)
+  module _ {Q : Type 0} (order_key : ℕ → T → Q) (blind : (r : ℕ) (x : T) → order_key r (f x) ≡ order_key r x) where
+    keyed_mapped : (t : Table (Single T)) (r : ℕ) → keyed order_key (mapped (on_item f) t) r ≡ keyed order_key t r
+    keyed_mapped t r = ap (option_map (λ (p : Placed (Single T)). order_key r p.entry.item)) (place_at-mapped (on_item f) t r) ∙ by (place_at t r)
       where
-        by : (o : Option (Placed (Single T))) → option_map (λ (p : Placed (Single T)). seat r p.entry.item) (placed_as (on_item f) o) ≡ option_map (λ (p : Placed (Single T)). seat r p.entry.item) o
+        by : (o : Option (Placed (Single T))) → option_map (λ (p : Placed (Single T)). order_key r p.entry.item) (placed_as (on_item f) o) ≡ option_map (λ (p : Placed (Single T)). order_key r p.entry.item) o
         by None = refl
         by (Some p) = ap (λ (x : Q). Some x) (blind r p.entry.item)
 
-    pub seated_alike : (r : ℕ) → seated seat new r ≡ seated seat old r
-    seated_alike r = sym (seated_mapped new r) ∙ (ap (λ t. seated seat t r) alike ∙ seated_mapped old r)
+    pub keyed_alike : (r : ℕ) → keyed order_key new r ≡ keyed order_key old r
+    keyed_alike r = sym (keyed_mapped new r) ∙ (ap (λ t. keyed order_key t r) alike ∙ keyed_mapped old r)
 
   module _ (number : T → ℕ) (named : (x : T) → number (f x) ≡ number x) where
     -- a key that looks no further

@@ -1,21 +1,21 @@
 -- A call is written that has another event or set, and the numbers of members of sets: what else holds of the parts stays.
-use Rattle.task_records.proofs.Core.{ap, ap₂, AreChained, AreCounted, AtPlace, BlockedOn, Bool, Call, call_instance, call_key, CallOf, core_of, count_by, EachEntry, filings, get, get-records, Goal, HasHome, HasRoom, HeldIn, StartsIn, is_host_call, is_of_group, IsCallKept, IsCallNamed, IsGroupKept, IsIndex, IsIndex-same_chains, IsSetKept, IsWhole, IsWorkNamed, join_target, length, List, mapped, no_callee, None, Nothing, on_item, Option, option_map, option_map_or, Parts, passing, place_chain, ready_call, ready_call_chain, ready_work_chain, records, refl, same_Some, SetOf, size, Some, Spot, subst, Subtask, sym, Table, table_use, Target, ThreadOf, UnderOf, WaitsOn, Where, WorkOf, ℕ, ◌*◌, ◌+◌, ◌==◌, ◌∙◌, ◌≡◌}
+use Rattle.task_records.proofs.Core.{ap, ap₂, AreChained, AreCounted, AtPlace, BlockedOn, Bool, Call, call_instance, call_key, CallOf, core_of, count_by, EachEntry, filings, get, get-records, Goal, HasHome, HasRoom, HeldIn, StartsIn, is_host_call, is_of_group, IsCallKept, IsCallNamed, IsGroupKept, IsIndex, IsIndex-same_chains, IsSetKept, IsWhole, IsWorkNamed, join_target, length, List, mapped, no_callee, None, Nothing, on_item, Option, option_map, option_map_or, CoreImage, passing, place_chain, ready_call, ready_call_chain, ready_work_chain, records, refl, same_Some, SetOf, size, Some, Spot, subst, Subtask, sym, Table, table_use, Target, ThreadOf, UnderOf, WaitsOn, Where, WorkOf, ℕ, ◌*◌, ◌+◌, ◌==◌, ◌∙◌, ◌≡◌}
 use Rattle.task_machine.specs.declared.component.ExportKind.{ExportKind}
 use Rattle.task_machine.specs.Read.{kind_of}
-use Rattle.task_records.specs.declared.{calls.GuestTask.GuestTask, calls.TaskGroup.TaskGroup, sets.WaitSet.WaitSet, single.Single.Single, threads.GuestThread.GuestThread, works.HostWork.HostWork}
+use Rattle.task_records.specs.declared.{call_records.GuestTask.GuestTask, call_records.TaskGroup.TaskGroup, set_records.WaitSet.WaitSet, single.Single.Single, thread_records.GuestThread.GuestThread, work_records.WorkRecord.WorkRecord}
 use Rattle.task_records.proofs.KeptLemmas.{passing_seconds, records_seconds, seconds, size_seconds}
 use Rattle.place_words.proofs.AlikeLemmas.{found_alike, found_loose, number_alike, place_alike, stands_alike}
 use Rattle.place_words.proofs.PutLemmas.{sets_same}
 use Rattle.place_words.specs.Moved.{Alike, quiet_call, still_call, uncounted}
-use Rattle.table_order.specs.declared.seat_links.Seat.{Seat}
+use Rattle.table_order.specs.declared.ordered_lists.OrderKey.{OrderKey}
 use Rattle.task_words.specs.Barred.{bars_start}
 
 quiet_instance : (o : Option Call) → (option_map_or (λ (c : Call). c.callee) (option_map quiet_call o) no_callee).instance ≡ (option_map_or (λ (c : Call). c.callee) o no_callee).instance
 quiet_instance None = refl
 quiet_instance (Some c) = refl
 
-module _ (p : Parts) (whole : IsWhole p) (calls : Table (Single GuestTask)) (alike : Alike still_call calls p.calls) (sets : Table (Single WaitSet)) (sets_alike : Alike uncounted sets p.sets) (ready : List (Spot Seat)) where
-  abbrev pub told : Parts
+module _ (p : CoreImage) (whole : IsWhole p) (calls : Table (Single GuestTask)) (alike : Alike still_call calls p.calls) (sets : Table (Single WaitSet)) (sets_alike : Alike uncounted sets p.sets) (ready : List (Spot OrderKey)) where
+  abbrev pub told : CoreImage
   told = record p { calls = calls; sets = sets; ready_calls = ready }
 
   pub at_told : (rep : ℕ) (t : Target) → AtPlace p rep t → AtPlace told rep t
@@ -39,7 +39,7 @@ module _ (p : Parts) (whole : IsWhole p) (calls : Table (Single GuestTask)) (ali
   kind_told k = sym (quiet_kind (get (core_of told).calls k)) ∙ (ap (λ o. option_map_or (λ (c : Call). c.kind) o ExportKind.Callback) (get_told k) ∙ quiet_kind (get (core_of p).calls k))
 
   home_told : (g : GuestThread) → HasHome p g → HasHome told g
-  home_told g h = record { call = number_alike still_call calls p.calls alike (λ (g : GuestTask). g.number) (λ g. refl) (λ (g : GuestTask). g.call) quiet_call (λ g. refl) g.task ∙ h.call; there = h.there; instance = instance_told g.thread.call ∙ h.instance; barred = ap (bars_start g.thread.explicit) (kind_told g.thread.call) ∙ h.barred; within = h.within; place = at_told g.beside _ h.place; how_far = at_told g.awaited _ h.how_far }
+  home_told g h = record { call = number_alike still_call calls p.calls alike (λ (g : GuestTask). g.number) (λ g. refl) (λ (g : GuestTask). g.call) quiet_call (λ g. refl) g.task ∙ h.call; there = h.there; instance = instance_told g.thread.call ∙ h.instance; barred = ap (bars_start g.thread.explicit) (kind_told g.thread.call) ∙ h.barred; within = h.within; place = at_told g.beside _ h.place; op_progress = at_told g.awaited _ h.op_progress }
 
   call_told : (g : GuestTask) → IsCallNamed p g → IsCallNamed told (still_call g)
   call_told g h = record { caller = at_told g.maker _ h.caller; first = at_told g.first (ThreadOf g.number) h.first; join = tt; group = h.group; positive = h.positive }
@@ -50,7 +50,7 @@ module _ (p : Parts) (whole : IsWhole p) (calls : Table (Single GuestTask)) (ali
       let h = subst (IsCallNamed told) one.1.1 (call_told one.0.entry.item (whole.named.calls r one.0 one.1.0)) in
       record { caller = h.caller; first = h.first; join = joins r q at; group = h.group; positive = h.positive }
 
-  work_told : (w : HostWork) → IsWorkNamed p w → IsWorkNamed told w
+  work_told : (w : WorkRecord) → IsWorkNamed p w → IsWorkNamed told w
   work_told w h = record { caller = at_told w.maker _ h.caller; join = at_told w.joined _ h.join; group = h.group }
 
   place_chain_told : (k : Where) → place_chain told k ≡ place_chain p k
@@ -75,7 +75,7 @@ module _ (p : Parts) (whole : IsWhole p) (calls : Table (Single GuestTask)) (ali
     polled = whole.chained.polled;
     rising = whole.chained.rising;
     marks = whole.chained.marks;
-    shelves = whole.chained.shelves;
+    instance_queues = whole.chained.instance_queues;
     low = whole.chained.low;
     behind = whole.chained.behind;
   }
@@ -128,6 +128,6 @@ module _ (p : Parts) (whole : IsWhole p) (calls : Table (Single GuestTask)) (ali
       switch = whole.named.switch;
     };
     chained = chained_told index;
-    nodes = record { marks = whole.nodes.marks; shelves = whole.nodes.shelves; callers = whole.nodes.callers; works = whole.nodes.works; apart = whole.nodes.apart };
+    nodes = record { marks = whole.nodes.marks; instance_queues = whole.nodes.instance_queues; callers = whole.nodes.callers; works = whole.nodes.works; apart = whole.nodes.apart };
     counted = counted_told kept;
   }

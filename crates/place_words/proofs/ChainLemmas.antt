@@ -1,6 +1,6 @@
 -- The chains of the ready members of a set whose number was kept.
-use Rattle.task_records.proofs.Core.{ap, arith, bare, Bool, cond, false, found_record, get, get-records, is_some, IsSound, item_at, item_of, kept_in, None, Ok, Option, parts_of, ready_call_chain, ready_work_chain, Records, refl, seen, Set, set_key, Some, subst, sym, true, ℕ, ◌<◌, ◌∙◌, ◌≡◌}
-use Rattle.task_records.specs.declared.{parts.CoreParts.CoreParts, sets.WaitSet.WaitSet, single.Single.Single}
+use Rattle.task_records.proofs.Core.{ap, arith, bare, Bool, cond, false, found_record, get, get-records, is_some, IsSoundCore, item_at, item_of, kept_in, None, Ok, Option, parts_of, ready_call_chain, ready_work_chain, Records, refl, seen, Set, set_key, Some, subst, sym, true, ℕ, ◌<◌, ◌∙◌, ◌≡◌}
+use Rattle.task_records.specs.declared.{parts.CoreParts.CoreParts, set_records.WaitSet.WaitSet, single.Single.Single}
 use Rattle.task_records.proofs.KindLemmas.{absent, item_stands}
 use Rattle.place_words.proofs.FiledLemmas.{kept_under}
 use Rattle.queue_words.proofs.BareLemmas.{number_positive}
@@ -14,9 +14,9 @@ kept_positive m n more = by (is_some (get m n)) refl
     by true is = ap (λ b. cond b n 0) is
     by false is = absurd (let zero : kept_in m n ≡ 0 = ap (λ b. cond b n 0) is in omega (arith, more, zero))
 
-module _ (a : CoreParts) (sound : IsSound a) (x : ℕ) where
+module _ (a : CoreParts) (sound : IsSoundCore a) (x : ℕ) where
   set_gone : (m : ℕ) → m ≡ 0 → m ≡ kept_in (seen a).core.sets x → found_record set_key x a.sets.places ≡ None
-  unfolding seen IsSound
+  unfolding seen IsSoundCore
   set_gone m zero is = by (found_record set_key x a.sets.places) refl
     where
       by : (o : Option Set) → found_record set_key x a.sets.places ≡ o → found_record set_key x a.sets.places ≡ None
@@ -27,18 +27,18 @@ module _ (a : CoreParts) (sound : IsSound a) (x : ℕ) where
 
   module _ (rep serial : ℕ) (g : WaitSet) (at : Ok g ≡ item_at item_of a.sets rep serial) (m : ℕ) (named : g.number ≡ m) (is : m ≡ kept_in (seen a).core.sets x) where
     same_number : g.number ≡ x
-    unfolding IsSound
+    unfolding IsSoundCore
     same_number =
         let one = item_stands (λ (x : WaitSet). x.number) (λ (x : WaitSet). x.set) a.sets a.made.sets sound.tables.sets rep serial g at in
         let positive : 0 < g.number = subst (λ (e : Single WaitSet). 0 < e.item.number) one.1.1.1 (number_positive (λ (x : WaitSet). x.number) (λ (x : WaitSet). x.set) a.sets a.made.sets sound.tables.sets rep one.0 one.1.0) in
         named ∙ (is ∙ kept_positive (seen a).core.sets x (subst (λ n. 0 < n) (named ∙ is) positive))
 
     pub ready_calls_is : ready_call_chain (bare (parts_of a)) x ≡ Some g.ready_calls
-    unfolding IsSound
+    unfolding IsSoundCore
     ready_calls_is = ap (ready_call_chain (bare (parts_of a))) (sym same_number) ∙ kept_under (λ (x : WaitSet). x.number) (λ (x : WaitSet). x.set) (λ (x : WaitSet). x.ready_calls) a.sets a.made.sets sound.tables.sets rep serial g at
 
     pub ready_works_is : ready_work_chain (bare (parts_of a)) x ≡ Some g.ready_works
-    unfolding IsSound
+    unfolding IsSoundCore
     ready_works_is = ap (ready_work_chain (bare (parts_of a))) (sym same_number) ∙ kept_under (λ (x : WaitSet). x.number) (λ (x : WaitSet). x.set) (λ (x : WaitSet). x.ready_works) a.sets a.made.sets sound.tables.sets rep serial g at
 
   pub ready_calls_none : (m : ℕ) → m ≡ 0 → m ≡ kept_in (seen a).core.sets x → ready_call_chain (bare (parts_of a)) x ≡ None

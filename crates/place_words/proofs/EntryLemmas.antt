@@ -1,8 +1,8 @@
 -- How many entries a set has, as the number that is kept.
-use Rattle.task_records.proofs.Core.{ap, arith, Bool, cases_eq, cond, Delivery, entry_of, entry_put, eq-eqb, Err, false, HowFar, inl, inr, is_inside_wait, IsSound, item_at, item_in, None, length, ◌≤◌, item_of, keeps_set, mapped-with_entry_same, ne_eqb, number_of, Ok, on_item, Option, option_map_or, Place, place_at, place_at-with_entry, Placed, refl, ResourceTableError, Result, same_Some, set_key, slice_get_past, Some, SoundTable, standing, sym, Table, Thread, true, Why, with_entry, ℕ, ◌==◌, ◌||◌, ◌∙◌, ◌≡◌, ◌⊎◌}
+use Rattle.task_records.proofs.Core.{ap, arith, Bool, cases_eq, cond, Delivery, entry_of, entry_put, eq-eqb, Err, false, OpProgress, inl, inr, is_inside_wait, IsSoundCore, item_at, item_in, None, length, ◌≤◌, item_of, keeps_set, mapped-with_entry_same, ne_eqb, number_of, Ok, on_item, Option, option_map_or, Place, place_at, place_at-with_entry, Placed, refl, ResourceTableError, Result, same_Some, set_key, slice_get_past, Some, SoundTable, standing, sym, Table, Thread, true, Why, with_entry, ℕ, ◌==◌, ◌||◌, ◌∙◌, ◌≡◌, ◌⊎◌}
 use Rattle.std.proofs.lemmas.List.{length-set}
 use Rattle.task_table.specs.Table.{found, of_serial}
-use Rattle.task_records.specs.declared.{parts.CoreParts.CoreParts, sets.WaitSet.WaitSet, single.Single.Single}
+use Rattle.task_records.specs.declared.{parts.CoreParts.CoreParts, set_records.WaitSet.WaitSet, single.Single.Single}
 use Rattle.task_records.proofs.KindLemmas.{item_number, item_stands, refused_number, table_written}
 use Rattle.place_words.specs.Moved.{Alike, entry_set, recounted, rejoined, resumed_set, rewritten, rewritten_by, uncounted}
 use Rattle.queue_words.proofs.BareLemmas.{number_positive, one_place}
@@ -15,8 +15,8 @@ refused_past t rep serial few past = ap (λ (o : Option (Placed (Single WaitSet)
     none : place_at t rep ≡ None
     none = ap (λ (o : Option (Option (Placed (Single WaitSet)))). standing o) (slice_get_past t.places rep (omega (arith, few, past)))
 
-pub no_set_there : (a : CoreParts) → IsSound a → (serial : ℕ) → number_of set_key a.sets 4294967295 serial ≡ 0
-unfolding IsSound
+pub no_set_there : (a : CoreParts) → IsSoundCore a → (serial : ℕ) → number_of set_key a.sets 4294967295 serial ≡ 0
+unfolding IsSoundCore
 no_set_there a sound serial = refused_number (λ (x : WaitSet). x.number) (λ (x : WaitSet). x.set) a.sets 4294967295 serial ResourceTableError.NotPresent (refused_past a.sets 4294967295 serial sound.tables.sets.table.places_fit (omega arith))
 
 -- an id past the end names no set, so that a write of its set leaves all as it is
@@ -28,7 +28,7 @@ abbrev pub is_the : ℕ → Option ℕ → Bool
 is_the x o = option_map_or (λ y. x == y) o false
 
 -- a thread has an entry for a set just where the set is that of its place
-pub keeps_is : (x : ℕ) (t : Thread) (p : Place) → keeps_set x t p ≡ is_the x (entry_set p t.how_far)
+pub keeps_is : (x : ℕ) (t : Thread) (p : Place) → keeps_set x t p ≡ is_the x (entry_set p t.op_progress)
 keeps_is x t (Place.Waiting y b) = refl
 keeps_is x t Place.Running = refl
 keeps_is x t Place.New = refl
@@ -49,17 +49,17 @@ keeps_is x t (Place.Ready m (Why.Delivery (Delivery.Set y))) = by (x == y)
     by false = refl
 keeps_is x t (Place.Ready m (Why.Delivery Delivery.Yield)) = refl
 keeps_is x t (Place.Ready m (Why.Delivery Delivery.Cancel)) = refl
-keeps_is x t (Place.Ready m Why.Resumption) = by t.how_far
+keeps_is x t (Place.Ready m Why.Resumption) = by t.op_progress
   where
-    by : (h : HowFar) → is_inside_wait x h ≡ is_the x (resumed_set h)
-    by (HowFar.Waits y) = refl
-    by HowFar.Fresh = refl
-    by (HowFar.Calls sub) = refl
-    by (HowFar.Answered v) = refl
-    by (HowFar.Cancels sub) = refl
-    by (HowFar.AwaitsEnd sub) = refl
-    by HowFar.Suspends = refl
-    by HowFar.Yields = refl
+    by : (h : OpProgress) → is_inside_wait x h ≡ is_the x (resumed_set h)
+    by (OpProgress.Waits y) = refl
+    by OpProgress.Fresh = refl
+    by (OpProgress.Calls sub) = refl
+    by (OpProgress.Answered v) = refl
+    by (OpProgress.Cancels sub) = refl
+    by (OpProgress.AwaitsEnd sub) = refl
+    by OpProgress.Suspends = refl
+    by OpProgress.Yields = refl
 
 -- ---- The table of sets with another number
 

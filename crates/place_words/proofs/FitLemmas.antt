@@ -1,6 +1,6 @@
 -- The number of a set's entries is above 0 where one is taken away, and small.
-use Rattle.task_records.proofs.Core.{[], ap, arith, bare_thread, Bool, cond, count_by-le-length, eq-eqb, false, get, is_some, IsSound, item_at, item_of, key_in, length, List, loose_thread, None, number_of, Ok, Option, passing, Placed, Records, records, seen, set_key, set_of, SetKey, size, size-empty, size-insert, Some, suc, sym, TableId, Thread, thread_key, ThreadKey, true, with_record, ℕ, ◌+◌, ◌-◌, ◌==◌, ◌∙◌, ◌∷◌, ◌≡◌, ◌≤◌}
-use Rattle.task_records.specs.declared.{parts.CoreParts.CoreParts, sets.WaitSet.WaitSet, single.Single.Single, threads.GuestThread.GuestThread}
+use Rattle.task_records.proofs.Core.{[], ap, arith, bare_thread, Bool, cond, count_by-le-length, eq-eqb, false, get, is_some, IsSoundCore, item_at, item_of, key_in, length, List, loose_thread, None, number_of, Ok, Option, passing, Placed, Records, records, seen, set_key, set_of, SetKey, size, size-empty, size-insert, Some, suc, sym, TableId, Thread, thread_key, ThreadKey, true, with_record, ℕ, ◌+◌, ◌-◌, ◌==◌, ◌∙◌, ◌∷◌, ◌≡◌, ◌≤◌}
+use Rattle.task_records.specs.declared.{parts.CoreParts.CoreParts, set_records.WaitSet.WaitSet, single.Single.Single, thread_records.GuestThread.GuestThread}
 use Rattle.task_records.proofs.KindLemmas.{item_number, item_stands}
 use Rattle.place_words.proofs.EntryLemmas.{keeps_is, recounted_each, recounted_sound}
 use Rattle.place_words.proofs.PlacedLemmas.{entries_then, from_number, set_positive, set_there, set_was, sets_less}
@@ -23,9 +23,9 @@ module _ {E X : Type 0} (key : E → Option (ℕ × X)) where
       by None m less = omega (arith, less)
       by (Some e) m less = let one = size-insert m e.0 e.1 in let two = more (is_some (get m e.0)) (size m) (length os) less in omega (arith, one, two)
 
-module _ (a : CoreParts) (sound : IsSound a) (id : TableId ThreadKey) (g : GuestThread) (is : Ok g ≡ item_at item_of a.threads id.rep id.serial) (h : GuestThread) (stays : still_thread (bare_thread h) ≡ still_thread (bare_thread g)) (handle : h.thread.handle ≡ g.thread.handle) (from to : TableId SetKey) (from_is : set_of (seen a) from ≡ set_named (entry_set g.thread.place g.thread.how_far) (seen a).core) (to_is : set_of (seen a) to ≡ set_named (entry_set h.thread.place h.thread.how_far) (seen a).core) where
+module _ (a : CoreParts) (sound : IsSoundCore a) (id : TableId ThreadKey) (g : GuestThread) (is : Ok g ≡ item_at item_of a.threads id.rep id.serial) (h : GuestThread) (stays : still_thread (bare_thread h) ≡ still_thread (bare_thread g)) (handle : h.thread.handle ≡ g.thread.handle) (from to : TableId SetKey) (from_is : set_of (seen a) from ≡ set_named (entry_set g.thread.place g.thread.op_progress) (seen a).core) (to_is : set_of (seen a) to ≡ set_named (entry_set h.thread.place h.thread.op_progress) (seen a).core) where
   less_fits : (x : WaitSet) → Ok x ≡ item_at item_of a.sets from.rep from.serial → 1 ≤ x.entries
-  unfolding IsSound
+  unfolding IsSoundCore
   less_fits x is_x =
       let one = item_stands (λ (x : WaitSet). x.number) (λ (x : WaitSet). x.set) a.sets a.made.sets sound.tables.sets from.rep from.serial x is_x in
       let p = one.0 in
@@ -38,7 +38,7 @@ module _ (a : CoreParts) (sound : IsSound a) (id : TableId ThreadKey) (g : Guest
       omega (arith, counted, was, entry)
 
   more_fits : (x : WaitSet) → Ok x ≡ item_at item_of (sets_less a sound id g is h stays handle from to from_is to_is) to.rep to.serial → x.entries ≤ 4294967295
-  unfolding IsSound size
+  unfolding IsSoundCore size
   more_fits x is_x =
       let less_sound = recounted_sound (λ n. n - 1) a.sets a.made.sets sound.tables.sets from.rep from.serial in
       let one = item_stands (λ (x : WaitSet). x.number) (λ (x : WaitSet). x.set) (sets_less a sound id g is h stays handle from to from_is to_is) a.made.sets less_sound to.rep to.serial x is_x in
@@ -60,7 +60,7 @@ module _ (a : CoreParts) (sound : IsSound a) (id : TableId ThreadKey) (g : Guest
       smaller false n = omega arith
 
   pub may_recount : MayRecount a.sets from to
-  unfolding IsSound
+  unfolding IsSoundCore
   may_recount = record {
     few = sound.tables.sets.table.places_fit;
     some = less_fits;

@@ -1,6 +1,6 @@
 -- How many members a set has, as the number that is kept, where something leaves one set for another.
-use Rattle.task_records.proofs.Core.{ap, ap₂, arith, bare, bare_call, bare_work, Bool, Call, call_key, cond, core_of, count_by-le-length, entries_for, eq-eqb, false, found_record_at, get, get-records, is_in_set, IsSetKept, IsSome, IsSound, item_at, item_of, Join, key_in, length, length-map, mapped, members_of, number_of, Ok, on_item, Option, parts_of, place_at, Placed, placed_as, refl, seen, set_key, set_of, SetKey, size, Some, SoundTable, subst, sym, Table, TableId, true, Work, work_key, ℕ, ◌+◌, ◌-◌, ◌<◌, ◌==◌, ◌^◌, ◌∙◌, ◌≡◌, ◌≤◌}
-use Rattle.task_records.specs.declared.{parts.CoreParts.CoreParts, sets.WaitSet.WaitSet, single.Single.Single}
+use Rattle.task_records.proofs.Core.{ap, ap₂, arith, bare, bare_call, bare_work, Bool, Call, call_key, cond, core_of, count_by-le-length, entries_for, eq-eqb, false, found_record_at, get, get-records, is_in_set, IsSetKept, IsSome, IsSoundCore, item_at, item_of, Join, key_in, length, length-map, mapped, members_of, number_of, Ok, on_item, Option, parts_of, place_at, Placed, placed_as, refl, seen, set_key, set_of, SetKey, size, Some, SoundTable, subst, sym, Table, TableId, true, Work, work_key, ℕ, ◌+◌, ◌-◌, ◌<◌, ◌==◌, ◌^◌, ◌∙◌, ◌≡◌, ◌≤◌}
+use Rattle.task_records.specs.declared.{parts.CoreParts.CoreParts, set_records.WaitSet.WaitSet, single.Single.Single}
 use Rattle.task_records.proofs.KindLemmas.{item_number, item_stands}
 use Rattle.task_records.proofs.ReadLemmas.{set_shown}
 use Rattle.place_words.proofs.AlikeLemmas.{number_of_alike}
@@ -16,7 +16,7 @@ in_is n (Join.Set x) = refl
 in_is n Join.Nowhere = refl
 in_is n (Join.Watched m) = refl
 
-module _ (a : CoreParts) (sound : IsSound a) (was is : Option ℕ) (from to : TableId SetKey) (from_is : set_of (seen a) from ≡ set_named was (seen a).core) (to_is : set_of (seen a) to ≡ set_named is (seen a).core) where
+module _ (a : CoreParts) (sound : IsSoundCore a) (was is : Option ℕ) (from to : TableId SetKey) (from_is : set_of (seen a) from ≡ set_named was (seen a).core) (to_is : set_of (seen a) to ≡ set_named is (seen a).core) where
   abbrev pub sets_less : Table (Single WaitSet)
   sets_less = rejoined (λ n. n - 1) from.rep from.serial a.sets
 
@@ -24,11 +24,11 @@ module _ (a : CoreParts) (sound : IsSound a) (was is : Option ℕ) (from to : Ta
   sets_now = rejoined (λ n. n + 1) to.rep to.serial sets_less
 
   less_sound : SoundTable set_key sets_less a.made.sets
-  unfolding IsSound
+  unfolding IsSoundCore
   less_sound = rejoined_sound (λ n. n - 1) a.sets a.made.sets sound.tables.sets from.rep from.serial
 
   less_alike : Alike uncounted sets_less a.sets
-  unfolding IsSound
+  unfolding IsSoundCore
   less_alike = rejoined_alike (λ n. n - 1) a.sets a.made.sets sound.tables.sets from.rep from.serial
 
   pub sets_alike : Alike uncounted sets_now a.sets
@@ -39,15 +39,15 @@ module _ (a : CoreParts) (sound : IsSound a) (was is : Option ℕ) (from to : Ta
 
   module _ (r : ℕ) (p : Placed (Single WaitSet)) (at : place_at a.sets r ≡ Some p) where
     set_positive : 0 < p.entry.item.number
-    unfolding IsSound
+    unfolding IsSoundCore
     set_positive = number_positive (λ (x : WaitSet). x.number) (λ (x : WaitSet). x.set) a.sets a.made.sets sound.tables.sets r p at
 
     set_there : IsSome (get (seen a).core.sets p.entry.item.number)
-    unfolding IsSound seen
+    unfolding IsSoundCore seen
     set_there = subst IsSome (sym (get-records set_key a.sets.places p.entry.item.number ∙ found_record_at set_key a.sets.places r p.entry.item.number p.entry.item.set sound.tables.sets.apart (ap (key_in set_key) at))) refl
 
     pub set_was : IsSetKept (core_of (bare (parts_of a))) p.entry.item
-    unfolding IsSound
+    unfolding IsSoundCore
     set_was = sound.whole.counted.sets r p at
 
     from_number : (p.entry.item.number == number_of set_key a.sets from.rep from.serial) ≡ is_the p.entry.item.number was
@@ -59,7 +59,7 @@ module _ (a : CoreParts) (sound : IsSound a) (was is : Option ℕ) (from to : Ta
   module _ (some : (n : ℕ) → is_the n was ≡ true → 1 ≤ members_of n (core_of (bare (parts_of a)))) where
     -- a set that something leaves has a member
     pub less_fits : (x : WaitSet) → Ok x ≡ item_at item_of a.sets from.rep from.serial → 1 ≤ x.members
-    unfolding IsSound
+    unfolding IsSoundCore
     less_fits x is_x =
         let one = item_stands (λ (x : WaitSet). x.number) (λ (x : WaitSet). x.set) a.sets a.made.sets sound.tables.sets from.rep from.serial x is_x in
         let p = one.0 in
@@ -72,7 +72,7 @@ module _ (a : CoreParts) (sound : IsSound a) (was is : Option ℕ) (from to : Ta
 
     -- each set's number is what is counted now
     pub members_kept : (now : ℕ → ℕ) → ((n : ℕ) → now n + cond (is_the n was) 1 0 ≡ members_of n (core_of (bare (parts_of a))) + cond (is_the n is) 1 0) → (r : ℕ) (q : Placed (Single WaitSet)) → place_at sets_now r ≡ Some q → (q.entry.item.members ≡ now q.entry.item.number) × (q.entry.item.entries ≡ entries_for q.entry.item.number (core_of (bare (parts_of a))))
-    unfolding IsSound
+    unfolding IsSoundCore
     members_kept now law r q at =
         let more = rejoined_each (λ n. n + 1) sets_less a.made.sets less_sound to.rep to.serial r q at in
         let less = rejoined_each (λ n. n - 1) a.sets a.made.sets sound.tables.sets from.rep from.serial r more.1.0 more.1.1.0 in
@@ -91,7 +91,7 @@ module _ (a : CoreParts) (sound : IsSound a) (was is : Option ℕ) (from to : Ta
 
   -- few things are in a set
   few_members : (n : ℕ) → members_of n (core_of (bare (parts_of a))) + 1 < 2 ^ 64
-  unfolding IsSound size mapped
+  unfolding IsSoundCore size mapped
   few_members n =
       let s = core_of (bare (parts_of a)) in
       let calls = count_by-le-length (λ (e : ℕ × Call). is_in_set n e.1.join) s.calls.list in
@@ -103,7 +103,7 @@ module _ (a : CoreParts) (sound : IsSound a) (was is : Option ℕ) (from to : Ta
       omega (arith, calls, works, fit_calls, fit_works, places_calls, places_works)
 
   pub more_fits : (x : WaitSet) → Ok x ≡ item_at item_of sets_less to.rep to.serial → x.members + 1 < 2 ^ 64
-  unfolding IsSound
+  unfolding IsSoundCore
   more_fits x is_x =
       let one = item_stands (λ (x : WaitSet). x.number) (λ (x : WaitSet). x.set) sets_less a.made.sets less_sound to.rep to.serial x is_x in
       let was = rejoined_each (λ n. n - 1) a.sets a.made.sets sound.tables.sets from.rep from.serial to.rep one.0 one.1.0 in

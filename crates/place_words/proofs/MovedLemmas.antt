@@ -1,10 +1,10 @@
 -- A thread is written that gets another place, and the numbers of entries of sets: what else holds of the parts stays.
-use Rattle.task_records.proofs.Core.{ap, ap₂, AreChained, AreCounted, AtPlace, BlockedOn, callers_chain, callers_row, CallOf, chained, core_of, count_by, Each, EachEntry, Entry, entry_seated, filings, follower, HasHome, HaveRowNodes, HeldIn, StartsIn, IfSome, is_host_call, is_of_instance, IsCallNamed, IsFollower, IsIndex, IsIndex-same_chains, IsRows, IsSeated, IsSetKept, IsWhole, IsWorkNamed, length, List, None, Nothing, Option, part, Parts, place_chain, place_filing, ready_call_chain, ready_work_chain, refl, row, row_chain, SetOf, shelf_chain, size, Some, Spot, subst, Subtask, sym, Table, table_use, Target, thread_entry, ThreadOf, threads_of, UnderOf, WaitsOn, Where, with_nodes, WorkOf, ℕ, ◌*◌, ◌+◌, ◌∙◌, ◌≡◌}
-use Rattle.task_records.specs.declared.{calls.GuestTask.GuestTask, sets.WaitSet.WaitSet, single.Single.Single, threads.Follower.Follower, threads.GuestThread.GuestThread, threads.Queued.Queued, works.HostWork.HostWork}
-use Rattle.place_words.proofs.AlikeLemmas.{found_alike, nodes_alike, place_alike, seated_alike, stands_alike}
+use Rattle.task_records.proofs.Core.{ap, ap₂, AreChained, AreCounted, AtPlace, BlockedOn, callers_chain, callers_row, CallOf, chained, core_of, count_by, Each, EachEntry, Entry, entry_keyed, filings, follower, HasHome, HaveRowNodes, HeldIn, StartsIn, IfSome, is_host_call, is_of_instance, IsCallNamed, IsFollower, IsIndex, IsIndex-same_chains, IsRows, IsKeyed, IsSetKept, IsWhole, IsWorkNamed, length, List, None, Nothing, Option, part, CoreImage, place_chain, place_filing, ready_call_chain, ready_work_chain, refl, row, row_chain, SetOf, instance_queue_chain, size, Some, Spot, subst, Subtask, sym, Table, table_use, Target, thread_entry, ThreadOf, threads_of, UnderOf, WaitsOn, Where, with_nodes, WorkOf, ℕ, ◌*◌, ◌+◌, ◌∙◌, ◌≡◌}
+use Rattle.task_records.specs.declared.{call_records.GuestTask.GuestTask, set_records.WaitSet.WaitSet, single.Single.Single, thread_records.Follower.Follower, thread_records.GuestThread.GuestThread, thread_records.Queued.Queued, work_records.WorkRecord.WorkRecord}
+use Rattle.place_words.proofs.AlikeLemmas.{found_alike, nodes_alike, place_alike, keyed_alike, stands_alike}
 use Rattle.place_words.specs.Moved.{Alike, still, still_thread, uncounted}
 use Rattle.queue_words.proofs.ListLemmas.{Each-weaker}
-use Rattle.table_order.specs.declared.seat_links.Seat.{Seat}
+use Rattle.table_order.specs.declared.ordered_lists.OrderKey.{OrderKey}
 
 -- the same rows, by chains, lists and knowledge that say the same
 pub IsRows-alike : {K P : Type 0} (chain chain' : K → Option ℕ) (node : P → ℕ) (Known Known' : P → Type 0) (links : List (Spot P)) (list list' : K → List P) → IsRows chain node Known links list → ((k : K) → chain' k ≡ chain k) → ((x : P) → Known x → Known' x) → ((k : K) → list' k ≡ list k) → IsRows chain' node Known' links list'
@@ -16,8 +16,8 @@ IsRows-alike chain chain' node Known Known' links list list' rows chains knows l
   owner = λ n c v link. let one = rows.owner n c v link in (one.0, chains one.0 ∙ one.1);
 }
 
-module _ (p : Parts) (whole : IsWhole p) (threads : Table (Single GuestThread)) (alike : Alike still_thread threads p.threads) (sets : Table (Single WaitSet)) (sets_alike : Alike uncounted sets p.sets) (places : List (Spot Seat)) where
-  abbrev pub moved : Parts
+module _ (p : CoreImage) (whole : IsWhole p) (threads : Table (Single GuestThread)) (alike : Alike still_thread threads p.threads) (sets : Table (Single WaitSet)) (sets_alike : Alike uncounted sets p.sets) (places : List (Spot OrderKey)) where
+  abbrev pub moved : CoreImage
   moved = record p { threads = threads; sets = sets; places = places }
 
   pub at_moved : (rep : ℕ) (t : Target) → AtPlace p rep t → AtPlace moved rep t
@@ -28,22 +28,22 @@ module _ (p : Parts) (whole : IsWhole p) (threads : Table (Single GuestThread)) 
   at_moved rep (SetOf x) at = (at.0, stands_alike uncounted sets p.sets sets_alike (λ (x : WaitSet). x.number) (λ x. refl) (λ (x : WaitSet). x.set) (λ s. s) (λ x. refl) rep x at.1)
 
   pub home_moved : (g : GuestThread) → HasHome p g → HasHome moved g
-  home_moved g h = record { call = h.call; there = h.there; instance = h.instance; barred = h.barred; within = h.within; place = at_moved g.beside _ h.place; how_far = at_moved g.awaited _ h.how_far }
+  home_moved g h = record { call = h.call; there = h.there; instance = h.instance; barred = h.barred; within = h.within; place = at_moved g.beside _ h.place; op_progress = at_moved g.awaited _ h.op_progress }
 
   call_moved : (g : GuestTask) → IsCallNamed p g → IsCallNamed moved g
   call_moved g h = record { caller = at_moved g.maker _ h.caller; first = at_moved g.first (ThreadOf g.number) h.first; join = at_moved g.joined _ h.join; group = h.group; positive = h.positive }
 
-  work_moved : (w : HostWork) → IsWorkNamed p w → IsWorkNamed moved w
+  work_moved : (w : WorkRecord) → IsWorkNamed p w → IsWorkNamed moved w
   work_moved w h = record { caller = at_moved w.maker _ h.caller; join = at_moved w.joined _ h.join; group = h.group }
 
   follows_moved : (f : Follower) → IsFollower p f → IsFollower moved f
-  follows_moved f is = seated_alike still_thread threads p.threads alike follower (λ r g. refl) f.place ∙ is
+  follows_moved f is = keyed_alike still_thread threads p.threads alike follower (λ r g. refl) f.place ∙ is
 
-  seated_moved : (q : Queued) → IsSeated p q → IsSeated moved q
-  seated_moved q is = by q.entry ∙ is
+  keyed_moved : (q : Queued) → IsKeyed p q → IsKeyed moved q
+  keyed_moved q is = by q.entry ∙ is
     where
-      by : (e : Entry) → entry_seated moved e q.place ≡ entry_seated p e q.place
-      by (Entry.Thread n) = seated_alike still_thread threads p.threads alike thread_entry (λ r g. refl) q.place
+      by : (e : Entry) → entry_keyed moved e q.place ≡ entry_keyed p e q.place
+      by (Entry.Thread n) = keyed_alike still_thread threads p.threads alike thread_entry (λ r g. refl) q.place
       by (Entry.Push i) = refl
       by (Entry.Host i) = refl
 
@@ -78,8 +78,8 @@ module _ (p : Parts) (whole : IsWhole p) (threads : Table (Single GuestThread)) 
     ready_works = IsIndex-same_chains (ready_work_chain p) p.ready_works _ whole.chained.ready_works (ready_work_chain moved) ready_works_moved;
     polled = whole.chained.polled;
     rising = whole.chained.rising;
-    marks = IsRows-alike (row_chain p) (row_chain moved) (λ q. q.mark.index) (IsSeated p) (IsSeated moved) p.marks (row p) (row moved) whole.chained.marks (λ k. refl) seated_moved (λ k. refl);
-    shelves = IsRows-alike (shelf_chain p) (shelf_chain moved) (λ q. q.shelf.index) (IsSeated p) (IsSeated moved) p.shelves (part is_of_instance (row p)) (part is_of_instance (row moved)) whole.chained.shelves (λ k. refl) seated_moved (λ k. refl);
+    marks = IsRows-alike (row_chain p) (row_chain moved) (λ q. q.mark.index) (IsKeyed p) (IsKeyed moved) p.marks (row p) (row moved) whole.chained.marks (λ k. refl) keyed_moved (λ k. refl);
+    instance_queues = IsRows-alike (instance_queue_chain p) (instance_queue_chain moved) (λ q. q.instance_queue.index) (IsKeyed p) (IsKeyed moved) p.instance_queues (part is_of_instance (row p)) (part is_of_instance (row moved)) whole.chained.instance_queues (λ k. refl) keyed_moved (λ k. refl);
     low = whole.chained.low;
     behind = IsRows-alike (callers_chain p) (callers_chain moved) (λ f. f.node.index) (IsFollower p) (IsFollower moved) p.behind (callers_row p) (callers_row moved) whole.chained.behind callers_moved follows_moved (λ n. ap (chained p.behind) (callers_moved n));
   }
@@ -87,7 +87,7 @@ module _ (p : Parts) (whole : IsWhole p) (threads : Table (Single GuestThread)) 
   nodes_moved : HaveRowNodes moved
   nodes_moved = record {
     marks = nodes_alike still_thread threads p.threads alike (λ g. g.mark.index) (λ g. refl) p.marks whole.nodes.marks;
-    shelves = nodes_alike still_thread threads p.threads alike (λ g. g.shelf.index) (λ g. refl) p.shelves whole.nodes.shelves;
+    instance_queues = nodes_alike still_thread threads p.threads alike (λ g. g.instance_queue.index) (λ g. refl) p.instance_queues whole.nodes.instance_queues;
     callers = nodes_alike still_thread threads p.threads alike (λ g. g.caller.index) (λ g. refl) p.behind whole.nodes.callers;
     works = whole.nodes.works;
     apart = λ r s q w at_q at_w same. let one = place_alike still_thread threads p.threads alike r q at_q in whole.nodes.apart r s one.0 w one.1.0 at_w (ap (λ (g : GuestThread). g.mark.index) one.1.1 ∙ same);

@@ -1,6 +1,6 @@
 -- A thread with another place, as the word writes it: records, sets and chains together.
-use Rattle.task_records.proofs.Core.{ap, arith, bare_thread, Bool, cond, Core, entry_of, false, get, get-records, is_some, IsSome, IsSound, item_at, item_of, keeps_set, loose_thread, mapped, ne_eqb, None, Ok, on_item, one_if_passes, Option, passing, Place, records, refl, same_map, set_key, size, size-change, Some, subst, sym, Table, Thread, thread_key, true, with_entry, ℕ, ◌+◌, ◌-◌, ◌<◌, ◌==◌, ◌∙◌, ◌≡◌, ◌≤◌}
-use Rattle.task_records.specs.declared.{parts.CoreParts.CoreParts, sets.WaitSet.WaitSet, single.Single.Single, threads.GuestThread.GuestThread}
+use Rattle.task_records.proofs.Core.{ap, arith, bare_thread, Bool, cond, Core, entry_of, false, get, get-records, is_some, IsSome, IsSoundCore, item_at, item_of, keeps_set, loose_thread, mapped, ne_eqb, None, Ok, on_item, one_if_passes, Option, passing, Place, records, refl, same_map, set_key, size, size-change, Some, subst, sym, Table, Thread, thread_key, true, with_entry, ℕ, ◌+◌, ◌-◌, ◌<◌, ◌==◌, ◌∙◌, ◌≡◌, ◌≤◌}
+use Rattle.task_records.specs.declared.{parts.CoreParts.CoreParts, set_records.WaitSet.WaitSet, single.Single.Single, thread_records.GuestThread.GuestThread}
 use Rattle.task_records.proofs.KeptLemmas.{records_seconds, seconds}
 use Rattle.task_records.proofs.KindLemmas.{passing_same, passing_written, records_changed}
 use Rattle.place_words.proofs.AlikeLemmas.{found_alike}
@@ -30,10 +30,10 @@ recount false false before after law some = omega (arith, law)
 abbrev pub keeps : ℕ → Thread → Bool
 keeps n t = keeps_set n (loose_thread t) (loose_thread t).place
 
-module _ (a : CoreParts) (sound : IsSound a) (rep serial : ℕ) (g : GuestThread) (is : Ok g ≡ item_at item_of a.threads rep serial) where
+module _ (a : CoreParts) (sound : IsSoundCore a) (rep serial : ℕ) (g : GuestThread) (is : Ok g ≡ item_at item_of a.threads rep serial) where
   -- a thread that keeps a set is counted there
   pub counted_there : (n : ℕ) → keeps n g.thread ≡ true → 1 ≤ passing (keeps n) (records thread_key a.threads.places)
-  unfolding IsSound
+  unfolding IsSoundCore
   counted_there n some =
       let law = passing_written (λ (g : GuestThread). g.number) (λ (g : GuestThread). g.thread) a.threads a.made.threads sound.tables.threads rep serial g is (record g { thread = record g.thread { place = Place.New } }) refl (keeps n) in
       let one : one_if_passes (keeps n) (Some g.thread) ≡ 1 = ap (λ b. cond b 1 0) some in
@@ -44,15 +44,15 @@ module _ (a : CoreParts) (sound : IsSound a) (rep serial : ℕ) (g : GuestThread
     threads_put = with_entry rep (entry_of h) a.threads
 
     pub entries_change : (n : ℕ) → passing (keeps n) (records thread_key threads_put.places) + cond (keeps n g.thread) 1 0 ≡ passing (keeps n) (records thread_key a.threads.places) + cond (keeps n h.thread) 1 0
-    unfolding IsSound
+    unfolding IsSoundCore
     entries_change n = passing_written (λ (g : GuestThread). g.number) (λ (g : GuestThread). g.thread) a.threads a.made.threads sound.tables.threads rep serial g is h same (keeps n)
 
     pub calls_same : h.thread.call ≡ g.thread.call → (k : ℕ) → passing (λ t. t.call == k) (records thread_key threads_put.places) ≡ passing (λ t. t.call == k) (records thread_key a.threads.places)
-    unfolding IsSound
+    unfolding IsSoundCore
     calls_same call k = passing_same (λ (g : GuestThread). g.number) (λ (g : GuestThread). g.thread) a.threads a.made.threads sound.tables.threads rep serial g is h same (λ t. t.call == k) (ap (λ m. m == k) call)
 
     pub threads_size : size (records thread_key threads_put.places) ≡ size (records thread_key a.threads.places)
-    unfolding IsSound
+    unfolding IsSoundCore
     threads_size = ap size (records_changed (λ (g : GuestThread). g.number) (λ (g : GuestThread). g.thread) a.threads a.made.threads sound.tables.threads rep serial g is h same (λ t. h.thread) refl) ∙ size-change _ _ _
 
 -- a table of threads seen without what is loose

@@ -1,6 +1,6 @@
 -- The live works stay in order where one goes, or where one comes to its place.
 use Rattle.task_records.proofs.Core.{ap, cases_eq, entries, entries-linked_other, entries-unlinked_other, entries-unlinked_same, inl, inr, is_made, IsAscending, IsLinks, IsSome, link_of, linked, List, list_of, live_order, None, Option, refl, removed, removed_by, Rises, Some, Spot, subst, sym, true, unlinked, without, ℕ, ◌∙◌, ◌≡◌}
-use Rattle.task_records.specs.declared.{works.LiveWork.LiveWork}
+use Rattle.task_records.specs.declared.{work_records.LiveWork.LiveWork}
 use Rattle.task_wait.proofs.OrderLemmas.{IsAscending-without}
 
 module _ (links new : List (Spot LiveWork)) (n : ℕ) where

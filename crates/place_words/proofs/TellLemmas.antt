@@ -1,6 +1,6 @@
 -- A call with another event or set, as the words write it.
-use Rattle.task_records.proofs.Core.{[], ap, AreHandlesNamed, arith, AtPlace, bare, bare_call, Call, call_key, call_of, CallOf, change, cond, core_of, EachEntry, entry_of, filings, filings_at, GuestTaskKey, HandleKind, IfSome, is_in_set, is_made, IsHeldNamed, IsIndex, IsIndex-with_entry, IsSetKept, IsSome, IsSound, IsWhole, item_at, item_of, Join, join_target, kinds, link_for, List, list_of, loose_call, mapped, mapped-with_entry, mapped-with_entry_same, members_of, None, Ok, on_call, on_core, on_item, one_if_passes, Option, option_and_then, Parts, parts_of, passing, place_at, Placed, ready_call, ready_call_chain, ready_in, Records, records, Refiles, refl, Rep, seen, Set, set_key, set_of, SetKey, SetOf, Some, SoundTable, Spot, StateView, Status, subst, sym, Table, TableId, Tag, tags_in, ThreadOf, true, uninterested, WaitableKind, with_entry, WorkOf, ℕ, ◌+◌, ◌∙◌, ◌≡◌, ◌≤◌}
-use Rattle.task_records.specs.declared.{calls.GuestTask.GuestTask, instances.InstanceRecord.InstanceRecord, parts.CoreParts.CoreParts, sets.WaitSet.WaitSet, single.Single.Single}
+use Rattle.task_records.proofs.Core.{[], ap, AreHandlesNamed, arith, AtPlace, bare, bare_call, Call, call_key, call_of, CallOf, change, cond, core_of, EachEntry, entry_of, filings, filings_at, GuestTaskKey, HandleKind, IfSome, is_in_set, is_made, IsHeldNamed, IsIndex, IsIndex-with_entry, IsSetKept, IsSome, IsSoundCore, IsWhole, item_at, item_of, Join, join_target, kinds, link_for, List, list_of, loose_call, mapped, mapped-with_entry, mapped-with_entry_same, members_of, None, Ok, on_call, on_core, on_item, one_if_passes, Option, option_and_then, CoreImage, parts_of, passing, place_at, Placed, ready_call, ready_call_chain, ready_in, Records, records, Refiles, refl, Rep, seen, Set, set_key, set_of, SetKey, SetOf, Some, SoundTable, Spot, StateView, Status, subst, sym, Table, TableId, Tag, tags_in, ThreadOf, true, uninterested, WaitableKind, with_entry, WorkOf, ℕ, ◌+◌, ◌∙◌, ◌≡◌, ◌≤◌}
+use Rattle.task_records.specs.declared.{call_records.GuestTask.GuestTask, instance_records.InstanceRecord.InstanceRecord, parts.CoreParts.CoreParts, set_records.WaitSet.WaitSet, single.Single.Single}
 use Rattle.task_records.proofs.HomeLemmas.{call_names, place_bare, place_in_bare}
 use Rattle.task_records.proofs.KeptLemmas.{passing_seconds, records_seconds}
 use Rattle.task_records.proofs.KindLemmas.{item_stands, passing_same, passing_written, records_changed, table_written, tags_written}
@@ -12,19 +12,19 @@ use Rattle.place_words.proofs.PutLemmas.{sets_same}
 use Rattle.place_words.proofs.JoinLemmas.{in_is, members_kept, sets_alike, sets_now}
 use Rattle.place_words.specs.Moved.{Alike, joined_set, set_named, still_call, uncounted}
 use Rattle.queue_words.proofs.BareLemmas.{place_mapped}
-use Rattle.table_order.specs.declared.seat_links.Seat.{Seat}
-use Rattle.task_records.specs.Places.{member_seat}
+use Rattle.table_order.specs.declared.ordered_lists.OrderKey.{OrderKey}
+use Rattle.task_records.specs.RecordPlaces.{member_order_key}
 
-module _ (a : CoreParts) (sound : IsSound a) (id : TableId GuestTaskKey) (g : GuestTask) (is : Ok g ≡ item_at item_of a.calls id.rep id.serial) where
-  abbrev pub bared : Parts
+module _ (a : CoreParts) (sound : IsSoundCore a) (id : TableId GuestTaskKey) (g : GuestTask) (is : Ok g ≡ item_at item_of a.calls id.rep id.serial) where
+  abbrev pub bared : CoreImage
   bared = bare (parts_of a)
 
   pub is_whole : IsWhole bared
-  unfolding IsSound
+  unfolding IsSoundCore
   is_whole = sound.whole
 
   stands : (p : Placed (Single GuestTask)) × ((place_at a.calls id.rep ≡ Some p) × ((p.serial ≡ id.serial) × (p.entry ≡ entry_of g)))
-  unfolding IsSound
+  unfolding IsSoundCore
   stands = item_stands (λ (g : GuestTask). g.number) (λ (g : GuestTask). g.call) a.calls a.made.threads sound.tables.calls id.rep id.serial g is
 
   abbrev bare_placed : Placed (Single GuestTask)
@@ -74,16 +74,16 @@ module _ (a : CoreParts) (sound : IsSound a) (id : TableId GuestTaskKey) (g : Gu
     pub calls_alike : Alike still_call bare_now bared.calls
     calls_alike = ap (mapped (on_item still_call)) bare_put ∙ mapped-with_entry_same (on_item still_call) bared.calls id.rep (entry_of (bare_call h)) bare_placed bare_stands (ap entry_of stays ∙ sym (ap (on_item still_call) bare_entry))
 
-    module _ (sets : Table (Single WaitSet)) (as_sets : Alike uncounted sets a.sets) (links : List (Spot Seat)) where
+    module _ (sets : Table (Single WaitSet)) (as_sets : Alike uncounted sets a.sets) (links : List (Spot OrderKey)) where
       abbrev pub told_after : CoreParts
       told_after = record a { calls = calls_now; sets = sets; ready_calls = links }
 
-      abbrev pub after : Parts
+      abbrev pub after : CoreImage
       after = told bared is_whole bare_now calls_alike sets as_sets links
 
       -- a set counts one more that is in it now, and one less that was
       pub members_change : (n : ℕ) → members_of n (core_of after) + cond (is_in_set n g.call.join) 1 0 ≡ members_of n (core_of bared) + cond (is_in_set n h.call.join) 1 0
-      unfolding IsSound
+      unfolding IsSoundCore
       members_change n =
           let law = passing_written (λ (g : GuestTask). g.number) (λ (g : GuestTask). g.call) a.calls a.made.threads sound.tables.calls id.rep id.serial g is h same_number (λ (c : Call). is_in_set n c.join) in
           let now = bare_in n calls_now in
@@ -93,7 +93,7 @@ module _ (a : CoreParts) (sound : IsSound a) (id : TableId GuestTaskKey) (g : Gu
       pub members_same : h.call.join ≡ g.call.join → (n : ℕ) → members_of n (core_of bared) ≡ members_of n (core_of after)
       members_same same n = let law = members_change n in let one : one_if_passes (λ (c : Call). is_in_set n c.join) (Some g.call) ≡ one_if_passes (λ (c : Call). is_in_set n c.join) (Some h.call) = ap (λ j. cond (is_in_set n j) 1 0) (sym same) in omega (arith, law, one)
 
-      module _ (at : AtPlace (parts_of a) h.joined (join_target h.call.join)) (sets_sound : SoundTable set_key sets a.made.sets) (kept : EachEntry (IsSetKept (core_of after)) sets) (interest : h.call.interesting ≡ g.call.interesting) (re : Refiles a.ready_calls links g.ready.index (link_for (ready_call_chain bared) (record { node = g.ready.index; key = ready_in h.call.event h.call.join; value = member_seat h.entry id.rep }))) where
+      module _ (at : AtPlace (parts_of a) h.joined (join_target h.call.join)) (sets_sound : SoundTable set_key sets a.made.sets) (kept : EachEntry (IsSetKept (core_of after)) sets) (interest : h.call.interesting ≡ g.call.interesting) (re : Refiles a.ready_calls links g.ready.index (link_for (ready_call_chain bared) (record { node = g.ready.index; key = ready_in h.call.event h.call.join; value = member_order_key h.entry id.rep }))) where
         joins_now : EachEntry (λ (x : GuestTask). AtPlace after x.joined (join_target x.call.join)) bare_now
         joins_now = subst (EachEntry (λ (x : GuestTask). AtPlace after x.joined (join_target x.call.join))) (sym bare_put)
             (each_written bared.calls id.rep bare_placed bare_stands (λ (x : GuestTask). AtPlace after x.joined (join_target x.call.join)) (bare_call h)
@@ -103,10 +103,10 @@ module _ (a : CoreParts) (sound : IsSound a) (id : TableId GuestTaskKey) (g : Gu
         index_now : IsIndex (ready_call_chain bared) links (filings ready_call bare_now)
         index_now = subst (λ (t : Table (Single GuestTask)). IsIndex (ready_call_chain bared) links (filings ready_call t)) (sym bare_put)
             (IsIndex-with_entry ready_call (ready_call_chain bared) bared.calls a.ready_calls is_whole.chained.ready_calls id.rep bare_placed bare_stands links (entry_of (bare_call h))
-            (record { node = bare_placed.entry.item.ready.index; key = ready_in bare_placed.entry.item.call.event bare_placed.entry.item.call.join; value = member_seat bare_placed.entry.item.entry id.rep })
-            (record { node = h.ready.index; key = ready_in h.call.event h.call.join; value = member_seat h.entry id.rep })
+            (record { node = bare_placed.entry.item.ready.index; key = ready_in bare_placed.entry.item.call.event bare_placed.entry.item.call.join; value = member_order_key bare_placed.entry.item.entry id.rep })
+            (record { node = h.ready.index; key = ready_in h.call.event h.call.join; value = member_order_key h.entry id.rep })
             refl refl (ap (λ (x : GuestTask). x.ready.index) stays ∙ sym (ap (λ (e : Single GuestTask). e.item.ready.index) bare_entry))
-            (subst (λ n. Refiles a.ready_calls links n (link_for (ready_call_chain bared) (record { node = h.ready.index; key = ready_in h.call.event h.call.join; value = member_seat h.entry id.rep }))) (sym (ap (λ (e : Single GuestTask). e.item.ready.index) bare_entry)) re))
+            (subst (λ n. Refiles a.ready_calls links n (link_for (ready_call_chain bared) (record { node = h.ready.index; key = ready_in h.call.event h.call.join; value = member_order_key h.entry id.rep }))) (sym (ap (λ (e : Single GuestTask). e.item.ready.index) bare_entry)) re))
 
         held_now : (kind : HandleKind) (r : Rep) → IsHeldNamed (kinds bared) kind r → IsHeldNamed (kinds after) kind r
         held_now (HandleKind.Waitable WaitableKind.GuestSubtask) r at = at_told bared is_whole bare_now calls_alike sets as_sets links r.id (CallOf r.serial) at
@@ -123,8 +123,8 @@ module _ (a : CoreParts) (sound : IsSound a) (id : TableId GuestTaskKey) (g : Gu
           thread_handles = λ n x at. at_told bared is_whole bare_now calls_alike sets as_sets links x.id (ThreadOf x.serial) (named.thread_handles n x at);
         }
 
-        pub told_sound : IsSound told_after
-        unfolding IsSound
+        pub told_sound : IsSoundCore told_after
+        unfolding IsSoundCore
         told_sound = record {
           tables = record {
             threads = sound.tables.threads;
@@ -146,7 +146,7 @@ module _ (a : CoreParts) (sound : IsSound a) (id : TableId GuestTaskKey) (g : Gu
       calls_seen m x l t = record (seen a) { core = record (seen a).core { calls = m; sets = x }; tags = record (seen a).tags { calls = l; sets = t } }
 
       pub told_seen : (f : Call → Call) → f g.call ≡ h.call → seen told_after ≡ on_core (on_call (call_of (seen a) id) f) (seen a)
-      unfolding seen IsSound on_call calls_seen
+      unfolding seen IsSoundCore on_call calls_seen
       told_seen f is_f =
           ap (λ (m : Records Call). calls_seen m (records set_key sets.places) (tags_in call_key calls_now) (tags_in set_key sets))
           (records_changed (λ (g : GuestTask). g.number) (λ (g : GuestTask). g.call) a.calls a.made.threads sound.tables.calls id.rep id.serial g is h same_number f is_f ∙ ap (λ n. change n f (records call_key a.calls.places)) (sym (call_shown a id)))
@@ -157,11 +157,11 @@ module _ (a : CoreParts) (sound : IsSound a) (id : TableId GuestTaskKey) (g : Gu
           (tags_alike uncounted set_key (λ e. refl) sets a.sets as_sets)))
 
     -- the sets as they were count what they counted, where the call stays in its set
-    pub kept_same : h.call.join ≡ g.call.join → (links : List (Spot Seat)) → EachEntry (IsSetKept (core_of (after a.sets refl links))) a.sets
+    pub kept_same : h.call.join ≡ g.call.join → (links : List (Spot OrderKey)) → EachEntry (IsSetKept (core_of (after a.sets refl links))) a.sets
     kept_same same links r q at = let was = is_whole.counted.sets r q at in record { members = was.members ∙ members_same a.sets refl links same q.entry.item.number; entries = was.entries }
 
     pub same_sets : SoundTable set_key a.sets a.made.sets
-    unfolding IsSound
+    unfolding IsSoundCore
     same_sets = sound.tables.sets
 
   -- a set that the call is in has a member
@@ -173,7 +173,7 @@ module _ (a : CoreParts) (sound : IsSound a) (id : TableId GuestTaskKey) (g : Gu
 
   module _ (h : GuestTask) (stays : still_call (bare_call h) ≡ still_call (bare_call g)) where
     -- and where it goes from one set to another they count that
-    module _ (from to : TableId SetKey) (from_is : set_of (seen a) from ≡ set_named (joined_set g.call.join) (seen a).core) (to_is : set_of (seen a) to ≡ set_named (joined_set h.call.join) (seen a).core) (links : List (Spot Seat)) where
+    module _ (from to : TableId SetKey) (from_is : set_of (seen a) from ≡ set_named (joined_set g.call.join) (seen a).core) (to_is : set_of (seen a) to ≡ set_named (joined_set h.call.join) (seen a).core) (links : List (Spot OrderKey)) where
       abbrev pub joined_now : Table (Single WaitSet)
       joined_now = sets_now a sound (joined_set g.call.join) (joined_set h.call.join) from to from_is to_is
 

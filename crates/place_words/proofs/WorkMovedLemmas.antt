@@ -1,46 +1,46 @@
 -- A host work is written that has another event, set or stage, with the numbers that count these: what else holds of the parts stays.
-use Rattle.task_records.proofs.Core.{ap, ap₂, AreChained, AreCounted, AtPlace, BlockedOn, Bool, CallOf, core_of, EachEntry, Entry, entry_seated, filings, HasHome, HeldIn, StartsIn, host_entry, is_host_call, is_live, is_of_group, is_of_instance, IsCallNamed, IsGroupKept, IsIndex, IsIndex-same_chains, IsSeated, IsSetKept, IsWhole, IsWorkNamed, join_target, length, List, live_chain, live_work, mapped, Nothing, on_item, part, Parts, passing, place_chain, push_entry, ready_call_chain, ready_work, ready_work_chain, records, refl, Rises, row, row_chain, SetOf, shelf_chain, size, Spot, subst, Subtask, sym, Table, table_use, Target, ThreadOf, UnderOf, WaitsOn, Where, Work, work_key, WorkOf, ℕ, ◌*◌, ◌+◌, ◌==◌, ◌∙◌, ◌≡◌}
-use Rattle.task_records.specs.declared.{calls.GuestTask.GuestTask, calls.TaskGroup.TaskGroup, sets.WaitSet.WaitSet, single.Single.Single, threads.GuestThread.GuestThread, threads.Queued.Queued, works.HostWork.HostWork, works.LiveWork.LiveWork}
+use Rattle.task_records.proofs.Core.{ap, ap₂, AreChained, AreCounted, AtPlace, BlockedOn, Bool, CallOf, core_of, EachEntry, Entry, entry_keyed, filings, HasHome, HeldIn, StartsIn, host_entry, is_host_call, is_live, is_of_group, is_of_instance, IsCallNamed, IsGroupKept, IsIndex, IsIndex-same_chains, IsKeyed, IsSetKept, IsWhole, IsWorkNamed, join_target, length, List, live_chain, live_work, mapped, Nothing, on_item, part, CoreImage, passing, place_chain, push_entry, ready_call_chain, ready_work, ready_work_chain, records, refl, Rises, row, row_chain, SetOf, instance_queue_chain, size, Spot, subst, Subtask, sym, Table, table_use, Target, ThreadOf, UnderOf, WaitsOn, Where, Work, work_key, WorkOf, ℕ, ◌*◌, ◌+◌, ◌==◌, ◌∙◌, ◌≡◌}
+use Rattle.task_records.specs.declared.{call_records.GuestTask.GuestTask, call_records.TaskGroup.TaskGroup, set_records.WaitSet.WaitSet, single.Single.Single, thread_records.GuestThread.GuestThread, thread_records.Queued.Queued, work_records.WorkRecord.WorkRecord, work_records.LiveWork.LiveWork}
 use Rattle.task_records.proofs.KeptLemmas.{passing_seconds, records_seconds, seconds}
-use Rattle.place_words.proofs.AlikeLemmas.{found_alike, nodes_alike, place_alike, seated_alike, stands_alike}
+use Rattle.place_words.proofs.AlikeLemmas.{found_alike, nodes_alike, place_alike, keyed_alike, stands_alike}
 use Rattle.place_words.proofs.MovedLemmas.{IsRows-alike}
 use Rattle.place_words.proofs.PutLemmas.{sets_same}
 use Rattle.place_words.specs.Moved.{Alike, quiet_work, still_work, uncounted}
-use Rattle.table_order.specs.declared.seat_links.Seat.{Seat}
+use Rattle.table_order.specs.declared.ordered_lists.OrderKey.{OrderKey}
 
-module _ (p : Parts) (whole : IsWhole p) (works : Table (Single HostWork)) (alike : Alike still_work works p.works) (sets : Table (Single WaitSet)) (sets_alike : Alike uncounted sets p.sets) (ready : List (Spot Seat)) (polled : List (Spot LiveWork)) (live : ℕ) where
-  abbrev pub heard : Parts
+module _ (p : CoreImage) (whole : IsWhole p) (works : Table (Single WorkRecord)) (alike : Alike still_work works p.works) (sets : Table (Single WaitSet)) (sets_alike : Alike uncounted sets p.sets) (ready : List (Spot OrderKey)) (polled : List (Spot LiveWork)) (live : ℕ) where
+  abbrev pub heard : CoreImage
   heard = record p { works = works; sets = sets; ready_works = ready; polled = polled; kept = record p.kept { live = live } }
 
   pub at_heard : (rep : ℕ) (t : Target) → AtPlace p rep t → AtPlace heard rep t
   at_heard rep Nothing at = tt
   at_heard rep (ThreadOf n) at = at
   at_heard rep (CallOf k) at = at
-  at_heard rep (WorkOf i) at = (at.0, stands_alike still_work works p.works alike (λ (w : HostWork). w.number) (λ w. refl) (λ (w : HostWork). w.work) quiet_work (λ w. refl) rep i at.1)
+  at_heard rep (WorkOf i) at = (at.0, stands_alike still_work works p.works alike (λ (w : WorkRecord). w.number) (λ w. refl) (λ (w : WorkRecord). w.work) quiet_work (λ w. refl) rep i at.1)
   at_heard rep (SetOf x) at = (at.0, stands_alike uncounted sets p.sets sets_alike (λ (x : WaitSet). x.number) (λ x. refl) (λ (x : WaitSet). x.set) (λ s. s) (λ x. refl) rep x at.1)
 
   home_heard : (g : GuestThread) → HasHome p g → HasHome heard g
-  home_heard g h = record { call = h.call; there = h.there; instance = h.instance; barred = h.barred; within = h.within; place = at_heard g.beside _ h.place; how_far = at_heard g.awaited _ h.how_far }
+  home_heard g h = record { call = h.call; there = h.there; instance = h.instance; barred = h.barred; within = h.within; place = at_heard g.beside _ h.place; op_progress = at_heard g.awaited _ h.op_progress }
 
   call_heard : (g : GuestTask) → IsCallNamed p g → IsCallNamed heard g
   call_heard g h = record { caller = at_heard g.maker _ h.caller; first = at_heard g.first (ThreadOf g.number) h.first; join = at_heard g.joined _ h.join; group = h.group; positive = h.positive }
 
-  work_heard : (w : HostWork) → IsWorkNamed p w → IsWorkNamed heard (still_work w)
+  work_heard : (w : WorkRecord) → IsWorkNamed p w → IsWorkNamed heard (still_work w)
   work_heard w h = record { caller = at_heard w.maker _ h.caller; join = tt; group = h.group }
 
-  works_heard : EachEntry (λ (w : HostWork). AtPlace heard w.joined (join_target w.work.join)) works → EachEntry (IsWorkNamed heard) works
+  works_heard : EachEntry (λ (w : WorkRecord). AtPlace heard w.joined (join_target w.work.join)) works → EachEntry (IsWorkNamed heard) works
   works_heard joins r q at =
       let one = place_alike still_work works p.works alike r q at in
       let h = subst (IsWorkNamed heard) one.1.1 (work_heard one.0.entry.item (whole.named.works r one.0 one.1.0)) in
       record { caller = h.caller; join = joins r q at; group = h.group }
 
-  seated_heard : (q : Queued) → IsSeated p q → IsSeated heard q
-  seated_heard q is = by q.entry ∙ is
+  keyed_heard : (q : Queued) → IsKeyed p q → IsKeyed heard q
+  keyed_heard q is = by q.entry ∙ is
     where
-      by : (e : Entry) → entry_seated heard e q.place ≡ entry_seated p e q.place
+      by : (e : Entry) → entry_keyed heard e q.place ≡ entry_keyed p e q.place
       by (Entry.Thread n) = refl
-      by (Entry.Push i) = seated_alike still_work works p.works alike push_entry (λ r w. refl) q.place
-      by (Entry.Host i) = seated_alike still_work works p.works alike host_entry (λ r w. refl) q.place
+      by (Entry.Push i) = keyed_alike still_work works p.works alike push_entry (λ r w. refl) q.place
+      by (Entry.Host i) = keyed_alike still_work works p.works alike host_entry (λ r w. refl) q.place
 
   place_chain_heard : (k : Where) → place_chain heard k ≡ place_chain p k
   place_chain_heard (WaitsOn x) = found_alike uncounted sets p.sets sets_alike (λ (x : WaitSet). x.number) (λ x. refl) (λ (x : WaitSet). x.waiters) (λ x. refl) x
@@ -48,7 +48,7 @@ module _ (p : Parts) (whole : IsWhole p) (works : Table (Single HostWork)) (alik
   place_chain_heard (HeldIn i) = refl
   place_chain_heard (UnderOf n) = refl
   place_chain_heard (BlockedOn (Subtask.Guest k)) = refl
-  place_chain_heard (BlockedOn (Subtask.Host i)) = found_alike still_work works p.works alike (λ (w : HostWork). w.number) (λ w. refl) (λ (w : HostWork). w.blocked) (λ w. refl) i
+  place_chain_heard (BlockedOn (Subtask.Host i)) = found_alike still_work works p.works alike (λ (w : WorkRecord). w.number) (λ w. refl) (λ (w : WorkRecord). w.blocked) (λ w. refl) i
 
   ready_calls_heard : (x : ℕ) → ready_call_chain heard x ≡ ready_call_chain p x
   ready_calls_heard x = found_alike uncounted sets p.sets sets_alike (λ (x : WaitSet). x.number) (λ x. refl) (λ (x : WaitSet). x.ready_calls) (λ x. refl) x
@@ -63,19 +63,19 @@ module _ (p : Parts) (whole : IsWhole p) (works : Table (Single HostWork)) (alik
     ready_works = IsIndex-same_chains (ready_work_chain p) ready (filings ready_work works) index (ready_work_chain heard) ready_works_heard;
     polled = live_index;
     rising = rises;
-    marks = IsRows-alike (row_chain p) (row_chain heard) (λ q. q.mark.index) (IsSeated p) (IsSeated heard) p.marks (row p) (row heard) whole.chained.marks (λ k. refl) seated_heard (λ k. refl);
-    shelves = IsRows-alike (shelf_chain p) (shelf_chain heard) (λ q. q.shelf.index) (IsSeated p) (IsSeated heard) p.shelves (part is_of_instance (row p)) (part is_of_instance (row heard)) whole.chained.shelves (λ k. refl) seated_heard (λ k. refl);
+    marks = IsRows-alike (row_chain p) (row_chain heard) (λ q. q.mark.index) (IsKeyed p) (IsKeyed heard) p.marks (row p) (row heard) whole.chained.marks (λ k. refl) keyed_heard (λ k. refl);
+    instance_queues = IsRows-alike (instance_queue_chain p) (instance_queue_chain heard) (λ q. q.instance_queue.index) (IsKeyed p) (IsKeyed heard) p.instance_queues (part is_of_instance (row p)) (part is_of_instance (row heard)) whole.chained.instance_queues (λ k. refl) keyed_heard (λ k. refl);
     low = whole.chained.low;
     behind = whole.chained.behind;
   }
 
   -- ---- Counts
 
-  seen_quiet : (t : Table (Single HostWork)) → records work_key (mapped (on_item still_work) t).places ≡ seconds quiet_work (records work_key t.places)
+  seen_quiet : (t : Table (Single WorkRecord)) → records work_key (mapped (on_item still_work) t).places ≡ seconds quiet_work (records work_key t.places)
   seen_quiet t = records_seconds quiet_work work_key work_key (on_item still_work) (λ e. refl) t
 
   passing_heard : (test : Work → Bool) → passing (λ w. test (quiet_work w)) (core_of heard).works ≡ passing (λ w. test (quiet_work w)) (core_of p).works
-  passing_heard test = sym (ap (passing test) (seen_quiet works) ∙ passing_seconds quiet_work test (records work_key works.places)) ∙ (ap (λ (t : Table (Single HostWork)). passing test (records work_key t.places)) alike ∙ (ap (passing test) (seen_quiet p.works) ∙ passing_seconds quiet_work test (records work_key p.works.places)))
+  passing_heard test = sym (ap (passing test) (seen_quiet works) ∙ passing_seconds quiet_work test (records work_key works.places)) ∙ (ap (λ (t : Table (Single WorkRecord)). passing test (records work_key t.places)) alike ∙ (ap (passing test) (seen_quiet p.works) ∙ passing_seconds quiet_work test (records work_key p.works.places)))
 
   group_heard : (g : TaskGroup) → IsGroupKept (core_of p) g → IsGroupKept (core_of heard) g
   group_heard g h = h ∙ ap (λ n. passing (λ c. c.group == g.number) (core_of p).calls + n) (sym (passing_heard (is_of_group g.number)))
@@ -95,7 +95,7 @@ module _ (p : Parts) (whole : IsWhole p) (works : Table (Single HostWork)) (alik
     results = whole.counted.results;
   }
 
-  pub heard_whole : EachEntry (λ (w : HostWork). AtPlace heard w.joined (join_target w.work.join)) works → EachEntry (IsSetKept (core_of heard)) sets → IsIndex (ready_work_chain p) ready (filings ready_work works) → IsIndex (live_chain p) polled (filings live_work works) → Rises polled p.live → live ≡ passing is_live (core_of heard).works → IsWhole heard
+  pub heard_whole : EachEntry (λ (w : WorkRecord). AtPlace heard w.joined (join_target w.work.join)) works → EachEntry (IsSetKept (core_of heard)) sets → IsIndex (ready_work_chain p) ready (filings ready_work works) → IsIndex (live_chain p) polled (filings live_work works) → Rises polled p.live → live ≡ passing is_live (core_of heard).works → IsWhole heard
   heard_whole joins kept index live_index rises live_is = record {
     named = record {
       threads = λ r q at. home_heard q.entry.item (whole.named.threads r q at);
@@ -106,10 +106,10 @@ module _ (p : Parts) (whole : IsWhole p) (works : Table (Single HostWork)) (alik
     chained = chained_heard index live_index rises;
     nodes = record {
       marks = whole.nodes.marks;
-      shelves = whole.nodes.shelves;
+      instance_queues = whole.nodes.instance_queues;
       callers = whole.nodes.callers;
       works = nodes_alike still_work works p.works alike (λ w. w.mark.index) (λ w. refl) p.marks whole.nodes.works;
-      apart = λ r s q w at_q at_w same. let one = place_alike still_work works p.works alike s w at_w in whole.nodes.apart r s q one.0 at_q one.1.0 (same ∙ sym (ap (λ (x : HostWork). x.mark.index) one.1.1));
+      apart = λ r s q w at_q at_w same. let one = place_alike still_work works p.works alike s w at_w in whole.nodes.apart r s q one.0 at_q one.1.0 (same ∙ sym (ap (λ (x : WorkRecord). x.mark.index) one.1.1));
     };
     counted = counted_heard kept live_is;
   }

@@ -3,8 +3,8 @@ use Rattle.std.specs.Prelude.{◌≡◌, ℕ, Bool, if◌then◌else◌, List, O
 use Rattle.task_machine.specs.Core.{Core}
 use Rattle.task_machine.specs.declared.records.Call.{Call}
 use Rattle.task_machine.specs.declared.records.Delivery.TheVariants as delivery
-use Rattle.task_machine.specs.declared.records.HowFar.{HowFar}
-use Rattle.task_machine.specs.declared.records.HowFar.TheVariants as how_far
+use Rattle.task_machine.specs.declared.records.OpProgress.{OpProgress}
+use Rattle.task_machine.specs.declared.records.OpProgress.TheVariants as op_progress
 use Rattle.task_machine.specs.declared.records.Join.{Join}
 use Rattle.task_machine.specs.declared.records.Join.TheVariants as join
 use Rattle.task_machine.specs.declared.records.Place.{Place}
@@ -18,13 +18,13 @@ use Rattle.task_machine.specs.declared.records.Why.{Why}
 use Rattle.task_machine.specs.declared.records.Work.{Work}
 use Rattle.task_machine.specs.declared.records.Why.TheVariants as why
 use Rattle.task_records.specs.Kinds.{entry_of, item_of, on_item}
-use Rattle.task_records.specs.Places.{where_at}
-use Rattle.task_records.specs.declared.calls.GuestTask.{GuestTask}
-use Rattle.task_records.specs.declared.sets.WaitSet.{WaitSet}
+use Rattle.task_records.specs.RecordPlaces.{where_at}
+use Rattle.task_records.specs.declared.call_records.GuestTask.{GuestTask}
+use Rattle.task_records.specs.declared.set_records.WaitSet.{WaitSet}
 use Rattle.task_records.specs.declared.single.Single.{Single}
-use Rattle.task_records.specs.declared.threads.GuestThread.{GuestThread}
-use Rattle.task_records.specs.declared.works.HostWork.{HostWork}
-use Rattle.task_table.specs.Answers.{item_at}
+use Rattle.task_records.specs.declared.thread_records.GuestThread.{GuestThread}
+use Rattle.task_records.specs.declared.work_records.WorkRecord.{WorkRecord}
+use Rattle.task_table.specs.TableAnswers.{item_at}
 use Rattle.task_table.specs.Changes.{with_entry}
 use Rattle.task_table.specs.Mapped.{mapped}
 use Rattle.task_table.specs.Table.{Table}
@@ -32,7 +32,7 @@ use Rattle.task_table.specs.declared.error.ResourceTableError.{ResourceTableErro
 use Rattle.task_words.specs.Live.{delivered_set, kept_in}
 
 abbrev pub still : Thread → Thread
-still t = record t { place = place.New; how_far = how_far.Fresh }
+still t = record t { place = place.New; op_progress = op_progress.Fresh }
 
 -- a thread without where it is and how far it has come
 abbrev pub still_thread : GuestThread → GuestThread
@@ -47,16 +47,16 @@ abbrev pub Alike : {T : Type 0} → (T → T) → Table (Single T) → Table (Si
 Alike f new old = mapped (on_item f) new ≡ mapped (on_item f) old
 
 -- the set for which a thread at this place that has come so far has an entry, or on which it waits
-abbrev pub resumed_set : HowFar → Option ℕ
-resumed_set (how_far.Waits x) = Some x
+abbrev pub resumed_set : OpProgress → Option ℕ
+resumed_set (op_progress.Waits x) = Some x
 resumed_set _ = None
 
-abbrev pub queued_set : Why → HowFar → Option ℕ
+abbrev pub queued_set : Why → OpProgress → Option ℕ
 queued_set (why.Delivery (delivery.Set x)) h = Some x
 queued_set why.Resumption h = resumed_set h
 queued_set _ h = None
 
-abbrev pub entry_set : Place → HowFar → Option ℕ
+abbrev pub entry_set : Place → OpProgress → Option ℕ
 entry_set (place.Waiting x by_callback) h = Some x
 entry_set (place.Ready m w) h = queued_set w h
 entry_set (place.Held w) h = delivered_set w
@@ -64,7 +64,7 @@ entry_set _ h = None
 
 -- a thread at this place is in no chain, and no set counts it however far it has come
 abbrev pub StandsAlone : Place → Type 0
-StandsAlone p = ((h : HowFar) → entry_set p h ≡ None) × ((i : ℕ) (b : Bool) → where_at i b p ≡ None)
+StandsAlone p = ((h : OpProgress) → entry_set p h ≡ None) × ((i : ℕ) (b : Bool) → where_at i b p ≡ None)
 
 abbrev pub rewritten_by : (WaitSet → WaitSet) → ℕ → Result WaitSet ResourceTableError → Table (Single WaitSet) → Table (Single WaitSet)
 rewritten_by f rep (Ok x) t = with_entry rep (entry_of (f x)) t
@@ -103,7 +103,7 @@ still_call g = record g { call = quiet_call g.call; joined = 0 }
 abbrev pub quiet_work : Work → Work
 quiet_work w = record w { event = None; join = join.Nowhere; stage = stage.Ended }
 
-abbrev pub still_work : HostWork → HostWork
+abbrev pub still_work : WorkRecord → WorkRecord
 still_work w = record w { work = quiet_work w.work; joined = 0 }
 
 -- whether a work of the stage is in the list of the live works
@@ -115,14 +115,14 @@ abbrev pub placed : GuestThread → Place → ℕ → GuestThread
 placed g p beside = record g { thread = record g.thread { place = p }; beside = beside }
 
 -- a thread that has come to another point of its op, with where what it names there stands
-abbrev pub arrived : GuestThread → HowFar → ℕ → GuestThread
-arrived g h awaited = record g { thread = record g.thread { how_far = h }; awaited = awaited }
+abbrev pub arrived : GuestThread → OpProgress → ℕ → GuestThread
+arrived g h awaited = record g { thread = record g.thread { op_progress = h }; awaited = awaited }
 
 -- a thread at another place, that has come to another point of its op
-abbrev pub to_stand : Place → HowFar → Thread → Thread
-to_stand p h t = record t { place = p; how_far = h }
+abbrev pub to_stand : Place → OpProgress → Thread → Thread
+to_stand p h t = record t { place = p; op_progress = h }
 
-abbrev pub standing : GuestThread → Place → (beside : ℕ) → HowFar → (awaited : ℕ) → GuestThread
+abbrev pub standing : GuestThread → Place → (beside : ℕ) → OpProgress → (awaited : ℕ) → GuestThread
 standing g p beside h awaited = record g { thread = to_stand p h g.thread; beside = beside; awaited = awaited }
 
 -- a thread with these registers
@@ -131,14 +131,14 @@ with_registers rs t = record t { registers = rs }
 
 -- a thread that is about to begin the op at this position
 abbrev pub to_op : (position : ℕ) → Thread → Thread
-to_op p t = record t { position = p; how_far = how_far.Fresh }
+to_op p t = record t { position = p; op_progress = op_progress.Fresh }
 
 abbrev pub at_op : GuestThread → (position : ℕ) → GuestThread
 at_op g p = record g { thread = to_op p g.thread; awaited = 0 }
 
 -- the same, with an answer in a register
 abbrev pub to_answer : (register : ℕ) → (value : ℕ) → (position : ℕ) → Thread → Thread
-to_answer r v p t = record t { registers = slice_set t.registers r v; position = p; how_far = how_far.Fresh }
+to_answer r v p t = record t { registers = slice_set t.registers r v; position = p; op_progress = op_progress.Fresh }
 
 abbrev pub at_answer : GuestThread → (register : ℕ) → (value : ℕ) → (position : ℕ) → GuestThread
 at_answer g r v p = record g { thread = to_answer r v p g.thread; awaited = 0 }
@@ -150,7 +150,7 @@ to_begun code handle status t =
       registers = slice_set (slice_set (slice_set t.registers 0 code) 1 handle) 2 status;
       script = script.React;
       position = 0;
-      how_far = how_far.Fresh;
+      op_progress = op_progress.Fresh;
       place = place.Running;
     }
 

@@ -4,13 +4,13 @@ use Rattle.std.specs.Prelude.{◌≡◌, ℕ, false, true, Ok, Some}
 use Rattle.std.specs.declared.cmp.Ordering.{Ordering}
 use Rattle.task_machine.specs.Read.{is_waiting_on}
 use Rattle.task_records.specs.Kinds.{item_of}
-use Rattle.task_records.specs.Places.{ready_in}
+use Rattle.task_records.specs.RecordPlaces.{ready_in}
 use Rattle.task_records.specs.Sound.{EachEntry}
-use Rattle.task_records.specs.declared.calls.GuestTask.{GuestTask}
+use Rattle.task_records.specs.declared.call_records.GuestTask.{GuestTask}
 use Rattle.task_records.specs.declared.parts.CoreParts.{CoreParts}
-use Rattle.task_records.specs.declared.threads.GuestThread.{GuestThread}
-use Rattle.task_records.specs.declared.works.HostWork.{HostWork}
-use Rattle.task_table.specs.Answers.{item_at}
+use Rattle.task_records.specs.declared.thread_records.GuestThread.{GuestThread}
+use Rattle.task_records.specs.declared.work_records.WorkRecord.{WorkRecord}
+use Rattle.task_table.specs.TableAnswers.{item_at}
 use Rattle.task_table.specs.declared.id.TableId.{TableId}
 use Rattle.task_wait.specs.declared.keys.ThreadKey.{ThreadKey}
 use Rattle.task_words.specs.declared.names.SubtaskId.{SubtaskId}
@@ -30,11 +30,11 @@ IsLeastWaiter a x id =
 -- No ready member of the set comes before the one of this id: host works come first, then calls, each by its place.
 abbrev pub IsLeastMember : CoreParts → ℕ → SubtaskId → Type 0
 IsLeastMember a x (subtask.Host id) =
-    (w : HostWork) →
+    (w : WorkRecord) →
     Ok w ≡ item_at item_of a.works id.rep id.serial →
     EachEntry (λ v. ready_in v.work.event v.work.join ≡ Some x → is_lt (nat_cmp v.entry w.entry) ≡ false) a.works
 IsLeastMember a x (subtask.Guest id) =
-    EachEntry (λ (v : HostWork). ready_in v.work.event v.work.join ≡ Some x → ⊥) a.works
+    EachEntry (λ (v : WorkRecord). ready_in v.work.event v.work.join ≡ Some x → ⊥) a.works
     × ((g : GuestTask) →
     Ok g ≡ item_at item_of a.calls id.rep id.serial →
     EachEntry (λ h. ready_in h.call.event h.call.join ≡ Some x → is_lt (nat_cmp h.entry g.entry) ≡ false) a.calls)

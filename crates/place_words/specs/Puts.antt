@@ -6,14 +6,14 @@ use Rattle.task_machine.specs.Core.{Core}
 use Rattle.task_machine.specs.Write.{set_place}
 use Rattle.task_machine.specs.declared.records.Place.{Place}
 use Rattle.task_records.specs.Kinds.{entry_of, item_of}
-use Rattle.task_records.specs.Places.{place_chain, where_at}
-use Rattle.task_records.specs.Seen.{IsSound, parts_of, seen}
+use Rattle.task_records.specs.RecordPlaces.{place_chain, where_at}
+use Rattle.task_records.specs.Seen.{IsSoundCore, parts_of, seen}
 use Rattle.task_records.specs.Sound.{bare}
 use Rattle.task_records.specs.declared.parts.CoreParts.{CoreParts}
-use Rattle.task_records.specs.declared.sets.WaitSet.{WaitSet}
+use Rattle.task_records.specs.declared.set_records.WaitSet.{WaitSet}
 use Rattle.task_records.specs.declared.single.Single.{Single}
-use Rattle.task_records.specs.declared.threads.GuestThread.{GuestThread}
-use Rattle.task_table.specs.Answers.{item_at}
+use Rattle.task_records.specs.declared.thread_records.GuestThread.{GuestThread}
+use Rattle.task_table.specs.TableAnswers.{item_at}
 use Rattle.task_table.specs.Changes.{with_entry}
 use Rattle.task_table.specs.Table.{Table}
 use Rattle.task_table.specs.declared.id.TableId.{TableId}
@@ -35,12 +35,12 @@ IsChainAt a id p chain =
 
 -- The core that is seen becomes what the step makes of it, and is sound.
 pub record BecomesBy (a b : CoreParts) (step : Core → Core) : Type 0 where
-  pub sound : IsSound b
+  pub sound : IsSoundCore b
   pub new : seen b ≡ on_core step (seen a)
 
 -- The thread of the id, if it is there, is at the place, with where what it names there stands. In no chain it has no link.
 pub record IsPut (a b : CoreParts) (id : TableId ThreadKey) (p : Place) (beside : ℕ) (chain : Option ℕ) : Type 0 where
-  pub sound : IsSound b
+  pub sound : IsSoundCore b
   pub new : seen b ≡ on_core (set_place (thread_of (seen a) id) p) (seen a)
   pub threads : (g : GuestThread) → Ok g ≡ item_at item_of a.threads id.rep id.serial →
       b.threads ≡ with_entry id.rep (entry_of (placed g p beside)) a.threads

@@ -4,21 +4,21 @@
 //! for is the first of a chain.
 #![tactic(auto)]
 
-mod entries;
-mod events;
-mod joins;
+mod entry_states;
+mod event_states;
+mod join_states;
 mod moves;
-mod places;
-mod sets;
+mod place_states;
+mod set_states;
 mod stages;
-mod steps;
+mod step_states;
 mod targets;
 mod unders;
 
-pub use events::set_event;
-pub use joins::set_join;
-pub use places::{delivered_set, hold, place, set_mark, set_place, stand_at, suspend, unhold, why};
-pub use sets::{first_ready, first_waiter, has_ready_member};
+pub use event_states::set_event;
+pub use join_states::set_join;
+pub use place_states::{delivered_set, hold, place, set_mark, set_place, stand_at, suspend, unhold, why};
+pub use set_states::{first_ready, first_waiter, has_ready_member};
 pub use stages::set_stage;
-pub use steps::{activate, advance, assign, move_to, set_context, set_how_far};
+pub use step_states::{activate, advance, assign, move_to, set_context, set_op_progress};
 pub use unders::{run_first, stand_under};

@@ -4,35 +4,35 @@ ghost use Rattle.place_words.specs.Moved.{StandsAlone, arrived, at_answer, at_op
 ghost use Rattle.place_words.specs.Puts.{BecomesBy, IsChainAt, IsPut};
 ghost use Rattle.task_index.specs.Index.{Refiles};
 ghost use Rattle.task_links.specs.Links.{is_made, link_of, list_of, removed};
-ghost use Rattle.task_machine.specs.declared.records.HowFar.{HowFar};
-ghost use Rattle.task_machine.specs.Write.{on_thread, set_how_far};
+ghost use Rattle.task_machine.specs.declared.records.OpProgress.{OpProgress};
+ghost use Rattle.task_machine.specs.Write.{on_thread, set_op_progress};
 ghost use Rattle.task_records.specs.Kinds.{entry_of, item_of};
-ghost use Rattle.task_records.specs.Names.{AtPlace, how_far_target, place_target};
-ghost use Rattle.task_records.specs.Places.{member_seat, thread_seat};
-ghost use Rattle.task_records.specs.Seen.{IsSound, parts_of, seen};
-ghost use Rattle.task_records.specs.declared.threads.GuestThread.{GuestThread};
-ghost use Rattle.task_table.specs.Answers.{item_at};
+ghost use Rattle.task_records.specs.Names.{AtPlace, op_progress_target, place_target};
+ghost use Rattle.task_records.specs.RecordPlaces.{member_order_key, thread_order_key};
+ghost use Rattle.task_records.specs.Seen.{IsSoundCore, parts_of, seen};
+ghost use Rattle.task_records.specs.declared.thread_records.GuestThread.{GuestThread};
+ghost use Rattle.task_table.specs.TableAnswers.{item_at};
 ghost use Rattle.task_table.specs.Changes.{with_entry};
 ghost use Rattle.task_words.specs.StateView.{thread_of};
 
-use crate::entries::{entry_set, no_set, recount};
+use crate::entry_states::{entry_set, no_set, recount};
 use record_table::RecordTable;
 use record_words::set_register;
-use table_order::{Seat, SeatLinks};
-use task_machine::{Delivery, HowFar, Place, Script, Why};
+use table_order::{OrderKey, OrderedLists};
+use task_machine::{Delivery, OpProgress, Place, Script, Why};
 use task_records::{CoreParts, GuestThread, Node, Single};
 use task_words::ThreadId;
 
 // The node is in this chain alone, with the seat, or in none.
 #[inline(always)]
-pub(crate) fn refile(links: &mut SeatLinks, node: Node, chain: Option<usize>, seat: Seat)
+pub(crate) fn refresh_key(links: &mut OrderedLists, node: Node, chain: Option<usize>, order_key: OrderKey)
     requires made { is_made links.old node.index ≡ true }
     requires live { IfSome chain (λ c. IsSome (list_of links.old c)) }
-    ensures links { Refiles links.old links.new node.index (option_map (λ c. (c, seat)) chain) }
+    ensures links { Refiles links.old links.new node.index (option_map (λ c. (c, order_key)) chain) }
     ensures left { chain ≡ None → links.new ≡ removed node.index links.old }
 {
     match chain {
-        Some(chain) => links.file(node, chain, seat),
+        Some(chain) => links.file(node, chain, order_key),
         None => {
             links.no_node_is_twice();
             links.remove(node);
@@ -42,10 +42,10 @@ pub(crate) fn refile(links: &mut SeatLinks, node: Node, chain: Option<usize>, se
 
 // The seat of a thread.
 #[inline(always)]
-fn thread_seat(place: u32, thread: &GuestThread) -> Seat
-    ensures { result ≡ thread_seat place thread.now }
+fn thread_order_key(place: u32, thread: &GuestThread) -> OrderKey
+    ensures { result ≡ thread_order_key place thread.now }
 {
-    Seat {
+    OrderKey {
         task: thread.task_entry,
         thread: thread.entry,
         place,
@@ -53,10 +53,10 @@ fn thread_seat(place: u32, thread: &GuestThread) -> Seat
 }
 
 /// The seat of a call or of a host work, by its places in the resource table and in the table of its kind.
-pub(crate) fn member_seat(entry: u32, place: u32) -> Seat
-    ensures { result ≡ member_seat entry place }
+pub(crate) fn member_order_key(entry: u32, place: u32) -> OrderKey
+    ensures { result ≡ member_order_key entry place }
 {
-    Seat {
+    OrderKey {
         task: entry,
         thread: 0,
         place,
@@ -83,13 +83,13 @@ fn write_place(
 fn write_point(
     threads: &mut RecordTable<Single<GuestThread>>,
     id: ThreadId,
-    how_far: HowFar,
+    op_progress: OpProgress,
     awaited: u32,
 )
-    ensures { (g : GuestThread) → Ok g ≡ item_at item_of threads.old id.rep id.serial → threads.new ≡ with_entry id.rep (entry_of (arrived g how_far awaited)) threads.old }
+    ensures { (g : GuestThread) → Ok g ≡ item_at item_of threads.old id.rep id.serial → threads.new ≡ with_entry id.rep (entry_of (arrived g op_progress awaited)) threads.old }
 {
     if let Ok(entry) = threads.get_mut(id) {
-        entry.thread.how_far = how_far;
+        entry.thread.op_progress = op_progress;
         entry.awaited = awaited;
     }
 }
@@ -100,15 +100,15 @@ fn write_stand(
     id: ThreadId,
     place: Place,
     beside: u32,
-    how_far: HowFar,
+    op_progress: OpProgress,
     awaited: u32,
 )
-    ensures { (g : GuestThread) → Ok g ≡ item_at item_of threads.old id.rep id.serial → threads.new ≡ with_entry id.rep (entry_of (standing g place beside how_far awaited)) threads.old }
+    ensures { (g : GuestThread) → Ok g ≡ item_at item_of threads.old id.rep id.serial → threads.new ≡ with_entry id.rep (entry_of (standing g place beside op_progress awaited)) threads.old }
 {
     if let Ok(entry) = threads.get_mut(id) {
         entry.thread.place = place;
         entry.beside = beside;
-        entry.thread.how_far = how_far;
+        entry.thread.op_progress = op_progress;
         entry.awaited = awaited;
     }
 }
@@ -119,7 +119,7 @@ fn write_op(threads: &mut RecordTable<Single<GuestThread>>, id: ThreadId, positi
 {
     if let Ok(entry) = threads.get_mut(id) {
         entry.thread.position = position;
-        entry.thread.how_far = HowFar::Fresh;
+        entry.thread.op_progress = OpProgress::Fresh;
         entry.awaited = 0;
     }
 }
@@ -147,7 +147,7 @@ fn write_answer(
     if let Ok(entry) = threads.get_mut(id) {
         put_register(&mut entry.thread.registers, register, value);
         entry.thread.position = position;
-        entry.thread.how_far = HowFar::Fresh;
+        entry.thread.op_progress = OpProgress::Fresh;
         entry.awaited = 0;
     }
 }
@@ -163,7 +163,7 @@ fn write_begun(threads: &mut RecordTable<Single<GuestThread>>, id: ThreadId, wor
         entry.thread.registers[2] = words.2;
         entry.thread.script = Script::React;
         entry.thread.position = 0;
-        entry.thread.how_far = HowFar::Fresh;
+        entry.thread.op_progress = OpProgress::Fresh;
         entry.awaited = 0;
         entry.thread.place = Place::Running;
         entry.beside = 0;
@@ -173,7 +173,7 @@ fn write_begun(threads: &mut RecordTable<Single<GuestThread>>, id: ThreadId, wor
 // Whether no set counts an entry that is queued for this, however far its thread has come.
 #[inline(always)]
 fn is_for_no_set(why: &Why) -> bool
-    ensures { result ≡ true → (h : HowFar) → queued_set why.now h ≡ None }
+    ensures { result ≡ true → (h : OpProgress) → queued_set why.now h ≡ None }
 {
     match why {
         Why::Start => true,
@@ -210,15 +210,15 @@ fn stands_alone(place: &Place) -> bool
 
 // The node, which is in no chain, is in this chain from now on, with the seat, if there is one.
 #[inline(always)]
-fn file_in(links: &mut SeatLinks, node: Node, chain: Option<usize>, seat: Seat)
+fn file_in(links: &mut OrderedLists, node: Node, chain: Option<usize>, order_key: OrderKey)
     requires made { is_made links.old node.index ≡ true }
     requires live { IfSome chain (λ c. IsSome (list_of links.old c)) }
     requires unlinked { link_of links.old node.index ≡ None }
-    ensures links { Refiles links.old links.new node.index (option_map (λ c. (c, seat)) chain) }
+    ensures links { Refiles links.old links.new node.index (option_map (λ c. (c, order_key)) chain) }
     ensures left { chain ≡ None → links.new ≡ removed node.index links.old }
 {
     match chain {
-        Some(chain) => links.file_free(node, chain, seat),
+        Some(chain) => links.file_free(node, chain, order_key),
         None => {}
     }
 }
@@ -232,19 +232,19 @@ pub(crate) fn put_counted(
     beside: u32,
     chain: Option<usize>,
 )
-    requires sound { IsSound parts.old }
+    requires sound { IsSoundCore parts.old }
     requires place { AtPlace (parts_of parts.old) beside (place_target place) }
     requires chain { IsChainAt parts.old id place chain }
     ensures { IsPut parts.old parts.new id place beside chain }
 {
     if let Some(found) = task_records::thread(parts, id) {
-        let (node, seat) = (found.node, thread_seat(id.rep(), found));
-        let (how_far, awaited) = (&found.thread.how_far, found.awaited);
-        let from = entry_set(parts, &found.thread.place, found.beside, how_far, awaited);
-        let to = entry_set(parts, &place, beside, how_far, awaited);
+        let (node, order_key) = (found.node, thread_order_key(id.rep(), found));
+        let (op_progress, awaited) = (&found.thread.op_progress, found.awaited);
+        let from = entry_set(parts, &found.thread.place, found.beside, op_progress, awaited);
+        let to = entry_set(parts, &place, beside, op_progress, awaited);
         write_place(&mut parts.threads, id, place, beside);
         recount(&mut parts.sets, from, to);
-        refile(&mut parts.places, node, chain, seat);
+        refresh_key(&mut parts.places, node, chain, order_key);
     }
 }
 
@@ -257,7 +257,7 @@ pub(crate) fn put_away(
     beside: u32,
     chain: Option<usize>,
 )
-    requires sound { IsSound parts.old }
+    requires sound { IsSoundCore parts.old }
     requires place { AtPlace (parts_of parts.old) beside (place_target place) }
     requires chain { IsChainAt parts.old id place chain }
     ensures { IsPut parts.old parts.new id place beside chain }
@@ -274,19 +274,19 @@ pub(crate) fn put_alone(
     beside: u32,
     chain: Option<usize>,
 )
-    requires sound { IsSound parts.old }
+    requires sound { IsSoundCore parts.old }
     requires alone { (g : GuestThread) → Ok g ≡ item_at item_of parts.old.threads id.rep id.serial → StandsAlone g.thread.place }
     requires place { AtPlace (parts_of parts.old) beside (place_target place) }
     requires chain { IsChainAt parts.old id place chain }
     ensures { IsPut parts.old parts.new id place beside chain }
 {
     if let Some(found) = task_records::thread(parts, id) {
-        let (node, seat) = (found.node, thread_seat(id.rep(), found));
+        let (node, order_key) = (found.node, thread_order_key(id.rep(), found));
         let from = no_set(parts);
-        let to = entry_set(parts, &place, beside, &found.thread.how_far, found.awaited);
+        let to = entry_set(parts, &place, beside, &found.thread.op_progress, found.awaited);
         write_place(&mut parts.threads, id, place, beside);
         recount(&mut parts.sets, from, to);
-        file_in(&mut parts.places, node, chain, seat);
+        file_in(&mut parts.places, node, chain, order_key);
     }
 }
 
@@ -300,7 +300,7 @@ pub(crate) fn put(
     beside: u32,
     chain: Option<usize>,
 )
-    requires sound { IsSound parts.old }
+    requires sound { IsSoundCore parts.old }
     requires place { AtPlace (parts_of parts.old) beside (place_target place) }
     requires chain { IsChainAt parts.old id place chain }
     ensures { IsPut parts.old parts.new id place beside chain }
@@ -316,16 +316,16 @@ pub(crate) fn put(
 
 // The thread has come to another point of its op, where it is, which may be where a set counts it.
 #[inline(never)]
-fn put_there_counted(parts: &mut CoreParts, id: ThreadId, how_far: HowFar, awaited: u32)
-    requires sound { IsSound parts.old }
-    requires how_far { AtPlace (parts_of parts.old) awaited (how_far_target how_far) }
-    ensures { BecomesBy parts.old parts.new (set_how_far (thread_of (seen parts.old) id) how_far) }
+fn put_there_counted(parts: &mut CoreParts, id: ThreadId, op_progress: OpProgress, awaited: u32)
+    requires sound { IsSoundCore parts.old }
+    requires op_progress { AtPlace (parts_of parts.old) awaited (op_progress_target op_progress) }
+    ensures { BecomesBy parts.old parts.new (set_op_progress (thread_of (seen parts.old) id) op_progress) }
 {
     if let Some(found) = task_records::thread(parts, id) {
         let (place, beside) = (&found.thread.place, found.beside);
-        let from = entry_set(parts, place, beside, &found.thread.how_far, found.awaited);
-        let to = entry_set(parts, place, beside, &how_far, awaited);
-        write_point(&mut parts.threads, id, how_far, awaited);
+        let from = entry_set(parts, place, beside, &found.thread.op_progress, found.awaited);
+        let to = entry_set(parts, place, beside, &op_progress, awaited);
+        write_point(&mut parts.threads, id, op_progress, awaited);
         recount(&mut parts.sets, from, to);
     }
 }
@@ -333,20 +333,20 @@ fn put_there_counted(parts: &mut CoreParts, id: ThreadId, how_far: HowFar, await
 /// The thread has come to another point of its op, where it is: no set counts a thread that runs. An id that names no
 /// thread changes nothing.
 #[inline(always)]
-pub(crate) fn put_there(parts: &mut CoreParts, id: ThreadId, how_far: HowFar, awaited: u32)
-    requires sound { IsSound parts.old }
-    requires how_far { AtPlace (parts_of parts.old) awaited (how_far_target how_far) }
-    ensures { BecomesBy parts.old parts.new (set_how_far (thread_of (seen parts.old) id) how_far) }
+pub(crate) fn put_there(parts: &mut CoreParts, id: ThreadId, op_progress: OpProgress, awaited: u32)
+    requires sound { IsSoundCore parts.old }
+    requires op_progress { AtPlace (parts_of parts.old) awaited (op_progress_target op_progress) }
+    ensures { BecomesBy parts.old parts.new (set_op_progress (thread_of (seen parts.old) id) op_progress) }
 {
     if let Some(found) = task_records::thread(parts, id) {
         match found.thread.place {
             Place::Running => {
                 let from = no_set(parts);
                 let to = no_set(parts);
-                write_point(&mut parts.threads, id, how_far, awaited);
+                write_point(&mut parts.threads, id, op_progress, awaited);
                 recount(&mut parts.sets, from, to);
             }
-            _ => put_there_counted(parts, id, how_far, awaited),
+            _ => put_there_counted(parts, id, op_progress, awaited),
         }
     }
 }
@@ -358,29 +358,29 @@ pub(crate) fn put_stand_counted(
     id: ThreadId,
     place: Place,
     beside: u32,
-    how_far: HowFar,
+    op_progress: OpProgress,
     awaited: u32,
     chain: Option<usize>,
 )
-    requires sound { IsSound parts.old }
+    requires sound { IsSoundCore parts.old }
     requires place { AtPlace (parts_of parts.old) beside (place_target place) }
-    requires how_far { AtPlace (parts_of parts.old) awaited (how_far_target how_far) }
+    requires op_progress { AtPlace (parts_of parts.old) awaited (op_progress_target op_progress) }
     requires chain { IsChainAt parts.old id place chain }
-    ensures { BecomesBy parts.old parts.new (on_thread (thread_of (seen parts.old) id) (to_stand place how_far)) }
+    ensures { BecomesBy parts.old parts.new (on_thread (thread_of (seen parts.old) id) (to_stand place op_progress)) }
 {
     if let Some(found) = task_records::thread(parts, id) {
-        let (node, seat) = (found.node, thread_seat(id.rep(), found));
+        let (node, order_key) = (found.node, thread_order_key(id.rep(), found));
         let from = entry_set(
             parts,
             &found.thread.place,
             found.beside,
-            &found.thread.how_far,
+            &found.thread.op_progress,
             found.awaited,
         );
-        let to = entry_set(parts, &place, beside, &how_far, awaited);
-        write_stand(&mut parts.threads, id, place, beside, how_far, awaited);
+        let to = entry_set(parts, &place, beside, &op_progress, awaited);
+        write_stand(&mut parts.threads, id, place, beside, op_progress, awaited);
         recount(&mut parts.sets, from, to);
-        refile(&mut parts.places, node, chain, seat);
+        refresh_key(&mut parts.places, node, chain, order_key);
     }
 }
 
@@ -391,17 +391,17 @@ fn put_stand_away(
     id: ThreadId,
     place: Place,
     beside: u32,
-    how_far: HowFar,
+    op_progress: OpProgress,
     awaited: u32,
     chain: Option<usize>,
 )
-    requires sound { IsSound parts.old }
+    requires sound { IsSoundCore parts.old }
     requires place { AtPlace (parts_of parts.old) beside (place_target place) }
-    requires how_far { AtPlace (parts_of parts.old) awaited (how_far_target how_far) }
+    requires op_progress { AtPlace (parts_of parts.old) awaited (op_progress_target op_progress) }
     requires chain { IsChainAt parts.old id place chain }
-    ensures { BecomesBy parts.old parts.new (on_thread (thread_of (seen parts.old) id) (to_stand place how_far)) }
+    ensures { BecomesBy parts.old parts.new (on_thread (thread_of (seen parts.old) id) (to_stand place op_progress)) }
 {
-    put_stand_counted(parts, id, place, beside, how_far, awaited, chain);
+    put_stand_counted(parts, id, place, beside, op_progress, awaited, chain);
 }
 
 /// The thread is at another place and at another point of its op from now on, in the chain in which it is filed there. An
@@ -412,26 +412,26 @@ pub(crate) fn put_stand(
     id: ThreadId,
     place: Place,
     beside: u32,
-    how_far: HowFar,
+    op_progress: OpProgress,
     awaited: u32,
     chain: Option<usize>,
 )
-    requires sound { IsSound parts.old }
+    requires sound { IsSoundCore parts.old }
     requires place { AtPlace (parts_of parts.old) beside (place_target place) }
-    requires how_far { AtPlace (parts_of parts.old) awaited (how_far_target how_far) }
+    requires op_progress { AtPlace (parts_of parts.old) awaited (op_progress_target op_progress) }
     requires chain { IsChainAt parts.old id place chain }
-    ensures { BecomesBy parts.old parts.new (on_thread (thread_of (seen parts.old) id) (to_stand place how_far)) }
+    ensures { BecomesBy parts.old parts.new (on_thread (thread_of (seen parts.old) id) (to_stand place op_progress)) }
 {
     if let Some(found) = task_records::thread(parts, id) {
         if stands_alone(&found.thread.place) {
-            let (node, seat) = (found.node, thread_seat(id.rep(), found));
+            let (node, order_key) = (found.node, thread_order_key(id.rep(), found));
             let from = no_set(parts);
-            let to = entry_set(parts, &place, beside, &how_far, awaited);
-            write_stand(&mut parts.threads, id, place, beside, how_far, awaited);
+            let to = entry_set(parts, &place, beside, &op_progress, awaited);
+            write_stand(&mut parts.threads, id, place, beside, op_progress, awaited);
             recount(&mut parts.sets, from, to);
-            file_in(&mut parts.places, node, chain, seat);
+            file_in(&mut parts.places, node, chain, order_key);
         } else {
-            put_stand_away(parts, id, place, beside, how_far, awaited, chain);
+            put_stand_away(parts, id, place, beside, op_progress, awaited, chain);
         }
     }
 }
@@ -439,13 +439,13 @@ pub(crate) fn put_stand(
 // The thread is about to begin the op at this position, and may be where a set counts it.
 #[inline(never)]
 fn put_op_counted(parts: &mut CoreParts, id: ThreadId, position: u32)
-    requires { IsSound parts.old }
+    requires { IsSoundCore parts.old }
     ensures { BecomesBy parts.old parts.new (on_thread (thread_of (seen parts.old) id) (to_op position)) }
 {
     if let Some(found) = task_records::thread(parts, id) {
         let (place, beside) = (&found.thread.place, found.beside);
-        let from = entry_set(parts, place, beside, &found.thread.how_far, found.awaited);
-        let to = entry_set(parts, place, beside, &HowFar::Fresh, 0);
+        let from = entry_set(parts, place, beside, &found.thread.op_progress, found.awaited);
+        let to = entry_set(parts, place, beside, &OpProgress::Fresh, 0);
         write_op(&mut parts.threads, id, position);
         recount(&mut parts.sets, from, to);
     }
@@ -455,7 +455,7 @@ fn put_op_counted(parts: &mut CoreParts, id: ThreadId, position: u32)
 /// changes nothing.
 #[inline(always)]
 pub(crate) fn put_op(parts: &mut CoreParts, id: ThreadId, position: u32)
-    requires { IsSound parts.old }
+    requires { IsSoundCore parts.old }
     ensures { BecomesBy parts.old parts.new (on_thread (thread_of (seen parts.old) id) (to_op position)) }
 {
     if let Some(found) = task_records::thread(parts, id) {
@@ -481,7 +481,7 @@ pub(crate) fn put_answer(
     value: u64,
     position: u32,
 )
-    requires { IsSound parts.old }
+    requires { IsSoundCore parts.old }
     ensures { BecomesBy parts.old parts.new (on_thread (thread_of (seen parts.old) id) (to_answer register value position)) }
 {
     if let Some(found) = task_records::thread(parts, id) {
@@ -503,34 +503,34 @@ pub(crate) fn put_answer(
 // Does what `put_begun` does, wherever the thread was: the sets that count it are counted anew.
 #[inline(never)]
 fn put_begun_counted(parts: &mut CoreParts, id: ThreadId, words: (u64, u64, u64))
-    requires { IsSound parts.old }
+    requires { IsSoundCore parts.old }
     ensures { BecomesBy parts.old parts.new (on_thread (thread_of (seen parts.old) id) (to_begun words.0 words.1 words.2)) }
 {
     if let Some(found) = task_records::thread(parts, id) {
-        let (node, seat) = (found.node, thread_seat(id.rep(), found));
-        let (how_far, awaited) = (&found.thread.how_far, found.awaited);
-        let from = entry_set(parts, &found.thread.place, found.beside, how_far, awaited);
+        let (node, order_key) = (found.node, thread_order_key(id.rep(), found));
+        let (op_progress, awaited) = (&found.thread.op_progress, found.awaited);
+        let from = entry_set(parts, &found.thread.place, found.beside, op_progress, awaited);
         let to = no_set(parts);
         write_begun(&mut parts.threads, id, words);
         recount(&mut parts.sets, from, to);
-        refile(&mut parts.places, node, None, seat);
+        refresh_key(&mut parts.places, node, None, order_key);
     }
 }
 
 /// The thread begins an activation, with these words in r0, r1 and r2. An id that names no thread changes nothing.
 #[inline(always)]
 pub(crate) fn put_begun(parts: &mut CoreParts, id: ThreadId, words: (u64, u64, u64))
-    requires { IsSound parts.old }
+    requires { IsSoundCore parts.old }
     ensures { BecomesBy parts.old parts.new (on_thread (thread_of (seen parts.old) id) (to_begun words.0 words.1 words.2)) }
 {
     if let Some(found) = task_records::thread(parts, id) {
         if stands_alone(&found.thread.place) {
-            let (node, seat) = (found.node, thread_seat(id.rep(), found));
+            let (node, order_key) = (found.node, thread_order_key(id.rep(), found));
             let from = no_set(parts);
             let to = no_set(parts);
             write_begun(&mut parts.threads, id, words);
             recount(&mut parts.sets, from, to);
-            file_in(&mut parts.places, node, None, seat);
+            file_in(&mut parts.places, node, None, order_key);
         } else {
             put_begun_counted(parts, id, words);
         }

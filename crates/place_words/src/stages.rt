@@ -5,8 +5,8 @@ ghost use Rattle.task_index.specs.Index.{Refiles};
 ghost use Rattle.task_links.specs.Links.{is_made, list_of};
 ghost use Rattle.task_machine.specs.Read.{is_live};
 ghost use Rattle.task_machine.specs.Write.{set_stage};
-ghost use Rattle.task_records.specs.Places.{Rises, live_chain};
-ghost use Rattle.task_records.specs.Seen.{IsSound, parts_of, seen};
+ghost use Rattle.task_records.specs.RecordPlaces.{Rises, live_chain};
+ghost use Rattle.task_records.specs.Seen.{IsSoundCore, parts_of, seen};
 ghost use Rattle.task_records.specs.Sound.{bare};
 ghost use Rattle.task_words.specs.StateView.{on_core, work_of};
 
@@ -51,8 +51,8 @@ fn file_live(links: &mut Links<LiveWork>, node: Node, chain: Option<usize>, work
 /// it is the greatest, as it is where works become live in the order in which they were made.
 #[inline(always)]
 pub fn set_stage(parts: &mut CoreParts, work: WorkId, stage: Stage)
-    requires { IsSound parts.old }
-    ensures sound { IsSound parts.new }
+    requires { IsSoundCore parts.old }
+    ensures sound { IsSoundCore parts.new }
     ensures new { seen parts.new ≡ on_core (set_stage (work_of (seen parts.old) work) stage) (seen parts.old) }
 {
     if let Some(found) = task_records::work(parts, work) {
@@ -71,7 +71,7 @@ pub fn set_stage(parts: &mut CoreParts, work: WorkId, stage: Stage)
             is_moving(&old.work),
             is_moving(&new.work),
         );
-        let entry = parts.works.known_mut(work);
+        let entry = parts.works.get_mut_unchecked(work);
         entry.work.stage = stage;
     }
 }

@@ -1,21 +1,21 @@
 //! What ids name, as records keep it: the machine's record with numbers, and the place of what it
 //! names.
 ghost use Rattle.std.specs.Prelude.{◌≡◌, IsSome, Some, option_and_then, slice_get};
-ghost use Rattle.task_records.specs.Names.{AtPlace, how_far_target, place_target, subtask_target, why_target};
-ghost use Rattle.task_records.specs.Places.{BlockedOn, UnderOf, WaitsOn, held_list, place_chain, where_at};
-ghost use Rattle.task_records.specs.Seen.{IsSound, parts_of, seen};
+ghost use Rattle.task_records.specs.Names.{AtPlace, op_progress_target, place_target, subtask_target, why_target};
+ghost use Rattle.task_records.specs.RecordPlaces.{BlockedOn, UnderOf, WaitsOn, held_list, place_chain, where_at};
+ghost use Rattle.task_records.specs.Seen.{IsSoundCore, parts_of, seen};
 ghost use Rattle.task_records.specs.Sound.{bare};
-ghost use Rattle.task_words.specs.Names.{how_far_in, place_in, subtask_in, why_in};
+ghost use Rattle.task_words.specs.Names.{op_progress_in, place_in, subtask_in, why_in};
 ghost use Rattle.task_words.specs.StateView.{set_of, thread_of};
 
 use count_words::set_number;
 use record_words::{call_number, number, work_number};
-use task_machine::{Delivery, HowFar, Place, Subtask, Why};
+use task_machine::{Delivery, OpProgress, Place, Subtask, Why};
 use task_records::CoreParts;
-use task_words::{DeliveryId, HowFarId, PlaceId, SetId, SubtaskId, ThreadId, WhyId};
+use task_words::{DeliveryId, OpProgressId, PlaceId, SetId, SubtaskId, ThreadId, WhyId};
 
-pub(crate) fn named_subtask(parts: &CoreParts, subtask: SubtaskId) -> (Subtask, u32)
-    requires { IsSound parts.now }
+pub(crate) fn subtask_from_id(parts: &CoreParts, subtask: SubtaskId) -> (Subtask, u32)
+    requires { IsSoundCore parts.now }
     ensures is { subtask_in (seen parts.now).tags subtask ≡ result.0 }
     ensures at { AtPlace (parts_of parts.now) result.1 (subtask_target result.0) }
 {
@@ -31,8 +31,8 @@ pub(crate) fn named_subtask(parts: &CoreParts, subtask: SubtaskId) -> (Subtask, 
     }
 }
 
-pub(crate) fn named_why(parts: &CoreParts, why: WhyId) -> (Why, u32)
-    requires { IsSound parts.now }
+pub(crate) fn why_from_id(parts: &CoreParts, why: WhyId) -> (Why, u32)
+    requires { IsSoundCore parts.now }
     ensures is { why_in (seen parts.now).tags why ≡ result.0 }
     ensures at { AtPlace (parts_of parts.now) result.1 (why_target result.0) }
 {
@@ -55,15 +55,15 @@ pub(crate) fn named_why(parts: &CoreParts, why: WhyId) -> (Why, u32)
     }
 }
 
-pub(crate) fn named_place(parts: &CoreParts, place: PlaceId) -> (Place, u32)
-    requires { IsSound parts.now }
+pub(crate) fn place_from_id(parts: &CoreParts, place: PlaceId) -> (Place, u32)
+    requires { IsSoundCore parts.now }
     ensures is { place_in (seen parts.now).tags place ≡ result.0 }
     ensures at { AtPlace (parts_of parts.now) result.1 (place_target result.0) }
 {
     match place {
         PlaceId::New => (Place::New, 0),
         PlaceId::Ready { mark, why } => {
-            let (why, rep) = named_why(parts, why);
+            let (why, rep) = why_from_id(parts, why);
             (Place::Ready { mark, why }, rep)
         }
         PlaceId::Running => (Place::Running, 0),
@@ -83,11 +83,11 @@ pub(crate) fn named_place(parts: &CoreParts, place: PlaceId) -> (Place, u32)
             (Place::Waiting { set, by_callback }, id.rep())
         }
         PlaceId::Blocked(subtask) => {
-            let (on, rep) = named_subtask(parts, subtask);
+            let (on, rep) = subtask_from_id(parts, subtask);
             (Place::Blocked { on }, rep)
         }
         PlaceId::Held(why) => {
-            let (why, rep) = named_why(parts, why);
+            let (why, rep) = why_from_id(parts, why);
             (Place::Held { why }, rep)
         }
         PlaceId::Suspended => (Place::Suspended, 0),
@@ -95,37 +95,37 @@ pub(crate) fn named_place(parts: &CoreParts, place: PlaceId) -> (Place, u32)
 }
 
 #[inline(always)]
-pub(crate) fn named_how_far(parts: &CoreParts, how_far: HowFarId) -> (HowFar, u32)
-    requires { IsSound parts.now }
-    ensures is { how_far_in (seen parts.now).tags how_far ≡ result.0 }
-    ensures at { AtPlace (parts_of parts.now) result.1 (how_far_target result.0) }
+pub(crate) fn op_progress_from_id(parts: &CoreParts, op_progress: OpProgressId) -> (OpProgress, u32)
+    requires { IsSoundCore parts.now }
+    ensures is { op_progress_in (seen parts.now).tags op_progress ≡ result.0 }
+    ensures at { AtPlace (parts_of parts.now) result.1 (op_progress_target result.0) }
 {
-    match how_far {
-        HowFarId::Fresh => (HowFar::Fresh, 0),
-        HowFarId::Waits(id) => {
+    match op_progress {
+        OpProgressId::Fresh => (OpProgress::Fresh, 0),
+        OpProgressId::Waits(id) => {
             let set = set_number(parts, id);
-            (HowFar::Waits { set }, id.rep())
+            (OpProgress::Waits { set }, id.rep())
         }
-        HowFarId::Calls(subtask) => {
-            let (subtask, rep) = named_subtask(parts, subtask);
-            (HowFar::Calls { subtask }, rep)
+        OpProgressId::Calls(subtask) => {
+            let (subtask, rep) = subtask_from_id(parts, subtask);
+            (OpProgress::Calls { subtask }, rep)
         }
-        HowFarId::Answered(value) => (HowFar::Answered { value }, 0),
-        HowFarId::Cancels(subtask) => {
-            let (subtask, rep) = named_subtask(parts, subtask);
-            (HowFar::Cancels { subtask }, rep)
+        OpProgressId::Answered(value) => (OpProgress::Answered { value }, 0),
+        OpProgressId::Cancels(subtask) => {
+            let (subtask, rep) = subtask_from_id(parts, subtask);
+            (OpProgress::Cancels { subtask }, rep)
         }
-        HowFarId::AwaitsEnd(subtask) => {
-            let (subtask, rep) = named_subtask(parts, subtask);
-            (HowFar::AwaitsEnd { subtask }, rep)
+        OpProgressId::AwaitsEnd(subtask) => {
+            let (subtask, rep) = subtask_from_id(parts, subtask);
+            (OpProgress::AwaitsEnd { subtask }, rep)
         }
-        HowFarId::Suspends => (HowFar::Suspends, 0),
-        HowFarId::Yields => (HowFar::Yields, 0),
+        OpProgressId::Suspends => (OpProgress::Suspends, 0),
+        OpProgressId::Yields => (OpProgress::Yields, 0),
     }
 }
 
 fn blocked_chain(parts: &CoreParts, subtask: SubtaskId) -> Option<usize>
-    requires { IsSound parts.now }
+    requires { IsSoundCore parts.now }
     ensures { place_chain (bare (parts_of parts.now)) (BlockedOn (subtask_in (seen parts.now).tags subtask)) ≡ result }
 {
     match subtask {
@@ -154,7 +154,7 @@ pub(crate) fn held_chain(parts: &CoreParts, instance: u32, barred: bool, why: Wh
 }
 
 /// Finds the chain that `held_chain` finds, for an instance that is there.
-pub(crate) fn held_chain_there(parts: &CoreParts, instance: u32, barred: bool, why: Why) -> usize
+pub(crate) fn held_chain_unchecked(parts: &CoreParts, instance: u32, barred: bool, why: Why) -> usize
     requires { IsSome (slice_get parts.now.instances.items instance) }
     ensures { place_chain (bare (parts_of parts.now)) (held_list instance barred why) ≡ Some result }
 {
@@ -166,7 +166,7 @@ pub(crate) fn held_chain_there(parts: &CoreParts, instance: u32, barred: bool, w
 }
 
 pub(crate) fn waiters_chain(parts: &CoreParts, set: SetId) -> Option<usize>
-    requires { IsSound parts.now }
+    requires { IsSoundCore parts.now }
     ensures { place_chain (bare (parts_of parts.now)) (WaitsOn (set_of (seen parts.now) set)) ≡ result }
 {
     match task_records::set(parts, set) {
@@ -176,7 +176,7 @@ pub(crate) fn waiters_chain(parts: &CoreParts, set: SetId) -> Option<usize>
 }
 
 pub(crate) fn under_chain(parts: &CoreParts, thread: ThreadId) -> Option<usize>
-    requires { IsSound parts.now }
+    requires { IsSoundCore parts.now }
     ensures { place_chain (bare (parts_of parts.now)) (UnderOf (thread_of (seen parts.now) thread)) ≡ result }
 {
     match task_records::thread(parts, thread) {
@@ -192,12 +192,12 @@ pub(crate) fn chain_at(
     barred: bool,
     place: PlaceId,
 ) -> Option<usize>
-    requires { IsSound parts.now }
+    requires { IsSoundCore parts.now }
     ensures { option_and_then (place_chain (bare (parts_of parts.now))) (where_at instance barred (place_in (seen parts.now).tags place)) ≡ result }
 {
     match place {
         PlaceId::Waiting { set, .. } => waiters_chain(parts, set),
-        PlaceId::Held(why) => held_chain(parts, instance, barred, named_why(parts, why).0),
+        PlaceId::Held(why) => held_chain(parts, instance, barred, why_from_id(parts, why).0),
         PlaceId::Under(thread) => under_chain(parts, thread),
         PlaceId::Blocked(subtask) => blocked_chain(parts, subtask),
         PlaceId::New

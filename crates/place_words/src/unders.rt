@@ -1,23 +1,23 @@
 //! A thread that is under another, and the one on top of it.
 ghost use Rattle.std.specs.Prelude.{◌≡◌, ◌<◌};
-ghost use Rattle.task_machine.specs.Write.{set_how_far, set_place};
-ghost use Rattle.task_machine.specs.declared.records.HowFar.TheVariants as how_fars;
+ghost use Rattle.task_machine.specs.Write.{set_op_progress, set_place};
+ghost use Rattle.task_machine.specs.declared.records.OpProgress.TheVariants as op_progresses;
 ghost use Rattle.task_machine.specs.declared.records.Place.TheVariants as places;
 ghost use Rattle.task_machine.specs.declared.records.Subtask.TheVariants as subtasks;
-ghost use Rattle.task_records.specs.Seen.{IsSound, seen};
+ghost use Rattle.task_records.specs.Seen.{IsSoundCore, seen};
 ghost use Rattle.task_words.specs.StateView.{call_of, on_core, thread_of};
 
 use crate::moves::{put, put_stand};
-use task_machine::{HowFar, Place, Subtask};
+use task_machine::{OpProgress, Place, Subtask};
 use task_records::CoreParts;
 use task_words::{CallId, ThreadId};
 
 /// A thread that is there runs from now on: seldom one that was anywhere but at New.
 #[inline(always)]
 pub fn run_first(parts: &mut CoreParts, thread: ThreadId)
-    requires sound { IsSound parts.old }
+    requires sound { IsSoundCore parts.old }
     requires live { 0 < thread_of (seen parts.old) thread }
-    ensures sound { IsSound parts.new }
+    ensures sound { IsSoundCore parts.new }
     ensures new { seen parts.new ≡ on_core (set_place (thread_of (seen parts.old) thread) places.Running) (seen parts.old) }
 {
     put(parts, thread, Place::Running, 0, None);
@@ -26,24 +26,24 @@ pub fn run_first(parts: &mut CoreParts, thread: ThreadId)
 /// The thread is under the thread of a call, and inside that call, from now on: nothing is tested of those two.
 #[inline(always)]
 pub fn stand_under(parts: &mut CoreParts, thread: ThreadId, callee: ThreadId, call: CallId)
-    requires sound { IsSound parts.old }
+    requires sound { IsSoundCore parts.old }
     requires callee { 0 < thread_of (seen parts.old) callee }
     requires call { 0 < call_of (seen parts.old) call }
-    ensures sound { IsSound parts.new }
-    ensures new { seen parts.new ≡ on_core (λ s. set_how_far (thread_of (seen parts.old) thread) (how_fars.Calls (subtasks.Guest (call_of (seen parts.old) call))) (set_place (thread_of (seen parts.old) thread) (places.Under (thread_of (seen parts.old) callee)) s)) (seen parts.old) }
+    ensures sound { IsSoundCore parts.new }
+    ensures new { seen parts.new ≡ on_core (λ s. set_op_progress (thread_of (seen parts.old) thread) (op_progresses.Calls (subtasks.Guest (call_of (seen parts.old) call))) (set_place (thread_of (seen parts.old) thread) (places.Under (thread_of (seen parts.old) callee)) s)) (seen parts.old) }
 {
     let top = task_records::thread_there(parts, callee);
     let place = Place::Under { callee: top.number };
     let chain = Some(top.under);
     let called = task_records::call_there(parts, call).number;
     let subtask = Subtask::Guest { call: called };
-    let how_far = HowFar::Calls { subtask };
+    let op_progress = OpProgress::Calls { subtask };
     put_stand(
         parts,
         thread,
         place,
         callee.rep(),
-        how_far,
+        op_progress,
         call.rep(),
         chain,
     );

@@ -1,9 +1,9 @@
 -- Threads, works and instances as the invariant of a core knows them, where their loose fields are left out.
-use Rattle.task_records.proofs.Core.{[], ap, arith, bare, bare_instance, bare_thread, found_record, found_record_at, get_or, High, IsSome, IsSound, item_at, item_of, key_in, List, loose_thread, Low, map, mapped, None, number_in, Ok, on_item, Option, option_map, parts_of, place_at, place_at-mapped, Placed, placed_as, record_at, refl, Row, same_Some, shelf_chain, shelf_in, slice_get, slice_get-map, Some, SoundTable, subst, suc, sym, Table, thread_entry, thread_key, zero, ℕ, ◌<◌, ◌∙◌, ◌∷◌, ◌≡◌}
-use Rattle.task_records.specs.declared.{instances.InstanceRecord.InstanceRecord, parts.CoreParts.CoreParts, single.Single.Single, threads.GuestThread.GuestThread, threads.Queued.Queued}
+use Rattle.task_records.proofs.Core.{[], ap, arith, bare, bare_instance, bare_thread, found_record, found_record_at, get_or, High, IsSome, IsSoundCore, item_at, item_of, key_in, List, loose_thread, Low, map, mapped, None, number_in, Ok, on_item, Option, option_map, parts_of, place_at, place_at-mapped, Placed, placed_as, record_at, refl, Row, same_Some, instance_queue_chain, instance_queue_in, slice_get, slice_get-map, Some, SoundTable, subst, suc, sym, Table, thread_entry, thread_key, zero, ℕ, ◌<◌, ◌∙◌, ◌∷◌, ◌≡◌}
+use Rattle.task_records.specs.declared.{instance_records.InstanceRecord.InstanceRecord, parts.CoreParts.CoreParts, single.Single.Single, thread_records.GuestThread.GuestThread, thread_records.Queued.Queued}
 use Rattle.task_records.proofs.KindLemmas.{absent, item_stands}
 use Rattle.task_records.proofs.TableLemmas.{number_at_mapped}
-use Rattle.queue_words.specs.Seats.{OfThread}
+use Rattle.queue_words.specs.OrderKeys.{OfThread}
 
 -- what is read by an index that is within
 pub at_index : {X : Type 0} (xs : List X) (i : ℕ) (x : X) → IsSome (slice_get xs i) → x ≡ get_or xs i x → slice_get xs i ≡ Some x
@@ -43,14 +43,14 @@ module _ {E F : Type 0} (f : E → F) (t : Table E) (rep : ℕ) where
 
 module _ (a : CoreParts) where
   -- the chain of an instance's entries
-  pub shelf_bare : (k : ℕ × Row) (r : InstanceRecord) → slice_get a.instances.items k.0 ≡ Some r → shelf_chain (bare (parts_of a)) k ≡ Some (shelf_in k.1 r)
-  shelf_bare k r at = ap (option_map (shelf_in k.1)) (slice_get-map bare_instance a.instances.items k.0 ∙ ap (option_map bare_instance) at) ∙ shelf_loose k.1
+  pub instance_queue_bare : (k : ℕ × Row) (r : InstanceRecord) → slice_get a.instances.items k.0 ≡ Some r → instance_queue_chain (bare (parts_of a)) k ≡ Some (instance_queue_in k.1 r)
+  instance_queue_bare k r at = ap (option_map (instance_queue_in k.1)) (slice_get-map bare_instance a.instances.items k.0 ∙ ap (option_map bare_instance) at) ∙ instance_queue_loose k.1
     where
-      shelf_loose : (row : Row) → Some (shelf_in row (bare_instance r)) ≡ Some (shelf_in row r)
-      shelf_loose High = refl
-      shelf_loose Low = refl
+      instance_queue_loose : (row : Row) → Some (instance_queue_in row (bare_instance r)) ≡ Some (instance_queue_in row r)
+      instance_queue_loose High = refl
+      instance_queue_loose Low = refl
 
-  module _ (sound : IsSound a) where
+  module _ (sound : IsSoundCore a) where
     -- where an instance is there the marks have chains
     has_instances : (i : ℕ) → IsSome (slice_get a.instances.items i) → map bare_instance a.instances.items ≡ [] → ⊥
     has_instances i some = by a.instances.items some
@@ -60,11 +60,11 @@ module _ (a : CoreParts) where
         by (x ∷ xs) some none = absurd (cc)
 
     pub high_made : (i : ℕ) → IsSome (slice_get a.instances.items i) → IsSome a.high
-    unfolding IsSound
+    unfolding IsSoundCore
     high_made i some = sound.whole.counted.high (has_instances i some)
 
     pub low_made : (i : ℕ) → IsSome (slice_get a.instances.items i) → IsSome a.low
-    unfolding IsSound
+    unfolding IsSoundCore
     low_made i some = sound.whole.counted.low (has_instances i some)
 
     -- ---- Entries of threads
@@ -74,13 +74,13 @@ module _ (a : CoreParts) where
       thread_number_here = sym (number_at_mapped thread_key thread_key (on_item bare_thread) loose_thread (λ e. refl) a.threads x.place) ∙ ap (λ o. number_in (key_in thread_key o)) of_thread.at
 
       pub thread_number_positive : 0 < of_thread.placed.entry.item.number
-      unfolding IsSound
+      unfolding IsSoundCore
       thread_number_positive =
           let one = mapped_place (on_item bare_thread) a.threads x.place of_thread.placed of_thread.at in
           subst (λ (e : Single GuestThread). 0 < e.item.number) one.1.1 (number_positive (λ (g : GuestThread). g.number) (λ (g : GuestThread). g.thread) a.threads a.made.threads sound.tables.threads x.place one.0 one.1.0)
 
       pub thread_one_place : (y : Queued) (other : OfThread (bare (parts_of a)) y) → of_thread.placed.entry.item.number ≡ other.placed.entry.item.number → x.place ≡ y.place
-      unfolding IsSound
+      unfolding IsSoundCore
       thread_one_place y other same =
           let one = mapped_place (on_item bare_thread) a.threads x.place of_thread.placed of_thread.at in
           let two = mapped_place (on_item bare_thread) a.threads y.place other.placed other.at in
@@ -89,7 +89,7 @@ module _ (a : CoreParts) where
 
     module _ (rep serial : ℕ) (g : GuestThread) (is : Ok g ≡ item_at item_of a.threads rep serial) where
       pub thread_entry_of : OfThread (bare (parts_of a)) (thread_entry rep g)
-      unfolding IsSound
+      unfolding IsSoundCore
       thread_entry_of =
           let one = item_stands (λ (g : GuestThread). g.number) (λ (g : GuestThread). g.thread) a.threads a.made.threads sound.tables.threads rep serial g is in
           record {

@@ -1,6 +1,6 @@
 -- The callers of threads: the chains of the core, and the machine's map.
-use Rattle.task_records.proofs.Core.{[], ap, Apart, AreApart, arith, bare, bare_thread, Bool, callers_chain, callers_in, callers_key, callers_of, callers_row, cases_eq, chained, cond, Each, entries, eq-eqb, eqb-true, false, first_number, follower, found_record, found_record_at, free_in_none, get, get-insert, get-records, head_of, In, inl, inr, insert, is_free, is_made, is_nil, is_some, IsBehindNobody, IsFollower, IsLinks, IsRows, IsRows-pushed, IsRows-removed, IsRows-same, IsSome, IsSound, IsWhole, item_at, item_of, key_in, last_of, last_or, later_of, less_by, less_elsewhere, linked, List, list_any, list_of, map, map-append, mapped, ne_eqb, newest, newest_of, None, not, Ok, older, older_of, on_core, on_item, one_if, Option, option_map, Parts, parts_of, place_at, Placed, Records, records, Refiles-linked, Refiles-removed, refl, removed, same_map, same_Some, seen, set_callers, slice_get, Some, Spot, standing, subst, sym, TableId, thread_of, ThreadKey, times, true, unwrap_or, values, values_are, with_nodes, ℕ, ◌++◌, ◌+◌, ◌==◌, ◌||◌, ◌∙◌, ◌∷◌, ◌≡◌}
-use Rattle.task_records.specs.declared.{parts.CoreParts.CoreParts, single.Single.Single, threads.Follower.Follower, threads.GuestThread.GuestThread}
+use Rattle.task_records.proofs.Core.{[], ap, Apart, AreApart, arith, bare, bare_thread, Bool, callers_chain, callers_in, callers_key, callers_of, callers_row, cases_eq, chained, cond, Each, entries, eq-eqb, eqb-true, false, first_number, follower, found_record, found_record_at, free_in_none, get, get-insert, get-records, head_of, In, inl, inr, insert, is_free, is_made, is_nil, is_some, IsBehindNobody, IsFollower, IsLinks, IsRows, IsRows-pushed, IsRows-removed, IsRows-same, IsSome, IsSoundCore, IsWhole, item_at, item_of, key_in, last_of, last_or, later_of, less_by, less_elsewhere, linked, List, list_any, list_of, map, map-append, mapped, ne_eqb, newest, newest_of, None, not, Ok, older, older_of, on_core, on_item, one_if, Option, option_map, CoreImage, parts_of, place_at, Placed, Records, records, Refiles-linked, Refiles-removed, refl, removed, same_map, same_Some, seen, set_callers, slice_get, Some, Spot, standing, subst, sym, TableId, thread_of, ThreadKey, times, true, unwrap_or, values, values_are, with_nodes, ℕ, ◌++◌, ◌+◌, ◌==◌, ◌||◌, ◌∙◌, ◌∷◌, ◌≡◌}
+use Rattle.task_records.specs.declared.{parts.CoreParts.CoreParts, single.Single.Single, thread_records.Follower.Follower, thread_records.GuestThread.GuestThread}
 use Rattle.task_records.proofs.KindLemmas.{item_stands}
 use Rattle.task_records.proofs.ReadLemmas.{thread_named}
 use Rattle.task_records.proofs.TableLemmas.{found_mapped}
@@ -129,7 +129,7 @@ found_by number rec f m (Some p ∷ ps) = by (m == number p.entry.item) (found_b
     by false rest = rest
 
 module _ (a : CoreParts) where
-  abbrev pub bared : Parts
+  abbrev pub bared : CoreImage
   bared = bare (parts_of a)
 
   abbrev pub callers_after : List (Spot Follower) → CoreParts
@@ -155,14 +155,14 @@ module _ (a : CoreParts) where
       by None = refl
       by (Some c) = refl
 
-  module _ (sound : IsSound a) where
+  module _ (sound : IsSoundCore a) where
     is_whole : IsWhole bared
-    unfolding IsSound
+    unfolding IsSoundCore
     is_whole = sound.whole
 
     -- the chain of a thread that is there
     pub callers_chain_of : (id : TableId ThreadKey) (g : GuestThread) → Ok g ≡ item_at item_of a.threads id.rep id.serial → callers_chain bared (thread_of (seen a) id) ≡ Some g.callers
-    unfolding IsSound
+    unfolding IsSoundCore
     callers_chain_of id g is =
         let one = item_stands (λ (g : GuestThread). g.number) (λ (g : GuestThread). g.thread) a.threads a.made.threads sound.tables.threads id.rep id.serial g is in
         ap (callers_chain bared) (sym (thread_named a id g is)) ∙ (chain_is g.number
@@ -220,10 +220,10 @@ module _ (a : CoreParts) where
       values_now : (m c : ℕ) → callers_chain bared m ≡ Some c → values behind c ≡ list m
       values_now m c at = values_are (callers_chain bared) (λ f. f.node.index) (IsFollower bared) behind list rows m c at
 
-      pub callers_sound : KeepsNodes a.behind behind → IsSound (callers_after behind)
-      unfolding IsSound
-      callers_sound keeps = chains_sound a a.marks a.shelves behind a.switch sound
-          (chains_whole bared sound.whole a.marks a.shelves behind a.switch sound.whole.named.switch (λ n made. made) (λ n made. made) keeps sound.whole.chained.marks sound.whole.chained.shelves sound.whole.chained.low
+      pub callers_sound : KeepsNodes a.behind behind → IsSoundCore (callers_after behind)
+      unfolding IsSoundCore
+      callers_sound keeps = chains_sound a a.marks a.instance_queues behind a.switch sound
+          (chains_whole bared sound.whole a.marks a.instance_queues behind a.switch sound.whole.named.switch (λ n made. made) (λ n made. made) keeps sound.whole.chained.marks sound.whole.chained.instance_queues sound.whole.chained.low
           (IsRows-same (callers_chain bared) (λ f. f.node.index) (IsFollower bared) behind list rows (λ m. chained behind (callers_chain bared m)) (λ m c at. ap (chained behind) at ∙ values_now m c at)))
 
       -- one thread's callers alone are others
@@ -258,7 +258,7 @@ module _ (a : CoreParts) where
       rows_left = IsRows-removed (callers_chain bared) (λ f. f.node.index) (IsFollower bared) a.behind (callers_row bared) is_whole.chained.behind links (is_by v.node.index) v.node.index (λ x known. refl) behind callers_left (λ m. refl) takes
 
       module _ (made : is_made a.behind v.node.index ≡ true) (n c : ℕ) (at : callers_chain bared n ≡ Some c) where
-        pub left_sound : IsSound (callers_after behind)
+        pub left_sound : IsSoundCore (callers_after behind)
         left_sound = callers_sound behind callers_left rows_left (Refiles-removed a.behind behind v.node.index links made takes).made
 
         pub left_seen : (ns : List ℕ) → list_any (is_by v.node.index) (callers_row bared n) ≡ true → numbers_of (callers_left n) ≡ ns → seen (callers_after behind) ≡ on_core (set_callers n ns) (seen a)
@@ -279,7 +279,7 @@ module _ (a : CoreParts) where
       rows_more : IsRows (callers_chain bared) (λ f. f.node.index) (IsFollower bared) behind callers_more
       rows_more = IsRows-pushed (callers_chain bared) (λ f. f.node.index) (IsFollower bared) a.behind (callers_row bared) is_whole.chained.behind behind callers_more n c at (λ m d at_m other. more_other m other) v is_v free more_here puts
 
-      pub more_sound : IsSound (callers_after behind)
+      pub more_sound : IsSoundCore (callers_after behind)
       more_sound = callers_sound behind callers_more rows_more (Refiles-linked a.behind behind c v.node.index v _ (callers_live n c at) (follower_made v is_v) puts).made
 
       pub more_seen : seen (callers_after behind) ≡ on_core (set_callers n (callers_of n (seen a).core ++ v.number ∷ [])) (seen a)
@@ -300,7 +300,7 @@ module _ (a : CoreParts) where
       added_free = caller_free added added_follows (subst (λ n. IsBehindNobody n (seen a).core) (sym (thread_named a other h is_other)) apart) links
 
       module _ (behind : List (Spot Follower)) (puts : behind ≡ linked g.callers h.caller.index added (entries a.behind g.callers ++ (h.caller.index, added) ∷ []) a.behind) where
-        pub added_sound : IsSound (callers_after behind)
+        pub added_sound : IsSoundCore (callers_after behind)
         added_sound = more_sound added added_follows added_free (thread_of (seen a) id) g.callers (callers_chain_of id g is) behind puts
 
         pub added_seen : seen (callers_after behind) ≡ on_core (set_callers (thread_of (seen a) id) (callers_of (thread_of (seen a) id) (seen a).core ++ thread_of (seen a) other ∷ [])) (seen a)
@@ -348,7 +348,7 @@ module _ (a : CoreParts) where
           by (x ∷ xs) = refl
 
     no_zero : found_record callers_key 0 a.threads.places ≡ None
-    unfolding IsSound
+    unfolding IsSoundCore
     no_zero = none_as (λ (g : GuestThread). g.number) (λ (g : GuestThread). g.thread) (λ (g : GuestThread). g.callers) 0 a.threads.places sound.tables.threads.above_zero
 
     -- of who isn't there there are none

@@ -1,10 +1,10 @@
 -- An entry leaves its mark, as words take it out.
-use Rattle.task_records.proofs.Core.{[], ap, ap₂, arith, bare, cond, Entry, eqb-true, false, has_entry, High, inl, inr, is_entry_of, is_made, is_some, IsLinks, IsSeated, IsSome, IsSound, IsWhole, less_by, List, list_any, Low, map, Mark, ne_eqb, None, on_core, Parts, parts_of, popped, refl, removed, rest_of, Row, row, same_Some, seen, set_high, set_low, Some, Spot, subst, sym, true, unqueued, ℕ, ◌<◌, ◌||◌, ◌∙◌, ◌∷◌, ◌≡◌}
+use Rattle.task_records.proofs.Core.{[], ap, ap₂, arith, bare, cond, Entry, eqb-true, false, has_entry, High, inl, inr, is_entry_of, is_made, is_some, IsLinks, IsKeyed, IsSome, IsSoundCore, IsWhole, less_by, List, list_any, Low, map, Mark, ne_eqb, None, on_core, CoreImage, parts_of, popped, refl, removed, rest_of, Row, row, same_Some, seen, set_high, set_low, Some, Spot, subst, sym, true, unqueued, ℕ, ◌<◌, ◌||◌, ◌∙◌, ◌∷◌, ◌≡◌}
 use Rattle.task_index.proofs.Queues.{unqueued_both}
-use Rattle.task_records.specs.declared.{parts.CoreParts.CoreParts, threads.Queued.Queued}
-use Rattle.queue_words.specs.Seats.{OfThread, OfWork, RowsAre, is_entry_of_work, leaves, left, rest, top}
-use Rattle.queue_words.proofs.RowLemmas.{left_elsewhere, mark_made, row_known, shelf_made, thread_left, work_left}
-use Rattle.queue_words.proofs.SeatLemmas.{leaves_itself, leaves_thread, same_thread, seat_of, threads_own}
+use Rattle.task_records.specs.declared.{parts.CoreParts.CoreParts, thread_records.Queued.Queued}
+use Rattle.queue_words.specs.OrderKeys.{OfThread, OfWork, RowsAre, is_entry_of_work, leaves, left, rest, top}
+use Rattle.queue_words.proofs.RowLemmas.{left_elsewhere, mark_made, row_known, instance_queue_made, thread_left, work_left}
+use Rattle.queue_words.proofs.OrderKeyLemmas.{leaves_itself, leaves_thread, same_thread, order_key_of, threads_own}
 use Rattle.queue_words.proofs.SeenLemmas.{queues_seen, row_seen, rows_after, rows_seen, rows_sound}
 use Rattle.queue_words.proofs.BareLemmas.{thread_number_positive, thread_one_place}
 use Rattle.queue_words.proofs.ListLemmas.{any-known, less_nothing, map-less_known, same_test}
@@ -17,33 +17,33 @@ work_of_no_thread n i (Entry.Thread m) is = absurd (cc)
 work_of_no_thread n i (Entry.Push j) is = refl
 work_of_no_thread n i (Entry.Host j) is = refl
 
-module _ (a : CoreParts) (sound : IsSound a) (q : Queued) (seated : IsSeated (bare (parts_of a)) q) where
-  abbrev bared : Parts
+module _ (a : CoreParts) (sound : IsSoundCore a) (q : Queued) (keyed : IsKeyed (bare (parts_of a)) q) where
+  abbrev bared : CoreImage
   bared = bare (parts_of a)
 
   is_whole : IsWhole bared
-  unfolding IsSound
+  unfolding IsSoundCore
   is_whole = sound.whole
 
   pub mark_is_made : is_made a.marks q.mark.index ≡ true
-  mark_is_made = mark_made bared is_whole q seated
+  mark_is_made = mark_made bared is_whole q keyed
 
-  pub shelf_is_made : IsSome q.instance → is_made a.shelves q.shelf.index ≡ true
-  shelf_is_made some = shelf_made bared is_whole q (threads_own bared q seated some)
+  pub instance_queue_is_made : IsSome q.instance → is_made a.instance_queues q.instance_queue.index ≡ true
+  instance_queue_is_made some = instance_queue_made bared is_whole q (threads_own bared q keyed some)
 
   -- an entry that is in no instance is a work's
   works_own : is_some q.instance ≡ false → OfWork bared q
-  works_own none = elim (seat_of bared q seated) [
-    | inl seat ↦ absurd (let some : is_some q.instance ≡ true = sym (ap (λ (x : Queued). is_some x.instance) seat.is) in let two = sym none ∙ some in cc)
-    | inr seat ↦ seat
+  works_own none = elim (order_key_of bared q keyed) [
+    | inl order_key ↦ absurd (let some : is_some q.instance ≡ true = sym (ap (λ (x : Queued). is_some x.instance) order_key.is) in let two = sym none ∙ some in cc)
+    | inr order_key ↦ order_key
   ]
 
   module _ (links : IsLinks a.marks) (marks : List (Spot Queued)) (takes : marks ≡ removed q.mark.index a.marks) where
-    pub thread_leaves : IsSome q.instance → IsLinks a.shelves → (shelves : List (Spot Queued)) → shelves ≡ removed q.shelf.index a.shelves → RowsAre bared marks shelves (left bared q)
-    thread_leaves some = thread_left bared is_whole q seated links marks takes (threads_own bared q seated some)
+    pub thread_leaves : IsSome q.instance → IsLinks a.instance_queues → (instance_queues : List (Spot Queued)) → instance_queues ≡ removed q.instance_queue.index a.instance_queues → RowsAre bared marks instance_queues (left bared q)
+    thread_leaves some = thread_left bared is_whole q keyed links marks takes (threads_own bared q keyed some)
 
-    pub work_leaves : is_some q.instance ≡ false → RowsAre bared marks a.shelves (left bared q)
-    work_leaves none = work_left bared is_whole q seated links marks takes (works_own none)
+    pub work_leaves : is_some q.instance ≡ false → RowsAre bared marks a.instance_queues (left bared q)
+    work_leaves none = work_left bared is_whole q keyed links marks takes (works_own none)
 
 -- ---- What is seen once an entry has left
 
@@ -64,13 +64,13 @@ empty_rest : (xs : List Queued) → None ≡ top xs → map (λ (q : Queued). q.
 empty_rest [] none = refl
 empty_rest (x ∷ xs) none = absurd (cc)
 
-module _ (a : CoreParts) (sound : IsSound a) where
-  module _ (q : Queued) (seated : IsSeated (bare (parts_of a)) q) (links : IsLinks a.marks) (b : CoreParts) (are : RowsAre (bare (parts_of a)) b.marks b.shelves (left (bare (parts_of a)) q)) (rest_is : b ≡ rows_after a b.marks b.shelves) where
-    pub left_sound : IsSound b
-    left_sound = subst IsSound (sym rest_is) (rows_sound a b.marks b.shelves (left (bare (parts_of a)) q) are sound)
+module _ (a : CoreParts) (sound : IsSoundCore a) where
+  module _ (q : Queued) (keyed : IsKeyed (bare (parts_of a)) q) (links : IsLinks a.marks) (b : CoreParts) (are : RowsAre (bare (parts_of a)) b.marks b.instance_queues (left (bare (parts_of a)) q)) (rest_is : b ≡ rows_after a b.marks b.instance_queues) where
+    pub left_sound : IsSoundCore b
+    left_sound = subst IsSoundCore (sym rest_is) (rows_sound a b.marks b.instance_queues (left (bare (parts_of a)) q) are sound)
 
     left_seen : (high low : List Entry) → map (λ (q : Queued). q.entry) (left (bare (parts_of a)) q High) ≡ high → map (λ (q : Queued). q.entry) (left (bare (parts_of a)) q Low) ≡ low → seen b ≡ queues_seen a high low
-    left_seen high low is_high is_low = ap seen rest_is ∙ rows_seen a b.marks b.shelves (left (bare (parts_of a)) q) are high low is_high is_low
+    left_seen high low is_high is_low = ap seen rest_is ∙ rows_seen a b.marks b.instance_queues (left (bare (parts_of a)) q) are high low is_high is_low
 
     -- the first of a mark leaves it, and no other
     module _ (j k : Row) (differ : j ≡ k → ⊥) (first : Some q ≡ top (row (bare (parts_of a)) j)) where
@@ -78,7 +78,7 @@ module _ (a : CoreParts) (sound : IsSound a) where
       popped_here = ap (map (λ (q : Queued). q.entry)) (top_leaves q (row (bare (parts_of a)) j) first) ∙ rest_seen (row (bare (parts_of a)) j)
 
       popped_there : map (λ (q : Queued). q.entry) (left (bare (parts_of a)) q k) ≡ row_seen a k
-      popped_there = ap (map (λ (q : Queued). q.entry)) (left_elsewhere (bare (parts_of a)) (is_whole a sound q seated) q seated links j k differ (top_any q (row (bare (parts_of a)) j) first))
+      popped_there = ap (map (λ (q : Queued). q.entry)) (left_elsewhere (bare (parts_of a)) (is_whole a sound q keyed) q keyed links j k differ (top_any q (row (bare (parts_of a)) j) first))
 
     pub pop_high_seen : Some q ≡ top (row (bare (parts_of a)) High) → seen b ≡ on_core (popped Mark.High) (seen a)
     unfolding seen popped set_high
@@ -91,8 +91,8 @@ module _ (a : CoreParts) (sound : IsSound a) where
     -- ---- The entry of a thread
 
     module _ (n : ℕ) (of_thread : OfThread (bare (parts_of a)) q) (is_n : q.entry ≡ Entry.Thread n) where
-      leaves_entry : (x : Queued) → IsSeated (bare (parts_of a)) x → leaves q x ≡ is_entry_of n x.entry
-      leaves_entry x is_x = same_test (leaves q x) (is_entry_of n x.entry) (leaves_thread (bare (parts_of a)) (is_whole a sound q seated) q of_thread n is_n x is_x) (λ of_n. elim (seat_of (bare (parts_of a)) x is_x) [
+      leaves_entry : (x : Queued) → IsKeyed (bare (parts_of a)) x → leaves q x ≡ is_entry_of n x.entry
+      leaves_entry x is_x = same_test (leaves q x) (is_entry_of n x.entry) (leaves_thread (bare (parts_of a)) (is_whole a sound q keyed) q of_thread n is_n x is_x) (λ of_n. elim (order_key_of (bare (parts_of a)) x is_x) [
         | inl at ↦
             let number : n ≡ at.placed.entry.item.number = eqb-true n at.placed.entry.item.number (ap (λ (z : Queued). is_entry_of n z.entry) at.is ∙ of_n) in
             let own : of_thread.placed.entry.item.number ≡ n = same_thread_number of_thread.placed.entry.item.number n (ap (λ (z : Queued). z.entry) of_thread.is ∙ is_n) in
@@ -101,11 +101,11 @@ module _ (a : CoreParts) (sound : IsSound a) where
       ])
 
       less_seen : (r : Row) → map (λ (q : Queued). q.entry) (left (bare (parts_of a)) q r) ≡ less_by (is_entry_of n) (row_seen a r)
-      less_seen r = map-less_known (IsSeated (bare (parts_of a))) (λ (q : Queued). q.entry) (leaves q) (is_entry_of n) leaves_entry (row (bare (parts_of a)) r) (row_known (bare (parts_of a)) (is_whole a sound q seated) r)
+      less_seen r = map-less_known (IsKeyed (bare (parts_of a))) (λ (q : Queued). q.entry) (leaves q) (is_entry_of n) leaves_entry (row (bare (parts_of a)) r) (row_known (bare (parts_of a)) (is_whole a sound q keyed) r)
 
       low_stays : has_entry n (row_seen a High) ≡ true → less_by (is_entry_of n) (row_seen a Low) ≡ row_seen a Low
-      low_stays any = sym (less_seen Low) ∙ ap (map (λ (q : Queued). q.entry)) (left_elsewhere (bare (parts_of a)) (is_whole a sound q seated) q seated links High Low (λ same. absurd (cc))
-          (any-known (IsSeated (bare (parts_of a))) (λ (q : Queued). q.entry) (leaves q) (is_entry_of n) leaves_entry (row (bare (parts_of a)) High) (row_known (bare (parts_of a)) (is_whole a sound q seated) High) ∙ any))
+      low_stays any = sym (less_seen Low) ∙ ap (map (λ (q : Queued). q.entry)) (left_elsewhere (bare (parts_of a)) (is_whole a sound q keyed) q keyed links High Low (λ same. absurd (cc))
+          (any-known (IsKeyed (bare (parts_of a))) (λ (q : Queued). q.entry) (leaves q) (is_entry_of n) leaves_entry (row (bare (parts_of a)) High) (row_known (bare (parts_of a)) (is_whole a sound q keyed) High) ∙ any))
 
       pub unqueued_seen : seen b ≡ on_core (unqueued n) (seen a)
       unfolding seen set_high set_low
@@ -125,8 +125,8 @@ module _ (a : CoreParts) (sound : IsSound a) where
   unfolding seen popped set_low
   pop_low_nothing none = ap (λ (l : List Entry). queues_seen a (row_seen a High) l) (nothing_first Low none)
 
-  nobody : (x : Queued) → IsSeated (bare (parts_of a)) x → false ≡ is_entry_of 0 x.entry
-  nobody x is_x = elim (seat_of (bare (parts_of a)) x is_x) [
+  nobody : (x : Queued) → IsKeyed (bare (parts_of a)) x → false ≡ is_entry_of 0 x.entry
+  nobody x is_x = elim (order_key_of (bare (parts_of a)) x is_x) [
     | inl at ↦ sym (ap (λ (z : Queued). is_entry_of 0 z.entry) (sym at.is) ∙ ne_eqb 0 at.placed.entry.item.number (λ zero. above at.placed.entry.item.number (thread_number_positive a sound x at) (sym zero)))
     | inr at ↦ sym (work_of_no_thread 0 at.placed.entry.item.number x.entry at.entry)
   ]
@@ -135,11 +135,11 @@ module _ (a : CoreParts) (sound : IsSound a) where
       above m more zero = omega (arith, more, zero)
 
   whole_here : IsWhole (bare (parts_of a))
-  unfolding IsSound
+  unfolding IsSoundCore
   whole_here = sound.whole
 
   less_nobody : (r : Row) → less_by (is_entry_of 0) (row_seen a r) ≡ row_seen a r
-  less_nobody r = sym (map-less_known (IsSeated (bare (parts_of a))) (λ (q : Queued). q.entry) (λ x. false) (is_entry_of 0) nobody (row (bare (parts_of a)) r) (row_known (bare (parts_of a)) whole_here r)) ∙ ap (map (λ (q : Queued). q.entry)) (less_nothing (row (bare (parts_of a)) r))
+  less_nobody r = sym (map-less_known (IsKeyed (bare (parts_of a))) (λ (q : Queued). q.entry) (λ x. false) (is_entry_of 0) nobody (row (bare (parts_of a)) r) (row_known (bare (parts_of a)) whole_here r)) ∙ ap (map (λ (q : Queued). q.entry)) (less_nothing (row (bare (parts_of a)) r))
 
   zero_unqueued : seen a ≡ on_core (unqueued 0) (seen a)
   unfolding seen set_high set_low

@@ -1,5 +1,5 @@
 pub mod ListLemmas
-pub mod SeatLemmas
+pub mod OrderKeyLemmas
 pub mod WholeLemmas
 pub mod BareLemmas
 pub mod RowLemmas

@@ -3,7 +3,7 @@ use Rattle.task_records.proofs.Core.{[], ap, ap₂, arith, Bool, cond, Each, Ent
 use Rattle.std.proofs.Common.{option_map}
 use Rattle.std.specs.List.{find}
 use Rattle.task_rules.specs.Places.{entries}
-use Rattle.queue_words.specs.Seats.{is_entry_of_work}
+use Rattle.queue_words.specs.OrderKeys.{is_entry_of_work}
 
 -- two tests that follow from one another are one
 pub same_test : (a b : Bool) → (a ≡ true → b ≡ true) → (b ≡ true → a ≡ true) → a ≡ b

@@ -1,16 +1,16 @@
 -- The thread at switch.
-use Rattle.task_records.proofs.Core.{ap, bare, bare_thread, follower, IfSome, IsFollower, IsSound, item_at, item_of, key_in, None, number_in, Ok, on_core, on_item, Option, option_map, parts_of, place_at, Placed, record_at, refl, same_Some, seen, set_switch, Some, subst, sym, TableId, thread_key, thread_of, ThreadKey, ℕ, ◌<◌, ◌∙◌, ◌≡◌}
-use Rattle.task_records.specs.declared.{parts.CoreParts.CoreParts, single.Single.Single, threads.Follower.Follower, threads.GuestThread.GuestThread}
+use Rattle.task_records.proofs.Core.{ap, bare, bare_thread, follower, IfSome, IsFollower, IsSoundCore, item_at, item_of, key_in, None, number_in, Ok, on_core, on_item, Option, option_map, parts_of, place_at, Placed, record_at, refl, same_Some, seen, set_switch, Some, subst, sym, TableId, thread_key, thread_of, ThreadKey, ℕ, ◌<◌, ◌∙◌, ◌≡◌}
+use Rattle.task_records.specs.declared.{parts.CoreParts.CoreParts, single.Single.Single, thread_records.Follower.Follower, thread_records.GuestThread.GuestThread}
 use Rattle.task_records.proofs.KindLemmas.{item_stands}
 use Rattle.task_records.proofs.ReadLemmas.{thread_named}
 use Rattle.queue_words.proofs.BareLemmas.{mapped_place, number_positive, place_mapped}
 use Rattle.queue_words.proofs.WholeLemmas.{chains_sound, chains_whole}
 
 module _ (a : CoreParts) where
-  module _ (sound : IsSound a) (id : TableId ThreadKey) (g : GuestThread) (is : Ok g ≡ item_at item_of a.threads id.rep id.serial) (rep : ℕ) (rep_is : rep ≡ id.rep) where
+  module _ (sound : IsSoundCore a) (id : TableId ThreadKey) (g : GuestThread) (is : Ok g ≡ item_at item_of a.threads id.rep id.serial) (rep : ℕ) (rep_is : rep ≡ id.rep) where
     -- a thread as it stands among callers, or at switch
     pub follower_kept : IsFollower (bare (parts_of a)) (record { number = g.number; place = rep; node = g.caller })
-    unfolding IsSound
+    unfolding IsSoundCore
     follower_kept =
         let one = item_stands (λ (g : GuestThread). g.number) (λ (g : GuestThread). g.thread) a.threads a.made.threads sound.tables.threads id.rep id.serial g is in
         subst (λ r. IsFollower (bare (parts_of a)) (record { number = g.number; place = r; node = g.caller })) (sym rep_is)
@@ -20,7 +20,7 @@ module _ (a : CoreParts) where
   follower_number id g is = ap (λ (n : ℕ). Some n) (thread_named a id g is)
 
   -- a thread that is kept as a follower stands at its place
-  module _ (sound : IsSound a) (f : Follower) (is : IsFollower (bare (parts_of a)) f) where
+  module _ (sound : IsSoundCore a) (f : Follower) (is : IsFollower (bare (parts_of a)) f) where
     follower_placed : (q : Placed (Single GuestThread)) × ((place_at a.threads f.place ≡ Some q) × (f.number ≡ q.entry.item.number))
     follower_placed = by (place_at (bare (parts_of a)).threads f.place) refl is
       where
@@ -34,21 +34,21 @@ module _ (a : CoreParts) where
     follower_here = ap (λ o. number_in (key_in thread_key o)) follower_placed.1.0 ∙ sym follower_placed.1.1
 
     pub follower_positive : 0 < f.number
-    unfolding IsSound
+    unfolding IsSoundCore
     follower_positive = subst (λ n. 0 < n) (sym follower_placed.1.1) (number_positive (λ (g : GuestThread). g.number) (λ (g : GuestThread). g.thread) a.threads a.made.threads sound.tables.threads f.place follower_placed.0 follower_placed.1.0)
 
-  pub switch_follows : IsSound a → (f : Follower) → a.switch ≡ Some f → IsFollower (bare (parts_of a)) f
-  unfolding IsSound
+  pub switch_follows : IsSoundCore a → (f : Follower) → a.switch ≡ Some f → IsFollower (bare (parts_of a)) f
+  unfolding IsSoundCore
   switch_follows sound f is = subst (λ o. IfSome o (IsFollower (bare (parts_of a)))) is sound.whole.named.switch
 
   module _ (switch : Option Follower) where
     abbrev pub switch_after : CoreParts
     switch_after = record a { switch = switch }
 
-    pub switch_sound : IsSound a → IfSome switch (IsFollower (bare (parts_of a))) → IsSound switch_after
-    unfolding IsSound
-    switch_sound sound follows = chains_sound a a.marks a.shelves a.behind switch sound
-        (chains_whole (bare (parts_of a)) sound.whole a.marks a.shelves a.behind switch follows (λ n made. made) (λ n made. made) (λ n made. made) sound.whole.chained.marks sound.whole.chained.shelves sound.whole.chained.low sound.whole.chained.behind)
+    pub switch_sound : IsSoundCore a → IfSome switch (IsFollower (bare (parts_of a))) → IsSoundCore switch_after
+    unfolding IsSoundCore
+    switch_sound sound follows = chains_sound a a.marks a.instance_queues a.behind switch sound
+        (chains_whole (bare (parts_of a)) sound.whole a.marks a.instance_queues a.behind switch follows (λ n made. made) (λ n made. made) (λ n made. made) sound.whole.chained.marks sound.whole.chained.instance_queues sound.whole.chained.low sound.whole.chained.behind)
 
     pub switch_seen : (n : Option ℕ) → option_map (λ (f : Follower). f.number) switch ≡ n → seen switch_after ≡ on_core (set_switch n) (seen a)
     unfolding seen set_switch

@@ -1,19 +1,19 @@
 -- What stands first at a mark, and of an instance there.
-use Rattle.task_records.proofs.Core.{[], ap, bare, bare_thread, bare_work, Bool, chained, cond, Each, Entry, entry_thread, eq-eqb, eqb-true, false, filter, first_entry, first_in, first_low, first_of, found_here, High, IfSome, inl, inr, instance_of, is_entry_in, is_number, is_of_instance, IsSeated, IsSome, IsSound, IsWhole, item_at, item_in, item_of, key_in, List, list_of, loose_work, Low, map, Mark, next_entry, None, number_in, Ok, on_item, Option, option_and_then, option_map, or_first, or_high, part, Parts, parts_of, record_at, refl, Row, row, row_chain, same_Some, seen, shelf_chain, shelf_in, slice_get, Some, subst, sym, TableId, thread_entry, thread_key, ThreadKey, true, unmoved, values_are, work_key, ℕ, ◌<◌, ◌∙◌, ◌∷◌, ◌≡◌}
+use Rattle.task_records.proofs.Core.{[], ap, bare, bare_thread, bare_work, Bool, chained, cond, Each, Entry, entry_thread, eq-eqb, eqb-true, false, filter, first_entry, first_in, first_low, first_of, found_here, High, IfSome, inl, inr, instance_of, is_entry_in, is_number, is_of_instance, IsKeyed, IsSome, IsSoundCore, IsWhole, item_at, item_in, item_of, key_in, List, list_of, loose_work, Low, map, Mark, next_entry, None, number_in, Ok, on_item, Option, option_and_then, option_map, or_first, or_high, part, CoreImage, parts_of, record_at, refl, Row, row, row_chain, same_Some, seen, instance_queue_chain, instance_queue_in, slice_get, Some, subst, sym, TableId, thread_entry, thread_key, ThreadKey, true, unmoved, values_are, work_key, ℕ, ◌<◌, ◌∙◌, ◌∷◌, ◌≡◌}
 use Rattle.std.specs.List.{find}
 use Rattle.task_index.specs.Rows.{values, with_nodes}
 use Rattle.task_links.specs.Links.{entries, head_of}
 use Rattle.task_links.specs.declared.links.Node.{Node}
-use Rattle.task_records.specs.declared.{instances.InstanceRecord.InstanceRecord, parts.CoreParts.CoreParts, single.Single.Single, threads.Follower.Follower, threads.GuestThread.GuestThread, threads.Queued.Queued}
+use Rattle.task_records.specs.declared.{instance_records.InstanceRecord.InstanceRecord, parts.CoreParts.CoreParts, single.Single.Single, thread_records.Follower.Follower, thread_records.GuestThread.GuestThread, thread_records.Queued.Queued}
 use Rattle.task_records.proofs.HomeLemmas.{thread_instance}
 use Rattle.task_records.proofs.ReadLemmas.{thread_named}
 use Rattle.task_records.proofs.TableLemmas.{number_at_mapped}
-use Rattle.queue_words.specs.Seats.{OfThread, is_entry_of_work, top}
-use Rattle.queue_words.proofs.BareLemmas.{mapped_place, shelf_bare, thread_number_here, thread_number_positive}
+use Rattle.queue_words.specs.OrderKeys.{OfThread, is_entry_of_work, top}
+use Rattle.queue_words.proofs.BareLemmas.{mapped_place, instance_queue_bare, thread_number_here, thread_number_positive}
 use Rattle.queue_words.proofs.ListLemmas.{find-known, find-none, find-some}
-use Rattle.queue_words.proofs.PushLemmas.{instance_there}
-use Rattle.queue_words.proofs.RowLemmas.{of_some_instance, row_known, shelf_threads}
-use Rattle.queue_words.proofs.SeatLemmas.{seat_of, threads_own}
+use Rattle.queue_words.proofs.PushLemmas.{instance_unchecked}
+use Rattle.queue_words.proofs.RowLemmas.{of_some_instance, row_known, instance_queue_threads}
+use Rattle.queue_words.proofs.OrderKeyLemmas.{order_key_of, threads_own}
 use Rattle.queue_words.proofs.SeenLemmas.{row_seen}
 
 -- the first of a part is what is found
@@ -51,7 +51,7 @@ first_is m [] o is = ap (option_map (λ e. (m, e))) is
 first_is m (e ∷ es) o is = ap (option_map (λ e. (m, e))) is
 
 module _ (a : CoreParts) where
-  abbrev bared : Parts
+  abbrev bared : CoreImage
   bared = bare (parts_of a)
 
   -- the thread of an entry, read at its place
@@ -68,9 +68,9 @@ module _ (a : CoreParts) where
         ),
       )
 
-  module _ (sound : IsSound a) where
+  module _ (sound : IsSoundCore a) where
     is_whole : IsWhole bared
-    unfolding IsSound
+    unfolding IsSoundCore
     is_whole = sound.whole
 
     -- an entry is in the instance of its thread
@@ -91,11 +91,11 @@ module _ (a : CoreParts) where
         let one = placed_item x of_thread in
         let g = one.1.1.0 in
         let same : g.instance ≡ i = eqb-true g.instance i (sym (ap (λ (q : Queued). is_number i q.instance) one.1.1.1.1) ∙ of_i) in
-        subst (λ j. IsSome (slice_get a.instances.items j)) same (instance_there a sound one.0 g one.1.1.1.0)
+        subst (λ j. IsSome (slice_get a.instances.items j)) same (instance_unchecked a sound one.0 g one.1.1.1.0)
 
     -- the entry is of the instance as the machine says
-    same_group : (i : ℕ) (x : Queued) → IsSeated bared x → is_of_instance i x ≡ is_entry_in i (seen a).core x.entry
-    same_group i x is_x = elim (seat_of bared x is_x) [
+    same_group : (i : ℕ) (x : Queued) → IsKeyed bared x → is_of_instance i x ≡ is_entry_in i (seen a).core x.entry
+    same_group i x is_x = elim (order_key_of bared x is_x) [
       | inl at ↦ by_entry x.entry refl (entry_instance x at) (sym (ap (λ (q : Queued). q.entry) at.is))
       | inr at ↦ ap (is_number i) at.alone ∙ sym (no_instance x.entry at.placed.entry.item.number at.entry)
     ]
@@ -113,7 +113,7 @@ module _ (a : CoreParts) where
     -- ---- The first of an instance
 
     first_of_row : (i : ℕ) (r : Row) → first_in i (seen a).core (row_seen a r) ≡ option_and_then (λ (q : Queued). entry_thread q.entry) (find (is_of_instance i) (row bared r))
-    first_of_row i r = ap (option_and_then entry_thread) (find-known (IsSeated bared) (λ (q : Queued). q.entry) (is_of_instance i) (is_entry_in i (seen a).core) (same_group i) (row bared r) (row_known bared is_whole r)) ∙ by_option (find (is_of_instance i) (row bared r))
+    first_of_row i r = ap (option_and_then entry_thread) (find-known (IsKeyed bared) (λ (q : Queued). q.entry) (is_of_instance i) (is_entry_in i (seen a).core) (same_group i) (row bared r) (row_known bared is_whole r)) ∙ by_option (find (is_of_instance i) (row bared r))
       where
         by_option : (o : Option Queued) → option_and_then entry_thread (option_map (λ (q : Queued). q.entry) o) ≡ option_and_then (λ (q : Queued). entry_thread q.entry) o
         by_option None = refl
@@ -121,34 +121,34 @@ module _ (a : CoreParts) where
 
     -- past the instances nothing is found
     first_nowhere : (i : ℕ) (r : Row) → None ≡ slice_get a.instances.items i → first_in i (seen a).core (row_seen a r) ≡ None
-    first_nowhere i r none = first_of_row i r ∙ ap (option_and_then (λ (q : Queued). entry_thread q.entry)) (find-none (IsSeated bared) (is_of_instance i) (λ x is_x. nobody x is_x (is_of_instance i x) refl) (row bared r) (row_known bared is_whole r))
+    first_nowhere i r none = first_of_row i r ∙ ap (option_and_then (λ (q : Queued). entry_thread q.entry)) (find-none (IsKeyed bared) (is_of_instance i) (λ x is_x. nobody x is_x (is_of_instance i x) refl) (row bared r) (row_known bared is_whole r))
       where
-        nobody : (x : Queued) → IsSeated bared x → (b : Bool) → is_of_instance i x ≡ b → is_of_instance i x ≡ false
+        nobody : (x : Queued) → IsKeyed bared x → (b : Bool) → is_of_instance i x ≡ b → is_of_instance i x ≡ false
         nobody x is_x false is = is
         nobody x is_x true is = absurd (let some : IsSome {T = InstanceRecord} None = subst IsSome (sym none) (entry_within x (threads_own bared x is_x (of_some_instance i x.instance is)) i is) in cc)
 
     module _ (i : ℕ) (record_at_i : InstanceRecord) (at : Some record_at_i ≡ slice_get a.instances.items i) (r : Row) where
-      shelf_is : shelf_chain bared (i, r) ≡ Some (shelf_in r record_at_i)
-      shelf_is = shelf_bare a (i, r) record_at_i (sym at)
+      instance_queue_is : instance_queue_chain bared (i, r) ≡ Some (instance_queue_in r record_at_i)
+      instance_queue_is = instance_queue_bare a (i, r) record_at_i (sym at)
 
-      pub shelf_live : IsSome (list_of a.shelves (shelf_in r record_at_i))
-      shelf_live = is_whole.chained.shelves.live (i, r) (shelf_in r record_at_i) shelf_is
+      pub instance_queue_live : IsSome (list_of a.instance_queues (instance_queue_in r record_at_i))
+      instance_queue_live = is_whole.chained.instance_queues.live (i, r) (instance_queue_in r record_at_i) instance_queue_is
 
-      shelf_top : top (chained a.shelves (Some (shelf_in r record_at_i))) ≡ find (is_of_instance i) (row bared r)
-      shelf_top = ap top (values_are (shelf_chain bared) (λ q. q.shelf.index) (OfThread bared) a.shelves (part is_of_instance (row bared)) (shelf_threads bared is_whole) (i, r) (shelf_in r record_at_i) shelf_is) ∙ top-filter (is_of_instance i) (row bared r)
+      instance_queue_top : top (chained a.instance_queues (Some (instance_queue_in r record_at_i))) ≡ find (is_of_instance i) (row bared r)
+      instance_queue_top = ap top (values_are (instance_queue_chain bared) (λ q. q.instance_queue.index) (OfThread bared) a.instance_queues (part is_of_instance (row bared)) (instance_queue_threads bared is_whole) (i, r) (instance_queue_in r record_at_i) instance_queue_is) ∙ top-filter (is_of_instance i) (row bared r)
 
-      pub first_none : None ≡ top (chained a.shelves (Some (shelf_in r record_at_i))) → first_in i (seen a).core (row_seen a r) ≡ None
-      first_none none = first_of_row i r ∙ ap (option_and_then (λ (q : Queued). entry_thread q.entry)) (sym (none ∙ shelf_top))
+      pub first_none : None ≡ top (chained a.instance_queues (Some (instance_queue_in r record_at_i))) → first_in i (seen a).core (row_seen a r) ≡ None
+      first_none none = first_of_row i r ∙ ap (option_and_then (λ (q : Queued). entry_thread q.entry)) (sym (none ∙ instance_queue_top))
 
-      pub first_some : (q : Queued) → Some q ≡ top (chained a.shelves (Some (shelf_in r record_at_i))) → (first_in i (seen a).core (row_seen a r) ≡ Some (number_in (record_at thread_key a.threads.places q.place))) × (0 < number_in (record_at thread_key a.threads.places q.place))
+      pub first_some : (q : Queued) → Some q ≡ top (chained a.instance_queues (Some (instance_queue_in r record_at_i))) → (first_in i (seen a).core (row_seen a r) ≡ Some (number_in (record_at thread_key a.threads.places q.place))) × (0 < number_in (record_at thread_key a.threads.places q.place))
       first_some q some =
-          let found : find (is_of_instance i) (row bared r) ≡ Some q = sym (some ∙ shelf_top) in
-          let known = find-some (IsSeated bared) (is_of_instance i) (row bared r) q (row_known bared is_whole r) found in
+          let found : find (is_of_instance i) (row bared r) ≡ Some q = sym (some ∙ instance_queue_top) in
+          let known = find-some (IsKeyed bared) (is_of_instance i) (row bared r) q (row_known bared is_whole r) found in
           let of_thread = threads_own bared q known.0 (of_some_instance i q.instance known.1) in
           let here = thread_number_here a sound q of_thread in
           (first_of_row i r ∙ (ap (option_and_then (λ (q : Queued). entry_thread q.entry)) found ∙ (ap (λ (x : Queued). entry_thread x.entry) (sym of_thread.is) ∙ ap (λ (n : ℕ). Some n) (sym here))), subst (λ n. 0 < n) (sym here) (thread_number_positive a sound q of_thread))
 
-      pub first_high : (q : Queued) → r ≡ High → Some q ≡ top (chained a.shelves (Some (shelf_in r record_at_i))) → first_entry i (seen a).core ≡ Some (number_in (record_at thread_key a.threads.places q.place))
+      pub first_high : (q : Queued) → r ≡ High → Some q ≡ top (chained a.instance_queues (Some (instance_queue_in r record_at_i))) → first_entry i (seen a).core ≡ Some (number_in (record_at thread_key a.threads.places q.place))
       unfolding first_entry seen
       first_high q high some = ap (first_low i (seen a).core) (ap (λ j. first_in i (seen a).core (row_seen a j)) (sym high) ∙ (first_some q some).0)
 
@@ -177,8 +177,8 @@ module _ (a : CoreParts) where
         by None is = tt
         by (Some c) is = is_whole.chained.marks.has_list r c is ∙ ap (λ (o : Option ℕ). with_nodes (λ (q : Queued). q.mark.index) (chained a.marks o)) is
 
-    pub top_seated : (r : Row) (q : Queued) → Some q ≡ top (row bared r) → IsSeated bared q
-    top_seated r q is = top-known (IsSeated bared) (row bared r) q (row_known bared is_whole r) is
+    pub top_keyed : (r : Row) (q : Queued) → Some q ≡ top (row bared r) → IsKeyed bared q
+    top_keyed r q is = top-known (IsKeyed bared) (row bared r) q (row_known bared is_whole r) is
 
     top_seen : (r : Row) (o : Option Queued) → o ≡ top (row bared r) → top (row_seen a r) ≡ option_map (λ (q : Queued). q.entry) o
     top_seen r o is = top-map (λ (q : Queued). q.entry) (row bared r) ∙ ap (option_map (λ (q : Queued). q.entry)) (sym is)
@@ -207,27 +207,27 @@ module _ (a : CoreParts) where
 
     -- ---- Ids of entries
 
-    pub thread_id : (x : Queued) → IsSeated bared x → (n : ℕ) → x.entry ≡ Entry.Thread n → (m : ℕ) → m ≡ number_in (record_at thread_key a.threads.places x.place) → Entry.Thread m ≡ x.entry
-    thread_id x is_x n is m at = elim (seat_of bared x is_x) [
-      | inl seat ↦ ap (λ k. Entry.Thread k) (at ∙ thread_number_here a sound x seat) ∙ ap (λ (q : Queued). q.entry) seat.is
-      | inr seat ↦ absurd (no_work_of seat.placed.entry.item.number x.entry n is seat.entry)
+    pub thread_id : (x : Queued) → IsKeyed bared x → (n : ℕ) → x.entry ≡ Entry.Thread n → (m : ℕ) → m ≡ number_in (record_at thread_key a.threads.places x.place) → Entry.Thread m ≡ x.entry
+    thread_id x is_x n is m at = elim (order_key_of bared x is_x) [
+      | inl order_key ↦ ap (λ k. Entry.Thread k) (at ∙ thread_number_here a sound x order_key) ∙ ap (λ (q : Queued). q.entry) order_key.is
+      | inr order_key ↦ absurd (no_work_of order_key.placed.entry.item.number x.entry n is order_key.entry)
     ]
 
     -- which is there
-    pub thread_stands : (x : Queued) → IsSeated bared x → (n : ℕ) → x.entry ≡ Entry.Thread n → 0 < number_in (record_at thread_key a.threads.places x.place)
-    thread_stands x is_x n is = elim (seat_of bared x is_x) [
-      | inl seat ↦ subst (λ (k : ℕ). 0 < k) (sym (thread_number_here a sound x seat)) (thread_number_positive a sound x seat)
-      | inr seat ↦ absurd (no_work_of seat.placed.entry.item.number x.entry n is seat.entry)
+    pub thread_stands : (x : Queued) → IsKeyed bared x → (n : ℕ) → x.entry ≡ Entry.Thread n → 0 < number_in (record_at thread_key a.threads.places x.place)
+    thread_stands x is_x n is = elim (order_key_of bared x is_x) [
+      | inl order_key ↦ subst (λ (k : ℕ). 0 < k) (sym (thread_number_here a sound x order_key)) (thread_number_positive a sound x order_key)
+      | inr order_key ↦ absurd (no_work_of order_key.placed.entry.item.number x.entry n is order_key.entry)
     ]
 
-    pub work_number : (x : Queued) → IsSeated bared x → (i : ℕ) → ((n : ℕ) → x.entry ≡ Entry.Thread n → ⊥) → is_entry_of_work i x.entry ≡ true → ((j : ℕ) → is_entry_of_work j x.entry ≡ true → j ≡ i) → number_in (record_at work_key a.works.places x.place) ≡ i
-    work_number x is_x i no_thread is one = elim (seat_of bared x is_x) [
-      | inl seat ↦ absurd (no_thread seat.placed.entry.item.number (sym (ap (λ (q : Queued). q.entry) seat.is)))
-      | inr seat ↦ sym (number_at_mapped work_key work_key (on_item bare_work) (λ w. unmoved (loose_work w)) (λ e. refl) a.works x.place) ∙ (ap (λ o. number_in (key_in work_key o)) seat.at ∙ one seat.placed.entry.item.number seat.entry)
+    pub work_number : (x : Queued) → IsKeyed bared x → (i : ℕ) → ((n : ℕ) → x.entry ≡ Entry.Thread n → ⊥) → is_entry_of_work i x.entry ≡ true → ((j : ℕ) → is_entry_of_work j x.entry ≡ true → j ≡ i) → number_in (record_at work_key a.works.places x.place) ≡ i
+    work_number x is_x i no_thread is one = elim (order_key_of bared x is_x) [
+      | inl order_key ↦ absurd (no_thread order_key.placed.entry.item.number (sym (ap (λ (q : Queued). q.entry) order_key.is)))
+      | inr order_key ↦ sym (number_at_mapped work_key work_key (on_item bare_work) (λ w. unmoved (loose_work w)) (λ e. refl) a.works x.place) ∙ (ap (λ o. number_in (key_in work_key o)) order_key.at ∙ one order_key.placed.entry.item.number order_key.entry)
     ]
 
-    pub push_id : (x : Queued) → IsSeated bared x → (i : ℕ) → x.entry ≡ Entry.Push i → (m : ℕ) → m ≡ number_in (record_at work_key a.works.places x.place) → Entry.Push m ≡ x.entry
+    pub push_id : (x : Queued) → IsKeyed bared x → (i : ℕ) → x.entry ≡ Entry.Push i → (m : ℕ) → m ≡ number_in (record_at work_key a.works.places x.place) → Entry.Push m ≡ x.entry
     push_id x is_x i is m at = ap (λ k. Entry.Push k) (at ∙ work_number x is_x i (λ n thread. absurd (let two = sym is ∙ thread in cc)) (ap (is_entry_of_work i) is ∙ eq-eqb i i refl) (λ j of. eqb-true j i (sym (ap (is_entry_of_work j) is) ∙ of))) ∙ sym is
 
-    pub host_id : (x : Queued) → IsSeated bared x → (i : ℕ) → x.entry ≡ Entry.Host i → (m : ℕ) → m ≡ number_in (record_at work_key a.works.places x.place) → Entry.Host m ≡ x.entry
+    pub host_id : (x : Queued) → IsKeyed bared x → (i : ℕ) → x.entry ≡ Entry.Host i → (m : ℕ) → m ≡ number_in (record_at work_key a.works.places x.place) → Entry.Host m ≡ x.entry
     host_id x is_x i is m at = ap (λ k. Entry.Host k) (at ∙ work_number x is_x i (λ n thread. absurd (let two = sym is ∙ thread in cc)) (ap (is_entry_of_work i) is ∙ eq-eqb i i refl) (λ j of. eqb-true j i (sym (ap (is_entry_of_work j) is) ∙ of))) ∙ sym is

@@ -2,18 +2,18 @@
 ghost use Rattle.std.specs.Prelude.{◌≡◌, ◌++◌, ◌<◌, ◌∷◌, [], IfSome, not, option_map};
 ghost use Rattle.task_machine.specs.Read.{callers_of, is_nil};
 ghost use Rattle.task_machine.specs.Write.{set_callers};
-ghost use Rattle.task_records.specs.Seen.{IsSound, seen};
+ghost use Rattle.task_records.specs.Seen.{IsSoundCore, seen};
 ghost use Rattle.task_rules.specs.Works.{first_number};
 ghost use Rattle.task_words.specs.Apart.{IsBehindNobody, later_of, newest_of, older_of};
 ghost use Rattle.task_words.specs.StateView.{on_core, thread_of};
 
-use crate::seats::live_thread;
+use crate::order_keys::live_thread;
 use task_records::{CoreParts, Follower, thread_at};
 use task_words::ThreadId;
 
 /// Whether some thread is behind this one.
 pub fn has_callers(parts: &CoreParts, thread: ThreadId) -> bool
-    requires { IsSound parts.now }
+    requires { IsSoundCore parts.now }
     ensures { result ≡ not (is_nil (callers_of (thread_of (seen parts.now) thread) (seen parts.now).core)) }
 {
     match task_records::thread(parts, thread) {
@@ -24,11 +24,11 @@ pub fn has_callers(parts: &CoreParts, thread: ThreadId) -> bool
 
 /// Puts a thread last among the callers of another one.
 pub fn add_caller(parts: &mut CoreParts, thread: ThreadId, other: ThreadId)
-    requires sound { IsSound parts.old }
+    requires sound { IsSoundCore parts.old }
     requires live { 0 < thread_of (seen parts.old) thread }
     requires other { 0 < thread_of (seen parts.old) other }
     requires apart { IsBehindNobody (thread_of (seen parts.old) other) (seen parts.old).core }
-    ensures sound { IsSound parts.new }
+    ensures sound { IsSoundCore parts.new }
     ensures new { seen parts.new ≡ on_core (set_callers (thread_of (seen parts.old) thread) (callers_of (thread_of (seen parts.old) thread) (seen parts.old).core ++ thread_of (seen parts.old) other ∷ [])) (seen parts.old) }
 {
     let found = live_thread(parts, thread);
@@ -46,9 +46,9 @@ pub fn add_caller(parts: &mut CoreParts, thread: ThreadId, other: ThreadId)
 
 /// Takes the oldest caller of a thread.
 pub fn pop_caller(parts: &mut CoreParts, thread: ThreadId) -> Option<ThreadId>
-    requires sound { IsSound parts.old }
+    requires sound { IsSoundCore parts.old }
     requires live { 0 < thread_of (seen parts.old) thread }
-    ensures sound { IsSound parts.new }
+    ensures sound { IsSoundCore parts.new }
     ensures is { option_map (λ id. thread_of (seen parts.old) id) result ≡ first_number (callers_of (thread_of (seen parts.old) thread) (seen parts.old).core) }
     ensures live { IfSome result (λ id. 0 < thread_of (seen parts.old) id) }
     ensures new { seen parts.new ≡ on_core (set_callers (thread_of (seen parts.old) thread) (later_of (callers_of (thread_of (seen parts.old) thread) (seen parts.old).core))) (seen parts.old) }
@@ -67,9 +67,9 @@ pub fn pop_caller(parts: &mut CoreParts, thread: ThreadId) -> Option<ThreadId>
 
 /// Takes the newest caller of a thread.
 pub fn pop_newest_caller(parts: &mut CoreParts, thread: ThreadId) -> Option<ThreadId>
-    requires sound { IsSound parts.old }
+    requires sound { IsSoundCore parts.old }
     requires live { 0 < thread_of (seen parts.old) thread }
-    ensures sound { IsSound parts.new }
+    ensures sound { IsSoundCore parts.new }
     ensures is { option_map (λ id. thread_of (seen parts.old) id) result ≡ newest_of (callers_of (thread_of (seen parts.old) thread) (seen parts.old).core) }
     ensures live { IfSome result (λ id. 0 < thread_of (seen parts.old) id) }
     ensures new { seen parts.new ≡ on_core (set_callers (thread_of (seen parts.old) thread) (older_of (callers_of (thread_of (seen parts.old) thread) (seen parts.old).core))) (seen parts.old) }

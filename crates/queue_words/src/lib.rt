@@ -7,7 +7,7 @@
 mod callers;
 mod pushes;
 mod removals;
-mod seats;
+mod order_keys;
 mod takes;
 mod tops;
 

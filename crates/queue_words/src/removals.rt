@@ -3,14 +3,14 @@ ghost use Rattle.std.specs.Prelude.{◌≡◌};
 ghost use Rattle.task_links.specs.Links.{IsLinks};
 ghost use Rattle.task_machine.specs.Moves.{unqueued};
 ghost use Rattle.task_machine.specs.declared.words.Mark.TheVariants as marks;
-ghost use Rattle.task_records.specs.Rows.{IsSeated};
-ghost use Rattle.task_records.specs.Seen.{IsSound, parts_of, seen};
+ghost use Rattle.task_records.specs.Rows.{IsKeyed};
+ghost use Rattle.task_records.specs.Seen.{IsSoundCore, parts_of, seen};
 ghost use Rattle.task_records.specs.Sound.{bare};
 ghost use Rattle.task_rules.specs.Takes.{popped};
 ghost use Rattle.task_words.specs.StateView.{on_core, thread_of};
-ghost use Rattle.queue_words.specs.Seats.{RowsAre, left};
+ghost use Rattle.queue_words.specs.OrderKeys.{RowsAre, left};
 
-use crate::seats::{entry_of, first_marked};
+use crate::order_keys::{entry_of, first_marked};
 use task_machine::Mark;
 use task_records::{CoreParts, Queued};
 use task_words::ThreadId;
@@ -18,24 +18,24 @@ use task_words::ThreadId;
 // The entry's nodes leave the chains that they are in.
 #[inline(always)]
 pub(crate) fn leave(parts: &mut CoreParts, queued: Queued)
-    requires sound { IsSound parts.old }
-    requires seated { IsSeated (bare (parts_of parts.old)) queued }
-    ensures rows { RowsAre (bare (parts_of parts.old)) parts.new.marks parts.new.shelves (left (bare (parts_of parts.old)) queued) }
-    ensures rest { parts.new ≡ (record parts.old { marks = parts.new.marks; shelves = parts.new.shelves }) }
+    requires sound { IsSoundCore parts.old }
+    requires keyed { IsKeyed (bare (parts_of parts.old)) queued }
+    ensures rows { RowsAre (bare (parts_of parts.old)) parts.new.marks parts.new.instance_queues (left (bare (parts_of parts.old)) queued) }
+    ensures rest { parts.new ≡ (record parts.old { marks = parts.new.marks; instance_queues = parts.new.instance_queues }) }
     ensures links { IsLinks parts.old.marks }
 {
     parts.marks.no_node_is_twice();
     parts.marks.remove(queued.mark);
     if queued.instance.is_some() {
-        parts.shelves.no_node_is_twice();
-        parts.shelves.remove(queued.shelf);
+        parts.instance_queues.no_node_is_twice();
+        parts.instance_queues.remove(queued.instance_queue);
     }
 }
 
 /// The thread's entry leaves high, or else low.
 pub fn unqueue(parts: &mut CoreParts, thread: ThreadId)
-    requires { IsSound parts.old }
-    ensures sound { IsSound parts.new }
+    requires { IsSoundCore parts.old }
+    ensures sound { IsSoundCore parts.new }
     ensures new { seen parts.new ≡ on_core (unqueued (thread_of (seen parts.old) thread)) (seen parts.old) }
 {
     if let Some(found) = task_records::thread(parts, thread) {
@@ -45,8 +45,8 @@ pub fn unqueue(parts: &mut CoreParts, thread: ThreadId)
 }
 
 fn pop_high(parts: &mut CoreParts)
-    requires { IsSound parts.old }
-    ensures sound { IsSound parts.new }
+    requires { IsSoundCore parts.old }
+    ensures sound { IsSoundCore parts.new }
     ensures new { seen parts.new ≡ on_core (popped marks.High) (seen parts.old) }
 {
     let chain = parts.high;
@@ -56,8 +56,8 @@ fn pop_high(parts: &mut CoreParts)
 }
 
 fn pop_low(parts: &mut CoreParts)
-    requires { IsSound parts.old }
-    ensures sound { IsSound parts.new }
+    requires { IsSoundCore parts.old }
+    ensures sound { IsSoundCore parts.new }
     ensures new { seen parts.new ≡ on_core (popped marks.Low) (seen parts.old) }
 {
     let chain = parts.low;
@@ -69,8 +69,8 @@ fn pop_low(parts: &mut CoreParts)
 /// The first entry of the mark is gone.
 #[inline(always)]
 pub fn pop(parts: &mut CoreParts, mark: Mark)
-    requires { IsSound parts.old }
-    ensures sound { IsSound parts.new }
+    requires { IsSoundCore parts.old }
+    ensures sound { IsSoundCore parts.new }
     ensures new { seen parts.new ≡ on_core (popped mark) (seen parts.old) }
 {
     match mark {

@@ -1,13 +1,13 @@
 //! The taking of what stands first.
 ghost use Rattle.std.specs.Prelude.{◌≡◌, IfSome, is_none, option_map, true};
 ghost use Rattle.task_machine.specs.Read.{next_entry};
-ghost use Rattle.task_records.specs.Seen.{IsSound, seen};
+ghost use Rattle.task_records.specs.Seen.{IsSoundCore, seen};
 ghost use Rattle.task_rules.specs.Takes.{popped};
 ghost use Rattle.task_words.specs.Names.{entry_in};
 ghost use Rattle.task_words.specs.StateView.{on_core};
 
 use crate::removals::leave;
-use crate::seats::{entry_id, first_marked};
+use crate::order_keys::{entry_id, first_marked};
 use task_machine::Mark;
 use task_records::{CoreParts, thread_at};
 use task_words::EntryId;
@@ -15,8 +15,8 @@ use task_words::EntryId;
 /// What is taken next leaves its mark.
 #[inline(always)]
 pub fn take_next(parts: &mut CoreParts) -> Option<(Mark, EntryId)>
-    requires { IsSound parts.old }
-    ensures sound { IsSound parts.new }
+    requires { IsSoundCore parts.old }
+    ensures sound { IsSoundCore parts.new }
     ensures next { option_map (λ e. (e.0, entry_in (seen parts.old).tags e.1)) result ≡ next_entry (seen parts.old).core }
     ensures taken { IfSome result (λ e. seen parts.new ≡ on_core (popped e.0) (seen parts.old)) }
     ensures none { is_none result ≡ true → parts.new ≡ parts.old }

@@ -2,18 +2,18 @@
 ghost use Rattle.std.specs.Prelude.{◌≡◌, ◌<◌, IfSome, option_map};
 ghost use Rattle.task_machine.specs.Moves.{first_entry};
 ghost use Rattle.task_machine.specs.Read.{next_entry};
-ghost use Rattle.task_records.specs.Seen.{IsSound, seen};
+ghost use Rattle.task_records.specs.Seen.{IsSoundCore, seen};
 ghost use Rattle.task_words.specs.Names.{entry_in};
 ghost use Rattle.task_words.specs.StateView.{thread_of};
 
-use crate::seats::{entry_id, first_queued};
+use crate::order_keys::{entry_id, first_queued};
 use task_machine::Mark;
 use task_records::{CoreParts, thread_at};
 use task_words::{EntryId, ThreadId};
 
 /// The thread at switch.
 pub fn switch(parts: &CoreParts) -> Option<ThreadId>
-    requires { IsSound parts.now }
+    requires { IsSoundCore parts.now }
     ensures is { option_map (λ id. thread_of (seen parts.now) id) result ≡ (seen parts.now).core.queues.switch }
     ensures live { IfSome result (λ id. 0 < thread_of (seen parts.now) id) }
 {
@@ -25,14 +25,14 @@ pub fn switch(parts: &CoreParts) -> Option<ThreadId>
 
 /// The thread of the first entry of an instance, at high, else at low.
 pub fn first_entry(parts: &CoreParts, instance: u32) -> Option<ThreadId>
-    requires { IsSound parts.now }
+    requires { IsSoundCore parts.now }
     ensures is { option_map (λ id. thread_of (seen parts.now) id) result ≡ first_entry instance (seen parts.now).core }
     ensures live { IfSome result (λ id. 0 < thread_of (seen parts.now) id) }
 {
     match task_records::instance(parts, instance) {
-        Some(record) => match first_queued(&parts.shelves, Some(record.high)) {
+        Some(record) => match first_queued(&parts.instance_queues, Some(record.high)) {
             Some(queued) => Some(thread_at(parts, queued.place)),
-            None => match first_queued(&parts.shelves, Some(record.low)) {
+            None => match first_queued(&parts.instance_queues, Some(record.low)) {
                 Some(queued) => Some(thread_at(parts, queued.place)),
                 None => None,
             },
@@ -44,7 +44,7 @@ pub fn first_entry(parts: &CoreParts, instance: u32) -> Option<ThreadId>
 /// What is taken next.
 #[inline(always)]
 pub fn next_entry(parts: &CoreParts) -> Option<(Mark, EntryId)>
-    requires { IsSound parts.now }
+    requires { IsSoundCore parts.now }
     ensures { option_map (λ e. (e.0, entry_in (seen parts.now).tags e.1)) result ≡ next_entry (seen parts.now).core }
 {
     match parts.switch {

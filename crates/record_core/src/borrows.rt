@@ -2,7 +2,7 @@
 ghost use Rattle.std.specs.Prelude.{◌≡◌, ◌↔◌, IsSome, IsTrue, None, Some, option_map};
 ghost use Rattle.record_core.specs.Borrows.{borrows_in, call_borrowing, scope_borrowing, work_borrowing};
 ghost use Rattle.task_machine.specs.Maps.{get};
-ghost use Rattle.task_records.specs.Seen.{IsSound, seen};
+ghost use Rattle.task_records.specs.Seen.{IsSoundCore, seen};
 ghost use Rattle.task_words.specs.StateView.{call_of, on_core, work_of};
 
 use crate::task_core::TaskCore;
@@ -24,7 +24,7 @@ pub struct CallContext {
 
 // The borrows of a call; none where the id names none.
 fn call_borrows(parts: &CoreParts, call: CallId) -> Option<u32>
-    requires { IsSound parts.now }
+    requires { IsSoundCore parts.now }
     ensures { result ≡ option_map (λ c. c.borrows) (get (seen parts.now).core.calls (call_of (seen parts.now) call)) }
 {
     match task_records::call(parts, call) {
@@ -35,7 +35,7 @@ fn call_borrows(parts: &CoreParts, call: CallId) -> Option<u32>
 
 // The borrows of a host work; none where the id names none.
 fn work_borrows(parts: &CoreParts, work: WorkId) -> Option<u32>
-    requires { IsSound parts.now }
+    requires { IsSoundCore parts.now }
     ensures { result ≡ option_map (λ c. c.borrows) (get (seen parts.now).core.works (work_of (seen parts.now) work)) }
 {
     match task_records::work(parts, work) {
@@ -45,8 +45,8 @@ fn work_borrows(parts: &CoreParts, work: WorkId) -> Option<u32>
 }
 
 fn set_call_borrows(parts: &mut CoreParts, call: CallId, borrows: u32)
-    requires { IsSound parts.old }
-    ensures sound { IsSound parts.new }
+    requires { IsSoundCore parts.old }
+    ensures sound { IsSoundCore parts.new }
     ensures new { seen parts.new ≡ on_core (call_borrowing (call_of (seen parts.old) call) borrows) (seen parts.old) }
 {
     if let Ok(entry) = parts.calls.get_mut(call) {
@@ -55,8 +55,8 @@ fn set_call_borrows(parts: &mut CoreParts, call: CallId, borrows: u32)
 }
 
 fn set_work_borrows(parts: &mut CoreParts, work: WorkId, borrows: u32)
-    requires { IsSound parts.old }
-    ensures sound { IsSound parts.new }
+    requires { IsSoundCore parts.old }
+    ensures sound { IsSoundCore parts.new }
     ensures new { seen parts.new ≡ on_core (work_borrowing (work_of (seen parts.old) work) borrows) (seen parts.old) }
 {
     if let Ok(entry) = parts.works.get_mut(work) {

@@ -3,7 +3,7 @@ ghost use Rattle.record_core.specs.Lends.{StaysAs};
 ghost use Rattle.std.specs.Borrow.{sem};
 ghost use Rattle.task_machine.specs.Read.{is_nil};
 ghost use Rattle.std.specs.Prelude.{◌≡◌, ◌<◌, false, not};
-ghost use Rattle.task_words.specs.Groups.{CountsEnded, IsAsked, asked, ended_groups, known_group};
+ghost use Rattle.task_words.specs.Groups.{CountsEnded, IsAsked, asked, ended_groups, tracked_group};
 ghost use Rattle.task_words.specs.StateView.{thread_of};
 
 use crate::task_core::TaskCore;
@@ -13,11 +13,11 @@ impl TaskCore {
     /// The number of the group of a thread that is there, as long as that group is known: nothing is tested. 0 once its end
     /// was told.
     #[inline(always)]
-    pub fn group_there(&self, thread: ThreadId) -> u64
+    pub fn group_unchecked(&self, thread: ThreadId) -> u64
         requires { 0 < thread_of self.now thread }
-        ensures { result ≡ known_group (thread_of self.now thread) self.now }
+        ensures { result ≡ tracked_group (thread_of self.now thread) self.now }
     {
-        record_words::group_there(&self.parts, thread)
+        record_words::group_unchecked(&self.parts, thread)
     }
 
     /// Whether a group has ended since the core was last asked which.

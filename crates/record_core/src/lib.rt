@@ -3,20 +3,20 @@
 #![tactic(auto)]
 
 mod borrows;
-mod calls;
-mod counts;
+mod call_impl;
+mod count_impl;
 mod groups;
-mod instances;
-mod limits;
-mod places;
-mod queues;
-mod results;
-mod sets;
-mod state;
-mod subtasks;
+mod instance_impl;
+mod limit_impl;
+mod place_impl;
+mod queue_impl;
+mod result_impl;
+mod set_impl;
+mod state_impl;
+mod subtask_impl;
 mod task_core;
-mod threads;
-mod works;
+mod thread_impl;
+mod work_impl;
 
 pub use crate::borrows::{CallContext, Scope};
 pub use crate::task_core::TaskCore;

@@ -4,7 +4,7 @@ ghost use Rattle.task_records.specs.Seen.{nothing};
 use std::alloc::Global;
 use std::marker::Model;
 use task_records::CoreParts;
-use task_words::{ThreadId, View, Words};
+use task_words::{ThreadId, View, Primitives};
 
 /// The core of a store.
 pub struct TaskCore {
@@ -26,11 +26,11 @@ impl Model for TaskCore {
 
     ghost coded = { state_view_code };
 
-    ghost use Rattle.task_records.specs.Seen.{IsSound, seen};
+    ghost use Rattle.task_records.specs.Seen.{IsSoundCore, seen};
 
     ghost view = { λ a. seen a.parts };
 
-    ghost invariant = { λ a. IsSound a.parts };
+    ghost invariant = { λ a. IsSoundCore a.parts };
 }
 
 impl TaskCore {
@@ -63,4 +63,4 @@ impl View for TaskCore {
     }
 }
 
-impl Words for TaskCore {}
+impl Primitives for TaskCore {}

@@ -1,2 +1,2 @@
-pub mod Lends
+pub mod LentRecords
 pub mod Rows

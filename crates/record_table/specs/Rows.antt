@@ -3,36 +3,36 @@ use Rattle.std.specs.Prelude.{ℕ, ◌-◌, ◌<◌, ◌^◌, ◌==◌, if◌the
 use Rattle.std.specs.Global.{Global}
 use Rattle.std.specs.Option.{option_and_then}
 use Rattle.task_table.specs.Table.{Table, Placed}
-use Rattle.task_table.specs.Places.{IsSound, placed_in, shown}
-use Rattle.task_table.specs.declared.place.Place.{Place}
-use Rattle.task_table.specs.declared.place.Place.TheVariants.{Free, Taken}
-use Rattle.record_table.specs.declared.row.Row.{Row}
+use Rattle.task_table.specs.TableCells.{IsSoundTable, placed_in, shown}
+use Rattle.task_table.specs.declared.place.TableCell.{TableCell}
+use Rattle.task_table.specs.declared.place.TableCell.TheVariants.{Free, Taken}
+use Rattle.record_table.specs.declared.row.RecordRow.{RecordRow}
 
 module _ {E : Type 0} where
   -- what contracts see of a taken row
-  abbrev pub row_placed : Row E → Placed E
+  abbrev pub row_placed : RecordRow E → Placed E
   row_placed r = record { serial = r.serial; parent = None; entry = r.entry }
 
   -- the place that a row stands for
-  abbrev pub place_of : Row E → Place E
+  abbrev pub place_of : RecordRow E → TableCell E
   place_of r = if r.serial == 2 ^ 64 - 1 then Free else Taken (record { serial = r.serial; parent = None; children = 0; entry = r.entry })
 
   -- what contracts see of the row at a place
-  abbrev pub row_shown : List (Row E) → ℕ → Option (Placed E)
+  abbrev pub row_shown : List (RecordRow E) → ℕ → Option (Placed E)
   row_shown rows rep = option_and_then (λ r. placed_in (place_of r)) (slice_get rows rep)
 
   -- where no row is free, there is room for one more, and for freeing it
-  abbrev pub HasRowRoom : Vec (Row E) Global → Vec ℕ Global → Type 0
+  abbrev pub HasRowRoom : Vec (RecordRow E) Global → Vec ℕ Global → Type 0
   HasRowRoom rows free = free.items ≡ [] → (length rows.items < vec_capacity rows) × (length rows.items < vec_capacity free)
 
   -- The first free row, if there is one, is there.
-  abbrev pub NextIsThere : List ℕ → List (Row E) → Type 0
+  abbrev pub NextIsThere : List ℕ → List (RecordRow E) → Type 0
   NextIsThere [] rows = Unit {0}
   NextIsThere (rep ∷ rest) rows = rep < length rows
 
   -- what contracts see of a record table, which has as many places as there can be
-  abbrev pub records_shown : List (Row E) → List ℕ → ℕ → Table E
+  abbrev pub records_shown : List (RecordRow E) → List ℕ → ℕ → Table E
   records_shown rows free given = shown (map place_of rows) free given 4294967295
 
-  abbrev pub AreRecords : List (Row E) → List ℕ → ℕ → ℕ → Type 0
-  AreRecords rows free room given = IsSound (map place_of rows) free room given 4294967295
+  abbrev pub AreRecords : List (RecordRow E) → List ℕ → ℕ → ℕ → Type 0
+  AreRecords rows free room given = IsSoundTable (map place_of rows) free room given 4294967295

@@ -1,12 +1,12 @@
 ghost use Rattle.std.specs.Iterator.{YieldsFirstBy, item_count};
 
-use crate::row::{FREE, Row};
+use crate::row::{FREE, RecordRow};
 use std::marker::Model;
 
 /// The entries of a record table with their places, in order of the place, seen as the list of those that are left.
 #[derive(Drop)]
 pub struct RecordIter<'a, E> {
-    pub(crate) rows: &'a [Row<E>],
+    pub(crate) rows: &'a [RecordRow<E>],
     // The number of the first of `rows`.
     pub(crate) rep: u32,
 }
@@ -17,7 +17,7 @@ impl<'a, E> Model for RecordIter<'a, E> {
     ghost Value = { List (ℕ × E) };
 
     ghost use Rattle.task_table.specs.Entries.{entries_from};
-    ghost use Rattle.task_table.specs.Places.{placed_in};
+    ghost use Rattle.task_table.specs.TableCells.{placed_in};
     ghost use Rattle.record_table.specs.Rows.{place_of};
 
     ghost view = { λ it. entries_from it.rep (map placed_in (map place_of it.rows.now)) };

@@ -2,7 +2,7 @@
 ghost use Rattle.std.specs.Prelude.{◌≡◌, ◌<◌, ◌≤◌, ◌+◌, ◌^◌, [], reverse, drop, map, OnOk, Some, IsSome, length, slice_set, vec_capacity};
 ghost use Rattle.std.specs.Option.{option_copied, option_map};
 ghost use Rattle.task_table.specs.Changes.{next_of, put_at_next};
-ghost use Rattle.task_table.specs.declared.place.Place.TheVariants as place;
+ghost use Rattle.task_table.specs.declared.place.TableCell.TheVariants as place;
 ghost use Rattle.record_table.specs.Rows.{HasRowRoom, NextIsThere, place_of, row_placed, row_shown};
 ghost use Rattle.task_table.specs.Table.{of_serial};
 
@@ -13,7 +13,7 @@ pub(crate) const FREE: u64 = u64::MAX;
 
 /// An entry with the serial of its id. The entry of a free row says nothing.
 #[derive(Clone, Copy)]
-pub(crate) struct Row<E> {
+pub(crate) struct RecordRow<E> {
     /// The serial of the entry's id, or `FREE`.
     pub(crate) serial: u64,
     /// What was pushed last.
@@ -22,7 +22,7 @@ pub(crate) struct Row<E> {
 
 /// The taken row at a place.
 #[inline(always)]
-pub(crate) fn row_at<E>(rows: &Vec<Row<E>>, rep: u32) -> Option<&Row<E>>
+pub(crate) fn row_at<E>(rows: &Vec<RecordRow<E>>, rep: u32) -> Option<&RecordRow<E>>
     ensures { option_map row_placed (option_copied result) ≡ row_shown rows.now.items rep }
 {
     match rows.get(rep as usize) {
@@ -33,7 +33,7 @@ pub(crate) fn row_at<E>(rows: &Vec<Row<E>>, rep: u32) -> Option<&Row<E>>
 
 /// The taken row at a place, if its entry has this serial.
 #[inline(always)]
-pub(crate) fn row_in<E>(rows: &Vec<Row<E>>, rep: u32, serial: u64) -> Option<&Row<E>>
+pub(crate) fn row_in<E>(rows: &Vec<RecordRow<E>>, rep: u32, serial: u64) -> Option<&RecordRow<E>>
     ensures { option_map row_placed (option_copied result) ≡ of_serial serial (row_shown rows.now.items rep) }
 {
     match rows.get(rep as usize) {
@@ -44,7 +44,7 @@ pub(crate) fn row_in<E>(rows: &Vec<Row<E>>, rep: u32, serial: u64) -> Option<&Ro
 
 /// Makes room for one row more, and for freeing it, where no row is free.
 #[inline(always)]
-pub(crate) fn reserve<E>(rows: &mut Vec<Row<E>>, free: &mut Vec<u32>) -> Result<(), AllocError>
+pub(crate) fn reserve<E>(rows: &mut Vec<RecordRow<E>>, free: &mut Vec<u32>) -> Result<(), AllocError>
     requires { length rows.old.items < 2 ^ 32 }
     ensures rows { rows.new.items ≡ rows.old.items }
     ensures free { free.new.items ≡ free.old.items }
@@ -60,7 +60,7 @@ pub(crate) fn reserve<E>(rows: &mut Vec<Row<E>>, free: &mut Vec<u32>) -> Result<
 
 /// Puts a row at the place freed last, else at a new one.
 #[inline(always)]
-pub(crate) fn fill<E: Copy>(rows: &mut Vec<Row<E>>, free: &mut Vec<u32>, row: Row<E>) -> u32
+pub(crate) fn fill<E: Copy>(rows: &mut Vec<RecordRow<E>>, free: &mut Vec<u32>, row: RecordRow<E>) -> u32
     requires room { HasRowRoom rows.old free.old }
     requires free { NextIsThere (reverse free.old.items) rows.old.items }
     requires few { free.old.items ≡ [] → length rows.old.items + 1 < 2 ^ 32 }
@@ -84,7 +84,7 @@ pub(crate) fn fill<E: Copy>(rows: &mut Vec<Row<E>>, free: &mut Vec<u32>, row: Ro
 
 /// Frees a taken row, and gives its entry.
 #[inline(always)]
-pub(crate) fn vacate<E: Copy>(rows: &mut Vec<Row<E>>, rep: u32) -> E
+pub(crate) fn vacate<E: Copy>(rows: &mut Vec<RecordRow<E>>, rep: u32) -> E
     requires { IsSome (row_shown rows.old.items rep) }
     ensures entry { option_map (λ p. p.entry) (row_shown rows.old.items rep) ≡ Some result }
     ensures rows { map place_of rows.new.items ≡ slice_set (map place_of rows.old.items) rep place.Free }

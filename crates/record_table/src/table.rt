@@ -1,14 +1,14 @@
 ghost use Rattle.std.specs.Prelude.{◌≡◌, ◌↔◌, ◌<◌, ◌≤◌, ◌+◌, ◌-◌, ◌==◌, if◌then◌else◌, false, Ok, Some, None, IsOk, IsSome, is_some, length, true, IfSome, IfOk, IfErr, OnOk, OnErr};
 ghost use Rattle.std.specs.Option.{option_and_then, option_copied, option_map};
 ghost use Rattle.std.specs.Borrow.{sem};
-ghost use Rattle.task_table.specs.Answers.{item_at, deletion, result_copied, result_copied_mut};
+ghost use Rattle.task_table.specs.TableAnswers.{item_at, deletion, result_copied, result_copied_mut};
 ghost use Rattle.task_table.specs.Changes.{Adds, Removes, next_place, pushed, deleted, with_capacity};
 ghost use Rattle.task_table.specs.Entries.{entries};
 ghost use Rattle.record_table.specs.Rows.{row_placed};
 ghost use Rattle.task_table.specs.Table.{IsTable, new_table, place_at, found, table_len, is_full};
 
 use crate::iter::RecordIter;
-use crate::row::{Row, fill, reserve, row_at, row_in, vacate};
+use crate::row::{RecordRow, fill, reserve, row_at, row_in, vacate};
 use std::alloc::{AllocError, Global};
 use std::marker::Model;
 use task_table::{Kind, PushError, ResourceTableError, TableId};
@@ -18,7 +18,7 @@ use task_table::{Kind, PushError, ResourceTableError, TableId};
 /// A place is given again, the one freed last first; a serial never is. An id finds the entry at its place where that has its serial. A deleted entry stays in memory until its place is given again. A refused call leaves the table as it was. Each call works in constant time, but for a push that makes room and for the walk of `iter`.
 #[derive(Drop)]
 pub struct RecordTable<E> {
-    rows: Vec<Row<E>>,
+    rows: Vec<RecordRow<E>>,
     // The free rows, the one freed last at the end. It has room for each row.
     free: Vec<u32>,
     // How many serials were given.
@@ -41,7 +41,7 @@ impl<E> Model for RecordTable<E> {
 }
 
 impl<E: Copy> RecordTable<E> {
-    ghost use Rattle.record_table.specs.Lends.{lends_entry, lends_item, lends_known};
+    ghost use Rattle.record_table.specs.LentRecords.{lends_entry, lends_item, lends_known};
 
     /// An empty table, whose places are as many as there can be: 4,294,967,295.
     pub fn new(alloc: Global) -> RecordTable<E>
@@ -64,14 +64,14 @@ impl<E: Copy> RecordTable<E> {
     }
 
     // The row of the entry with this place and serial.
-    fn row(&self, rep: u32, serial: u64) -> Option<&Row<E>>
+    fn row(&self, rep: u32, serial: u64) -> Option<&RecordRow<E>>
         ensures found { option_map row_placed (option_copied result) ≡ found self.now rep serial }
     {
         row_in(&self.rows, rep, serial)
     }
 
     // The taken row at a place.
-    fn taken(&self, rep: u32) -> Option<&Row<E>>
+    fn taken(&self, rep: u32) -> Option<&RecordRow<E>>
         ensures { option_map row_placed (option_copied result) ≡ place_at self.now rep }
     {
         row_at(&self.rows, rep)
@@ -170,7 +170,7 @@ impl<E: Copy> RecordTable<E> {
             });
         }
         let serial = self.given;
-        let row = Row {
+        let row = RecordRow {
             serial,
             entry: K::wrap(item),
         };
@@ -211,7 +211,7 @@ impl<E: Copy> RecordTable<E> {
     }
 
     /// The serial of what is known to stand at a place: nothing is tested.
-    pub fn serial_there(&self, rep: u32) -> u64
+    pub fn serial_unchecked(&self, rep: u32) -> u64
         requires { IsSome (place_at self.now rep) }
         ensures { Some result ≡ option_map (λ p. p.serial) (place_at self.now rep) }
     {
@@ -248,7 +248,7 @@ impl<E: Copy> RecordTable<E> {
     }
 
     /// The item of the entry with this id, which is known to be there, for writing: nothing is tested. After a write the entry is the one that the kind makes of the item written, under the same id.
-    pub fn known_mut<K: Kind<E>>(&mut self, id: TableId<K>) -> &mut K::Item
+    pub fn get_mut_unchecked<K: Kind<E>>(&mut self, id: TableId<K>) -> &mut K::Item
         requires { IsOk (item_at K.item_of self.old id.rep id.serial) }
         ensures* writes_back { sem 𝓛 (lends_known E.row self.entry id.rep K.Item.row K.entry_of result) }
         ensures value { Ok result.now ≡ item_at K.item_of self.old id.rep id.serial }

@@ -1,10 +1,10 @@
 //! Which groups are known.
 ghost use Rattle.std.specs.Prelude.{◌≡◌, ◌<◌};
 ghost use Rattle.record_words.specs.Groups.{HasGroup};
-ghost use Rattle.task_records.specs.Image.{known_in};
-ghost use Rattle.task_records.specs.Seen.{IsSound, parts_of};
+ghost use Rattle.task_records.specs.Image.{tracked_in};
+ghost use Rattle.task_records.specs.Seen.{IsSoundCore, parts_of};
 ghost use Rattle.task_rules.specs.Notices.{is_in};
-ghost use Rattle.task_words.specs.Groups.{if_known};
+ghost use Rattle.task_words.specs.Groups.{if_tracked};
 
 use task_records::CoreParts;
 
@@ -19,10 +19,10 @@ fn has_ended(ended: &[u64], group: u64) -> bool
 
 /// Whether a group that has a record is known.
 #[inline(always)]
-pub(crate) fn is_known(parts: &CoreParts, group: u64) -> bool
-    requires sound { IsSound parts.now }
+pub(crate) fn is_tracked(parts: &CoreParts, group: u64) -> bool
+    requires sound { IsSoundCore parts.now }
     requires record { HasGroup group parts.now }
-    ensures { result ≡ is_in (known_in (parts_of parts.now)) group }
+    ensures { result ≡ is_in (tracked_in (parts_of parts.now)) group }
 {
     if group > parts.finished {
         return true;
@@ -32,10 +32,10 @@ pub(crate) fn is_known(parts: &CoreParts, group: u64) -> bool
 
 /// The number of a group that has a record, as long as that is known: 0 once its end was told.
 #[inline(always)]
-pub(crate) fn if_known(parts: &CoreParts, group: u64) -> u64
-    requires sound { IsSound parts.now }
+pub(crate) fn if_tracked(parts: &CoreParts, group: u64) -> u64
+    requires sound { IsSoundCore parts.now }
     requires record { HasGroup group parts.now }
-    ensures { result ≡ if_known (known_in (parts_of parts.now)) group }
+    ensures { result ≡ if_tracked (tracked_in (parts_of parts.now)) group }
 {
-    if is_known(parts, group) { group } else { 0 }
+    if is_tracked(parts, group) { group } else { 0 }
 }

@@ -1,133 +1,133 @@
 ghost use Rattle.std.specs.Prelude.{◌≡◌};
-ghost use Rattle.task_machine.specs.Read.{caller_of, how_far_of, join_of, work_caller_of};
-ghost use Rattle.task_records.specs.Names.{AtPlace, caller_target, how_far_target, join_target, subtask_target, work_caller_target};
-ghost use Rattle.task_records.specs.Seen.{IsSound, parts_of, seen};
-ghost use Rattle.task_words.specs.Live.{live_caller, live_how_far, live_join, live_subtask, live_work_caller};
-ghost use Rattle.task_words.specs.Names.{caller_in, how_far_in, join_in, subtask_in, work_caller_in};
+ghost use Rattle.task_machine.specs.Read.{caller_of, op_progress_of, join_of, work_caller_of};
+ghost use Rattle.task_records.specs.Names.{AtPlace, caller_target, op_progress_target, join_target, subtask_target, work_caller_target};
+ghost use Rattle.task_records.specs.Seen.{IsSoundCore, parts_of, seen};
+ghost use Rattle.task_words.specs.Live.{live_caller, live_op_progress, live_join, live_subtask, live_work_caller};
+ghost use Rattle.task_words.specs.Names.{caller_in, op_progress_in, join_in, subtask_in, work_caller_in};
 ghost use Rattle.task_words.specs.StateView.{call_of, thread_of, work_of};
 
-use task_machine::{Caller, HowFar, Join, Subtask, WorkCaller};
-use task_records::{CoreParts, named_call, named_set, named_thread, named_work};
-use task_words::{CallId, CallerId, HowFarId, JoinId, SubtaskId, ThreadId, WorkCallerId, WorkId};
+use task_machine::{Caller, OpProgress, Join, Subtask, WorkCaller};
+use task_records::{CoreParts, call_id_at, set_id_at, thread_id_at, work_id_at};
+use task_words::{CallId, CallerId, OpProgressId, JoinId, SubtaskId, ThreadId, WorkCallerId, WorkId};
 
 // The subtask of a name that was kept with a place.
-fn named_subtask(parts: &CoreParts, place: u32, subtask: Subtask) -> SubtaskId
-    requires sound { IsSound parts.now }
+fn subtask_id_of(parts: &CoreParts, place: u32, subtask: Subtask) -> SubtaskId
+    requires sound { IsSoundCore parts.now }
     requires at { AtPlace (parts_of parts.now) place (subtask_target subtask) }
     ensures { subtask_in (seen parts.now).tags result ≡ live_subtask subtask (seen parts.now).core }
 {
     match subtask {
-        Subtask::Guest { call } => SubtaskId::Guest(named_call(parts, place, call)),
-        Subtask::Host { work } => SubtaskId::Host(named_work(parts, place, work)),
+        Subtask::Guest { call } => SubtaskId::Guest(call_id_at(parts, place, call)),
+        Subtask::Host { work } => SubtaskId::Host(work_id_at(parts, place, work)),
     }
 }
 
 #[inline(always)]
-fn named_how_far(parts: &CoreParts, place: u32, how_far: HowFar) -> HowFarId
-    requires sound { IsSound parts.now }
-    requires at { AtPlace (parts_of parts.now) place (how_far_target how_far) }
-    ensures { how_far_in (seen parts.now).tags result ≡ live_how_far how_far (seen parts.now).core }
+fn op_progress_id(parts: &CoreParts, place: u32, op_progress: OpProgress) -> OpProgressId
+    requires sound { IsSoundCore parts.now }
+    requires at { AtPlace (parts_of parts.now) place (op_progress_target op_progress) }
+    ensures { op_progress_in (seen parts.now).tags result ≡ live_op_progress op_progress (seen parts.now).core }
 {
-    match how_far {
-        HowFar::Fresh => HowFarId::Fresh,
-        HowFar::Waits { set } => HowFarId::Waits(named_set(parts, place, set)),
-        HowFar::Calls { subtask } => HowFarId::Calls(named_subtask(parts, place, subtask)),
-        HowFar::Answered { value } => HowFarId::Answered(value),
-        HowFar::Cancels { subtask } => HowFarId::Cancels(named_subtask(parts, place, subtask)),
-        HowFar::AwaitsEnd { subtask } => HowFarId::AwaitsEnd(named_subtask(parts, place, subtask)),
-        HowFar::Suspends => HowFarId::Suspends,
-        HowFar::Yields => HowFarId::Yields,
+    match op_progress {
+        OpProgress::Fresh => OpProgressId::Fresh,
+        OpProgress::Waits { set } => OpProgressId::Waits(set_id_at(parts, place, set)),
+        OpProgress::Calls { subtask } => OpProgressId::Calls(subtask_id_of(parts, place, subtask)),
+        OpProgress::Answered { value } => OpProgressId::Answered(value),
+        OpProgress::Cancels { subtask } => OpProgressId::Cancels(subtask_id_of(parts, place, subtask)),
+        OpProgress::AwaitsEnd { subtask } => OpProgressId::AwaitsEnd(subtask_id_of(parts, place, subtask)),
+        OpProgress::Suspends => OpProgressId::Suspends,
+        OpProgress::Yields => OpProgressId::Yields,
     }
 }
 
 /// How far the op at a thread's position has come.
 #[inline(always)]
-pub fn how_far(parts: &CoreParts, thread: ThreadId) -> HowFarId
-    requires { IsSound parts.now }
-    ensures { how_far_in (seen parts.now).tags result ≡ live_how_far (how_far_of (thread_of (seen parts.now) thread) (seen parts.now).core) (seen parts.now).core }
+pub fn op_progress(parts: &CoreParts, thread: ThreadId) -> OpProgressId
+    requires { IsSoundCore parts.now }
+    ensures { op_progress_in (seen parts.now).tags result ≡ live_op_progress (op_progress_of (thread_of (seen parts.now) thread) (seen parts.now).core) (seen parts.now).core }
 {
     match task_records::thread(parts, thread) {
-        Some(entry) => named_how_far(parts, entry.awaited, entry.thread.how_far),
-        None => HowFarId::Fresh,
+        Some(entry) => op_progress_id(parts, entry.awaited, entry.thread.op_progress),
+        None => OpProgressId::Fresh,
     }
 }
 
-fn named_caller(parts: &CoreParts, place: u32, caller: Caller) -> CallerId
-    requires sound { IsSound parts.now }
+fn caller_id(parts: &CoreParts, place: u32, caller: Caller) -> CallerId
+    requires sound { IsSoundCore parts.now }
     requires at { AtPlace (parts_of parts.now) place (caller_target caller) }
     ensures { caller_in (seen parts.now).tags result ≡ live_caller caller (seen parts.now).core }
 {
     match caller {
         Caller::Main => CallerId::Main,
-        Caller::Thread { thread } => CallerId::Thread(named_thread(parts, place, thread)),
+        Caller::Thread { thread } => CallerId::Thread(thread_id_at(parts, place, thread)),
     }
 }
 
 /// Who made a call.
 pub fn caller(parts: &CoreParts, call: CallId) -> CallerId
-    requires { IsSound parts.now }
+    requires { IsSoundCore parts.now }
     ensures { caller_in (seen parts.now).tags result ≡ live_caller (caller_of (call_of (seen parts.now) call) (seen parts.now).core) (seen parts.now).core }
 {
     match task_records::call(parts, call) {
-        Some(entry) => named_caller(parts, entry.maker, entry.call.caller),
+        Some(entry) => caller_id(parts, entry.maker, entry.call.caller),
         None => CallerId::Main,
     }
 }
 
-fn named_work_caller(parts: &CoreParts, place: u32, caller: WorkCaller) -> WorkCallerId
-    requires sound { IsSound parts.now }
+fn work_caller_id(parts: &CoreParts, place: u32, caller: WorkCaller) -> WorkCallerId
+    requires sound { IsSoundCore parts.now }
     requires at { AtPlace (parts_of parts.now) place (work_caller_target caller) }
     ensures { work_caller_in (seen parts.now).tags result ≡ live_work_caller caller (seen parts.now).core }
 {
     match caller {
         WorkCaller::Spawn => WorkCallerId::Spawn,
         WorkCaller::Async { thread, register } => WorkCallerId::Async {
-            thread: named_thread(parts, place, thread),
+            thread: thread_id_at(parts, place, thread),
             register,
         },
-        WorkCaller::Sync { thread } => WorkCallerId::Sync(named_thread(parts, place, thread)),
+        WorkCaller::Sync { thread } => WorkCallerId::Sync(thread_id_at(parts, place, thread)),
     }
 }
 
 /// Who made a host work.
 pub fn work_caller(parts: &CoreParts, work: WorkId) -> WorkCallerId
-    requires { IsSound parts.now }
+    requires { IsSoundCore parts.now }
     ensures { work_caller_in (seen parts.now).tags result ≡ live_work_caller (work_caller_of (work_of (seen parts.now) work) (seen parts.now).core) (seen parts.now).core }
 {
     match task_records::work(parts, work) {
-        Some(entry) => named_work_caller(parts, entry.maker, entry.work.caller),
+        Some(entry) => work_caller_id(parts, entry.maker, entry.work.caller),
         None => WorkCallerId::Spawn,
     }
 }
 
-fn named_join(parts: &CoreParts, place: u32, join: Join) -> JoinId
-    requires sound { IsSound parts.now }
+fn join_id(parts: &CoreParts, place: u32, join: Join) -> JoinId
+    requires sound { IsSoundCore parts.now }
     requires at { AtPlace (parts_of parts.now) place (join_target join) }
     ensures { join_in (seen parts.now).tags result ≡ live_join join (seen parts.now).core }
 {
     match join {
         Join::Nowhere => JoinId::Nowhere,
-        Join::Set { set } => JoinId::Set(named_set(parts, place, set)),
-        Join::Watched { thread } => JoinId::Watched(named_thread(parts, place, thread)),
+        Join::Set { set } => JoinId::Set(set_id_at(parts, place, set)),
+        Join::Watched { thread } => JoinId::Watched(thread_id_at(parts, place, thread)),
     }
 }
 
 fn call_join(parts: &CoreParts, call: CallId) -> JoinId
-    requires { IsSound parts.now }
+    requires { IsSoundCore parts.now }
     ensures { join_in (seen parts.now).tags result ≡ live_join (join_of (subtask_in (seen parts.now).tags (SubtaskId.Guest call)) (seen parts.now).core) (seen parts.now).core }
 {
     match task_records::call(parts, call) {
-        Some(entry) => named_join(parts, entry.joined, entry.call.join),
+        Some(entry) => join_id(parts, entry.joined, entry.call.join),
         None => JoinId::Nowhere,
     }
 }
 
 fn work_join(parts: &CoreParts, work: WorkId) -> JoinId
-    requires { IsSound parts.now }
+    requires { IsSoundCore parts.now }
     ensures { join_in (seen parts.now).tags result ≡ live_join (join_of (subtask_in (seen parts.now).tags (SubtaskId.Host work)) (seen parts.now).core) (seen parts.now).core }
 {
     match task_records::work(parts, work) {
-        Some(entry) => named_join(parts, entry.joined, entry.work.join),
+        Some(entry) => join_id(parts, entry.joined, entry.work.join),
         None => JoinId::Nowhere,
     }
 }
@@ -135,7 +135,7 @@ fn work_join(parts: &CoreParts, work: WorkId) -> JoinId
 /// In which set a subtask is.
 #[inline(always)]
 pub fn join(parts: &CoreParts, subtask: SubtaskId) -> JoinId
-    requires { IsSound parts.now }
+    requires { IsSoundCore parts.now }
     ensures { join_in (seen parts.now).tags result ≡ live_join (join_of (subtask_in (seen parts.now).tags subtask) (seen parts.now).core) (seen parts.now).core }
 {
     match subtask {

@@ -1,6 +1,6 @@
 -- Parts without one call, of which no thread is left and which is in no set: they are whole.
-use Rattle.task_records.proofs.Core.{ap, AreChained, AreCounted, arith, BlockedOn, Bool, Call, call_key, calls_of, cases_eq, cond, core_of, deleted, EachEntry, entry_of, false, filings, filter, get, get-remove, group_key, HasHome, HasNumber, HeldIn, inl, inr, is_in_set, IsCallNamed, IsGroupKept, IsWhole, IsWorkNamed, item_at, item_of, Join, key_in, kinds, length, List, nat_lt, ne_eqb, no_callee, None, number_in, Ok, one_if_passes, option_map_or, Parts, passing, passing-with_at, place_at, place_at-deleted, place_chain, place_filing, Placed, ready_call, ready_call_chain, ready_in, record_at, Records, refl, remove, Some, SoundTable, Spot, subst, Subtask, sym, Table, table_use, ThreadOf, true, UnderOf, WaitsOn, Where, ℕ, ◌+◌, ◌==◌, ◌∙◌, ◌≡◌, ◌⊎◌, StartsIn, is_sync, not, ◌||◌, ExportKind, Option}
-use Rattle.task_records.specs.declared.{calls.GuestTask.GuestTask, calls.TaskGroup.TaskGroup, parts.Kept.Kept, single.Single.Single, threads.GuestThread.GuestThread, works.HostWork.HostWork}
+use Rattle.task_records.proofs.Core.{ap, AreChained, AreCounted, arith, BlockedOn, Bool, Call, call_key, calls_of, cases_eq, cond, core_of, deleted, EachEntry, entry_of, false, filings, filter, get, get-remove, group_key, HasHome, HasNumber, HeldIn, inl, inr, is_in_set, IsCallNamed, IsGroupKept, IsWhole, IsWorkNamed, item_at, item_of, Join, key_in, kinds, length, List, nat_lt, ne_eqb, no_callee, None, number_in, Ok, one_if_passes, option_map_or, CoreImage, passing, passing-with_at, place_at, place_at-deleted, place_chain, place_filing, Placed, ready_call, ready_call_chain, ready_in, record_at, Records, refl, remove, Some, SoundTable, Spot, subst, Subtask, sym, Table, table_use, ThreadOf, true, UnderOf, WaitsOn, Where, ℕ, ◌+◌, ◌==◌, ◌∙◌, ◌≡◌, ◌⊎◌, StartsIn, is_sync, not, ◌||◌, ExportKind, Option}
+use Rattle.task_records.specs.declared.{call_records.GuestTask.GuestTask, call_records.TaskGroup.TaskGroup, parts.CachedCounts.CachedCounts, single.Single.Single, thread_records.GuestThread.GuestThread, work_records.WorkRecord.WorkRecord}
 use Rattle.place_words.proofs.AlikeLemmas.{number_alike}
 use Rattle.place_words.proofs.FiledLemmas.{kept_under}
 use Rattle.place_words.specs.Moved.{Alike}
@@ -12,8 +12,8 @@ use Rattle.removal_words.specs.Chains.{Closes, Drops}
 use Rattle.removal_words.specs.Counted.{uncalled}
 use Rattle.task_records.proofs.KindLemmas.{absent, item_number, item_read, item_stands}
 use Rattle.task_records.proofs.MakeLemmas.{records_less, stands_less}
-use Rattle.table_order.specs.declared.seat_links.Seat.{Seat}
-use Rattle.task_records.specs.Places.{member_seat}
+use Rattle.table_order.specs.declared.ordered_lists.OrderKey.{OrderKey}
+use Rattle.task_records.specs.RecordPlaces.{member_order_key}
 
 abbrev number : GuestTask → ℕ
 number g = g.number
@@ -21,7 +21,7 @@ number g = g.number
 abbrev machine : GuestTask → Call
 machine g = g.call
 
-module _ (p : Parts) (whole : IsWhole p) (made : ℕ) (sound : SoundTable call_key p.calls made) (rep serial : ℕ) (g : GuestTask) (is : Ok g ≡ item_at item_of p.calls rep serial) where
+module _ (p : CoreImage) (whole : IsWhole p) (made : ℕ) (sound : SoundTable call_key p.calls made) (rep serial : ℕ) (g : GuestTask) (is : Ok g ≡ item_at item_of p.calls rep serial) where
   stands : (q : Placed (Single GuestTask)) × ((place_at p.calls rep ≡ Some q) × ((q.serial ≡ serial) × (q.entry ≡ entry_of g)))
   stands = item_stands number machine p.calls made sound rep serial g is
 
@@ -30,8 +30,8 @@ module _ (p : Parts) (whole : IsWhole p) (made : ℕ) (sound : SoundTable call_k
 
   -- ---- The parts without it, with one call less of its group
 
-  module _ (groups : Table (Single TaskGroup)) (alike : Alike uncalled groups p.groups) (places ready_calls : List (Spot Seat)) (kept : Kept) where
-    abbrev pub less : Parts
+  module _ (groups : Table (Single TaskGroup)) (alike : Alike uncalled groups p.groups) (places ready_calls : List (Spot OrderKey)) (kept : CachedCounts) where
+    abbrev pub less : CoreImage
     less = record p { calls = deleted rep p.calls; groups = groups; places = places; ready_calls = ready_calls; kept = kept }
 
     calls_less : (core_of less).calls ≡ remove (core_of p).calls g.number
@@ -64,7 +64,7 @@ module _ (p : Parts) (whole : IsWhole p) (made : ℕ) (sound : SoundTable call_k
     call_left : (x : GuestTask) → IsCallNamed p x → IsCallNamed less x
     call_left x named = record { caller = named_left (kinds p) (kinds less) left x.maker _ named.caller; first = named_left (kinds p) (kinds less) left x.first (ThreadOf x.number) named.first; join = named_left (kinds p) (kinds less) left x.joined _ named.join; group = group_left x.group x.call.group named.group; positive = named.positive }
 
-    work_left : (w : HostWork) → IsWorkNamed p w → IsWorkNamed less w
+    work_left : (w : WorkRecord) → IsWorkNamed p w → IsWorkNamed less w
     work_left w named = record { caller = named_left (kinds p) (kinds less) left w.maker _ named.caller; join = named_left (kinds p) (kinds less) left w.joined _ named.join; group = λ n at. let one = named.group n at in (group_left w.group n one.0, one.1) }
 
     -- another call is there still
@@ -85,7 +85,7 @@ module _ (p : Parts) (whole : IsWhole p) (made : ℕ) (sound : SoundTable call_k
       barred = ap (λ (o : Option Call). not (h.thread.explicit || is_sync (option_map_or (λ (d : Call). d.kind) o ExportKind.Callback))) (get_other h.thread.call other) ∙ home.barred;
       within = home.within;
       place = named_left (kinds p) (kinds less) left h.beside _ home.place;
-      how_far = named_left (kinds p) (kinds less) left h.awaited _ home.how_far;
+      op_progress = named_left (kinds p) (kinds less) left h.awaited _ home.op_progress;
     }
 
     blocked_is : place_chain p (BlockedOn (Subtask.Guest g.number)) ≡ Some g.blocked
@@ -109,13 +109,13 @@ module _ (p : Parts) (whole : IsWhole p) (made : ℕ) (sound : SoundTable call_k
       chained_left : AreChained less
       chained_left = record {
         places = IsIndex-shut (place_chain p) (place_chain less) p.places places (BlockedOn (Subtask.Guest g.number)) g.blocked blocked_is (found_gone number machine p.calls made sound rep serial g is (λ (x : GuestTask). x.blocked)) place_else shut (filings place_filing p.threads) whole.chained.places;
-        ready_calls = IsIndex-gone ready_call (ready_call_chain less) p.calls rep stands.0 stands.1.0 (record { node = stands.0.entry.item.ready.index; key = ready_in stands.0.entry.item.call.event stands.0.entry.item.call.join; value = member_seat stands.0.entry.item.entry rep }) refl p.ready_calls ready_calls
+        ready_calls = IsIndex-gone ready_call (ready_call_chain less) p.calls rep stands.0 stands.1.0 (record { node = stands.0.entry.item.ready.index; key = ready_in stands.0.entry.item.call.event stands.0.entry.item.call.join; value = member_order_key stands.0.entry.item.entry rep }) refl p.ready_calls ready_calls
             (subst (λ (e : Single GuestTask). Drops p.ready_calls ready_calls e.item.ready.index) (sym stands.1.1.1) ready_out) whole.chained.ready_calls;
         ready_works = whole.chained.ready_works;
         polled = whole.chained.polled;
         rising = whole.chained.rising;
         marks = whole.chained.marks;
-        shelves = whole.chained.shelves;
+        instance_queues = whole.chained.instance_queues;
         low = whole.chained.low;
         behind = whole.chained.behind;
       }
@@ -168,6 +168,6 @@ module _ (p : Parts) (whole : IsWhole p) (made : ℕ) (sound : SoundTable call_k
           switch = whole.named.switch;
         };
         chained = chained_left;
-        nodes = record { marks = whole.nodes.marks; shelves = whole.nodes.shelves; callers = whole.nodes.callers; works = whole.nodes.works; apart = whole.nodes.apart };
+        nodes = record { marks = whole.nodes.marks; instance_queues = whole.nodes.instance_queues; callers = whole.nodes.callers; works = whole.nodes.works; apart = whole.nodes.apart };
         counted = counted_left;
       }

@@ -1,6 +1,6 @@
 -- A call is gone, as the word takes it away.
-use Rattle.task_records.proofs.Core.{ap, ap₂, AreHandlesNamed, arith, bare, bare_call, bare_thread, BlockedOn, Call, call_group, call_key, call_of, calls_of, cond, Core, core_of, deleted, EachEntry, entry_of, eq-eqb, false, filings_at, filter, get, group_key, GroupKey, GuestTaskKey, has_thread, is_made, IsGroupKept, IsSome, IsSound, IsTable, IsWhole, item_at, item_of, Join, join_of, KeepsBut, kinds, List, list_of, loose_call, lost_call, mapped-deleted, nat_lt, ne_eqb, None, number_of, Ok, on_item, one_if_passes, option_map_or, Parts, parts_of, passing, passing-with_at, place_at, Placed, ready_call, Records, records, refl, remove, remove_call, seen, set_number, Some, SoundTable, Spot, subst, Subtask, sym, Table, table_use, TableId, Thread, thread_number, true, uninterested, with_entry, work_number, ℕ, ◌+◌, ◌-◌, ◌<◌, ◌==◌, ◌∙◌, ◌≡◌, ◌≤◌, numbers, known_of}
-use Rattle.task_records.specs.declared.{calls.GuestTask.GuestTask, calls.TaskGroup.TaskGroup, parts.CoreParts.CoreParts, parts.Kept.Kept, single.Single.Single, threads.GuestThread.GuestThread}
+use Rattle.task_records.proofs.Core.{ap, ap₂, AreHandlesNamed, arith, bare, bare_call, bare_thread, BlockedOn, Call, call_group, call_key, call_of, calls_of, cond, Core, core_of, deleted, EachEntry, entry_of, eq-eqb, false, filings_at, filter, get, group_key, GroupKey, GuestTaskKey, has_thread, is_made, IsGroupKept, IsSome, IsSoundCore, IsTable, IsWhole, item_at, item_of, Join, join_of, KeepsBut, kinds, List, list_of, loose_call, lost_call, mapped-deleted, nat_lt, ne_eqb, None, number_of, Ok, on_item, one_if_passes, option_map_or, CoreImage, parts_of, passing, passing-with_at, place_at, Placed, ready_call, Records, records, refl, remove, remove_call, seen, set_number, Some, SoundTable, Spot, subst, Subtask, sym, Table, table_use, TableId, Thread, thread_number, true, uninterested, with_entry, work_number, ℕ, ◌+◌, ◌-◌, ◌<◌, ◌==◌, ◌∙◌, ◌≡◌, ◌≤◌, numbers, tracked_of}
+use Rattle.task_records.specs.declared.{call_records.GuestTask.GuestTask, call_records.TaskGroup.TaskGroup, parts.CoreParts.CoreParts, parts.CachedCounts.CachedCounts, single.Single.Single, thread_records.GuestThread.GuestThread}
 use Rattle.place_words.proofs.AlikeLemmas.{number_of_alike}
 use Rattle.place_words.proofs.FiledLemmas.{kept_under}
 use Rattle.place_words.specs.Moved.{Alike}
@@ -15,11 +15,11 @@ use Rattle.removal_words.specs.Chains.{Closes, Drops}
 use Rattle.removal_words.specs.Counted.{uncalled}
 use Rattle.task_records.proofs.HomeLemmas.{call_names}
 use Rattle.std.specs.Prelude.{vec_capacity}
-use Rattle.task_records.proofs.KnownLemmas.{ended_alike}
+use Rattle.task_records.proofs.TrackedLemmas.{ended_alike}
 use Rattle.task_records.proofs.KindLemmas.{item_number, item_read, item_stands, table_written}
 use Rattle.task_records.proofs.MakeLemmas.{number_left, records_less, table_less}
 use Rattle.task_records.proofs.ReadLemmas.{call_named, call_read, call_shown}
-use Rattle.table_order.specs.declared.seat_links.Seat.{Seat}
+use Rattle.table_order.specs.declared.ordered_lists.OrderKey.{OrderKey}
 
 abbrev number : GuestTask → ℕ
 number g = g.number
@@ -33,16 +33,16 @@ group_number r = r.number
 abbrev group_calls : TaskGroup → ℕ
 group_calls r = r.calls
 
-module _ (a : CoreParts) (sound : IsSound a) (id : TableId GuestTaskKey) (g : GuestTask) (is : Ok g ≡ item_at item_of a.calls id.rep id.serial) where
-  abbrev bared : Parts
+module _ (a : CoreParts) (sound : IsSoundCore a) (id : TableId GuestTaskKey) (g : GuestTask) (is : Ok g ≡ item_at item_of a.calls id.rep id.serial) where
+  abbrev bared : CoreImage
   bared = bare (parts_of a)
 
   whole : IsWhole bared
-  unfolding IsSound
+  unfolding IsSoundCore
   whole = sound.whole
 
   calls_sound : SoundTable call_key bared.calls a.made.threads
-  unfolding IsSound
+  unfolding IsSoundCore
   calls_sound = sound_mapped number machine bare_call (λ c. uninterested (loose_call c)) (λ x. refl) (λ x. refl) a.calls a.made.threads sound.tables.calls
 
   bare_is : Ok (bare_call g) ≡ item_at item_of bared.calls id.rep id.serial
@@ -74,11 +74,11 @@ module _ (a : CoreParts) (sound : IsSound a) (id : TableId GuestTaskKey) (g : Gu
 
   -- what is counted of the calls
   calls_map : records call_key (deleted id.rep a.calls).places ≡ remove (records call_key a.calls.places) g.number
-  unfolding IsSound
+  unfolding IsSoundCore
   calls_map = records_less number machine a.calls a.made.threads sound.tables.calls id.rep id.serial g is
 
   interest : passing (λ (c : Call). c.interesting) (records call_key (deleted id.rep a.calls).places) + cond g.call.interesting 1 0 ≡ passing (λ (c : Call). c.interesting) (records call_key a.calls.places)
-  unfolding IsSound
+  unfolding IsSoundCore
   interest =
       let law = passing-with_at (λ (c : Call). c.interesting) (records call_key a.calls.places) g.number None in
       let map = ap (passing (λ (c : Call). c.interesting)) calls_map in
@@ -87,12 +87,12 @@ module _ (a : CoreParts) (sound : IsSound a) (id : TableId GuestTaskKey) (g : Gu
       omega arith
 
   pub interest_counted : cond g.call.interesting 1 0 ≤ a.kept.interesting
-  unfolding IsSound seen
+  unfolding IsSoundCore seen
   interest_counted = let law = interest in let all = sound.interesting in omega arith
 
   module _ (group : TableId GroupKey) (r : TaskGroup) (is_r : Ok r ≡ item_at item_of a.groups group.rep group.serial) (of : r.number ≡ g.call.group) where
     groups_sound : SoundTable group_key a.groups a.made.groups
-    unfolding IsSound
+    unfolding IsSoundCore
     groups_sound = sound.tables.groups
 
     abbrev pub group_less : TaskGroup
@@ -120,21 +120,21 @@ module _ (a : CoreParts) (sound : IsSound a) (id : TableId GuestTaskKey) (g : Gu
       nowhere = ap (λ o. option_map_or (λ (c : Call). c.join) o Join.Nowhere) (call_read a sound id g is) ∙ apart
 
       each_apart : EachEntry (λ (h : GuestThread). h.thread.call ≡ g.number → ⊥) bared.threads
-      unfolding IsSound seen has_thread
+      unfolding IsSoundCore seen has_thread
       each_apart r q at same =
           let one = mapped_place (on_item bare_thread) a.threads r q at in
           passes_not (λ (t : Thread). t.call == call_of (seen a) id) (seen a).core.threads alone one.0.entry.item.number one.0.entry.item.thread
           (read_at (λ (h : GuestThread). h.number) (λ (h : GuestThread). h.thread) a.threads a.made.threads sound.tables.threads r one.0 one.1.0)
           (eq-eqb one.0.entry.item.thread.call (call_of (seen a) id) (ap (λ (e : Single GuestThread). e.item.thread.call) one.1.1 ∙ (same ∙ named)))
 
-      module _ (places ready_calls : List (Spot Seat)) (shut : Closes a.places places g.blocked) (ready_out : Drops a.ready_calls ready_calls g.ready.index) (interesting : ℕ) (still : interesting + cond g.call.interesting 1 0 ≡ a.kept.interesting) where
+      module _ (places ready_calls : List (Spot OrderKey)) (shut : Closes a.places places g.blocked) (ready_out : Drops a.ready_calls ready_calls g.ready.index) (interesting : ℕ) (still : interesting + cond g.call.interesting 1 0 ≡ a.kept.interesting) where
         abbrev pub call_removed : CoreParts
         call_removed = record a { calls = deleted id.rep a.calls; groups = groups_less; places = places; ready_calls = ready_calls; kept = record a.kept { used = a.kept.used - 1; interesting = interesting } }
 
-        abbrev bare_kept : Kept
+        abbrev bare_kept : CachedCounts
         bare_kept = record a.kept { used = a.kept.used - 1; interesting = 0; moving = 0 }
 
-        abbrev gone : Parts
+        abbrev gone : CoreImage
         gone = less bared whole a.made.threads calls_sound id.rep id.serial (bare_call g) bare_is groups_less alike places ready_calls bare_kept
 
         bare_gone : bare (parts_of call_removed) ≡ gone
@@ -166,8 +166,8 @@ module _ (a : CoreParts) (sound : IsSound a) (id : TableId GuestTaskKey) (g : Gu
         live_same : filter (nat_lt a.finished) (numbers (records group_key groups_less.places)) ≡ filter (nat_lt a.finished) (numbers (records group_key a.groups.places))
         live_same = ap (filter (nat_lt a.finished)) (numbers_alike groups_less a.groups alike)
 
-        sound_without : IsTable (deleted id.rep a.calls) → IsSound call_removed
-        unfolding IsSound seen
+        sound_without : IsTable (deleted id.rep a.calls) → IsSoundCore call_removed
+        unfolding IsSoundCore seen
         sound_without table = record {
           tables = record {
             threads = sound.tables.threads;
@@ -179,7 +179,7 @@ module _ (a : CoreParts) (sound : IsSound a) (id : TableId GuestTaskKey) (g : Gu
           whole = subst IsWhole (sym bare_gone) gone_whole;
           interesting = let law = interest in let all = sound.interesting in let less = still in omega arith;
           moving = sound.moving;
-          handles = λ i q at. subst (λ (p : Parts). AreHandlesNamed (kinds p) q) (sym bare_gone) (handles_left (kinds bared) (kinds gone) (left bared whole a.made.threads calls_sound id.rep id.serial (bare_call g) bare_is groups_less alike places ready_calls bare_kept) q (sound.handles i q at));
+          handles = λ i q at. subst (λ (p : CoreImage). AreHandlesNamed (kinds p) q) (sym bare_gone) (handles_left (kinds bared) (kinds gone) (left bared whole a.made.threads calls_sound id.rep id.serial (bare_call g) bare_is groups_less alike places ready_calls bare_kept) q (sound.handles i q at));
           owned = sound.owned;
           live = sound.live;
           ended = ended_alike a.ended.items (vec_capacity a.ended) _ _ a.made.groups live_same sound.ended;
@@ -193,19 +193,19 @@ module _ (a : CoreParts) (sound : IsSound a) (id : TableId GuestTaskKey) (g : Gu
         core_without = ap₂ with_maps (calls_map ∙ ap (remove (records call_key a.calls.places)) named) (ap (filter (nat_lt a.finished)) (numbers_alike groups_less a.groups alike))
 
         tags_without : KeepsBut (lost_call (call_of (seen a) id)) (seen a).tags (seen call_removed).tags
-        unfolding seen IsSound set_number work_number thread_number
+        unfolding seen IsSoundCore set_number work_number thread_number
         tags_without = record {
           threads = λ t other. refl;
           calls = λ k other. call_shown call_removed k ∙ (number_left number machine a.calls a.made.threads sound.tables.calls id.rep id.serial g is k.rep k.serial (λ same. other (call_shown a k ∙ (same ∙ named))) ∙ sym (call_shown a k));
           sets = λ x other. refl;
           works = λ w other. refl;
           gone = λ t none. none;
-          same = ap (λ gs. known_of a.ended.items gs a.made.groups) live_same;
+          same = ap (λ gs. tracked_of a.ended.items gs a.made.groups) live_same;
         }
 
         module _ (calls : Table (Single GuestTask)) (are : calls ≡ deleted id.rep a.calls) where
-          pub removed_sound : IsTable calls → IsSound (record call_removed { calls = calls })
-          removed_sound table = subst (λ (t : Table (Single GuestTask)). IsSound (record call_removed { calls = t })) (sym are) (sound_without (subst (λ (t : Table (Single GuestTask)). IsTable t) are table))
+          pub removed_sound : IsTable calls → IsSoundCore (record call_removed { calls = calls })
+          removed_sound table = subst (λ (t : Table (Single GuestTask)). IsSoundCore (record call_removed { calls = t })) (sym are) (sound_without (subst (λ (t : Table (Single GuestTask)). IsTable t) are table))
 
           pub removed_core : (seen (record call_removed { calls = calls })).core ≡ remove_call (call_of (seen a) id) (seen a).core
           removed_core = ap (λ (t : Table (Single GuestTask)). (seen (record call_removed { calls = t })).core) are ∙ core_without

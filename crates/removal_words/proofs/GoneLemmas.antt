@@ -1,6 +1,6 @@
 -- A record goes with its node, or a key with its chain: what is left of an index, and of rows.
 use Rattle.task_records.proofs.Core.{[], ap, Bool, cases_eq, deleted, Each, false, Filing, filings, filings-deleted_here, filings-deleted_other, filings_at, FreeNode, inl, inr, IsAscending, IsIndex, IsRows, IsRows-renamed, IsSome, link_of, List, list_any, list_of, list_or_nil, live_order, None, Option, option_and_then, option_map, place_at, Placed, refl, Renames, Rises, same_Some, Some, Spot, spot_at, spot_is_made, spot_link, spot_list, subst, sym, Table, true, Unmade, ℕ, ◌||◌, ◌∙◌, ◌∷◌, ◌≡◌, ◌⊎◌}
-use Rattle.task_records.specs.declared.{works.LiveWork.LiveWork}
+use Rattle.task_records.specs.declared.{work_records.LiveWork.LiveWork}
 use Rattle.removal_words.proofs.CloseLemmas.{link_gone, link_left, link_other}
 use Rattle.removal_words.specs.Chains.{Closes, Drops, link_but}
 

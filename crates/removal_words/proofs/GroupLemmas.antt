@@ -1,6 +1,6 @@
 -- The numbers of groups, where one has another count or is gone.
 use Rattle.task_records.proofs.Core.{[], ap, arith, Bool, cond, eqb-true, false, filter, get, group_key, has, is_some, IsMembers-filter, IsMembers-numbers, length, List, map, nat_lt, not, numbers, on_item, Once, other_than, Records, records, refl, remove, Some, sym, Table, true, unsigned_tied, ℕ, ◌&&◌, ◌+◌, ◌==◌, ◌||◌, ◌∙◌, ◌∷◌, ◌≡◌}
-use Rattle.task_records.specs.declared.{calls.TaskGroup.TaskGroup, single.Single.Single}
+use Rattle.task_records.specs.declared.{call_records.TaskGroup.TaskGroup, single.Single.Single}
 use Rattle.place_words.specs.Moved.{Alike}
 use Rattle.removal_words.specs.Counted.{uncalled}
 use Rattle.task_records.proofs.KeptLemmas.{records_seconds, seconds}

@@ -1,6 +1,6 @@
 -- A call or a host work that leaves its set, or has ended, as far as its removal sees.
 use Rattle.task_records.proofs.Core.{ap, Call, call_group, change, Core, get, get-change_same, group_key, group_settled, GroupKey, has_thread, Join, join_of, None, number_of, on_call, on_work, Option, option_and_then, option_map, option_map_or, Records, refl, remove-change_same, remove_call, remove_work, set_join, set_stage, settle_group_of, Some, Stage, stage_of, Subtask, sym, Table, TableId, Work, work_deleted, work_group, ℕ, ◌<◌, ◌∙◌, ◌≡◌}
-use Rattle.task_records.specs.declared.{calls.TaskGroup.TaskGroup, single.Single.Single}
+use Rattle.task_records.specs.declared.{call_records.TaskGroup.TaskGroup, single.Single.Single}
 use Rattle.removal_words.specs.Counted.{IsNamedBy}
 use Rattle.task_machine.proofs.CommuteLemmas.{insert-present}
 use Rattle.task_machine.specs.Maps.{changed, insert}

@@ -1,6 +1,6 @@
 -- What is left of the named where a record is gone: each stands where it stood.
-use Rattle.task_records.proofs.Core.{AreHandlesNamed, call_key, CallOf, HandleKind, IsHeldNamed, IsNamedAt, Kinds, Made, Nothing, Rep, set_key, SetOf, StandsAt, subst, Target, thread_key, ThreadOf, WaitableKind, work_key, WorkOf, ℕ, ◌≡◌, ◌≤◌}
-use Rattle.task_records.specs.declared.{instances.InstanceRecord.InstanceRecord}
+use Rattle.task_records.proofs.Core.{AreHandlesNamed, call_key, CallOf, HandleKind, IsHeldNamed, IsNamedAt, Kinds, MadeCounts, Nothing, Rep, set_key, SetOf, StandsAt, subst, Target, thread_key, ThreadOf, WaitableKind, work_key, WorkOf, ℕ, ◌≡◌, ◌≤◌}
+use Rattle.task_records.specs.declared.{instance_records.InstanceRecord.InstanceRecord}
 
 -- What stands in the one stands so in the other, and as many were made.
 pub record Leaves (k l : Kinds) : Type 0 where
@@ -13,10 +13,10 @@ pub record Leaves (k l : Kinds) : Type 0 where
 module _ (k l : Kinds) (left : Leaves k l) where
   pub named_left : (rep : ℕ) (t : Target) → IsNamedAt k rep t → IsNamedAt l rep t
   named_left rep Nothing at = tt
-  named_left rep (ThreadOf n) at = (subst (λ (m : Made). n ≤ m.threads) left.made at.0, left.threads rep n at.1)
-  named_left rep (CallOf n) at = (subst (λ (m : Made). n ≤ m.threads) left.made at.0, left.calls rep n at.1)
-  named_left rep (WorkOf n) at = (subst (λ (m : Made). n ≤ m.works) left.made at.0, left.works rep n at.1)
-  named_left rep (SetOf n) at = (subst (λ (m : Made). n ≤ m.sets) left.made at.0, left.sets rep n at.1)
+  named_left rep (ThreadOf n) at = (subst (λ (m : MadeCounts). n ≤ m.threads) left.made at.0, left.threads rep n at.1)
+  named_left rep (CallOf n) at = (subst (λ (m : MadeCounts). n ≤ m.threads) left.made at.0, left.calls rep n at.1)
+  named_left rep (WorkOf n) at = (subst (λ (m : MadeCounts). n ≤ m.works) left.made at.0, left.works rep n at.1)
+  named_left rep (SetOf n) at = (subst (λ (m : MadeCounts). n ≤ m.sets) left.made at.0, left.sets rep n at.1)
 
   held_left : (h : HandleKind) (r : Rep) → IsHeldNamed k h r → IsHeldNamed l h r
   held_left (HandleKind.Waitable WaitableKind.GuestSubtask) r is = named_left r.id (CallOf r.serial) is

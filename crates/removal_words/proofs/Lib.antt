@@ -6,7 +6,7 @@ pub mod CloseLemmas
 pub mod GoneLemmas
 pub mod BareTables
 pub mod RewriteLemmas
-pub mod SeatGoneLemmas
+pub mod OrderKeyGoneLemmas
 pub mod ThreadGoneLemmas
 pub mod WorkGoneLemmas
 pub mod ThreadLemmas

@@ -1,6 +1,6 @@
 -- A set is gone, as it stands.
-use Rattle.task_records.proofs.Core.{ap, arith, bare, BlockedOn, call_number, cases_eq, core_of, deleted, HasHome, HeldIn, inl, inr, IsCallNamed, IsSetKept, IsSome, IsSound, IsTable, IsWhole, IsWorkNamed, item_at, item_of, KeepsBut, kinds, List, list_of, lost_set, None, number_of, Ok, Parts, parts_of, place_chain, ready_call_chain, ready_work_chain, records, refl, remove, remove_set, seen, set_key, set_of, SetKey, Some, Spot, subst, Subtask, sym, Table, table_use, TableId, thread_number, ThreadOf, UnderOf, WaitsOn, Where, work_number, ℕ, ◌-◌, ◌∙◌, ◌≡◌, ◌≤◌, ◌⊎◌, StartsIn}
-use Rattle.task_records.specs.declared.{calls.GuestTask.GuestTask, parts.CoreParts.CoreParts, sets.WaitSet.WaitSet, single.Single.Single, threads.GuestThread.GuestThread, works.HostWork.HostWork}
+use Rattle.task_records.proofs.Core.{ap, arith, bare, BlockedOn, call_number, cases_eq, core_of, deleted, HasHome, HeldIn, inl, inr, IsCallNamed, IsSetKept, IsSome, IsSoundCore, IsTable, IsWhole, IsWorkNamed, item_at, item_of, KeepsBut, kinds, List, list_of, lost_set, None, number_of, Ok, CoreImage, parts_of, place_chain, ready_call_chain, ready_work_chain, records, refl, remove, remove_set, seen, set_key, set_of, SetKey, Some, Spot, subst, Subtask, sym, Table, table_use, TableId, thread_number, ThreadOf, UnderOf, WaitsOn, Where, work_number, ℕ, ◌-◌, ◌∙◌, ◌≡◌, ◌≤◌, ◌⊎◌, StartsIn}
+use Rattle.task_records.specs.declared.{call_records.GuestTask.GuestTask, parts.CoreParts.CoreParts, set_records.WaitSet.WaitSet, single.Single.Single, thread_records.GuestThread.GuestThread, work_records.WorkRecord.WorkRecord}
 use Rattle.removal_words.proofs.GoneLemmas.{IsIndex-shut}
 use Rattle.removal_words.proofs.LeftLemmas.{Leaves, handles_left, named_left}
 use Rattle.removal_words.proofs.LessLemmas.{each_left, found_gone, found_still, one_fewer}
@@ -8,27 +8,27 @@ use Rattle.removal_words.specs.Chains.{Closes}
 use Rattle.place_words.proofs.FiledLemmas.{kept_under}
 use Rattle.task_records.proofs.MakeLemmas.{number_left, records_less, stands_less, table_less}
 use Rattle.task_records.proofs.ReadLemmas.{set_named, set_shown}
-use Rattle.table_order.specs.declared.seat_links.Seat.{Seat}
+use Rattle.table_order.specs.declared.ordered_lists.OrderKey.{OrderKey}
 
-module _ (a : CoreParts) (sound : IsSound a) (id : TableId SetKey) (g : WaitSet) (is : Ok g ≡ item_at item_of a.sets id.rep id.serial) where
+module _ (a : CoreParts) (sound : IsSoundCore a) (id : TableId SetKey) (g : WaitSet) (is : Ok g ≡ item_at item_of a.sets id.rep id.serial) where
   under_waiters : place_chain (bare (parts_of a)) (WaitsOn g.number) ≡ Some g.waiters
-  unfolding IsSound
+  unfolding IsSoundCore
   under_waiters = kept_under (λ (x : WaitSet). x.number) (λ (x : WaitSet). x.set) (λ (x : WaitSet). x.waiters) a.sets a.made.sets sound.tables.sets id.rep id.serial g is
 
   under_calls : ready_call_chain (bare (parts_of a)) g.number ≡ Some g.ready_calls
-  unfolding IsSound
+  unfolding IsSoundCore
   under_calls = kept_under (λ (x : WaitSet). x.number) (λ (x : WaitSet). x.set) (λ (x : WaitSet). x.ready_calls) a.sets a.made.sets sound.tables.sets id.rep id.serial g is
 
   under_works : ready_work_chain (bare (parts_of a)) g.number ≡ Some g.ready_works
-  unfolding IsSound
+  unfolding IsSoundCore
   under_works = kept_under (λ (x : WaitSet). x.number) (λ (x : WaitSet). x.set) (λ (x : WaitSet). x.ready_works) a.sets a.made.sets sound.tables.sets id.rep id.serial g is
 
-  abbrev gone : Parts
+  abbrev gone : CoreImage
   gone = record (bare (parts_of a)) { sets = deleted id.rep a.sets }
 
   -- no other key loses its chain
   waits_else : (k : Where) → (k ≡ WaitsOn g.number) ⊎ (place_chain gone k ≡ place_chain (bare (parts_of a)) k)
-  unfolding IsSound
+  unfolding IsSoundCore
   waits_else (WaitsOn y) = elim (cases_eq y g.number) [
     | inl same ↦ inl (ap (λ n. WaitsOn n) same)
     | inr other ↦ inr (found_still (λ (x : WaitSet). x.number) (λ (x : WaitSet). x.set) a.sets a.made.sets sound.tables.sets id.rep id.serial g is (λ (x : WaitSet). x.waiters) y other)
@@ -40,34 +40,34 @@ module _ (a : CoreParts) (sound : IsSound a) (id : TableId SetKey) (g : WaitSet)
   waits_else (BlockedOn (Subtask.Host i)) = inr refl
 
   calls_else : (y : ℕ) → (y ≡ g.number) ⊎ (ready_call_chain gone y ≡ ready_call_chain (bare (parts_of a)) y)
-  unfolding IsSound
+  unfolding IsSoundCore
   calls_else y = elim (cases_eq y g.number) [
     | inl same ↦ inl same
     | inr other ↦ inr (found_still (λ (x : WaitSet). x.number) (λ (x : WaitSet). x.set) a.sets a.made.sets sound.tables.sets id.rep id.serial g is (λ (x : WaitSet). x.ready_calls) y other)
   ]
 
   works_else : (y : ℕ) → (y ≡ g.number) ⊎ (ready_work_chain gone y ≡ ready_work_chain (bare (parts_of a)) y)
-  unfolding IsSound
+  unfolding IsSoundCore
   works_else y = elim (cases_eq y g.number) [
     | inl same ↦ inl same
     | inr other ↦ inr (found_still (λ (x : WaitSet). x.number) (λ (x : WaitSet). x.set) a.sets a.made.sets sound.tables.sets id.rep id.serial g is (λ (x : WaitSet). x.ready_works) y other)
   ]
 
   no_waiters : place_chain gone (WaitsOn g.number) ≡ None
-  unfolding IsSound
+  unfolding IsSoundCore
   no_waiters = found_gone (λ (x : WaitSet). x.number) (λ (x : WaitSet). x.set) a.sets a.made.sets sound.tables.sets id.rep id.serial g is (λ (x : WaitSet). x.waiters)
 
   no_calls : ready_call_chain gone g.number ≡ None
-  unfolding IsSound
+  unfolding IsSoundCore
   no_calls = found_gone (λ (x : WaitSet). x.number) (λ (x : WaitSet). x.set) a.sets a.made.sets sound.tables.sets id.rep id.serial g is (λ (x : WaitSet). x.ready_calls)
 
   no_works : ready_work_chain gone g.number ≡ None
-  unfolding IsSound
+  unfolding IsSoundCore
   no_works = found_gone (λ (x : WaitSet). x.number) (λ (x : WaitSet). x.set) a.sets a.made.sets sound.tables.sets id.rep id.serial g is (λ (x : WaitSet). x.ready_works)
 
   -- it is counted in the table's use
   pub set_counted : 1 ≤ a.kept.used
-  unfolding IsSound table_use
+  unfolding IsSoundCore table_use
   set_counted =
       let fewer = one_fewer (λ (x : WaitSet). x.number) (λ (x : WaitSet). x.set) a.sets a.made.sets sound.tables.sets id.rep id.serial g is in
       let all = sound.whole.counted.kept.used in
@@ -75,7 +75,7 @@ module _ (a : CoreParts) (sound : IsSound a) (id : TableId SetKey) (g : WaitSet)
 
   -- and the table gives it up
   left : Leaves (kinds (bare (parts_of a))) (kinds gone)
-  unfolding IsSound
+  unfolding IsSoundCore
   left = record {
     threads = λ rep n at. at;
     calls = λ rep n at. at;
@@ -86,7 +86,7 @@ module _ (a : CoreParts) (sound : IsSound a) (id : TableId SetKey) (g : WaitSet)
 
   -- an id of another set names what it named
   pub others_named : (b : CoreParts) → b.sets ≡ deleted id.rep a.sets → (other : TableId SetKey) → (set_of (seen a) other ≡ set_of (seen a) id → ⊥) → set_of (seen b) other ≡ set_of (seen a) other
-  unfolding IsSound
+  unfolding IsSoundCore
   others_named b sets other differs =
       set_shown b other
       ∙ (ap (λ t. number_of set_key t other.rep other.serial) sets
@@ -96,32 +96,32 @@ module _ (a : CoreParts) (sound : IsSound a) (id : TableId SetKey) (g : WaitSet)
   -- ---- What the word asks
 
   pub waiters_live : IsSome (list_of a.places g.waiters)
-  unfolding IsSound
+  unfolding IsSoundCore
   waiters_live = sound.whole.chained.places.live (WaitsOn g.number) g.waiters under_waiters
 
   pub calls_live : IsSome (list_of a.ready_calls g.ready_calls)
-  unfolding IsSound
+  unfolding IsSoundCore
   calls_live = sound.whole.chained.ready_calls.live g.number g.ready_calls under_calls
 
   pub works_live : IsSome (list_of a.ready_works g.ready_works)
-  unfolding IsSound
+  unfolding IsSoundCore
   works_live = sound.whole.chained.ready_works.live g.number g.ready_works under_works
 
-  module _ (places ready_calls ready_works : List (Spot Seat)) (waiters_shut : Closes a.places places g.waiters) (calls_shut : Closes a.ready_calls ready_calls g.ready_calls) (works_shut : Closes a.ready_works ready_works g.ready_works) where
+  module _ (places ready_calls ready_works : List (Spot OrderKey)) (waiters_shut : Closes a.places places g.waiters) (calls_shut : Closes a.ready_calls ready_calls g.ready_calls) (works_shut : Closes a.ready_works ready_works g.ready_works) where
     abbrev pub set_removed : CoreParts
     set_removed = record a { sets = deleted id.rep a.sets; places = places; ready_calls = ready_calls; ready_works = ready_works; kept = record a.kept { used = a.kept.used - 1 } }
 
     home_left : (h : GuestThread) → HasHome (bare (parts_of a)) h → HasHome (bare (parts_of set_removed)) h
-    home_left h home = record { call = home.call; there = home.there; instance = home.instance; barred = home.barred; within = home.within; place = named_left (kinds (bare (parts_of a))) (kinds gone) left _ _ home.place; how_far = named_left (kinds (bare (parts_of a))) (kinds gone) left _ _ home.how_far }
+    home_left h home = record { call = home.call; there = home.there; instance = home.instance; barred = home.barred; within = home.within; place = named_left (kinds (bare (parts_of a))) (kinds gone) left _ _ home.place; op_progress = named_left (kinds (bare (parts_of a))) (kinds gone) left _ _ home.op_progress }
 
     call_left : (c : GuestTask) → IsCallNamed (bare (parts_of a)) c → IsCallNamed (bare (parts_of set_removed)) c
     call_left c named = record { caller = named_left (kinds (bare (parts_of a))) (kinds gone) left _ _ named.caller; first = named_left (kinds (bare (parts_of a))) (kinds gone) left c.first (ThreadOf c.number) named.first; join = named_left (kinds (bare (parts_of a))) (kinds gone) left _ _ named.join; group = named.group; positive = named.positive }
 
-    work_left : (w : HostWork) → IsWorkNamed (bare (parts_of a)) w → IsWorkNamed (bare (parts_of set_removed)) w
+    work_left : (w : WorkRecord) → IsWorkNamed (bare (parts_of a)) w → IsWorkNamed (bare (parts_of set_removed)) w
     work_left w named = record { caller = named_left (kinds (bare (parts_of a))) (kinds gone) left _ _ named.caller; join = named_left (kinds (bare (parts_of a))) (kinds gone) left _ _ named.join; group = named.group }
 
     removed_whole : IsWhole (bare (parts_of a)) → IsWhole (bare (parts_of set_removed))
-    unfolding IsSound table_use
+    unfolding IsSoundCore table_use
     removed_whole whole = record {
       named = record {
         threads = λ rep q at. home_left q.entry.item (whole.named.threads rep q at);
@@ -136,11 +136,11 @@ module _ (a : CoreParts) (sound : IsSound a) (id : TableId SetKey) (g : WaitSet)
         polled = whole.chained.polled;
         rising = whole.chained.rising;
         marks = whole.chained.marks;
-        shelves = whole.chained.shelves;
+        instance_queues = whole.chained.instance_queues;
         low = whole.chained.low;
         behind = whole.chained.behind;
       };
-      nodes = record { marks = whole.nodes.marks; shelves = whole.nodes.shelves; callers = whole.nodes.callers; works = whole.nodes.works; apart = whole.nodes.apart };
+      nodes = record { marks = whole.nodes.marks; instance_queues = whole.nodes.instance_queues; callers = whole.nodes.callers; works = whole.nodes.works; apart = whole.nodes.apart };
       counted = record {
         kept = record {
           used =
@@ -164,8 +164,8 @@ module _ (a : CoreParts) (sound : IsSound a) (id : TableId SetKey) (g : WaitSet)
       };
     }
 
-    sound_without : IsTable (deleted id.rep a.sets) → IsSound set_removed
-    unfolding IsSound
+    sound_without : IsTable (deleted id.rep a.sets) → IsSoundCore set_removed
+    unfolding IsSoundCore
     sound_without table = record {
       tables = record { threads = sound.tables.threads; calls = sound.tables.calls; works = sound.tables.works; sets = table_less (λ (x : WaitSet). x.number) (λ (x : WaitSet). x.set) a.sets a.made.sets sound.tables.sets id.rep id.serial g is table; groups = sound.tables.groups };
       whole = removed_whole sound.whole;
@@ -178,7 +178,7 @@ module _ (a : CoreParts) (sound : IsSound a) (id : TableId SetKey) (g : WaitSet)
     }
 
     core_without : (seen set_removed).core ≡ remove_set (set_of (seen a) id) (seen a).core
-    unfolding seen IsSound remove_set
+    unfolding seen IsSoundCore remove_set
     core_without =
         ap (λ m. record (seen a).core { sets = m }) (records_less (λ (x : WaitSet). x.number) (λ (x : WaitSet). x.set) a.sets a.made.sets sound.tables.sets id.rep id.serial g is ∙ ap (λ n. remove (records set_key a.sets.places) n) (set_named a id g is))
 
@@ -190,8 +190,8 @@ module _ (a : CoreParts) (sound : IsSound a) (id : TableId SetKey) (g : WaitSet)
       abbrev without : CoreParts
       without = record set_removed { sets = sets }
 
-      pub removed_sound : IsTable sets → IsSound without
-      removed_sound table = subst (λ (t : Table (Single WaitSet)). IsSound (record set_removed { sets = t })) (sym less) (sound_without (subst (λ (t : Table (Single WaitSet)). IsTable t) less table))
+      pub removed_sound : IsTable sets → IsSoundCore without
+      removed_sound table = subst (λ (t : Table (Single WaitSet)). IsSoundCore (record set_removed { sets = t })) (sym less) (sound_without (subst (λ (t : Table (Single WaitSet)). IsTable t) less table))
 
       pub removed_core : (seen without).core ≡ remove_set (set_of (seen a) id) (seen a).core
       removed_core = ap (λ (t : Table (Single WaitSet)). (seen (record set_removed { sets = t })).core) less ∙ core_without

@@ -1,9 +1,9 @@
 -- A group of which nothing is left is finished.
-use Rattle.task_records.proofs.Core.{ap, ap₂, AreCounted, arith, bare, bare_call, bare_work, Bool, Call, call_key, calls_of, cases_eq, cond, core_of, deleted, entry_of, eq-eqb, false, filter, get, group_key, group_settled, GroupKey, HasHome, HasNumber, inl, inr, is_group_done, is_of_group, IsGroupKept, IsSound, IsTable, IsWhole, item_at, item_of, key_in, length, List, list_any, loose_call, loose_work, nat_lt, ne_eqb, None, not, number_in, number_of, numbers, Ok, on_core, option_map_or, Parts, parts_of, passing, place_at, place_at-deleted, Placed, record_at, Records, records, refl, remove, remove_group, seen, Some, SoundTable, subst, suc, sym, Table, table_use, TableId, true, uninterested, unmoved, with_core, Work, work_key, zero, ℕ, ◌+◌, ◌<◌, ◌==◌, ◌||◌, ◌∙◌, ◌≡◌, ◌≤◌, AreEnded, known_of, has, IsMembers-numbers, is_some, found_record, get-records, Option, ◌⊎◌, Global}
-use Rattle.task_records.specs.declared.{calls.GuestTask.GuestTask, calls.TaskGroup.TaskGroup, parts.CoreParts.CoreParts, parts.Kept.Kept, single.Single.Single, threads.GuestThread.GuestThread, works.HostWork.HostWork}
+use Rattle.task_records.proofs.Core.{ap, ap₂, AreCounted, arith, bare, bare_call, bare_work, Bool, Call, call_key, calls_of, cases_eq, cond, core_of, deleted, entry_of, eq-eqb, false, filter, get, group_key, group_settled, GroupKey, HasHome, HasNumber, inl, inr, is_group_done, is_of_group, IsGroupKept, IsSoundCore, IsTable, IsWhole, item_at, item_of, key_in, length, List, list_any, loose_call, loose_work, nat_lt, ne_eqb, None, not, number_in, number_of, numbers, Ok, on_core, option_map_or, CoreImage, parts_of, passing, place_at, place_at-deleted, Placed, record_at, Records, records, refl, remove, remove_group, seen, Some, SoundTable, subst, suc, sym, Table, table_use, TableId, true, uninterested, unmoved, with_core, Work, work_key, zero, ℕ, ◌+◌, ◌<◌, ◌==◌, ◌||◌, ◌∙◌, ◌≡◌, ◌≤◌, AreEnded, tracked_of, has, IsMembers-numbers, is_some, found_record, get-records, Option, ◌⊎◌, Global}
+use Rattle.task_records.specs.declared.{call_records.GuestTask.GuestTask, call_records.TaskGroup.TaskGroup, parts.CoreParts.CoreParts, parts.CachedCounts.CachedCounts, single.Single.Single, thread_records.GuestThread.GuestThread, work_records.WorkRecord.WorkRecord}
 use Rattle.std.proofs.lemmas.Bool.{cases_lt}
 use Rattle.std.specs.Prelude.{vec_capacity, Vec, ◌&&◌}
-use Rattle.task_records.proofs.KnownLemmas.{ended_alike, ended_settled, has_filter, known_settled, with_one}
+use Rattle.task_records.proofs.TrackedLemmas.{ended_alike, ended_settled, has_filter, known_settled, with_one}
 use Rattle.removal_words.proofs.BareTables.{sound_mapped}
 use Rattle.removal_words.proofs.GroupLemmas.{numbers_fewer, numbers_left}
 use Rattle.removal_words.proofs.LessLemmas.{each_left, passes_not, read_at}
@@ -24,10 +24,10 @@ call_number c = c.number
 abbrev call_machine : GuestTask → Call
 call_machine c = c.call
 
-abbrev work_number : HostWork → ℕ
+abbrev work_number : WorkRecord → ℕ
 work_number w = w.number
 
-abbrev work_machine : HostWork → Work
+abbrev work_machine : WorkRecord → Work
 work_machine w = w.work
 
 some_of : (m n : ℕ) → (nat_lt 0 m || nat_lt 0 n) ≡ nat_lt 0 (m + n)
@@ -40,7 +40,7 @@ one_above f n more = let is : nat_lt f n ≡ true = grind arith in ap (λ b. con
 pub none_above : (f n : ℕ) → n ≤ f → cond {A = ℕ} (nat_lt f n) 1 0 ≡ 0
 none_above f n less = let is : nat_lt f n ≡ false = grind arith in ap (λ b. cond b 1 0) is
 
-module _ (p : Parts) (whole : IsWhole p) (made made_calls made_works : ℕ) (sound : SoundTable group_key p.groups made) (calls_sound : SoundTable call_key p.calls made_calls) (works_sound : SoundTable work_key p.works made_works) (rep serial : ℕ) (r : TaskGroup) (is : Ok r ≡ item_at item_of p.groups rep serial) (empty : calls_of r.number (core_of p) ≡ 0) where
+module _ (p : CoreImage) (whole : IsWhole p) (made made_calls made_works : ℕ) (sound : SoundTable group_key p.groups made) (calls_sound : SoundTable call_key p.calls made_calls) (works_sound : SoundTable work_key p.works made_works) (rep serial : ℕ) (r : TaskGroup) (is : Ok r ≡ item_at item_of p.groups rep serial) (empty : calls_of r.number (core_of p) ≡ 0) where
   stands : (q : Placed (Single TaskGroup)) × ((place_at p.groups rep ≡ Some q) × ((q.serial ≡ serial) × (q.entry ≡ entry_of r)))
   stands = item_stands number count p.groups made sound rep serial r is
 
@@ -59,14 +59,14 @@ module _ (p : Parts) (whole : IsWhole p) (made made_calls made_works : ℕ) (sou
   call_else : (s : ℕ) (q : Placed (Single GuestTask)) → place_at p.calls s ≡ Some q → q.entry.item.call.group ≡ r.number → ⊥
   call_else s q at same = passes_not (λ (c : Call). c.group == r.number) (core_of p).calls no_call q.entry.item.number q.entry.item.call (read_at call_number call_machine p.calls made_calls calls_sound s q at) (eq-eqb q.entry.item.call.group r.number same)
 
-  work_else : (s : ℕ) (q : Placed (Single HostWork)) → place_at p.works s ≡ Some q → (n : ℕ) → q.entry.item.work.group ≡ Some n → n ≡ r.number → ⊥
+  work_else : (s : ℕ) (q : Placed (Single WorkRecord)) → place_at p.works s ≡ Some q → (n : ℕ) → q.entry.item.work.group ≡ Some n → n ≡ r.number → ⊥
   work_else s q at n has same = passes_not (is_of_group r.number) (core_of p).works no_work q.entry.item.number q.entry.item.work (read_at work_number work_machine p.works made_works works_sound s q at) (ap (λ o. option_map_or (λ h. h == r.number) o false) has ∙ eq-eqb n r.number same)
 
   pub here : get (records group_key p.groups.places) r.number ≡ Some r.calls
   here = sym (item_read number count p.groups made sound rep serial r is ∙ ap (get (records group_key p.groups.places)) (item_number number count p.groups rep serial r is))
 
-  module _ (kept : Kept) where
-    abbrev pub less : Parts
+  module _ (kept : CachedCounts) where
+    abbrev pub less : CoreImage
     less = record p { groups = deleted rep p.groups; kept = kept }
 
     pub groups_left : (core_of less).groups ≡ filter (λ q. not (r.number == q)) (core_of p).groups
@@ -80,7 +80,7 @@ module _ (p : Parts) (whole : IsWhole p) (made made_calls made_works : ℕ) (sou
 
     module _ (used : kept.used + cond (nat_lt p.finished r.number) 1 0 ≡ p.kept.used) (groups : kept.groups + cond (nat_lt p.finished r.number) 1 0 ≡ p.kept.groups) (live : kept.live ≡ p.kept.live) where
       home_left : (g : GuestThread) → HasHome p g → HasHome less g
-      home_left g h = record { call = h.call; there = h.there; instance = h.instance; barred = h.barred; within = h.within; place = h.place; how_far = h.how_far }
+      home_left g h = record { call = h.call; there = h.there; instance = h.instance; barred = h.barred; within = h.within; place = h.place; op_progress = h.op_progress }
 
       counted_left : AreCounted less
       unfolding table_use
@@ -109,33 +109,33 @@ module _ (p : Parts) (whole : IsWhole p) (made made_calls made_works : ℕ) (sou
           works = λ s q at. let one = whole.named.works s q at in record { caller = one.caller; join = one.join; group = λ n has. let two = one.group n has in (at_other q.entry.item.group n (work_else s q at n has) two.0, two.1) };
           switch = whole.named.switch;
         };
-        chained = record { places = whole.chained.places; ready_calls = whole.chained.ready_calls; ready_works = whole.chained.ready_works; polled = whole.chained.polled; rising = whole.chained.rising; marks = whole.chained.marks; shelves = whole.chained.shelves; low = whole.chained.low; behind = whole.chained.behind };
-        nodes = record { marks = whole.nodes.marks; shelves = whole.nodes.shelves; callers = whole.nodes.callers; works = whole.nodes.works; apart = whole.nodes.apart };
+        chained = record { places = whole.chained.places; ready_calls = whole.chained.ready_calls; ready_works = whole.chained.ready_works; polled = whole.chained.polled; rising = whole.chained.rising; marks = whole.chained.marks; instance_queues = whole.chained.instance_queues; low = whole.chained.low; behind = whole.chained.behind };
+        nodes = record { marks = whole.nodes.marks; instance_queues = whole.nodes.instance_queues; callers = whole.nodes.callers; works = whole.nodes.works; apart = whole.nodes.apart };
         counted = counted_left;
       }
 
-module _ (a : CoreParts) (sound : IsSound a) (id : TableId GroupKey) (r : TaskGroup) (is : Ok r ≡ item_at item_of a.groups id.rep id.serial) where
-  abbrev bared : Parts
+module _ (a : CoreParts) (sound : IsSoundCore a) (id : TableId GroupKey) (r : TaskGroup) (is : Ok r ≡ item_at item_of a.groups id.rep id.serial) where
+  abbrev bared : CoreImage
   bared = bare (parts_of a)
 
   whole : IsWhole bared
-  unfolding IsSound
+  unfolding IsSoundCore
   whole = sound.whole
 
   ended_are : AreEnded a.ended.items (vec_capacity a.ended) (core_of (parts_of a)).groups a.made.groups
-  unfolding IsSound
+  unfolding IsSoundCore
   ended_are = sound.ended
 
   groups_sound : SoundTable group_key a.groups a.made.groups
-  unfolding IsSound
+  unfolding IsSoundCore
   groups_sound = sound.tables.groups
 
   bare_calls : SoundTable call_key bared.calls a.made.threads
-  unfolding IsSound
+  unfolding IsSoundCore
   bare_calls = sound_mapped call_number call_machine bare_call (λ c. uninterested (loose_call c)) (λ x. refl) (λ x. refl) a.calls a.made.threads sound.tables.calls
 
   bare_works : SoundTable work_key bared.works a.made.works
-  unfolding IsSound
+  unfolding IsSoundCore
   bare_works = sound_mapped work_number work_machine bare_work (λ w. unmoved (loose_work w)) (λ x. refl) (λ x. refl) a.works a.made.works sound.tables.works
 
   -- who has a record was made
@@ -215,23 +215,23 @@ module _ (a : CoreParts) (sound : IsSound a) (id : TableId GroupKey) (r : TaskGr
       abbrev pub group_removed : Table (Single TaskGroup) → CoreParts
       group_removed t = record a { groups = t; kept = record a.kept { used = used; groups = groups }; ended = ended }
 
-      abbrev bare_kept : Kept
+      abbrev bare_kept : CachedCounts
       bare_kept = record a.kept { used = used; groups = groups; interesting = 0; moving = 0 }
 
-      abbrev less_parts : Parts
+      abbrev less_parts : CoreImage
       less_parts = less bared whole a.made.groups a.made.threads a.made.works groups_sound bare_calls bare_works id.rep id.serial r is empty bare_kept
 
       left : (core_of less_parts).groups ≡ filter (λ q. not (r.number == q)) (core_of bared).groups
       left = groups_left bared whole a.made.groups a.made.threads a.made.works groups_sound bare_calls bare_works id.rep id.serial r is empty bare_kept
 
-      still_known : known_of ended.items (core_of less_parts).groups a.made.groups ≡ (seen a).tags.known
+      still_known : tracked_of ended.items (core_of less_parts).groups a.made.groups ≡ (seen a).tags.tracked
       unfolding seen
       still_known =
-          ap₂ (λ (es gs : List ℕ). known_of es gs a.made.groups) is_ended left
+          ap₂ (λ (es gs : List ℕ). tracked_of es gs a.made.groups) is_ended left
           ∙ known_settled a.ended.items (vec_capacity a.ended) (seen a).core.groups a.made.groups r.number (nat_lt a.finished r.number) was_live
 
-      sound_without : IsTable (deleted id.rep a.groups) → IsSound (group_removed (deleted id.rep a.groups))
-      unfolding IsSound seen
+      sound_without : IsTable (deleted id.rep a.groups) → IsSoundCore (group_removed (deleted id.rep a.groups))
+      unfolding IsSoundCore seen
       sound_without table = record {
         tables = record { threads = sound.tables.threads; calls = sound.tables.calls; works = sound.tables.works; sets = sound.tables.sets; groups = table_less number count a.groups a.made.groups sound.tables.groups id.rep id.serial r is table };
         whole = less_whole bared whole a.made.groups a.made.threads a.made.works groups_sound bare_calls bare_works id.rep id.serial r is empty bare_kept is_used is_groups refl;
@@ -250,12 +250,12 @@ module _ (a : CoreParts) (sound : IsSound a) (id : TableId GroupKey) (r : TaskGr
       seen_without : seen (group_removed (deleted id.rep a.groups)) ≡ on_core (group_settled (number_of group_key a.groups id.rep id.serial)) (seen a)
       unfolding seen remove_group
       seen_without =
-          ap₂ (λ (gs ks : List ℕ). record (seen a) { core = record (seen a).core { groups = gs }; tags = record (seen a).tags { known = ks } }) left still_known
+          ap₂ (λ (gs ks : List ℕ). record (seen a) { core = record (seen a).core { groups = gs }; tags = record (seen a).tags { tracked = ks } }) left still_known
           ∙ sym (settled_is true (done_is ∙ ap (λ n. not (nat_lt 0 n)) none))
 
       module _ (t : Table (Single TaskGroup)) (are : t ≡ deleted id.rep a.groups) where
-        pub settled_sound : IsTable t → IsSound (group_removed t)
-        settled_sound table = subst (λ (u : Table (Single TaskGroup)). IsSound (group_removed u)) (sym are) (sound_without (subst (λ (u : Table (Single TaskGroup)). IsTable u) are table))
+        pub settled_sound : IsTable t → IsSoundCore (group_removed t)
+        settled_sound table = subst (λ (u : Table (Single TaskGroup)). IsSoundCore (group_removed u)) (sym are) (sound_without (subst (λ (u : Table (Single TaskGroup)). IsTable u) are table))
 
         pub settled_seen : seen (group_removed t) ≡ on_core (group_settled (number_of group_key a.groups id.rep id.serial)) (seen a)
         settled_seen = ap (λ (u : Table (Single TaskGroup)). seen (group_removed u)) are ∙ seen_without

@@ -1,6 +1,6 @@
 -- Parts without one thread, which is in no list: they are whole.
-use Rattle.task_records.proofs.Core.{ap, AreChained, AreCounted, arith, BlockedOn, Bool, Call, call_instance, call_key, callers_chain, callers_row, cases_eq, chained, cond, core_of, deleted, Each, EachEntry, Entry, entry_of, entry_seated, eq-eqb, false, filings, filter, follower, FreeNode, get, get-records, HasHome, HaveRowNodes, HeldIn, High, IfSome, inl, inr, is_entry_of, is_in_set, is_of_group, is_of_instance, IsCallKept, IsCallNamed, IsFollower, IsIndex-same, IsOfThread, IsRows, IsRows-same, IsSeated, IsWhole, IsWorkNamed, item_at, item_of, keeps_set, kinds, List, list_any, Low, no_callee, None, Ok, one_if_passes, Option, option_map_or, part, Parts, passing, passing-with_at, place_at, place_chain, place_filing, Placed, ready_call, ready_call_chain, Records, refl, remove, Renames, Row, row, row_chain, same_map, shelf_chain, size, Some, SoundTable, Spot, subst, Subtask, sym, Table, table_use, Thread, thread_entry, thread_key, ThreadOf, threads_of, UnderOf, Unmade, values_are, WaitsOn, Where, where_at, Work, ℕ, ◌+◌, ◌==◌, ◌∙◌, ◌≡◌, ◌⊎◌, StartsIn, is_sync, not, ◌||◌, ExportKind}
-use Rattle.task_records.specs.declared.{calls.GuestTask.GuestTask, parts.Kept.Kept, single.Single.Single, threads.Follower.Follower, threads.GuestThread.GuestThread, threads.Queued.Queued, works.HostWork.HostWork}
+use Rattle.task_records.proofs.Core.{ap, AreChained, AreCounted, arith, BlockedOn, Bool, Call, call_instance, call_key, callers_chain, callers_row, cases_eq, chained, cond, core_of, deleted, Each, EachEntry, Entry, entry_of, entry_keyed, eq-eqb, false, filings, filter, follower, FreeNode, get, get-records, HasHome, HaveRowNodes, HeldIn, High, IfSome, inl, inr, is_entry_of, is_in_set, is_of_group, is_of_instance, IsCallKept, IsCallNamed, IsFollower, IsIndex-same, IsOfThread, IsRows, IsRows-same, IsKeyed, IsWhole, IsWorkNamed, item_at, item_of, keeps_set, kinds, List, list_any, Low, no_callee, None, Ok, one_if_passes, Option, option_map_or, part, CoreImage, passing, passing-with_at, place_at, place_chain, place_filing, Placed, ready_call, ready_call_chain, Records, refl, remove, Renames, Row, row, row_chain, same_map, instance_queue_chain, size, Some, SoundTable, Spot, subst, Subtask, sym, Table, table_use, Thread, thread_entry, thread_key, ThreadOf, threads_of, UnderOf, Unmade, values_are, WaitsOn, Where, where_at, Work, ℕ, ◌+◌, ◌==◌, ◌∙◌, ◌≡◌, ◌⊎◌, StartsIn, is_sync, not, ◌||◌, ExportKind}
+use Rattle.task_records.specs.declared.{call_records.GuestTask.GuestTask, parts.CachedCounts.CachedCounts, single.Single.Single, thread_records.Follower.Follower, thread_records.GuestThread.GuestThread, thread_records.Queued.Queued, work_records.WorkRecord.WorkRecord}
 use Rattle.place_words.proofs.AlikeLemmas.{filings_alike, found_alike, number_alike, place_alike, stands_alike}
 use Rattle.place_words.proofs.FiledLemmas.{kept_under}
 use Rattle.place_words.specs.Moved.{Alike}
@@ -9,13 +9,13 @@ use Rattle.queue_words.proofs.RowLemmas.{IsRows-known}
 use Rattle.removal_words.proofs.GoneLemmas.{Each-but, IsIndex-gone, IsIndex-shut, IsRows-dropped, IsRows-shut}
 use Rattle.removal_words.proofs.LeftLemmas.{Leaves, named_left}
 use Rattle.removal_words.proofs.LessLemmas.{found_gone, found_still, one_fewer, placed_before}
-use Rattle.removal_words.proofs.SeatGoneLemmas.{nodes_left, renamed_made, seated_left}
+use Rattle.removal_words.proofs.OrderKeyGoneLemmas.{nodes_left, renamed_made, keyed_left}
 use Rattle.removal_words.specs.Chains.{Closes, Drops}
 use Rattle.removal_words.specs.Counted.{unthreaded}
 use Rattle.task_records.proofs.KindLemmas.{item_number, item_read, item_stands}
 use Rattle.task_records.proofs.MakeLemmas.{records_less, stands_less}
-use Rattle.table_order.specs.declared.seat_links.Seat.{Seat}
-use Rattle.task_records.specs.Places.{thread_seat}
+use Rattle.table_order.specs.declared.ordered_lists.OrderKey.{OrderKey}
+use Rattle.task_records.specs.RecordPlaces.{thread_order_key}
 
 abbrev number : GuestThread → ℕ
 number g = g.number
@@ -23,7 +23,7 @@ number g = g.number
 abbrev machine : GuestThread → Thread
 machine g = g.thread
 
-module _ (p : Parts) (whole : IsWhole p) (made : ℕ) (sound : SoundTable thread_key p.threads made) (rep serial : ℕ) (g : GuestThread) (is : Ok g ≡ item_at item_of p.threads rep serial) where
+module _ (p : CoreImage) (whole : IsWhole p) (made : ℕ) (sound : SoundTable thread_key p.threads made) (rep serial : ℕ) (g : GuestThread) (is : Ok g ≡ item_at item_of p.threads rep serial) where
   stands : (q : Placed (Single GuestThread)) × ((place_at p.threads rep ≡ Some q) × ((q.serial ≡ serial) × (q.entry ≡ entry_of g)))
   stands = item_stands number machine p.threads made sound rep serial g is
 
@@ -32,9 +32,9 @@ module _ (p : Parts) (whole : IsWhole p) (made : ℕ) (sound : SoundTable thread
 
   -- ---- The parts without it, with one thread less of its call
 
-  module _ (calls : Table (Single GuestTask)) (alike : Alike unthreaded calls p.calls) (places : List (Spot Seat)) (marks shelves : List (Spot Queued)) (behind : List (Spot Follower)) (kept : Kept) where
-    abbrev pub less : Parts
-    less = record p { threads = deleted rep p.threads; calls = calls; places = places; marks = marks; shelves = shelves; behind = behind; kept = kept }
+  module _ (calls : Table (Single GuestTask)) (alike : Alike unthreaded calls p.calls) (places : List (Spot OrderKey)) (marks instance_queues : List (Spot Queued)) (behind : List (Spot Follower)) (kept : CachedCounts) where
+    abbrev pub less : CoreImage
+    less = record p { threads = deleted rep p.threads; calls = calls; places = places; marks = marks; instance_queues = instance_queues; behind = behind; kept = kept }
 
     -- what is counted of its threads
     one_less : (test : Thread → Bool) → passing test (core_of less).threads + one_if_passes test (Some g.thread) ≡ passing test (core_of p).threads
@@ -71,7 +71,7 @@ module _ (p : Parts) (whole : IsWhole p) (made : ℕ) (sound : SoundTable thread
       barred = ap (λ (m : Records Call). not (h.thread.explicit || is_sync (option_map_or (λ (d : Call). d.kind) (get m h.thread.call) ExportKind.Callback))) calls_same ∙ home.barred;
       within = home.within;
       place = named_left (kinds p) (kinds less) left h.beside _ home.place;
-      how_far = named_left (kinds p) (kinds less) left h.awaited _ home.how_far;
+      op_progress = named_left (kinds p) (kinds less) left h.awaited _ home.op_progress;
     }
 
     call_left : (x y : GuestTask) → unthreaded x ≡ unthreaded y → IsCallNamed p x → IsCallNamed less y
@@ -80,17 +80,17 @@ module _ (p : Parts) (whole : IsWhole p) (made : ℕ) (sound : SoundTable thread
         let one : IsCallNamed less (unthreaded y) = subst (IsCallNamed less) same bare in
         record { caller = one.caller; first = one.first; join = one.join; group = one.group; positive = one.positive }
 
-    work_left : (w : HostWork) → IsWorkNamed p w → IsWorkNamed less w
+    work_left : (w : WorkRecord) → IsWorkNamed p w → IsWorkNamed less w
     work_left w named = record { caller = named_left (kinds p) (kinds less) left w.maker _ named.caller; join = named_left (kinds p) (kinds less) left w.joined _ named.join; group = named.group }
 
     follows_left : (f : Follower) → IsFollower p f → (g.number == f.number) ≡ false → IsFollower less f
-    follows_left f is_f other = seated_left number machine p.threads made sound rep serial g is follower f.place f (λ same. absurd (let two = sym other ∙ eq-eqb g.number f.number (ap (λ (x : Follower). x.number) same) in cc)) is_f
+    follows_left f is_f other = keyed_left number machine p.threads made sound rep serial g is follower f.place f (λ same. absurd (let two = sym other ∙ eq-eqb g.number f.number (ap (λ (x : Follower). x.number) same) in cc)) is_f
 
-    entry_left : (q : Queued) → IsSeated p q → is_entry_of g.number q.entry ≡ false → IsSeated less q
+    entry_left : (q : Queued) → IsKeyed p q → is_entry_of g.number q.entry ≡ false → IsKeyed less q
     entry_left q is_q other = by q.entry refl is_q
       where
-        by : (e : Entry) → q.entry ≡ e → entry_seated p e q.place ≡ Some q → entry_seated less e q.place ≡ Some q
-        by (Entry.Thread n) e at = seated_left number machine p.threads made sound rep serial g is thread_entry q.place q (λ same. absurd (let two = sym other ∙ (ap (λ (x : Queued). is_entry_of g.number x.entry) (sym same) ∙ eq-eqb g.number g.number refl) in cc)) at
+        by : (e : Entry) → q.entry ≡ e → entry_keyed p e q.place ≡ Some q → entry_keyed less e q.place ≡ Some q
+        by (Entry.Thread n) e at = keyed_left number machine p.threads made sound rep serial g is thread_entry q.place q (λ same. absurd (let two = sym other ∙ (ap (λ (x : Queued). is_entry_of g.number x.entry) (sym same) ∙ eq-eqb g.number g.number refl) in cc)) at
         by (Entry.Push i) e at = at
         by (Entry.Host i) e at = at
 
@@ -120,25 +120,25 @@ module _ (p : Parts) (whole : IsWhole p) (made : ℕ) (sound : SoundTable thread
     ]
 
     module _ (unqueued : (r : Row) → list_any (λ (q : Queued). is_entry_of g.number q.entry) (row p r) ≡ false) (not_behind : (n : ℕ) → list_any (λ (f : Follower). g.number == f.number) (callers_row p n) ≡ false) (not_switch : (f : Follower) → p.switch ≡ Some f → (g.number == f.number) ≡ false) (unkept : (x : ℕ) → keeps_set x g.thread g.thread.place ≡ false) where
-      module _ (middle : List (Spot Seat)) (shut : Closes p.places middle g.under) (node_out : Drops middle places g.node.index) (mark_out : Renames p.marks marks g.mark.index FreeNode Unmade) (shelf_out : Renames p.shelves shelves g.shelf.index FreeNode Unmade) (middle_behind : List (Spot Follower)) (callers_shut : Closes p.behind middle_behind g.callers) (caller_out : Renames middle_behind behind g.caller.index FreeNode Unmade) where
-        marks_left : IsRows (row_chain p) (λ q. q.mark.index) (IsSeated less) marks (row p)
+      module _ (middle : List (Spot OrderKey)) (shut : Closes p.places middle g.under) (node_out : Drops middle places g.node.index) (mark_out : Renames p.marks marks g.mark.index FreeNode Unmade) (instance_queue_out : Renames p.instance_queues instance_queues g.instance_queue.index FreeNode Unmade) (middle_behind : List (Spot Follower)) (callers_shut : Closes p.behind middle_behind g.callers) (caller_out : Renames middle_behind behind g.caller.index FreeNode Unmade) where
+        marks_left : IsRows (row_chain p) (λ q. q.mark.index) (IsKeyed less) marks (row p)
         marks_left =
-            let rows = IsRows-dropped (row_chain p) (λ q. q.mark.index) (IsSeated p) p.marks (row p) whole.chained.marks marks g.mark.index mark_out in
-            IsRows-known (row_chain p) (λ q. q.mark.index) (IsSeated p) (IsSeated less) marks (row p) rows (λ r c at. Each-but (IsSeated p) (IsSeated less) (λ (q : Queued). is_entry_of g.number q.entry) entry_left (row p r) (unqueued r) (rows.all_known r c at))
+            let rows = IsRows-dropped (row_chain p) (λ q. q.mark.index) (IsKeyed p) p.marks (row p) whole.chained.marks marks g.mark.index mark_out in
+            IsRows-known (row_chain p) (λ q. q.mark.index) (IsKeyed p) (IsKeyed less) marks (row p) rows (λ r c at. Each-but (IsKeyed p) (IsKeyed less) (λ (q : Queued). is_entry_of g.number q.entry) entry_left (row p r) (unqueued r) (rows.all_known r c at))
 
         row_at : (r : Row) (o : Option ℕ) → row_chain p r ≡ o → chained marks o ≡ row p r
         row_at r None at = sym (ap (chained p.marks) at)
-        row_at r (Some c) at = values_are (row_chain p) (λ q. q.mark.index) (IsSeated less) marks (row p) marks_left r c at
+        row_at r (Some c) at = values_are (row_chain p) (λ q. q.mark.index) (IsKeyed less) marks (row p) marks_left r c at
 
         pub row_left : (r : Row) → row less r ≡ row p r
         row_left High = row_at High p.high refl
         row_left Low = row_at Low p.low refl
 
-        shelves_left : IsRows (shelf_chain p) (λ q. q.shelf.index) (IsSeated less) shelves (part is_of_instance (row p))
-        shelves_left =
-            let rows = IsRows-dropped (shelf_chain p) (λ q. q.shelf.index) (IsSeated p) p.shelves (part is_of_instance (row p)) whole.chained.shelves shelves g.shelf.index shelf_out in
-            IsRows-known (shelf_chain p) (λ q. q.shelf.index) (IsSeated p) (IsSeated less) shelves (part is_of_instance (row p)) rows
-            (λ k c at. Each-but (IsSeated p) (IsSeated less) (λ (q : Queued). is_entry_of g.number q.entry) entry_left (filter (is_of_instance k.0) (row p k.1)) (none_in_part (is_of_instance k.0) (λ (q : Queued). is_entry_of g.number q.entry) (row p k.1) (unqueued k.1)) (rows.all_known k c at))
+        instance_queues_left : IsRows (instance_queue_chain p) (λ q. q.instance_queue.index) (IsKeyed less) instance_queues (part is_of_instance (row p))
+        instance_queues_left =
+            let rows = IsRows-dropped (instance_queue_chain p) (λ q. q.instance_queue.index) (IsKeyed p) p.instance_queues (part is_of_instance (row p)) whole.chained.instance_queues instance_queues g.instance_queue.index instance_queue_out in
+            IsRows-known (instance_queue_chain p) (λ q. q.instance_queue.index) (IsKeyed p) (IsKeyed less) instance_queues (part is_of_instance (row p)) rows
+            (λ k c at. Each-but (IsKeyed p) (IsKeyed less) (λ (q : Queued). is_entry_of g.number q.entry) entry_left (filter (is_of_instance k.0) (row p k.1)) (none_in_part (is_of_instance k.0) (λ (q : Queued). is_entry_of g.number q.entry) (row p k.1) (unqueued k.1)) (rows.all_known k c at))
 
         behind_left : IsRows (callers_chain less) (λ f. f.node.index) (IsFollower less) behind (callers_row p)
         behind_left =
@@ -151,26 +151,26 @@ module _ (p : Parts) (whole : IsWhole p) (made : ℕ) (sound : SoundTable thread
 
         chained_left : AreChained less
         chained_left = record {
-          places = IsIndex-gone place_filing (place_chain less) p.threads rep stands.0 stands.1.0 (record { node = stands.0.entry.item.node.index; key = where_at stands.0.entry.item.instance stands.0.entry.item.barred stands.0.entry.item.thread.place; value = thread_seat rep stands.0.entry.item }) refl middle places
+          places = IsIndex-gone place_filing (place_chain less) p.threads rep stands.0 stands.1.0 (record { node = stands.0.entry.item.node.index; key = where_at stands.0.entry.item.instance stands.0.entry.item.barred stands.0.entry.item.thread.place; value = thread_order_key rep stands.0.entry.item }) refl middle places
               (subst (λ (e : Single GuestThread). Drops middle places e.item.node.index) (sym stands.1.1.1) node_out)
               (IsIndex-shut (place_chain p) (place_chain less) p.places middle (UnderOf g.number) g.under under_is (found_gone number machine p.threads made sound rep serial g is (λ (x : GuestThread). x.under)) place_else shut (filings place_filing p.threads) whole.chained.places);
           ready_calls = IsIndex-same (ready_call_chain p) p.ready_calls _ whole.chained.ready_calls (filings ready_call calls) (filings_alike unthreaded ready_call (λ r s x. refl) calls p.calls alike);
           ready_works = whole.chained.ready_works;
           polled = whole.chained.polled;
           rising = whole.chained.rising;
-          marks = IsRows-same (row_chain p) (λ q. q.mark.index) (IsSeated less) marks (row p) marks_left (row less) (λ r c at. row_left r);
-          shelves = IsRows-same (shelf_chain p) (λ q. q.shelf.index) (IsSeated less) shelves (part is_of_instance (row p)) shelves_left (part is_of_instance (row less)) (λ k c at. ap (filter (is_of_instance k.0)) (row_left k.1));
+          marks = IsRows-same (row_chain p) (λ q. q.mark.index) (IsKeyed less) marks (row p) marks_left (row less) (λ r c at. row_left r);
+          instance_queues = IsRows-same (instance_queue_chain p) (λ q. q.instance_queue.index) (IsKeyed less) instance_queues (part is_of_instance (row p)) instance_queues_left (part is_of_instance (row less)) (λ k c at. ap (filter (is_of_instance k.0)) (row_left k.1));
           low = subst (Each IsOfThread) (sym (row_left Low)) whole.chained.low;
           behind = IsRows-same (callers_chain less) (λ f. f.node.index) (IsFollower less) behind (callers_row p) behind_left (callers_row less) callers_left;
         }
 
-        not_mark : (r : ℕ) (w : Placed (Single HostWork)) → place_at p.works r ≡ Some w → w.entry.item.mark.index ≡ g.mark.index → ⊥
+        not_mark : (r : ℕ) (w : Placed (Single WorkRecord)) → place_at p.works r ≡ Some w → w.entry.item.mark.index ≡ g.mark.index → ⊥
         not_mark r w at same = whole.nodes.apart rep r stands.0 w stands.1.0 at (ap (λ (e : Single GuestThread). e.item.mark.index) stands.1.1.1 ∙ sym same)
 
         nodes_kept : HaveRowNodes less
         nodes_kept = record {
           marks = nodes_left number machine p.threads made sound rep serial g is (λ (x : GuestThread). x.mark.index) p.marks marks (renamed_made p.marks marks g.mark.index mark_out) whole.nodes.marks;
-          shelves = nodes_left number machine p.threads made sound rep serial g is (λ (x : GuestThread). x.shelf.index) p.shelves shelves (renamed_made p.shelves shelves g.shelf.index shelf_out) whole.nodes.shelves;
+          instance_queues = nodes_left number machine p.threads made sound rep serial g is (λ (x : GuestThread). x.instance_queue.index) p.instance_queues instance_queues (renamed_made p.instance_queues instance_queues g.instance_queue.index instance_queue_out) whole.nodes.instance_queues;
           callers = nodes_left number machine p.threads made sound rep serial g is (λ (x : GuestThread). x.caller.index) p.behind behind (λ n other made. renamed_made middle_behind behind g.caller.index caller_out n other (callers_shut.made n made)) whole.nodes.callers;
           works = record { made = λ r w at. renamed_made p.marks marks g.mark.index mark_out w.entry.item.mark.index (not_mark r w at) (whole.nodes.works.made r w at); own = whole.nodes.works.own };
           apart = λ r s q w at_q at_w same. whole.nodes.apart r s q w (before r q at_q) at_w same;

@@ -1,7 +1,7 @@
 -- The handle of a thread that is gone is taken back.
-use Rattle.task_records.proofs.Core.{ap, ap₂, AreHandlesNamed, arith, bare, Bool, by_place, change, cond, Core, Counter, EachEntry, false, free_thread_handle, freed_thread_handle, get, get-remove_same, Global, handle_table, Handles, held_by, insert, instance_of, IsSome, IsSound, item_at, item_of, kinds, length, List, live_in, map, map-set, named_by, named_of, None, Ok, on_core, Option, option_and_then, option_map, OwnsHandle, parts_of, Records, refl, remove_thread, Removes, Rep, same_Some, seen, set, slice_get, slice_get-map, slice_get_within, Some, sym, TableId, taking, thread_at, thread_handle_of, ThreadKey, true, Vec, ℕ, ◌+◌, ◌-◌, ◌<◌, ◌==◌, ◌∙◌, ◌≡◌}
-use Rattle.task_machine.specs.Core.{Table}
-use Rattle.task_records.specs.declared.{instances.InstanceRecord.InstanceRecord, parts.CoreParts.CoreParts, threads.GuestThread.GuestThread}
+use Rattle.task_records.proofs.Core.{ap, ap₂, AreHandlesNamed, arith, bare, Bool, by_place, change, cond, Core, Counter, EachEntry, false, free_thread_handle, freed_thread_handle, get, get-remove_same, Global, handle_table, Handles, held_by, insert, instance_of, IsSome, IsSoundCore, item_at, item_of, kinds, length, List, live_in, map, map-set, named_by, named_of, None, Ok, on_core, Option, option_and_then, option_map, OwnsHandle, parts_of, Records, refl, remove_thread, Removes, Rep, same_Some, seen, set, slice_get, slice_get-map, slice_get_within, Some, sym, TableId, taking, thread_at, thread_handle_of, ThreadKey, true, Vec, ℕ, ◌+◌, ◌-◌, ◌<◌, ◌==◌, ◌∙◌, ◌≡◌}
+use Rattle.task_machine.specs.Core.{NameTable}
+use Rattle.task_records.specs.declared.{instance_records.InstanceRecord.InstanceRecord, parts.CoreParts.CoreParts, thread_records.GuestThread.GuestThread}
 use Rattle.removal_words.proofs.LessLemmas.{read_at}
 use Rattle.removal_words.proofs.RewriteLemmas.{each_there}
 use Rattle.task_records.proofs.GivenLemmas.{held_taken, live_taken, names_left, one_changed, table_taken}
@@ -18,12 +18,12 @@ module _ (a : CoreParts) (i h n : ℕ) (names : thread_at i h (seen a).core ≡ 
   thread_instance = by_place (slice_get a.instances.items i) refl
     where
       by_place : (o : Option InstanceRecord) → slice_get a.instances.items i ≡ o → i < length a.instances.items
-      by_place None is = absent n (ap (option_and_then (λ (t : Table ℕ). get t.live h)) (thread_handles_read a i None (sym is)) ∙ names)
+      by_place None is = absent n (ap (option_and_then (λ (t : NameTable ℕ). get t.live h)) (thread_handles_read a i None (sym is)) ∙ names)
       by_place (Some r) is = slice_get_within a.instances.items i r is
 
   module _ (r : InstanceRecord) (at : Some r ≡ slice_get a.instances.items i) where
     read : thread_at i h (seen a).core ≡ option_map thread_named (held_by r.thread_handles h)
-    read = ap (option_and_then (λ (t : Table ℕ). get t.live h)) (sym (thread_handles_read a i (Some r) at)) ∙ get-records_by thread_named r.thread_handles.live h
+    read = ap (option_and_then (λ (t : NameTable ℕ). get t.live h)) (sym (thread_handles_read a i (Some r) at)) ∙ get-records_by thread_named r.thread_handles.live h
 
     -- and the handle is live
     pub thread_held : (item : Rep) × ((held_by r.thread_handles h ≡ Some item) × (item.serial ≡ n))
@@ -35,7 +35,7 @@ module _ (a : CoreParts) (i h n : ℕ) (names : thread_at i h (seen a).core ≡ 
 
 -- ---- It is taken back
 
-module _ (a : CoreParts) (sound : IsSound a) (i : ℕ) (r : InstanceRecord) (at : Some r ≡ slice_get a.instances.items i) (h n : ℕ) (names : thread_at i h (seen a).core ≡ Some n) (gone : get (seen a).core.threads n ≡ None) where
+module _ (a : CoreParts) (sound : IsSoundCore a) (i : ℕ) (r : InstanceRecord) (at : Some r ≡ slice_get a.instances.items i) (h n : ℕ) (names : thread_at i h (seen a).core ≡ Some n) (gone : get (seen a).core.threads n ≡ None) where
   abbrev item : Rep
   item = (thread_held a i h n names r at).0
 
@@ -51,7 +51,7 @@ module _ (a : CoreParts) (sound : IsSound a) (i : ℕ) (r : InstanceRecord) (at 
 
   -- it is counted
   pub thread_handle_counted : 0 < a.counter.live
-  unfolding IsSound seen
+  unfolding IsSoundCore seen
   thread_handle_counted = let law = fewer in let all = sound.live in omega arith
 
   module _ (new : Handles Rep) (v : Vec InstanceRecord Global) (is : v.items ≡ set a.instances.items i (record r { thread_handles = new })) (c : Counter) (removes : Removes h r.thread_handles new a.counter c) where
@@ -84,7 +84,7 @@ module _ (a : CoreParts) (sound : IsSound a) (i : ℕ) (r : InstanceRecord) (at 
         by_test false some = some
 
     left_named : AreHandlesNamed (kinds (bare (parts_of a))) (record r { thread_handles = new })
-    unfolding IsSound
+    unfolding IsSoundCore
     left_named =
         let was = sound.handles i r (sym at) in
         record {
@@ -96,9 +96,9 @@ module _ (a : CoreParts) (sound : IsSound a) (i : ℕ) (r : InstanceRecord) (at 
 
     -- a thread that is there owns another handle
     owns_left : EachEntry (OwnsHandle (parts_of (record a { instances = v; counter = c }))) a.threads
-    unfolding IsSound seen
+    unfolding IsSoundCore seen
     owns_left q p there g has =
-        ap (λ (m : Records (Table ℕ)). named_by m p.entry.item.instance g) threads_taken
+        ap (λ (m : Records (NameTable ℕ)). named_by m p.entry.item.instance g) threads_taken
         ∙ names_left (seen a).core.thread_handles i (handle_table thread_named r.thread_handles) thread_table_at h p.entry.item.instance g p.entry.item.number other (sound.owned q p there g has)
       where
         other : p.entry.item.instance ≡ i → g ≡ h → ⊥
@@ -106,8 +106,8 @@ module _ (a : CoreParts) (sound : IsSound a) (i : ℕ) (r : InstanceRecord) (at 
             (sym gone ∙ (ap (get (seen a).core.threads) (same_Some n p.entry.item.number (sym names ∙ (ap₂ (λ j k. thread_at j k (seen a).core) (sym same_i) (sym same_h) ∙ sound.owned q p there g has)))
             ∙ read_at (λ (x : GuestThread). x.number) (λ (x : GuestThread). x.thread) a.threads a.made.threads sound.tables.threads q p there))
 
-    pub thread_taken_sound : IsSound (record a { instances = v; counter = c })
-    unfolding IsSound seen
+    pub thread_taken_sound : IsSoundCore (record a { instances = v; counter = c })
+    unfolding IsSoundCore seen
     thread_taken_sound =
         handles_sound a i r (record r { thread_handles = new }) at refl v is c sound left_named owns_left
         (let less : c.live ≡ a.counter.live - 1 = ap (λ (k : Counter). k.live) removes.counter in
@@ -123,8 +123,8 @@ pub named_one : (o : Option ℕ) → IsSome o → (n : ℕ) × (o ≡ Some n)
 named_one None some = absurd (cc)
 named_one (Some n) some = (n, refl)
 
-pub owned_by : (a : CoreParts) → IsSound a → (id : TableId ThreadKey) (g : GuestThread) → Ok g ≡ item_at item_of a.threads id.rep id.serial → (h : ℕ) → g.thread.handle ≡ Some h → thread_at g.instance h (seen a).core ≡ Some g.number
-unfolding IsSound seen
+pub owned_by : (a : CoreParts) → IsSoundCore a → (id : TableId ThreadKey) (g : GuestThread) → Ok g ≡ item_at item_of a.threads id.rep id.serial → (h : ℕ) → g.thread.handle ≡ Some h → thread_at g.instance h (seen a).core ≡ Some g.number
+unfolding IsSoundCore seen
 owned_by a sound id g is h has = each_there (λ (x : GuestThread). x.number) (λ (x : GuestThread). x.thread) a.threads a.made.threads sound.tables.threads id.rep id.serial g is (OwnsHandle (parts_of a)) sound.owned h has
 
 module _ (i h n : ℕ) (s : Core) where

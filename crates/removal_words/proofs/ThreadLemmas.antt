@@ -1,12 +1,12 @@
 -- A suspended thread is gone, as the word takes it away.
-use Rattle.task_records.proofs.Core.{[], ap, ap₂, AreHandlesNamed, arith, bare, bare_call, bare_thread, Bool, Call, call_key, call_number, callers_chain, callers_in, callers_of, callers_row, cases_eq, chained, cond, Core, core_of, deleted, Each, EachEntry, Entry, entry_of, eq-eqb, Err, false, filings_at, follower, FreeNode, get, get-change_same, get-remove, GuestTaskKey, High, inl, inr, is_entry_of, is_free, is_made, IsApart, IsBehindNobody, IsCallKept, IsLinks, IsSome, IsSound, IsTable, IsWhole, item_at, item_of, keeps_set, KeepsBut, kinds, List, list_any, list_of, loose_call, loose_thread, lost_thread, Low, map, mapped, mapped-deleted, mapped-with_entry, ne_eqb, None, Ok, on_item, on_thread, one_if, Option, option_map, OwnsHandle, Parts, parts_of, passing, Place, place_at, place_filing, place_of, Placed, Records, records, refl, remove, remove-change_same, remove_thread, Renames, ResourceTableError, Result, Row, row, same_map, same_Some, seen, set_number, set_place, slice_get, Some, SoundTable, Spot, subst, switch_entries, sym, Table, table_use, TableId, Tag, Thread, thread_entry, thread_key, thread_of, ThreadKey, threads_of, times, true, UnderOf, uninterested, Unmade, values, with_entry, work_number, ℕ, ◌+◌, ◌-◌, ◌⊎◌, ◌<◌, ◌==◌, ◌||◌, ◌∙◌, ◌∷◌, ◌≡◌, ◌≤◌}
-use Rattle.task_records.specs.declared.{calls.GuestTask.GuestTask, parts.CoreParts.CoreParts, parts.Kept.Kept, single.Single.Single, threads.Follower.Follower, threads.GuestThread.GuestThread, threads.Queued.Queued}
+use Rattle.task_records.proofs.Core.{[], ap, ap₂, AreHandlesNamed, arith, bare, bare_call, bare_thread, Bool, Call, call_key, call_number, callers_chain, callers_in, callers_of, callers_row, cases_eq, chained, cond, Core, core_of, deleted, Each, EachEntry, Entry, entry_of, eq-eqb, Err, false, filings_at, follower, FreeNode, get, get-change_same, get-remove, GuestTaskKey, High, inl, inr, is_entry_of, is_free, is_made, IsApart, IsBehindNobody, IsCallKept, IsLinks, IsSome, IsSoundCore, IsTable, IsWhole, item_at, item_of, keeps_set, KeepsBut, kinds, List, list_any, list_of, loose_call, loose_thread, lost_thread, Low, map, mapped, mapped-deleted, mapped-with_entry, ne_eqb, None, Ok, on_item, on_thread, one_if, Option, option_map, OwnsHandle, CoreImage, parts_of, passing, Place, place_at, place_filing, place_of, Placed, Records, records, refl, remove, remove-change_same, remove_thread, Renames, ResourceTableError, Result, Row, row, same_map, same_Some, seen, set_number, set_place, slice_get, Some, SoundTable, Spot, subst, switch_entries, sym, Table, table_use, TableId, Tag, Thread, thread_entry, thread_key, thread_of, ThreadKey, threads_of, times, true, UnderOf, uninterested, Unmade, values, with_entry, work_number, ℕ, ◌+◌, ◌-◌, ◌⊎◌, ◌<◌, ◌==◌, ◌||◌, ◌∙◌, ◌∷◌, ◌≡◌, ◌≤◌}
+use Rattle.task_records.specs.declared.{call_records.GuestTask.GuestTask, parts.CoreParts.CoreParts, parts.CachedCounts.CachedCounts, single.Single.Single, thread_records.Follower.Follower, thread_records.GuestThread.GuestThread, thread_records.Queued.Queued}
 use Rattle.task_rules.specs.Places.{entries}
 use Rattle.place_words.proofs.FiledLemmas.{kept_under}
 use Rattle.place_words.specs.Moved.{Alike}
 use Rattle.queue_words.proofs.CallerLemmas.{caller_free, callers_get, callers_row_of, numbers_of}
 use Rattle.queue_words.proofs.ListLemmas.{no_entry, none_passes}
-use Rattle.queue_words.proofs.PushLemmas.{free_mark, free_shelf}
+use Rattle.queue_words.proofs.PushLemmas.{free_mark, free_instance_queue}
 use Rattle.queue_words.proofs.SeenLemmas.{row_seen}
 use Rattle.queue_words.proofs.SwitchLemmas.{follower_kept}
 use Rattle.removal_words.proofs.BareTables.{item_mapped, sound_mapped}
@@ -21,7 +21,7 @@ use Rattle.task_records.proofs.MakeLemmas.{number_gone, number_left, records_les
 use Rattle.task_records.proofs.ReadLemmas.{thread_named, thread_read, thread_shown, thread_unnamed}
 use Rattle.task_records.proofs.TableLemmas.{records_unseen}
 use Rattle.task_words.specs.StateView.{named as named_by_tag}
-use Rattle.table_order.specs.declared.seat_links.Seat.{Seat}
+use Rattle.table_order.specs.declared.ordered_lists.OrderKey.{OrderKey}
 
 abbrev number : GuestThread → ℕ
 number g = g.number
@@ -47,23 +47,23 @@ unlike : (b : Bool) → one_if b ≡ 0 → b ≡ false
 unlike true none = absurd (omega (arith, none))
 unlike false none = refl
 
-module _ (a : CoreParts) (sound : IsSound a) (id : TableId ThreadKey) (g : GuestThread) (is : Ok g ≡ item_at item_of a.threads id.rep id.serial) (task : TableId GuestTaskKey) (c : GuestTask) (is_c : Ok c ≡ item_at item_of a.calls task.rep task.serial) (of : c.number ≡ g.thread.call) where
-  abbrev bared : Parts
+module _ (a : CoreParts) (sound : IsSoundCore a) (id : TableId ThreadKey) (g : GuestThread) (is : Ok g ≡ item_at item_of a.threads id.rep id.serial) (task : TableId GuestTaskKey) (c : GuestTask) (is_c : Ok c ≡ item_at item_of a.calls task.rep task.serial) (of : c.number ≡ g.thread.call) where
+  abbrev bared : CoreImage
   bared = bare (parts_of a)
 
   whole : IsWhole bared
-  unfolding IsSound
+  unfolding IsSoundCore
   whole = sound.whole
 
   threads_sound : SoundTable thread_key bared.threads a.made.threads
-  unfolding IsSound
+  unfolding IsSoundCore
   threads_sound = sound_mapped number machine bare_thread loose_thread (λ x. refl) (λ x. refl) a.threads a.made.threads sound.tables.threads
 
   bare_is : Ok (bare_thread g) ≡ item_at item_of bared.threads id.rep id.serial
   bare_is = item_mapped bare_thread a.threads id.rep id.serial g is
 
   calls_sound : SoundTable call_key bared.calls a.made.threads
-  unfolding IsSound
+  unfolding IsSoundCore
   calls_sound = sound_mapped call_of_number call_machine bare_call (λ c. uninterested (loose_call c)) (λ x. refl) (λ x. refl) a.calls a.made.threads sound.tables.calls
 
   bare_is_c : Ok (bare_call c) ≡ item_at item_of bared.calls task.rep task.serial
@@ -89,7 +89,7 @@ module _ (a : CoreParts) (sound : IsSound a) (id : TableId ThreadKey) (g : Guest
   -- it is one of the threads of its call
   counted_one : c.threads ≡ 1 + (c.threads - 1)
   counted_one =
-      let law = threads_counted bared whole a.made.threads threads_sound id.rep id.serial (bare_thread g) bare_is bare_calls alike a.places a.marks a.shelves a.behind a.kept c.number in
+      let law = threads_counted bared whole a.made.threads threads_sound id.rep id.serial (bare_thread g) bare_is bare_calls alike a.places a.marks a.instance_queues a.behind a.kept c.number in
       let one : cond {A = ℕ} ((bare_thread g).thread.call == c.number) 1 0 ≡ 1 = ap (λ b. cond b 1 0) (eq-eqb g.thread.call c.number (sym of)) in
       let all : c.threads ≡ threads_of c.number (core_of bared) = each_there call_of_number call_machine bared.calls a.made.threads calls_sound task.rep task.serial (bare_call c) bare_is_c (IsCallKept (core_of bared)) whole.counted.calls in
       omega arith
@@ -157,26 +157,26 @@ module _ (a : CoreParts) (sound : IsSound a) (id : TableId ThreadKey) (g : Guest
     pub mark_unlinked : IsLinks a.marks → is_free a.marks g.mark.index ≡ true
     mark_unlinked links = free_mark a sound id g is id.rep refl (thread_entry id.rep g) refl apart.unqueued links
 
-    pub shelf_unlinked : IsLinks a.shelves → is_free a.shelves g.shelf.index ≡ true
-    shelf_unlinked links = free_shelf a sound id g is id.rep refl (thread_entry id.rep g) refl apart.unqueued links
+    pub instance_queue_unlinked : IsLinks a.instance_queues → is_free a.instance_queues g.instance_queue.index ≡ true
+    instance_queue_unlinked links = free_instance_queue a sound id g is id.rep refl (thread_entry id.rep g) refl apart.unqueued links
 
     -- ---- It is gone
 
-    module _ (middle places : List (Spot Seat)) (shut : Closes a.places middle g.under) (node_out : Drops middle places g.node.index) (marks : List (Spot Queued)) (mark_out : Renames a.marks marks g.mark.index FreeNode Unmade) (shelves : List (Spot Queued)) (shelf_out : Renames a.shelves shelves g.shelf.index FreeNode Unmade) (middle_behind behind : List (Spot Follower)) (callers_shut : Closes a.behind middle_behind g.callers) (caller_out : Renames middle_behind behind g.caller.index FreeNode Unmade) where
+    module _ (middle places : List (Spot OrderKey)) (shut : Closes a.places middle g.under) (node_out : Drops middle places g.node.index) (marks : List (Spot Queued)) (mark_out : Renames a.marks marks g.mark.index FreeNode Unmade) (instance_queues : List (Spot Queued)) (instance_queue_out : Renames a.instance_queues instance_queues g.instance_queue.index FreeNode Unmade) (middle_behind behind : List (Spot Follower)) (callers_shut : Closes a.behind middle_behind g.callers) (caller_out : Renames middle_behind behind g.caller.index FreeNode Unmade) where
       abbrev pub thread_removed : CoreParts
-      thread_removed = record a { threads = deleted id.rep a.threads; calls = calls_less; places = places; marks = marks; shelves = shelves; behind = behind; kept = record a.kept { used = a.kept.used - 2 } }
+      thread_removed = record a { threads = deleted id.rep a.threads; calls = calls_less; places = places; marks = marks; instance_queues = instance_queues; behind = behind; kept = record a.kept { used = a.kept.used - 2 } }
 
-      abbrev bare_kept : Kept
+      abbrev bare_kept : CachedCounts
       bare_kept = record a.kept { used = a.kept.used - 2; interesting = 0; moving = 0 }
 
-      abbrev gone : Parts
-      gone = less bared whole a.made.threads threads_sound id.rep id.serial (bare_thread g) bare_is bare_calls alike places marks shelves behind bare_kept
+      abbrev gone : CoreImage
+      gone = less bared whole a.made.threads threads_sound id.rep id.serial (bare_thread g) bare_is bare_calls alike places marks instance_queues behind bare_kept
 
       bare_gone : bare (parts_of thread_removed) ≡ gone
       bare_gone = ap (λ (t : Table (Single GuestThread)). record gone { threads = t }) (mapped-deleted (on_item bare_thread) a.threads id.rep)
 
       counted : (k : ℕ) → threads_of k (core_of gone) + cond (g.thread.call == k) 1 0 ≡ threads_of k (core_of bared)
-      counted = threads_counted bared whole a.made.threads threads_sound id.rep id.serial (bare_thread g) bare_is bare_calls alike places marks shelves behind bare_kept
+      counted = threads_counted bared whole a.made.threads threads_sound id.rep id.serial (bare_thread g) bare_is bare_calls alike places marks instance_queues behind bare_kept
 
       calls_kept : EachEntry (IsCallKept (core_of gone)) bare_calls
       calls_kept =
@@ -198,16 +198,16 @@ module _ (a : CoreParts) (sound : IsSound a) (id : TableId ThreadKey) (g : Guest
       gone_whole : IsWhole gone
       gone_whole =
           let all = thread_counted in
-          less_whole bared whole a.made.threads threads_sound id.rep id.serial (bare_thread g) bare_is bare_calls alike places marks shelves behind bare_kept unqueued not_behind not_switch unkept middle shut node_out mark_out shelf_out middle_behind callers_shut caller_out (omega arith) refl refl calls_kept
+          less_whole bared whole a.made.threads threads_sound id.rep id.serial (bare_thread g) bare_is bare_calls alike places marks instance_queues behind bare_kept unqueued not_behind not_switch unkept middle shut node_out mark_out instance_queue_out middle_behind callers_shut caller_out (omega arith) refl refl calls_kept
 
       calls_map : records call_key calls_less.places ≡ records call_key a.calls.places
-      unfolding IsSound
+      unfolding IsSoundCore
       calls_map =
           let one = item_stands call_of_number call_machine a.calls a.made.threads sound.tables.calls task.rep task.serial c is_c in
           records_unseen call_key a.calls task.rep one.0 one.1.0 (entry_of call_less) (ap call_key (sym one.1.1.1))
 
-      sound_without : IsTable (deleted id.rep a.threads) → IsSound thread_removed
-      unfolding IsSound
+      sound_without : IsTable (deleted id.rep a.threads) → IsSoundCore thread_removed
+      unfolding IsSoundCore
       sound_without table = record {
         tables = record {
           threads = table_less number machine a.threads a.made.threads sound.tables.threads id.rep id.serial g is table;
@@ -219,7 +219,7 @@ module _ (a : CoreParts) (sound : IsSound a) (id : TableId ThreadKey) (g : Guest
         whole = subst IsWhole (sym bare_gone) gone_whole;
         interesting = sound.interesting ∙ ap (passing (λ (x : Call). x.interesting)) (sym calls_map);
         moving = sound.moving;
-        handles = λ i r at. subst (λ (q : Parts). AreHandlesNamed (kinds q) r) (sym bare_gone) (handles_left (kinds bared) (kinds gone) (left bared whole a.made.threads threads_sound id.rep id.serial (bare_thread g) bare_is bare_calls alike places marks shelves behind bare_kept) r (sound.handles i r at));
+        handles = λ i r at. subst (λ (q : CoreImage). AreHandlesNamed (kinds q) r) (sym bare_gone) (handles_left (kinds bared) (kinds gone) (left bared whole a.made.threads threads_sound id.rep id.serial (bare_thread g) bare_is bare_calls alike places marks instance_queues behind bare_kept) r (sound.handles i r at));
         owned = each_left number machine a.threads a.made.threads sound.tables.threads id.rep id.serial g is (OwnsHandle (parts_of a)) sound.owned;
         live = sound.live;
         ended = sound.ended;
@@ -228,7 +228,7 @@ module _ (a : CoreParts) (sound : IsSound a) (id : TableId ThreadKey) (g : Guest
       -- ---- What contracts see
 
       threads_map : records thread_key (deleted id.rep a.threads).places ≡ remove (records thread_key a.threads.places) (thread_of (seen a) id)
-      unfolding IsSound
+      unfolding IsSoundCore
       threads_map = records_less number machine a.threads a.made.threads sound.tables.threads id.rep id.serial g is ∙ ap (remove (records thread_key a.threads.places)) named
 
       abbrev numbers_in : List (Spot Follower) → ℕ → List ℕ
@@ -243,20 +243,20 @@ module _ (a : CoreParts) (sound : IsSound a) (id : TableId ThreadKey) (g : Guest
           by : (o : Option ℕ) → callers_chain gone m ≡ o → callers_chain gone m ≡ callers_chain bared m → option_map (numbers_in behind) (callers_chain gone m) ≡ option_map (numbers_in a.behind) (callers_chain bared m)
           by None at still = ap (option_map (numbers_in behind)) at ∙ ap (option_map (numbers_in a.behind)) (sym at ∙ still)
           by (Some k) at still =
-              let row : callers_row gone m ≡ callers_row bared m = callers_left bared whole a.made.threads threads_sound id.rep id.serial (bare_thread g) bare_is bare_calls alike places marks shelves behind bare_kept unqueued not_behind not_switch unkept middle shut node_out mark_out shelf_out middle_behind callers_shut caller_out m k at in
+              let row : callers_row gone m ≡ callers_row bared m = callers_left bared whole a.made.threads threads_sound id.rep id.serial (bare_thread g) bare_is bare_calls alike places marks instance_queues behind bare_kept unqueued not_behind not_switch unkept middle shut node_out mark_out instance_queue_out middle_behind callers_shut caller_out m k at in
               let same : values behind k ≡ values a.behind k = sym (ap (chained behind) at) ∙ (row ∙ ap (chained a.behind) (sym still ∙ at)) in
               ap (option_map (numbers_in behind)) at ∙ (ap (λ (l : List Follower). Some (numbers_of l)) same ∙ ap (option_map (numbers_in a.behind)) (sym at ∙ still))
 
       callers_map : records (callers_in behind) (deleted id.rep a.threads).places ≡ remove (records (callers_in a.behind) a.threads.places) (thread_of (seen a) id)
       callers_map = same_map _ _ (λ m.
           callers_get thread_removed behind m
-          ∙ (ap (λ (q : Parts). option_map (numbers_in behind) (callers_chain q m)) bare_gone
+          ∙ (ap (λ (q : CoreImage). option_map (numbers_in behind) (callers_chain q m)) bare_gone
           ∙ (callers_now m
           ∙ (ap₂ (λ (n : ℕ) (o : Option (List ℕ)). cond (m == n) None o) named (sym (callers_get a a.behind m))
           ∙ sym (get-remove (records (callers_in a.behind) a.threads.places) (thread_of (seen a) id) m)))))
 
-      row_same : (r : Row) → row gone r ≡ row bared r
-      row_same = row_left bared whole a.made.threads threads_sound id.rep id.serial (bare_thread g) bare_is bare_calls alike places marks shelves behind bare_kept unqueued not_behind not_switch unkept middle shut node_out mark_out shelf_out middle_behind callers_shut caller_out
+      rule_same : (r : Row) → row gone r ≡ row bared r
+      rule_same = row_left bared whole a.made.threads threads_sound id.rep id.serial (bare_thread g) bare_is bare_calls alike places marks instance_queues behind bare_kept unqueued not_behind not_switch unkept middle shut node_out mark_out instance_queue_out middle_behind callers_shut caller_out
 
       abbrev entries_of : List Queued → List Entry
       entries_of qs = map (λ (q : Queued). q.entry) qs
@@ -269,10 +269,10 @@ module _ (a : CoreParts) (sound : IsSound a) (id : TableId ThreadKey) (g : Guest
       core_without =
           ap₂ (λ ts ks. with_maps ts ks (records call_key calls_less.places) (chained marks a.high) (chained marks a.low)) threads_map callers_map
           ∙ (ap (λ cs. with_maps (remove (records thread_key a.threads.places) (thread_of (seen a) id)) (remove (records (callers_in a.behind) a.threads.places) (thread_of (seen a) id)) cs (chained marks a.high) (chained marks a.low)) calls_map
-          ∙ ap₂ (with_maps (remove (records thread_key a.threads.places) (thread_of (seen a) id)) (remove (records (callers_in a.behind) a.threads.places) (thread_of (seen a) id)) (records call_key a.calls.places)) (row_same High) (row_same Low))
+          ∙ ap₂ (with_maps (remove (records thread_key a.threads.places) (thread_of (seen a) id)) (remove (records (callers_in a.behind) a.threads.places) (thread_of (seen a) id)) (records call_key a.calls.places)) (rule_same High) (rule_same Low))
 
       tags_without : KeepsBut (lost_thread (thread_of (seen a) id)) (seen a).tags (seen thread_removed).tags
-      unfolding seen IsSound set_number work_number call_number
+      unfolding seen IsSoundCore set_number work_number call_number
       tags_without = record {
         threads = λ t other. thread_shown thread_removed t ∙ (number_left number machine a.threads a.made.threads sound.tables.threads id.rep id.serial g is t.rep t.serial (λ same. other (thread_shown a t ∙ (same ∙ named))) ∙ sym (thread_shown a t));
         calls = λ k other. ap (λ (l : List (Option Tag)). named_by_tag k.serial (slice_get l k.rep)) (tags_written call_of_number call_machine a.calls a.made.threads sound.tables.calls task.rep task.serial c is_c call_less refl);
@@ -283,8 +283,8 @@ module _ (a : CoreParts) (sound : IsSound a) (id : TableId ThreadKey) (g : Guest
       }
 
       module _ (threads : Table (Single GuestThread)) (are : threads ≡ deleted id.rep a.threads) where
-        pub removed_sound : IsTable threads → IsSound (record thread_removed { threads = threads })
-        removed_sound table = subst (λ (t : Table (Single GuestThread)). IsSound (record thread_removed { threads = t })) (sym are) (sound_without (subst (λ (t : Table (Single GuestThread)). IsTable t) are table))
+        pub removed_sound : IsTable threads → IsSoundCore (record thread_removed { threads = threads })
+        removed_sound table = subst (λ (t : Table (Single GuestThread)). IsSoundCore (record thread_removed { threads = t })) (sym are) (sound_without (subst (λ (t : Table (Single GuestThread)). IsTable t) are table))
 
         pub removed_core : (seen (record thread_removed { threads = threads })).core ≡ remove_thread (thread_of (seen a) id) (seen a).core
         removed_core = ap (λ (t : Table (Single GuestThread)). (seen (record thread_removed { threads = t })).core) are ∙ core_without
@@ -294,7 +294,7 @@ module _ (a : CoreParts) (sound : IsSound a) (id : TableId ThreadKey) (g : Guest
 
 -- ---- A thread that is there, at another place
 
-module _ (a : CoreParts) (sound : IsSound a) (id : TableId ThreadKey) (live : 0 < thread_of (seen a) id) where
+module _ (a : CoreParts) (sound : IsSoundCore a) (id : TableId ThreadKey) (live : 0 < thread_of (seen a) id) where
   thread_there : (t : Thread) × (Some t ≡ get (seen a).core.threads (thread_of (seen a) id))
   thread_there = by (item_at item_of a.threads id.rep id.serial) refl
     where

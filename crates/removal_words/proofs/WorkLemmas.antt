@@ -1,15 +1,15 @@
 -- A host work is gone, as the word takes it away.
-use Rattle.task_records.proofs.Core.{[], ap, ap₂, AreHandlesNamed, arith, bare, bare_work, BlockedOn, Bool, call_number, calls_of, chained, cond, Core, core_of, deleted, Each, EachEntry, Entry, entry_of, eq-eqb, false, filings_at, filter, free_unlinked, FreeNode, get, group_key, GroupKey, High, host_entry, HostTaskKey, is_aborted, is_free, is_host_call, is_live, is_made, is_moving, is_never, is_of_group, is_some, is_stage_live, IsGroupKept, IsLinks, IsOfThread, IsSeated, IsSome, IsSound, IsTable, IsWhole, item_at, item_of, Join, join_of, KeepsBut, kinds, link_for, link_of, List, list_any, list_of, live_chain, live_value, live_work, loose_work, lost_work, Low, map, mapped, mapped-deleted, nat_lt, ne_eqb, None, not, Ok, on_item, one_if_passes, Option, option_and_then, option_map_or, Parts, parts_of, passing, passing-with_at, place_at, Placed, ready_work, Records, records, refl, remove, remove_work, Renames, Row, row, seen, set_number, Some, SoundTable, Spot, Stage, stage_of, subst, Subtask, sym, Table, table_use, TableId, thread_number, true, Unmade, unmoved, Work, work_entries, work_group, work_key, work_of, ℕ, ◌&&◌, ◌+◌, ◌-◌, ◌==◌, ◌||◌, ◌∙◌, ◌∷◌, ◌≡◌, ◌≤◌, numbers, known_of}
-use Rattle.task_records.specs.declared.{calls.TaskGroup.TaskGroup, parts.CoreParts.CoreParts, parts.Kept.Kept, single.Single.Single, threads.Queued.Queued, works.HostWork.HostWork, works.LiveWork.LiveWork}
+use Rattle.task_records.proofs.Core.{[], ap, ap₂, AreHandlesNamed, arith, bare, bare_work, BlockedOn, Bool, call_number, calls_of, chained, cond, Core, core_of, deleted, Each, EachEntry, Entry, entry_of, eq-eqb, false, filings_at, filter, free_unlinked, FreeNode, get, group_key, GroupKey, High, host_entry, HostTaskKey, is_aborted, is_free, is_host_call, is_live, is_made, is_moving, is_never, is_of_group, is_some, is_stage_live, IsGroupKept, IsLinks, IsOfThread, IsKeyed, IsSome, IsSoundCore, IsTable, IsWhole, item_at, item_of, Join, join_of, KeepsBut, kinds, link_for, link_of, List, list_any, list_of, live_chain, live_value, live_work, loose_work, lost_work, Low, map, mapped, mapped-deleted, nat_lt, ne_eqb, None, not, Ok, on_item, one_if_passes, Option, option_and_then, option_map_or, CoreImage, parts_of, passing, passing-with_at, place_at, Placed, ready_work, Records, records, refl, remove, remove_work, Renames, Row, row, seen, set_number, Some, SoundTable, Spot, Stage, stage_of, subst, Subtask, sym, Table, table_use, TableId, thread_number, true, Unmade, unmoved, Work, work_entries, work_group, work_key, work_of, ℕ, ◌&&◌, ◌+◌, ◌-◌, ◌==◌, ◌||◌, ◌∙◌, ◌∷◌, ◌≡◌, ◌≤◌, numbers, tracked_of}
+use Rattle.task_records.specs.declared.{call_records.TaskGroup.TaskGroup, parts.CoreParts.CoreParts, parts.CachedCounts.CachedCounts, single.Single.Single, thread_records.Queued.Queued, work_records.WorkRecord.WorkRecord, work_records.LiveWork.LiveWork}
 use Rattle.place_words.proofs.AlikeLemmas.{number_of_alike}
 use Rattle.place_words.proofs.FiledLemmas.{kept_under}
 use Rattle.place_words.specs.Moved.{Alike}
 use Rattle.queue_words.proofs.ListLemmas.{no_work_entry, none_passes}
 use Rattle.queue_words.proofs.PushLemmas.{high_there, host_free}
 use Rattle.queue_words.proofs.RowLemmas.{row_known}
-use Rattle.queue_words.proofs.SeatLemmas.{threads_own}
+use Rattle.queue_words.proofs.OrderKeyLemmas.{threads_own}
 use Rattle.queue_words.proofs.SeenLemmas.{row_seen}
-use Rattle.queue_words.specs.Seats.{is_entry_of_work}
+use Rattle.queue_words.specs.OrderKeys.{is_entry_of_work}
 use Rattle.removal_words.proofs.BareTables.{item_mapped, sound_mapped}
 use Rattle.removal_words.proofs.GroupLemmas.{numbers_alike}
 use Rattle.removal_words.proofs.LeftLemmas.{handles_left}
@@ -19,16 +19,16 @@ use Rattle.removal_words.specs.Chains.{Closes, Drops}
 use Rattle.removal_words.specs.Counted.{IsIn, IsNamedBy, Lowers, uncalled}
 use Rattle.task_records.proofs.HomeLemmas.{work_names}
 use Rattle.std.specs.Prelude.{vec_capacity}
-use Rattle.task_records.proofs.KnownLemmas.{ended_alike}
+use Rattle.task_records.proofs.TrackedLemmas.{ended_alike}
 use Rattle.task_records.proofs.KindLemmas.{item_number, item_read, item_stands, table_written}
 use Rattle.task_records.proofs.MakeLemmas.{number_left, records_less, table_less}
 use Rattle.task_records.proofs.ReadLemmas.{work_named, work_read, work_shown}
-use Rattle.table_order.specs.declared.seat_links.Seat.{Seat}
+use Rattle.table_order.specs.declared.ordered_lists.OrderKey.{OrderKey}
 
-abbrev number : HostWork → ℕ
+abbrev number : WorkRecord → ℕ
 number w = w.number
 
-abbrev machine : HostWork → Work
+abbrev machine : WorkRecord → Work
 machine w = w.work
 
 abbrev group_number : TaskGroup → ℕ
@@ -41,26 +41,26 @@ pub is_there : (o : Option ℕ) → is_some o ≡ true → (n : ℕ) × (o ≡ S
 is_there None some = absurd (cc)
 is_there (Some n) some = (n, refl)
 
-module _ (a : CoreParts) (sound : IsSound a) (id : TableId HostTaskKey) (g : HostWork) (is : Ok g ≡ item_at item_of a.works id.rep id.serial) where
-  abbrev bared : Parts
+module _ (a : CoreParts) (sound : IsSoundCore a) (id : TableId HostTaskKey) (g : WorkRecord) (is : Ok g ≡ item_at item_of a.works id.rep id.serial) where
+  abbrev bared : CoreImage
   bared = bare (parts_of a)
 
   whole : IsWhole bared
-  unfolding IsSound
+  unfolding IsSoundCore
   whole = sound.whole
 
   works_sound : SoundTable work_key bared.works a.made.works
-  unfolding IsSound
+  unfolding IsSoundCore
   works_sound = sound_mapped number machine bare_work (λ w. unmoved (loose_work w)) (λ x. refl) (λ x. refl) a.works a.made.works sound.tables.works
 
   groups_sound : SoundTable group_key a.groups a.made.groups
-  unfolding IsSound
+  unfolding IsSoundCore
   groups_sound = sound.tables.groups
 
   bare_is : Ok (bare_work g) ≡ item_at item_of bared.works id.rep id.serial
   bare_is = item_mapped bare_work a.works id.rep id.serial g is
 
-  bare_stands : (q : Placed (Single HostWork)) × ((place_at bared.works id.rep ≡ Some q) × ((q.serial ≡ id.serial) × (q.entry ≡ entry_of (bare_work g))))
+  bare_stands : (q : Placed (Single WorkRecord)) × ((place_at bared.works id.rep ≡ Some q) × ((q.serial ≡ id.serial) × (q.entry ≡ entry_of (bare_work g))))
   bare_stands = item_stands number machine bared.works a.made.works works_sound id.rep id.serial (bare_work g) bare_is
 
   named : g.number ≡ work_of (seen a) id
@@ -69,17 +69,17 @@ module _ (a : CoreParts) (sound : IsSound a) (id : TableId HostTaskKey) (g : Hos
   -- ---- What the word asks
 
   pub blocked_live : IsSome (list_of a.places g.blocked)
-  blocked_live = whole.chained.places.live (BlockedOn (Subtask.Host g.number)) g.blocked (kept_under number machine (λ (x : HostWork). x.blocked) bared.works a.made.works works_sound id.rep id.serial (bare_work g) bare_is)
+  blocked_live = whole.chained.places.live (BlockedOn (Subtask.Host g.number)) g.blocked (kept_under number machine (λ (x : WorkRecord). x.blocked) bared.works a.made.works works_sound id.rep id.serial (bare_work g) bare_is)
 
   pub ready_made : is_made a.ready_works g.ready.index ≡ true
-  ready_made = subst (λ (e : Single HostWork). is_made a.ready_works e.item.ready.index ≡ true) bare_stands.1.1.1 (whole.chained.ready_works.made id.rep _ (filings_at ready_work bared.works id.rep (Some bare_stands.0) bare_stands.1.0))
+  ready_made = subst (λ (e : Single WorkRecord). is_made a.ready_works e.item.ready.index ≡ true) bare_stands.1.1.1 (whole.chained.ready_works.made id.rep _ (filings_at ready_work bared.works id.rep (Some bare_stands.0) bare_stands.1.0))
 
   -- one that has ended is in no chain of the live works
   pub live_free : stage_of (work_of (seen a) id) (seen a).core ≡ Stage.Ended → is_free a.polled g.live.index ≡ true
   live_free ended = free_unlinked a.polled g.live.index
-      (subst (λ (e : Single HostWork). link_of a.polled e.item.live.index ≡ link_for (live_chain bared) (record { node = e.item.live.index; key = cond (is_stage_live e.item.work.stage) (Some tt) None; value = live_value id.rep e.item })) bare_stands.1.1.1 (whole.chained.polled.has_link id.rep _ (filings_at live_work bared.works id.rep (Some bare_stands.0) bare_stands.1.0))
+      (subst (λ (e : Single WorkRecord). link_of a.polled e.item.live.index ≡ link_for (live_chain bared) (record { node = e.item.live.index; key = cond (is_stage_live e.item.work.stage) (Some tt) None; value = live_value id.rep e.item })) bare_stands.1.1.1 (whole.chained.polled.has_link id.rep _ (filings_at live_work bared.works id.rep (Some bare_stands.0) bare_stands.1.0))
       ∙ ap (λ x. link_for (live_chain bared) (record { node = g.live.index; key = cond (is_stage_live x) (Some tt) None; value = live_value id.rep g })) (ap (λ o. option_map_or (λ (w : Work). w.stage) o Stage.Ended) (work_read a sound id g is) ∙ ended))
-      (subst (λ (e : Single HostWork). is_made a.polled e.item.live.index ≡ true) bare_stands.1.1.1 (whole.chained.polled.made id.rep _ (filings_at live_work bared.works id.rep (Some bare_stands.0) bare_stands.1.0)))
+      (subst (λ (e : Single WorkRecord). is_made a.polled e.item.live.index ≡ true) bare_stands.1.1.1 (whole.chained.polled.made id.rep _ (filings_at live_work bared.works id.rep (Some bare_stands.0) bare_stands.1.0)))
 
   pub mark_unlinked : work_entries (work_of (seen a) id) (seen a).core.queues.high ≡ 0 → IsLinks a.marks → is_free a.marks g.mark.index ≡ true
   mark_unlinked none links = by a.high refl (high_there a sound id g is)
@@ -89,12 +89,12 @@ module _ (a : CoreParts) (sound : IsSound a) (id : TableId HostTaskKey) (g : Hos
       by (Some k) at some = host_free a sound id g is id.rep refl (host_entry id.rep g) refl k at none links
 
   works_map : records work_key (deleted id.rep a.works).places ≡ remove (records work_key a.works.places) g.number
-  unfolding IsSound
+  unfolding IsSoundCore
   works_map = records_less number machine a.works a.made.works sound.tables.works id.rep id.serial g is
 
   -- what is counted of the works
   fewer : (test : Work → Bool) → passing test (records work_key (deleted id.rep a.works).places) + cond (test g.work) 1 0 ≡ passing test (records work_key a.works.places)
-  unfolding IsSound
+  unfolding IsSoundCore
   fewer test =
       let law = passing-with_at test (records work_key a.works.places) g.number None in
       let map = ap (passing test) works_map in
@@ -124,15 +124,15 @@ module _ (a : CoreParts) (sound : IsSound a) (id : TableId HostTaskKey) (g : Hos
     resting = ap is_stage_live (ap (λ o. option_map_or (λ (w : Work). w.stage) o Stage.Ended) (work_read a sound id g is) ∙ ended)
 
     -- low has entries of threads alone
-    low_none : (qs : List Queued) → Each (IsSeated bared) qs → Each IsOfThread qs → list_any (λ (q : Queued). is_entry_of_work g.number q.entry) qs ≡ false
+    low_none : (qs : List Queued) → Each (IsKeyed bared) qs → Each IsOfThread qs → list_any (λ (q : Queued). is_entry_of_work g.number q.entry) qs ≡ false
     low_none [] known threads = refl
     low_none (q ∷ qs) known threads =
-        let seat = threads_own bared q known.0 threads.0 in
-        ap₂ (λ b d. b || d) (ap (λ (x : Queued). is_entry_of_work g.number x.entry) (sym seat.is)) (low_none qs known.1 threads.1)
+        let order_key = threads_own bared q known.0 threads.0 in
+        ap₂ (λ b d. b || d) (ap (λ (x : Queued). is_entry_of_work g.number x.entry) (sym order_key.is)) (low_none qs known.1 threads.1)
 
     unqueued : (r : Row) → list_any (λ (q : Queued). is_entry_of_work g.number q.entry) (row bared r) ≡ false
     unfolding seen
-    unqueued High = none_passes (IsSeated bared) (λ (q : Queued). q.entry) (λ (q : Queued). is_entry_of_work g.number q.entry) (is_entry_of_work g.number) (λ q known is. is) (row bared High) (row_known bared whole High) (no_work_entry g.number (row_seen a High) (ap (λ n. work_entries n (row_seen a High)) named ∙ unqueued_high))
+    unqueued High = none_passes (IsKeyed bared) (λ (q : Queued). q.entry) (λ (q : Queued). is_entry_of_work g.number q.entry) (is_entry_of_work g.number) (λ q known is. is) (row bared High) (row_known bared whole High) (no_work_entry g.number (row_seen a High) (ap (λ n. work_entries n (row_seen a High)) named ∙ unqueued_high))
     unqueued Low = low_none (row bared Low) (row_known bared whole Low) whole.chained.low
 
     module _ (groups : Table (Single TaskGroup)) (group : Option (TableId GroupKey)) (lowers : Lowers a.groups groups g.work.group group) where
@@ -154,18 +154,18 @@ module _ (a : CoreParts) (sound : IsSound a) (id : TableId HostTaskKey) (g : Hos
           by (Some n) None has l = absurd l
           by (Some n) (Some k) has l = (number_of_alike uncalled group_key (λ e. refl) groups a.groups alike k.rep k.serial ∙ (item_number group_number group_calls a.groups k.rep k.serial l.0 l.1.0 ∙ l.1.1.0), ((work_names a sound id g is).group n has).1)
 
-      module _ (places ready_works : List (Spot Seat)) (polled : List (Spot LiveWork)) (shut : Closes a.places places g.blocked) (ready_out : Drops a.ready_works ready_works g.ready.index) (live_out : Renames a.polled polled g.live.index FreeNode Unmade) (marks : List (Spot Queued)) (mark_out : Renames a.marks marks g.mark.index FreeNode Unmade) (used : ℕ) (still : used + cond (is_host_call g.work) 1 0 ≡ a.kept.used) where
+      module _ (places ready_works : List (Spot OrderKey)) (polled : List (Spot LiveWork)) (shut : Closes a.places places g.blocked) (ready_out : Drops a.ready_works ready_works g.ready.index) (live_out : Renames a.polled polled g.live.index FreeNode Unmade) (marks : List (Spot Queued)) (mark_out : Renames a.marks marks g.mark.index FreeNode Unmade) (used : ℕ) (still : used + cond (is_host_call g.work) 1 0 ≡ a.kept.used) where
         abbrev pub work_removed : CoreParts
         work_removed = record a { works = deleted id.rep a.works; groups = groups; places = places; ready_works = ready_works; polled = polled; marks = marks; kept = record a.kept { used = used } }
 
-        abbrev bare_kept : Kept
+        abbrev bare_kept : CachedCounts
         bare_kept = record a.kept { used = used; interesting = 0; moving = 0 }
 
-        abbrev gone : Parts
+        abbrev gone : CoreImage
         gone = less bared whole a.made.works works_sound id.rep id.serial (bare_work g) bare_is groups alike places ready_works polled marks bare_kept
 
         bare_gone : bare (parts_of work_removed) ≡ gone
-        bare_gone = ap (λ (t : Table (Single HostWork)). record gone { works = t }) (mapped-deleted (on_item bare_work) a.works id.rep)
+        bare_gone = ap (λ (t : Table (Single WorkRecord)). record gone { works = t }) (mapped-deleted (on_item bare_work) a.works id.rep)
 
         counted : (n : ℕ) → calls_of n (core_of gone) + cond (is_of_group n g.work) 1 0 ≡ calls_of n (core_of bared)
         counted = works_counted bared whole a.made.works works_sound id.rep id.serial (bare_work g) bare_is groups alike places ready_works polled marks bare_kept
@@ -217,8 +217,8 @@ module _ (a : CoreParts) (sound : IsSound a) (id : TableId HostTaskKey) (g : Hos
         live_same : filter (nat_lt a.finished) (numbers (records group_key groups.places)) ≡ filter (nat_lt a.finished) (numbers (records group_key a.groups.places))
         live_same = ap (filter (nat_lt a.finished)) (numbers_alike groups a.groups alike)
 
-        sound_without : IsTable (deleted id.rep a.works) → IsSound work_removed
-        unfolding IsSound seen
+        sound_without : IsTable (deleted id.rep a.works) → IsSoundCore work_removed
+        unfolding IsSoundCore seen
         sound_without table = record {
           tables = record {
             threads = sound.tables.threads;
@@ -230,14 +230,14 @@ module _ (a : CoreParts) (sound : IsSound a) (id : TableId HostTaskKey) (g : Hos
           whole = subst IsWhole (sym bare_gone) gone_whole;
           interesting = sound.interesting;
           moving = let law = fewer is_moving in let all = sound.moving in let none : cond {A = ℕ} (is_moving g.work) 1 0 ≡ 0 = ap (λ b. cond b 1 0) moves_not in omega arith;
-          handles = λ i q at. subst (λ (p : Parts). AreHandlesNamed (kinds p) q) (sym bare_gone) (handles_left (kinds bared) (kinds gone) (left bared whole a.made.works works_sound id.rep id.serial (bare_work g) bare_is groups alike places ready_works polled marks bare_kept) q (sound.handles i q at));
+          handles = λ i q at. subst (λ (p : CoreImage). AreHandlesNamed (kinds p) q) (sym bare_gone) (handles_left (kinds bared) (kinds gone) (left bared whole a.made.works works_sound id.rep id.serial (bare_work g) bare_is groups alike places ready_works polled marks bare_kept) q (sound.handles i q at));
           owned = sound.owned;
           live = sound.live;
           ended = ended_alike a.ended.items (vec_capacity a.ended) _ _ a.made.groups live_same sound.ended;
         }
 
-        row_same : (r : Row) → row gone r ≡ row bared r
-        row_same = row_left bared whole a.made.works works_sound id.rep id.serial (bare_work g) bare_is groups alike places ready_works polled marks bare_kept unqueued shut ready_out live_out mark_out
+        rule_same : (r : Row) → row gone r ≡ row bared r
+        rule_same = row_left bared whole a.made.works works_sound id.rep id.serial (bare_work g) bare_is groups alike places ready_works polled marks bare_kept unqueued shut ready_out live_out mark_out
 
         abbrev entries_of : List Queued → List Entry
         entries_of qs = map (λ (q : Queued). q.entry) qs
@@ -249,28 +249,28 @@ module _ (a : CoreParts) (sound : IsSound a) (id : TableId HostTaskKey) (g : Hos
         unfolding seen remove_work
         core_without =
             ap₂ (λ ws gs. with_maps ws gs (chained marks a.high) (chained marks a.low)) (works_map ∙ ap (remove (records work_key a.works.places)) named) (ap (filter (nat_lt a.finished)) (numbers_alike groups a.groups alike))
-            ∙ ap₂ (with_maps (remove (records work_key a.works.places) (work_of (seen a) id)) (seen a).core.groups) (row_same High) (row_same Low)
+            ∙ ap₂ (with_maps (remove (records work_key a.works.places) (work_of (seen a) id)) (seen a).core.groups) (rule_same High) (rule_same Low)
 
         tags_without : KeepsBut (lost_work (work_of (seen a) id)) (seen a).tags (seen work_removed).tags
-        unfolding seen IsSound set_number call_number thread_number
+        unfolding seen IsSoundCore set_number call_number thread_number
         tags_without = record {
           threads = λ t other. refl;
           calls = λ k other. refl;
           sets = λ x other. refl;
           works = λ w other. work_shown work_removed w ∙ (number_left number machine a.works a.made.works sound.tables.works id.rep id.serial g is w.rep w.serial (λ same. other (work_shown a w ∙ (same ∙ named))) ∙ sym (work_shown a w));
           gone = λ t none. none;
-          same = ap (λ gs. known_of a.ended.items gs a.made.groups) live_same;
+          same = ap (λ gs. tracked_of a.ended.items gs a.made.groups) live_same;
         }
 
-        module _ (works : Table (Single HostWork)) (are : works ≡ deleted id.rep a.works) where
-          pub removed_sound : IsTable works → IsSound (record work_removed { works = works })
-          removed_sound table = subst (λ (t : Table (Single HostWork)). IsSound (record work_removed { works = t })) (sym are) (sound_without (subst (λ (t : Table (Single HostWork)). IsTable t) are table))
+        module _ (works : Table (Single WorkRecord)) (are : works ≡ deleted id.rep a.works) where
+          pub removed_sound : IsTable works → IsSoundCore (record work_removed { works = works })
+          removed_sound table = subst (λ (t : Table (Single WorkRecord)). IsSoundCore (record work_removed { works = t })) (sym are) (sound_without (subst (λ (t : Table (Single WorkRecord)). IsTable t) are table))
 
           pub removed_core : (seen (record work_removed { works = works })).core ≡ remove_work (work_of (seen a) id) (seen a).core
-          removed_core = ap (λ (t : Table (Single HostWork)). (seen (record work_removed { works = t })).core) are ∙ core_without
+          removed_core = ap (λ (t : Table (Single WorkRecord)). (seen (record work_removed { works = t })).core) are ∙ core_without
 
           pub removed_tags : KeepsBut (lost_work (work_of (seen a) id)) (seen a).tags (seen (record work_removed { works = works })).tags
-          removed_tags = subst (λ (t : Table (Single HostWork)). KeepsBut (lost_work (work_of (seen a) id)) (seen a).tags (seen (record work_removed { works = t })).tags) (sym are) tags_without
+          removed_tags = subst (λ (t : Table (Single WorkRecord)). KeepsBut (lost_work (work_of (seen a) id)) (seen a).tags (seen (record work_removed { works = t })).tags) (sym are) tags_without
 
   -- its entry in the table's use is counted
   pub use_counted : cond (is_host_call g.work) 1 0 ≤ a.kept.used

@@ -3,7 +3,7 @@ ghost use Rattle.removal_words.specs.Chains.{Closes, Drops};
 ghost use Rattle.std.specs.Prelude.{◌≡◌, IsSome, true};
 ghost use Rattle.task_links.specs.Links.{is_made, list_of};
 
-use table_order::SeatLinks;
+use table_order::OrderedLists;
 use task_links::{Links, Node};
 
 /// Takes every node out of a chain, and drops it.
@@ -20,7 +20,7 @@ pub(crate) fn close<P: Copy>(links: &mut Links<P>, chain: usize)
 
 /// Takes every node out of a chain that stands in the order of seats, and drops it.
 #[inline(always)]
-pub(crate) fn close_seats(links: &mut SeatLinks, chain: usize)
+pub(crate) fn close_order_keys(links: &mut OrderedLists, chain: usize)
     requires { IsSome (list_of links.old chain) }
     ensures { Closes links.old links.new chain }
 {
@@ -32,7 +32,7 @@ pub(crate) fn close_seats(links: &mut SeatLinks, chain: usize)
 
 /// Takes a node out of the chain that it is in, if it is in one, and drops it.
 #[inline(always)]
-pub(crate) fn drop_seat(links: &mut SeatLinks, node: Node)
+pub(crate) fn drop_order_key(links: &mut OrderedLists, node: Node)
     requires { is_made links.old node.index ≡ true }
     ensures { Drops links.old links.new node.index }
 {

@@ -3,14 +3,14 @@
 //! What stood in the chains of a record is taken out of them, and its nodes and chains are dropped.
 #![tactic(auto)]
 
-mod calls;
+mod call_removals;
 mod chains;
-mod groups;
-mod sets;
-mod threads;
-mod works;
+mod group_removals;
+mod set_removals;
+mod thread_removals;
+mod work_removals;
 
-pub use calls::delete_call;
-pub use sets::close_set;
-pub use threads::{remove_thread, retire_thread};
-pub use works::delete_work;
+pub use call_removals::delete_call;
+pub use set_removals::close_set;
+pub use thread_removals::{remove_thread, retire_thread};
+pub use work_removals::delete_work;

@@ -10,10 +10,10 @@ ghost use Rattle.task_rules.specs.Texts.{mark_text, phase_text, given_text, wake
 
 use crate::piece::{digits, number, numbers, small_number, thread_number, words, words_over};
 use label_trace::{
-    CallKind, DataKind, HandleKind, Head, Kind, LoopKind, MainKind, OwnKind, SetKind, TakeKind,
+    CallKind, DataKind, HandleKind, Head, LabelKind, LoopKind, MainKind, OwnKind, SetKind, TakeKind,
     TaskKind, ThreadKind, first, later, listed,
 };
-use task_machine::{Mark, Outcome, OwnEvent, Phase, Status, Trap};
+use task_machine::{Mark, Outcome, TaskEvent, Phase, Status, Trap};
 
 /// No line has more bytes than this.
 pub const LINE: usize = 160;
@@ -376,15 +376,15 @@ fn task_label(out: &mut [u8], at: usize, kind: TaskKind, small: u32, xs: &[u64])
 }
 
 // ` wait`, the task's own event, and the thread that was woken.
-fn waits_and_wakes(out: &mut [u8], at: usize, event: OwnEvent, woken: u64) -> usize
+fn waits_and_wakes(out: &mut [u8], at: usize, event: TaskEvent, woken: u64) -> usize
     requires { at + 65 ≤ length out.old }
     ensures end { result ≤ at + 60 }
     ensures room { length out.new ≡ length out.old }
     ensures text { take result out.new ≡ take at out.old ++ wakes (codes " wait" ++ given_text (given_own event)) woken }
 {
     match event {
-        OwnEvent::None => number(out, at, b" wait 0 0 0 wakes ", woken),
-        OwnEvent::Cancelled => number(out, at, b" wait 6 0 0 wakes ", woken),
+        TaskEvent::None => number(out, at, b" wait 0 0 0 wakes ", woken),
+        TaskEvent::Cancelled => number(out, at, b" wait 6 0 0 wakes ", woken),
     }
 }
 
@@ -498,17 +498,17 @@ fn any_label(out: &mut [u8], at: usize, head: &Head, xs: &[u64]) -> usize
 {
     let small = head.small;
     match head.kind {
-        Kind::Main(kind) => main_label(out, at, kind, small, listed(xs, 0)),
-        Kind::Loop(kind) => loop_label(out, at, kind, small, xs),
-        Kind::Take(mark, kind) => take_label(out, at, mark, kind, small, xs),
-        Kind::Own(mark, kind) => own_label(out, at, mark, kind, small, xs),
-        Kind::Given(mark, status) => given_label(out, at, mark, status, small, listed(xs, 0)),
-        Kind::Data(kind) => data_label(out, at, kind, small, xs),
-        Kind::Task(kind) => task_label(out, at, kind, small, xs),
-        Kind::Set(kind) => set_label(out, at, kind, small, xs),
-        Kind::Call(kind) => call_label(out, at, kind, small, xs),
-        Kind::Thread(kind) => thread_label(out, at, kind, first(small, xs)),
-        Kind::Handle(kind) => handle_label(out, at, kind, small, xs),
+        LabelKind::Main(kind) => main_label(out, at, kind, small, listed(xs, 0)),
+        LabelKind::Loop(kind) => loop_label(out, at, kind, small, xs),
+        LabelKind::Take(mark, kind) => take_label(out, at, mark, kind, small, xs),
+        LabelKind::Own(mark, kind) => own_label(out, at, mark, kind, small, xs),
+        LabelKind::Given(mark, status) => given_label(out, at, mark, status, small, listed(xs, 0)),
+        LabelKind::Data(kind) => data_label(out, at, kind, small, xs),
+        LabelKind::Task(kind) => task_label(out, at, kind, small, xs),
+        LabelKind::Set(kind) => set_label(out, at, kind, small, xs),
+        LabelKind::Call(kind) => call_label(out, at, kind, small, xs),
+        LabelKind::Thread(kind) => thread_label(out, at, kind, first(small, xs)),
+        LabelKind::Handle(kind) => handle_label(out, at, kind, small, xs),
     }
 }
 

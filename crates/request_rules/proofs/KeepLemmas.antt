@@ -6,7 +6,7 @@ use Rattle.request_rules.specs.Serving.{is_replied}
 use Rattle.request_rules.specs.declared.request.Request.{Request}
 use Rattle.request_rules.specs.declared.request.Stage.{Stage}
 use Rattle.request_rules.specs.declared.request.Stage.TheVariants.{Answered, Declined, Open, Refused, Waits}
-use Rattle.request_rules.specs.Keeps.{Keeps}
+use Rattle.request_rules.specs.KeepsReplies.{KeepsReplies}
 use Rattle.request_rules.specs.HowMany.{how_many}
 use Rattle.std.proofs.Common.{ap, arith, inl, inr, refl, subst, sym, ⊎_elim, ◌∙◌}
 use Rattle.std.proofs.lemmas.Option.{slice_get_within}
@@ -49,11 +49,11 @@ gone : {A : Type 0} (xs : List A) (j i : ℕ) (old new e : A) → j ≡ i → sl
 gone {A} xs j i old new e same at there other =
     other (let here = subst (λ (k : ℕ). slice_get (slice_set xs i new) k ≡ Some e) same there in let both : Some new ≡ Some e = sym (get_same xs i old new at) ∙ here in cc)
 
-module _ {K : Type 0} (thread : K → Option ℕ) (IsCall : K → Type 0) (rs : List Request) (ks : List K) (es : List Stage) (started replied : ℕ) (due declined : Bool) (keeps : Keeps thread IsCall rs ks es started replied due declined) where
+module _ {K : Type 0} (thread : K → Option ℕ) (IsCall : K → Type 0) (rs : List Request) (ks : List K) (es : List Stage) (started replied : ℕ) (due declined : Bool) (keeps : KeepsReplies thread IsCall rs ks es started replied due declined) where
   -- ---- A call is finished
 
   module _ (i n v : ℕ) (k l : K) (none : thread l ≡ None) (is_call : IsCall l) (at : slice_get ks i ≡ Some k) (opened : slice_get es i ≡ Some (Open n)) where
-    pub keeps_finish : Keeps thread IsCall rs (slice_set ks i l) (slice_set es i (Answered n v)) started (replied + 1) due declined
+    pub keeps_finish : KeepsReplies thread IsCall rs (slice_set ks i l) (slice_set es i (Answered n v)) started (replied + 1) due declined
     keeps_finish = record {
       few = keeps.few;
       size = length_set es i (Answered n v) ∙ keeps.size;
@@ -75,7 +75,7 @@ module _ {K : Type 0} (thread : K → Option ℕ) (IsCall : K → Type 0) (rs : 
   -- ---- A refusal is replied
 
   module _ (p : ℕ) (why : Trap) (last : started ≡ suc p) (at : slice_get es p ≡ Some (Declined why)) where
-    pub keeps_refused : Keeps thread IsCall rs ks (slice_set es p (Refused why)) started (replied + 1) false declined
+    pub keeps_refused : KeepsReplies thread IsCall rs ks (slice_set es p (Refused why)) started (replied + 1) false declined
     keeps_refused = record {
       few = keeps.few;
       size = length_set es p (Refused why) ∙ keeps.size;
@@ -100,7 +100,7 @@ module _ {K : Type 0} (thread : K → Option ℕ) (IsCall : K → Type 0) (rs : 
     before : started < length rs
     before = let within = slice_get_within es started Waits at in let size = keeps.size in omega (arith, within, size)
 
-    pub keeps_open : (k : K) (n : ℕ) → thread k ≡ Some n → IsCall k → declined ≡ false → Keeps thread IsCall rs (ks ++ k ∷ []) (slice_set es started (Open n)) (started + 1) replied due declined
+    pub keeps_open : (k : K) (n : ℕ) → thread k ≡ Some n → IsCall k → declined ≡ false → KeepsReplies thread IsCall rs (ks ++ k ∷ []) (slice_set es started (Open n)) (started + 1) replied due declined
     keeps_open k n is is_call fine =
         let many = keeps.next fine in
         let more = length_more ks k in
@@ -125,7 +125,7 @@ module _ {K : Type 0} (thread : K → Option ℕ) (IsCall : K → Type 0) (rs : 
           counts = let set = count_set is_replied es started Waits (Open n) at in let counts = keeps.counts in omega (arith, set, counts);
         }
 
-    pub keeps_declined : (why : Trap) → is_refusal why ≡ true → Keeps thread IsCall rs ks (slice_set es started (Declined why)) (started + 1) replied true true
+    pub keeps_declined : (why : Trap) → is_refusal why ≡ true → KeepsReplies thread IsCall rs ks (slice_set es started (Declined why)) (started + 1) replied true true
     keeps_declined why refusal =
         let behind = keeps.behind in
         record {
@@ -163,7 +163,7 @@ all_there : (n : ℕ) → length (replicate n Waits) ≡ n
 all_there zero = refl
 all_there (suc n) = ap (λ (k : ℕ). suc k) (all_there n)
 
-pub keeps_first : {K : Type 0} (thread : K → Option ℕ) (IsCall : K → Type 0) (rs : List Request) → length rs ≤ 10000 → Keeps thread IsCall rs [] (replicate (length rs) Waits) 0 0 false false
+pub keeps_first : {K : Type 0} (thread : K → Option ℕ) (IsCall : K → Type 0) (rs : List Request) → length rs ≤ 10000 → KeepsReplies thread IsCall rs [] (replicate (length rs) Waits) 0 0 false false
 keeps_first thread IsCall rs few = record {
   few = few;
   size = all_there (length rs);

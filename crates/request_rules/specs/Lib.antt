@@ -1,5 +1,5 @@
 pub mod HowMany
-pub mod Keeps
+pub mod KeepsReplies
 pub mod Laws
 pub mod Pairs
 pub mod Served

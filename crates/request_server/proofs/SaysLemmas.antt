@@ -3,13 +3,13 @@ use Rattle.request_rules.specs.Serving.{Asked, Serves}
 use Rattle.request_rules.specs.declared.request.Request.{Request}
 use Rattle.request_server.specs.Knows.{AllTaken, Knows, Suits, asked}
 use Rattle.request_server.specs.Serves.{Does}
-use Rattle.request_server.specs.Steps.{HasStepped, HasWaited, MayStep}
+use Rattle.request_server.specs.Steps.{HasStepResult, HasWaited, MayStep}
 use Rattle.request_server.specs.declared.server.ServerMain.{ServerMain}
 use Rattle.std.proofs.Common.{ap, ap₂, subst, sym, ◌∙◌}
 use Rattle.std.specs.Prelude.{List, [], false, ℕ, ◌≡◌}
-use Rattle.task_group.specs.Listeners.{Listeners, Told, errors_of}
+use Rattle.task_group.specs.Listeners.{Listeners, ToldListeners, errors_of}
 use Rattle.task_loop.specs.HasRun as loop
-use Rattle.task_loop.specs.Heeds.{is_refused}
+use Rattle.task_loop.specs.AnswersOk.{is_refused}
 use Rattle.task_loop.specs.Says.{Says, unscripted}
 use Rattle.task_loop.specs.Told.{main_notices}
 use Rattle.task_machine.specs.Core.{Unscripted}
@@ -41,12 +41,12 @@ module _ {T H G : Type 0} (course : H → HostDef) (c : Component) where
     given = may.few;
   }
 
-  pub served : (m : ServerMain) (s : Store T H G) (x : MainStep) (n : ServerMain) (t : Store T H G) → Suits m c → HasStepped course c m s x n t → loop.HasStepped server_says course c x m s n t
+  pub served : (m : ServerMain) (s : Store T H G) (x : MainStep) (n : ServerMain) (t : Store T H G) → Suits m c → HasStepResult course c m s x n t → loop.HasStepResult server_says course c x m s n t
   served m s x n t suits did = record {
     steps = did.steps;
     does = record { asked_is = same_asked m n did.limit (ap (λ r. r.now) did.requests); serves = did.serves };
     told = did.told;
-    calm = did.calm;
+    hook_is_ok = did.hook_is_ok;
     idle = did.current;
     suits = subst (λ (rs : List Request). AllTaken c rs) (sym (ap (λ r. r.now) did.requests)) suits;
     knows = did.knows;
@@ -55,7 +55,7 @@ module _ {T H G : Type 0} (course : H → HostDef) (c : Component) where
   }
 
   -- what is done after nothing was to be finished or started
-  pub after_wait : (m : ServerMain) (s : Store T H G) (k : ServerMain) (u : Store T H G) → HasWaited course c m s k u → (x : MainStep) (n : ServerMain) (t : Store T H G) → HasStepped course c k u x n t → HasStepped course c m s x n t
+  pub after_wait : (m : ServerMain) (s : Store T H G) (k : ServerMain) (u : Store T H G) → HasWaited course c m s k u → (x : MainStep) (n : ServerMain) (t : Store T H G) → HasStepResult course c k u x n t → HasStepResult course c m s x n t
   after_wait m s k u w x n t did = record {
     stands = did.stands ∙ w.stands;
     requests = did.requests ∙ ap (λ q. q.requests) w.same;
@@ -67,9 +67,9 @@ module _ {T H G : Type 0} (course : H → HostDef) (c : Component) where
     steps = subst (λ (v : StateView). Steps c [] Unscripted v.core x Unscripted t.state.core) w.state did.steps;
     serves = subst (λ (q : ServerMain). Serves (asked q) q.stages.items s.state.core (label_of_step x) n.stages.items t.state.core) w.same
         (subst (λ (v : StateView). Serves (asked k) k.stages.items v.core (label_of_step x) n.stages.items t.state.core) w.state did.serves);
-    told = subst (λ (l : Listeners). Told (main_notices x s.state.core t.state.core) l t.listeners) w.listeners
-        (subst (λ (v : StateView). Told (main_notices x v.core t.state.core) u.listeners t.listeners) w.state did.told);
-    calm = subst (λ (l : Listeners). is_refused (label_of_step x) ≡ false → errors_of t.listeners ≡ errors_of l) w.listeners did.calm;
+    told = subst (λ (l : Listeners). ToldListeners (main_notices x s.state.core t.state.core) l t.listeners) w.listeners
+        (subst (λ (v : StateView). ToldListeners (main_notices x v.core t.state.core) u.listeners t.listeners) w.state did.told);
+    hook_is_ok = subst (λ (l : Listeners). is_refused (label_of_step x) ≡ false → errors_of t.listeners ≡ errors_of l) w.listeners did.hook_is_ok;
   }
 
   pub waited_on : (m : ServerMain) (s : Store T H G) (k : ServerMain) (u : Store T H G) → HasWaited course c m s k u → (n : ServerMain) (t : Store T H G) → HasWaited course c k u n t → HasWaited course c m s n t

@@ -10,18 +10,18 @@ use Rattle.request_rules.specs.declared.request.Stage.{Stage}
 use Rattle.request_rules.specs.declared.request.Stage.TheVariants.{Answered, Declined, Open, Refused, Waits}
 use Rattle.request_rules.proofs.KeepLemmas.{keeps_declined, keeps_finish, keeps_open, keeps_refused}
 use Rattle.request_rules.proofs.CountLemmas.{all_so, some_not}
-use Rattle.request_rules.specs.Keeps.{Keeps}
+use Rattle.request_rules.specs.KeepsReplies.{KeepsReplies}
 use Rattle.task_nursery.specs.Children as kids
 use Rattle.task_nursery.specs.Children.{is_open_call, ended, has_ended, left_by, thread_in, value_in}
 use Rattle.task_nursery.specs.Numbers.{count_where, first_where, numbered, numbers_where}
 use Rattle.request_server.specs.Knows.{IsCall, Knows, Suits, asked, func_of}
-use Rattle.request_server.specs.Steps.{HasStepped, HasWaited, IsBusy, MayStep, NoneReturned}
+use Rattle.request_server.specs.Steps.{HasStepResult, HasWaited, IsBusy, MayStep, NoneReturned}
 use Rattle.request_server.specs.declared.server.ServerMain.{ServerMain}
 use Rattle.request_rules.specs.HowMany.{how_many}
 use Rattle.std.proofs.Common.{ap, arith, inl, inr, refl, subst, sym, ⊎_elim, ◌∙◌}
 use Rattle.std.specs.Option.{option_and_then, option_map}
 use Rattle.std.specs.Prelude.{Bool, List, None, Option, Some, [], false, is_some, length, slice_get, slice_set, suc, true, unwrap_or, zero, ℕ, ◌+◌, ◌-◌, ◌<◌, ◌∷◌, ◌≡◌, ◌≤◌, Err, IfSome, Ok, if◌then◌else◌, not, ◌≢◌, Result, ◌^◌, ◌⊎◌}
-use Rattle.task_calls.specs.Calls.{Finishes, Starts}
+use Rattle.task_calls.specs.MainCalls.{Finishes, Starts}
 use Rattle.task_loop.specs.declared.call.Func.{Func}
 use Rattle.task_loop.specs.declared.call.FuncCallConcurrent.{FuncCallConcurrent}
 use Rattle.task_machine.specs.Core as core
@@ -30,13 +30,13 @@ use Rattle.task_machine.specs.Maps.{get}
 use Rattle.task_machine.specs.declared.component.Component.{Component}
 use Rattle.task_nursery.proofs.KeptLemmas.{ended_is_open}
 use Rattle.task_nursery.proofs.NumberLemmas.{first_is_least, first_is_so}
-use Rattle.task_nursery.specs.Scope.{Scope, after_end, ended_at, left_at, with_ended, IsOf, with_child, Begins, Refuses, TellsStart, StopsCall}
+use Rattle.task_nursery.specs.Scope.{Scope, after_end, ended_at, left_at, with_ended, IsOf, with_child, ScopeBegins, Refuses, TellsStart, StopsCall}
 use Rattle.task_nursery.specs.declared.children.Kept.{Kept}
 use Rattle.task_nursery.specs.declared.children.Kept.TheVariants as kept
 use Rattle.request_rules.specs.Pairs.{ArePairs, IsPair}
 use Rattle.std.proofs.lemmas.Bool.Decides.{nat_tests}
 use Rattle.std.proofs.lemmas.Bool.{and_from}
-use Rattle.task_group.specs.Listeners.{errors_of, Told, AnsweredErr, Listeners}
+use Rattle.task_group.specs.Listeners.{errors_of, ToldListeners, AnsweredErr, Listeners}
 use Rattle.task_loop.proofs.MainToldLemmas.{told_step, refused_notices, started_notices}
 use Rattle.task_loop.proofs.ToldLemmas.{running_asked}
 use Rattle.task_loop.specs.Standing.{standing}
@@ -55,7 +55,7 @@ use Rattle.task_words.specs.Groups.{IsAsked}
 use Rattle.task_store.specs.Hosts.{HoldsHosts}
 use Rattle.task_store.specs.declared.store.Store.{Store}
 use Rattle.task_turns.specs.Main.{Did, Answers, Steps}
-use Rattle.task_turns.specs.Turn.{running_of, Sits, given}
+use Rattle.task_turns.specs.Turn.{running_of, CoreInOrder, given}
 use Rattle.task_turns.specs.declared.mains.MainStep.TheVariants as step
 use Rattle.state_calls.specs.declared.error.TaskError.TheVariants as faults
 use Rattle.task_loop.proofs.StartLemmas.{start_current}
@@ -208,7 +208,7 @@ some_stage (d ∷ es) zero None at within = absurd (cc)
 some_stage (d ∷ es) (suc i) None at within = some_stage es i None at (omega (arith, within))
 
 -- where each request was started, none waits
-all_begun : (m : ServerMain) (i : ℕ) → Keeps thread_in IsCall m.requests.now m.nursery.children m.stages.items m.started m.replied m.due m.declined → slice_get m.stages.items i ≡ Some Waits → length m.requests.now ≤ m.started → ⊥
+all_begun : (m : ServerMain) (i : ℕ) → KeepsReplies thread_in IsCall m.requests.now m.nursery.children m.stages.items m.started m.replied m.due m.declined → slice_get m.stages.items i ≡ Some Waits → length m.requests.now ≤ m.started → ⊥
 all_begun m i keeps at all =
     let late = keeps.begun i at in
     let within = slice_get_within m.stages.items i Waits at in
@@ -224,12 +224,12 @@ at_most [] = omega arith
 at_most (e ∷ es) = one_at_most (is_replied e) (how_many is_replied es) (length es) (at_most es)
 
 -- few replies are there
-pub few_replied : (rs : List Request) (ks : List Kept) (es : List Stage) (started replied : ℕ) (due declined : Bool) → Keeps thread_in IsCall rs ks es started replied due declined → replied ≤ 10000
+pub few_replied : (rs : List Request) (ks : List Kept) (es : List Stage) (started replied : ℕ) (due declined : Bool) → KeepsReplies thread_in IsCall rs ks es started replied due declined → replied ≤ 10000
 few_replied rs ks es started replied due declined keeps =
     let most = at_most es in let counts = keeps.counts in let size = keeps.size in let few = keeps.few in omega (arith, most, counts, size, few)
 
 -- the refusal that is due is that of the last request
-pub refusal_due : (rs : List Request) (ks : List Kept) (es : List Stage) (started replied : ℕ) (due declined : Bool) → Keeps thread_in IsCall rs ks es started replied due declined → due ≡ true → (e : Stage) (why : Trap) → e ≡ get_or es (started - 1) e →
+pub refusal_due : (rs : List Request) (ks : List Kept) (es : List Stage) (started replied : ℕ) (due declined : Bool) → KeepsReplies thread_in IsCall rs ks es started replied due declined → due ≡ true → (e : Stage) (why : Trap) → e ≡ get_or es (started - 1) e →
     e ≡ Declined why → (started ≡ suc (started - 1)) × (slice_get es (started - 1) ≡ Some (Declined why)) × (is_refusal why ≡ true)
 refusal_due rs ks es started replied due declined keeps is e why read found =
     let d = keeps.due_is is in
@@ -254,7 +254,7 @@ pub record Left (m n : ServerMain) (children : List Kept) (es : List Stage) (sta
   pub declined_is : n.declined ≡ declined
 
 pub knows_left : (m n : ServerMain) (s t : StateView) (ks : List Kept) (es : List Stage) (started replied : ℕ) (due declined : Bool) → Left m n ks es started replied due declined → IsOf n.nursery t → Knows m s →
-    Keeps thread_in IsCall m.requests.now ks es started replied due declined → Knows n t
+    KeepsReplies thread_in IsCall m.requests.now ks es started replied due declined → Knows n t
 knows_left m n s t ks es started replied due declined left of knows keeps = record {
   of = of;
   unclosed = left.unclosed ∙ knows.unclosed;
@@ -267,7 +267,7 @@ module _ {T H G : Type 0} (course : H → HostDef) (c : Component) (m n : Server
   pub finish_stepped : (k v thread : ℕ) (e : Ends m.nursery.children s.state.core k) → n.nursery ≡ with_ended s.state.core k m.nursery → t.state ≡ on_core (after_end k m.nursery) s.state →
       slice_get m.stages.items (k - 1) ≡ Some (Open thread) → v ≡ e.value → n.requests ≡ m.requests → n.stages.items ≡ slice_set m.stages.items (k - 1) (Answered thread v) → n.started ≡ m.started → n.replied ≡ m.replied + 1 →
       n.due ≡ m.due → n.declined ≡ m.declined → IsOf n.nursery t.state → t ≡ record s { state = t.state; works = t.works } → HoldsHosts course t → IsAsked t.state →
-      HasStepped course c m s (step.Did (label.Main (main_label.Finish k v))) n t
+      HasStepResult course c m s (step.Did (label.Main (main_label.Finish k v))) n t
   finish_stepped k v thread e scope state stage value requests stages started replied due declined of rest hosts groups =
       let here = ended_stage m.nursery.children m.stages.items s.state.core k may.knows.keeps.pairs e in
       let same : e.call.thread ≡ thread = cc in
@@ -295,14 +295,14 @@ module _ {T H G : Type 0} (course : H → HostDef) (c : Component) (m n : Server
           returned = subst (λ (q : ℕ). get s.state.core.results q ≡ Some v) same returned;
         };
         told = told_step c [] Unscripted s.state Unscripted t.state s.listeners t.listeners still (step.Did (label.Main (main_label.Finish k v))) steps refl;
-        calm = λ fine. ap errors_of still;
+        hook_is_ok = λ fine. ap errors_of still;
       }
 
   -- ---- A refusal is replied
 
   pub refusal_stepped : (p : ℕ) (why : Trap) → t ≡ s → s.state.core.trapped ≡ true → m.started ≡ suc p → slice_get m.stages.items p ≡ Some (Declined why) → is_refusal why ≡ true → n.nursery ≡ m.nursery → n.requests ≡ m.requests →
       n.stages.items ≡ slice_set m.stages.items p (Refused why) → n.started ≡ m.started → n.replied ≡ m.replied + 1 → n.due ≡ false → n.declined ≡ m.declined →
-      HasStepped course c m s (step.Did (label.Main (main_label.FinishRefused why m.started))) n t
+      HasStepResult course c m s (step.Did (label.Main (main_label.FinishRefused why m.started))) n t
   refusal_stepped p why same trapped last stage refusal nursery requests stages started replied due declined =
       let steps = subst (λ (q : Store T H G). Did c [] Unscripted s.state.core (label.Main (main_label.FinishRefused why m.started)) Unscripted q.state.core) (sym same) (did_finish_refused c s.state.core m.started why trapped refusal) in
       record {
@@ -319,7 +319,7 @@ module _ {T H G : Type 0} (course : H → HostDef) (c : Component) (m n : Server
         steps = steps;
         serves = record { place = p; moves = record { number = last; was = stage; now = stages } };
         told = told_step c [] Unscripted s.state Unscripted t.state s.listeners t.listeners (ap (λ (q : Store T H G). q.listeners) same) (step.Did (label.Main (main_label.FinishRefused why m.started))) steps refl;
-        calm = λ fine. ap (λ (q : Store T H G). errors_of q.listeners) same;
+        hook_is_ok = λ fine. ap (λ (q : Store T H G). errors_of q.listeners) same;
       }
 
   -- ---- A start
@@ -327,10 +327,10 @@ module _ {T H G : Type 0} (course : H → HostDef) (c : Component) (m n : Server
   pub start_stepped : (k thread : ℕ) (r : Request) (call : FuncCallConcurrent) → k ≡ suc m.started → thread ≡ call.thread → slice_get m.requests.now m.started ≡ Some r → slice_get m.stages.items m.started ≡ Some Waits →
       m.due ≡ false → m.declined ≡ false → how_many is_open m.stages.items < m.nursery.limit → n.nursery ≡ with_child (kept.Call (func_of r) call) m.nursery → n.requests ≡ m.requests →
       n.stages.items ≡ slice_set m.stages.items m.started (Open thread) → n.started ≡ m.started + 1 → n.replied ≡ m.replied → n.due ≡ m.due → n.declined ≡ m.declined → IsOf n.nursery t.state →
-      Starts c (callee_named r) r.params s.state (start_refusal s.state.core) (Ok call.thread) t.state → Told (told_of notice.Start (s.state.core.made.groups + 1) ∷ []) s.listeners t.listeners →
+      Starts c (callee_named r) r.params s.state (start_refusal s.state.core) (Ok call.thread) t.state → ToldListeners (told_of notice.Start (s.state.core.made.groups + 1) ∷ []) s.listeners t.listeners →
       errors_of t.listeners ≡ errors_of s.listeners → t ≡ record s { state = t.state; listeners = t.listeners } → HoldsHosts course t → IsAsked t.state →
-      HasStepped course c m s (step.Did (label.Main (main_label.Start k thread))) n t
-  start_stepped k thread r call number mine there waits undue fine room scope requests stages started replied due declined of starts told calm rest hosts groups =
+      HasStepResult course c m s (step.Did (label.Main (main_label.Start k thread))) n t
+  start_stepped k thread r call number mine there waits undue fine room scope requests stages started replied due declined of starts told hook_is_ok rest hosts groups =
       let takes = may.suits m.started r there in
       let words = takes_these c (func_of r) (length r.params) (record { there = takes.there; takes = takes.params }) in
       let steps = subst (λ (q : ℕ). Did c [] Unscripted s.state.core (label.Main (main_label.Start k q)) Unscripted t.state.core) (sym mine)
@@ -355,18 +355,18 @@ module _ {T H G : Type 0} (course : H → HostDef) (c : Component) (m n : Server
           room = room;
           call = subst (λ (o : Option Request). IfSome o (λ q. IsCallOf q thread t.state.core)) (sym there) (subst (λ (q : ℕ). IsCallOf r q t.state.core) (sym mine) made);
         };
-        told = subst (λ (q : ℕ). Told (main_notices (step.Did (label.Main (main_label.Start k q))) s.state.core t.state.core) s.listeners t.listeners) (sym mine)
-            (subst (λ (ns : List Notice). Told ns s.listeners t.listeners) notices told);
-        calm = λ same. calm;
+        told = subst (λ (q : ℕ). ToldListeners (main_notices (step.Did (label.Main (main_label.Start k q))) s.state.core t.state.core) s.listeners t.listeners) (sym mine)
+            (subst (λ (ns : List Notice). ToldListeners ns s.listeners t.listeners) notices told);
+        hook_is_ok = λ same. hook_is_ok;
       }
 
   -- ---- A start that is refused
 
   pub declined_stepped : (k : ℕ) (why : Trap) (r : Request) → k ≡ suc m.started → slice_get m.requests.now m.started ≡ Some r → slice_get m.stages.items m.started ≡ Some Waits → m.due ≡ false → n.nursery ≡ m.nursery → n.requests ≡ m.requests →
       n.stages.items ≡ slice_set m.stages.items m.started (Declined why) → n.started ≡ m.started + 1 → n.replied ≡ m.replied → n.due ≡ true → n.declined ≡ true → IsOf n.nursery t.state →
-      StopsCall c (func_of r) r.params s (faults.Trap why) t → Told (finishes s.state.tags.known) s.listeners t.listeners →
+      StopsCall c (func_of r) r.params s (faults.Trap why) t → ToldListeners (finishes s.state.tags.tracked) s.listeners t.listeners →
       t ≡ record s { state = t.state; listeners = t.listeners } → HoldsHosts course t → IsAsked t.state →
-      HasStepped course c m s (step.Did (label.Main (main_label.StartRefused why k))) n t
+      HasStepResult course c m s (step.Did (label.Main (main_label.StartRefused why k))) n t
   declined_stepped k why r number there waits undue nursery requests stages started replied due declined of stops told rest hosts groups =
       let takes = may.suits m.started r there in
       let words = takes_these c (func_of r) (length r.params) (record { there = takes.there; takes = takes.params }) in
@@ -388,13 +388,13 @@ module _ {T H G : Type 0} (course : H → HostDef) (c : Component) (m n : Server
         current = ap running_of left ∙ (running_asked u ∙ (start_current c (callee_named r) r.params s.state u (start_refusal s.state.core) (Err (faults.Trap why)) may.current starts ∙ sym may.current));
         steps = subst (λ (v : StateView). Did c [] Unscripted s.state.core (label.Main (main_label.StartRefused why k)) Unscripted v.core) (sym left) (did_refuse c (callee_named r) r.params s.state u k words why starts);
         serves = record { place = m.started; moves = record { number = number; was = waits; now = stages } };
-        told = subst (λ (ns : List Notice). Told ns s.listeners t.listeners) notices told;
-        calm = λ same. absurd (cc);
+        told = subst (λ (ns : List Notice). ToldListeners ns s.listeners t.listeners) notices told;
+        hook_is_ok = λ same. absurd (cc);
       }
 
   -- ---- An answer, and a wait
 
-  pub answer_stepped : n ≡ m → t ≡ s → m.replied ≡ length m.requests.now → HasStepped course c m s (step.Answer m.replied) n t
+  pub answer_stepped : n ≡ m → t ≡ s → m.replied ≡ length m.requests.now → HasStepResult course c m s (step.Answer m.replied) n t
   answer_stepped same store all =
       let keeps = may.knows.keeps in
       let size = keeps.size in
@@ -415,10 +415,10 @@ module _ {T H G : Type 0} (course : H → HostDef) (c : Component) (m n : Server
           all = λ i e at. all_so is_replied m.stages.items i e (omega (arith, size, counts, all)) at;
         };
         told = rw store (told-none s.listeners);
-        calm = λ fine. ap (λ (q : Store T H G). errors_of q.listeners) store;
+        hook_is_ok = λ fine. ap (λ (q : Store T H G). errors_of q.listeners) store;
       }
 
-  pub wait_stepped : n ≡ m → t ≡ s → m.due ≡ false → NoneReturned m s.state.core → IsBusy m → m.replied ≢ length m.requests.now → HasStepped course c m s step.Pends n t
+  pub wait_stepped : n ≡ m → t ≡ s → m.due ≡ false → NoneReturned m s.state.core → IsBusy m → m.replied ≢ length m.requests.now → HasStepResult course c m s step.Pends n t
   wait_stepped same store undue none busy some =
       let keeps = may.knows.keeps in
       let size = keeps.size in
@@ -445,7 +445,7 @@ module _ {T H G : Type 0} (course : H → HostDef) (c : Component) (m n : Server
           unreplied = left.3;
         };
         told = rw store (told-none s.listeners);
-        calm = λ fine. ap (λ (q : Store T H G). errors_of q.listeners) store;
+        hook_is_ok = λ fine. ap (λ (q : Store T H G). errors_of q.listeners) store;
       }
 
 module _ {T H G : Type 0} (course : H → HostDef) (c : Component) (m : ServerMain) (s : Store T H G) where
@@ -455,7 +455,7 @@ module _ {T H G : Type 0} (course : H → HostDef) (c : Component) (m : ServerMa
   waited_by n t same state told stands hosts may = record {
     may = record {
       covered = may.covered;
-      order = subst (λ (u : StateView). Sits c turn.Main u.core) (sym state) may.order;
+      order = subst (λ (u : StateView). CoreInOrder c turn.Main u.core) (sym state) may.order;
       suits = subst (λ (q : ServerMain). Suits q c) (sym same) may.suits;
       knows = subst (λ (u : StateView). Knows n u) (sym state) (subst (λ (q : ServerMain). Knows q s.state) (sym same) may.knows);
       hosts = hosts;
@@ -471,7 +471,7 @@ module _ {T H G : Type 0} (course : H → HostDef) (c : Component) (m : ServerMa
 
   module _ (n : ServerMain) (t : Store T H G) (waited : HasWaited course c m s n t) where
     -- a step after that is one from here
-    pub stepped_after : (x : MainStep) (p : ServerMain) (u : Store T H G) → HasStepped course c n t x p u → HasStepped course c m s x p u
+    pub stepped_after : (x : MainStep) (p : ServerMain) (u : Store T H G) → HasStepResult course c n t x p u → HasStepResult course c m s x p u
     stepped_after x p u h = record {
       stands = h.stands ∙ waited.stands;
       requests = h.requests ∙ ap (λ (q : ServerMain). q.requests) waited.same;
@@ -483,9 +483,9 @@ module _ {T H G : Type 0} (course : H → HostDef) (c : Component) (m : ServerMa
       steps = subst (λ (v : StateView). Steps c [] Unscripted v.core x Unscripted u.state.core) waited.state h.steps;
       serves = subst (λ (v : StateView). Serves (asked m) m.stages.items v.core (label_of_step x) p.stages.items u.state.core) waited.state
           (subst (λ (q : ServerMain). Serves (asked q) q.stages.items t.state.core (label_of_step x) p.stages.items u.state.core) waited.same h.serves);
-      told = subst (λ (l : Listeners). Told (main_notices x s.state.core u.state.core) l u.listeners) waited.listeners
-          (subst (λ (v : StateView). Told (main_notices x v.core u.state.core) t.listeners u.listeners) waited.state h.told);
-      calm = λ fine. h.calm fine ∙ ap errors_of waited.listeners;
+      told = subst (λ (l : Listeners). ToldListeners (main_notices x s.state.core u.state.core) l u.listeners) waited.listeners
+          (subst (λ (v : StateView). ToldListeners (main_notices x v.core u.state.core) t.listeners u.listeners) waited.state h.told);
+      hook_is_ok = λ fine. h.hook_is_ok fine ∙ ap errors_of waited.listeners;
     }
 
     pub waited_after : (p : ServerMain) (u : Store T H G) → HasWaited course c n t p u → HasWaited course c m s p u
@@ -505,7 +505,7 @@ module _ {T H G : Type 0} (n m : Scope) (s t : Store T H G) (unclosed : n.closed
   has_room r refuses other = ⊎_elim (λ lt. lt) (λ le. absurd (other (refuses.full unclosed le).0)) (less_or (count_where is_open_call n.children) n.limit)
 
   -- else none was there, and nothing was done
-  pub was_full : (c : Component) (f : Func) (words : List ℕ) (r : Result Child NurseryError) → Refuses n s r m t → (Begins c f words n s r m t → ⊥) → (count_where is_open_call n.children < n.limit → Begins c f words n s r m t) →
+  pub was_full : (c : Component) (f : Func) (words : List ℕ) (r : Result Child NurseryError) → Refuses n s r m t → (ScopeBegins c f words n s r m t → ⊥) → (count_where is_open_call n.children < n.limit → ScopeBegins c f words n s r m t) →
       (n.limit ≤ count_where is_open_call n.children) × (t ≡ s)
   was_full c f words r refuses none begins =
       ⊎_elim (λ lt. absurd (none (begins lt))) (λ le. (le, (refuses.full unclosed le).1)) (less_or (count_where is_open_call n.children) n.limit)
@@ -517,13 +517,13 @@ not_so true no_more = absurd (no_more refl)
 not_so false no_more = refl
 
 -- no error was answered
-same_errors : {T H G : Type 0} (ns : List Notice) (s t : Store T H G) → Told ns s.listeners t.listeners → (AnsweredErr s.listeners t.listeners → ⊥) → errors_of t.listeners ≡ errors_of s.listeners
-same_errors ns s t told calm =
+same_errors : {T H G : Type 0} (ns : List Notice) (s t : Store T H G) → ToldListeners ns s.listeners t.listeners → (AnsweredErr s.listeners t.listeners → ⊥) → errors_of t.listeners ≡ errors_of s.listeners
+same_errors ns s t told hook_is_ok =
     let least = told.errors in
-    ⊎_elim (λ lt. absurd (calm lt)) (λ le. omega (arith, le, least)) (less_or (errors_of s.listeners) (errors_of t.listeners))
+    ⊎_elim (λ lt. absurd (hook_is_ok lt)) (λ le. omega (arith, le, least)) (less_or (errors_of s.listeners) (errors_of t.listeners))
 
 -- the next request waits
-waits_at : (rs : List Request) (ks : List Kept) (es : List Stage) (started replied : ℕ) (due declined : Bool) (r : Request) → Keeps thread_in IsCall rs ks es started replied due declined → slice_get rs started ≡ Some r → slice_get es started ≡ Some Waits
+waits_at : (rs : List Request) (ks : List Kept) (es : List Stage) (started replied : ℕ) (due declined : Bool) (r : Request) → KeepsReplies thread_in IsCall rs ks es started replied due declined → slice_get rs started ≡ Some r → slice_get es started ≡ Some Waits
 waits_at rs ks es started replied due declined r keeps there =
     let within = slice_get_within rs started r there in
     let size = keeps.size in
@@ -535,7 +535,7 @@ module _ {T H G : Type 0} (course : H → HostDef) (c : Component) (m n : Server
   next_waits = waits_at m.requests.now m.nursery.children m.stages.items m.started m.replied m.due m.declined r may.knows.keeps there
 
   pub begun_thread : (scope : Scope) (left : Store T H G) (child : Child) → Refuses m.nursery s (Ok child) scope left →
-      (m.nursery.closed ≡ false → count_where is_open_call m.nursery.children < m.nursery.limit → Begins c (func_of r) r.params m.nursery s (Ok child) scope left) →
+      (m.nursery.closed ≡ false → count_where is_open_call m.nursery.children < m.nursery.limit → ScopeBegins c (func_of r) r.params m.nursery s (Ok child) scope left) →
       (k : ℕ) × (option_and_then thread_in (numbered scope.children child.number) ≡ Some k)
   begun_thread scope left child refuses begins =
       let room = has_room m.nursery scope s left may.knows.unclosed (Ok child) refuses (λ clash. absurd (cc)) in
@@ -543,10 +543,10 @@ module _ {T H G : Type 0} (course : H → HostDef) (c : Component) (m n : Server
       (b.0.thread, made_thread m.nursery scope (func_of r) b.0 child b.1 b.2)
 
   pub begun_stepped : (child : Child) (thread k : ℕ) → k ≡ suc m.started → (m.declined ≡ true → s.state.core.trapped ≡ true) → Refuses m.nursery s (Ok child) n.nursery t →
-      (m.nursery.closed ≡ false → count_where is_open_call m.nursery.children < m.nursery.limit → Begins c (func_of r) r.params m.nursery s (Ok child) n.nursery t) →
+      (m.nursery.closed ≡ false → count_where is_open_call m.nursery.children < m.nursery.limit → ScopeBegins c (func_of r) r.params m.nursery s (Ok child) n.nursery t) →
       Some thread ≡ option_and_then thread_in (numbered n.nursery.children child.number) → IsOf n.nursery t.state → (IsAsked s.state → TellsStart (Ok child) s t) →
       t ≡ record s { state = t.state; listeners = t.listeners } → HoldsHosts course t → IsAsked t.state → n.requests ≡ m.requests → n.stages.items ≡ slice_set m.stages.items m.started (Open thread) →
-      n.started ≡ m.started + 1 → n.replied ≡ m.replied → n.due ≡ m.due → n.declined ≡ m.declined → HasStepped course c m s (step.Did (label.Main (main_label.Start k thread))) n t
+      n.started ≡ m.started + 1 → n.replied ≡ m.replied → n.due ≡ m.due → n.declined ≡ m.declined → HasStepResult course c m s (step.Did (label.Main (main_label.Start k thread))) n t
   begun_stepped child thread k number trapped refuses begins found of tells rest hosts groups requests stages started replied due declined =
       let room = has_room m.nursery n.nursery s t may.knows.unclosed (Ok child) refuses (λ clash. absurd (cc)) in
       let b = begins may.knows.unclosed room in
@@ -559,10 +559,10 @@ module _ {T H G : Type 0} (course : H → HostDef) (c : Component) (m n : Server
       (same_errors _ s t told.0 told.1) rest hosts groups
 
   pub refused_stepped : (why : Trap) (k : ℕ) → k ≡ suc m.started → Refuses m.nursery s (Err (nursery_error.Trap why)) n.nursery t →
-      (m.nursery.closed ≡ false → count_where is_open_call m.nursery.children < m.nursery.limit → Begins c (func_of r) r.params m.nursery s (Err (nursery_error.Trap why)) n.nursery t) →
+      (m.nursery.closed ≡ false → count_where is_open_call m.nursery.children < m.nursery.limit → ScopeBegins c (func_of r) r.params m.nursery s (Err (nursery_error.Trap why)) n.nursery t) →
       IsOf n.nursery t.state → (IsAsked s.state → TellsStart (Err (nursery_error.Trap why)) s t) →
       t ≡ record s { state = t.state; listeners = t.listeners } → HoldsHosts course t → IsAsked t.state → n.requests ≡ m.requests → n.stages.items ≡ slice_set m.stages.items m.started (Declined why) →
-      n.started ≡ m.started + 1 → n.replied ≡ m.replied → n.due ≡ true → n.declined ≡ true → HasStepped course c m s (step.Did (label.Main (main_label.StartRefused why k))) n t
+      n.started ≡ m.started + 1 → n.replied ≡ m.replied → n.due ≡ true → n.declined ≡ true → HasStepResult course c m s (step.Did (label.Main (main_label.StartRefused why k))) n t
   refused_stepped why k number refuses begins of tells rest hosts groups requests stages started replied due declined =
       let room = has_room m.nursery n.nursery s t may.knows.unclosed (Err (nursery_error.Trap why)) refuses (λ clash. absurd (cc)) in
       declined_stepped course c m n s t may k why r number there next_waits undue refuses.same requests stages started replied due declined of (begins may.knows.unclosed room) (tells may.groups) rest hosts groups

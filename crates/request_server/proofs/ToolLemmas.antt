@@ -4,7 +4,7 @@ use Rattle.byte_streams.specs.Pump.{IsBeyond, IsFront}
 use Rattle.request_lines.proofs.CutLemmas.{none_bad, one_cut}
 use Rattle.request_lines.specs.Input.{IsBadIn, IsCut}
 use Rattle.request_lines.specs.RequestLines.{AreRequests}
-use Rattle.request_server.specs.Tool.{AreServed, BadLineCut, Ended, InputEnded, IsAllOf, IsBadInput, IsDue, IsInput, IsLongInput, IsMore, IsNoServe, IsServedInput, LongCut, NoneReplied, Parts, ReadWhole, Replied, RepliesCut, SaidBadLine, SaidLong, SaidTooLong, SaidUsage, Says, SourceEnded, TooLongCut, Unread, UsageCut, served_text, usage_text}
+use Rattle.request_server.specs.Tool.{AreServed, BadLineCut, Ended, InputEnded, IsAllOf, IsBadInput, IsDue, IsInput, IsLongInput, IsMore, IsNoServe, IsServedInput, LongCut, NoneReplied, InputParts, ReadWhole, Replied, RepliesCut, SaidBadLine, SaidLong, SaidTooLong, SaidUsage, Says, SourceEnded, TooLongCut, Unread, UsageCut, served_text, usage_text}
 use Rattle.request_server.specs.declared.serving.Served.{Served}
 use Rattle.scenario_text.specs.Grammar.{IsTextOf, spelled}
 use Rattle.scenario_text.specs.declared.tree.ScenarioText.{ScenarioText}
@@ -43,7 +43,7 @@ said_usage words before after old new status other (inr p) = UsageCut other p.0 
 -- ---- The parts of an input
 
 module _ (input : List ℕ) (end count : ℕ) (cut : IsCut input (take end input) (drop end input) count) (inside : end ≤ length input) where
-  abbrev pub parts_at : Parts input
+  abbrev pub parts_at : InputParts input
   parts_at = record { scenario = take end input; rest = drop end input; count = count; cut = cut }
 
   pub served_input : (l n : ℕ) (s : Served) → end ≤ 1048576 → AreServed (take end input) (drop end input) l n s → IsServedInput l n input s
@@ -64,7 +64,7 @@ module _ (input : List ℕ) (end count : ℕ) (cut : IsCut input (take end input
 -- ---- Which status the input calls for
 
 -- it has one scenario
-not_long : (input : List ℕ) (p : Parts input) → length p.scenario ≤ 1048576 → IsLongInput input → ⊥
+not_long : (input : List ℕ) (p : InputParts input) → length p.scenario ≤ 1048576 → IsLongInput input → ⊥
 not_long input p short is =
     let q = is.parts in
     let same = one_cut input p.scenario p.rest p.count q.scenario q.rest q.count p.cut q.cut in

@@ -1,5 +1,5 @@
 -- What a server knows of its requests, of their calls and of the store.
-use Rattle.request_rules.specs.Keeps.{Keeps}
+use Rattle.request_rules.specs.KeepsReplies.{KeepsReplies}
 use Rattle.request_rules.specs.Serving.{Asked, callee_named}
 use Rattle.request_rules.specs.declared.request.Request.{Request}
 use Rattle.request_server.specs.declared.server.ServerMain.{ServerMain}
@@ -42,7 +42,7 @@ IsCall _ = ⊥
 pub record Knows (m : ServerMain) (s : StateView) : Type 0 where
   pub of : IsOf m.nursery s
   pub unclosed : m.nursery.closed ≡ false
-  pub keeps : Keeps thread_in IsCall m.requests.now m.nursery.children m.stages.items m.started m.replied m.due m.declined
+  pub keeps : KeepsReplies thread_in IsCall m.requests.now m.nursery.children m.stages.items m.started m.replied m.due m.declined
 
 -- that is so in later states, too
 pub knows_later : (m : ServerMain) (s t : StateView) → WorksLast s t → Knows m s → Knows m t

@@ -3,8 +3,8 @@ use Rattle.request_rules.specs.Serving.{Serves}
 use Rattle.request_server.specs.Knows.{Knows, Suits, asked}
 use Rattle.request_server.specs.declared.server.ServerMain.{ServerMain}
 use Rattle.std.specs.Prelude.{MatchOption, None, Option, [], false, length, ◌+◌, ◌<◌, ◌^◌, ◌≡◌, ◌≤◌, ◌⊎◌}
-use Rattle.task_group.specs.Listeners.{Told, errors_of}
-use Rattle.task_loop.specs.Heeds.{is_refused}
+use Rattle.task_group.specs.Listeners.{ToldListeners, errors_of}
+use Rattle.task_loop.specs.AnswersOk.{is_refused}
 use Rattle.task_loop.specs.Standing.{standing}
 use Rattle.task_loop.specs.Told.{main_notices}
 use Rattle.task_machine.specs.Core.{Core, Unscripted}
@@ -18,14 +18,14 @@ use Rattle.task_store.specs.Hosts.{HoldsHosts}
 use Rattle.task_store.specs.declared.store.Store.{Store}
 use Rattle.task_turns.specs.Does.{label_of_step}
 use Rattle.task_turns.specs.Main.{Steps}
-use Rattle.task_turns.specs.Turn.{Sits, given, running_of}
+use Rattle.task_turns.specs.Turn.{CoreInOrder, given, running_of}
 use Rattle.task_turns.specs.WellFormed.{IsWellFormed}
 use Rattle.task_turns.specs.declared.mains.MainStep.{MainStep}
 
 -- main may take a step
 pub record MayStep {T H G : Type 0} (course : H → HostDef) (c : Component) (m : ServerMain) (s : Store T H G) : Type 0 where
   pub covered : IsWellFormed c
-  pub order : Sits c turn.Main s.state.core
+  pub order : CoreInOrder c turn.Main s.state.core
   pub suits : Suits m c
   pub knows : Knows m s.state
   pub hosts : HoldsHosts course s
@@ -34,7 +34,7 @@ pub record MayStep {T H G : Type 0} (course : H → HostDef) (c : Component) (m 
   pub given : given s.state.core + 4 < 2 ^ 61
 
 -- It has taken this one, which serves the requests.
-pub record HasStepped {T H G : Type 0} (course : H → HostDef) (c : Component) (m : ServerMain) (s : Store T H G) (x : MainStep) (n : ServerMain)
+pub record HasStepResult {T H G : Type 0} (course : H → HostDef) (c : Component) (m : ServerMain) (s : Store T H G) (x : MainStep) (n : ServerMain)
     (t : Store T H G) : Type 0 where
   pub stands : standing t ≡ standing s
   pub requests : n.requests ≡ m.requests
@@ -45,8 +45,8 @@ pub record HasStepped {T H G : Type 0} (course : H → HostDef) (c : Component) 
   pub current : running_of t.state ≡ running_of s.state
   pub steps : Steps c [] Unscripted s.state.core x Unscripted t.state.core
   pub serves : Serves (asked m) m.stages.items s.state.core (label_of_step x) n.stages.items t.state.core
-  pub told : Told (main_notices x s.state.core t.state.core) s.listeners t.listeners
-  pub calm : is_refused (label_of_step x) ≡ false → errors_of t.listeners ≡ errors_of s.listeners
+  pub told : ToldListeners (main_notices x s.state.core t.state.core) s.listeners t.listeners
+  pub hook_is_ok : is_refused (label_of_step x) ≡ false → errors_of t.listeners ≡ errors_of s.listeners
 
 -- Nothing was to be finished, and all is as before.
 pub record HasWaited {T H G : Type 0} (course : H → HostDef) (c : Component) (m : ServerMain) (s : Store T H G) (n : ServerMain) (t : Store T H G) :
@@ -65,7 +65,7 @@ NoneReturned m s = first_where (has_ended s) 1 m.nursery.children ≡ None
 abbrev pub FinishesNext : {T H G : Type 0} → (H → HostDef) → Component → ServerMain → Store T H G → Option MainStep → ServerMain →
     Store T H G → Type 0
 FinishesNext course c m s result n t =
-    MatchOption result (HasWaited course c m s n t × NoneReturned m s.state.core) (λ step. HasStepped course c m s step n t)
+    MatchOption result (HasWaited course c m s n t × NoneReturned m s.state.core) (λ step. HasStepResult course c m s step n t)
 
 -- as many calls are open as may be, or each request was started
 abbrev pub IsBusy : ServerMain → Type 0
@@ -74,4 +74,4 @@ IsBusy m = (m.nursery.limit ≤ count_where is_open_call m.nursery.children) ⊎
 -- The next request is started or refused; none is to be started, and all is as before.
 abbrev pub StartsNext : {T H G : Type 0} → (H → HostDef) → Component → ServerMain → Store T H G → Option MainStep → ServerMain →
     Store T H G → Type 0
-StartsNext course c m s result n t = MatchOption result (HasWaited course c m s n t × IsBusy m) (λ step. HasStepped course c m s step n t)
+StartsNext course c m s result n t = MatchOption result (HasWaited course c m s n t × IsBusy m) (λ step. HasStepResult course c m s step n t)

@@ -37,7 +37,7 @@ Says old new text status result = ((result ≡ status) × Appends old new text) 
 -- ---- What an input says
 
 -- its scenario and the lines after it
-pub record Parts (input : List ℕ) : Type 0 where
+pub record InputParts (input : List ℕ) : Type 0 where
   pub scenario : List ℕ
   pub rest : List ℕ
   pub count : ℕ
@@ -45,7 +45,7 @@ pub record Parts (input : List ℕ) : Type 0 where
 
 -- The scenario has at most 1,048,576 bytes, and the lines say requests of its exports.
 pub record IsInput (input : List ℕ) : Type 0 where
-  pub parts : Parts input
+  pub parts : InputParts input
   pub short : length parts.scenario ≤ 1048576
   pub tree : ScenarioText
   pub reads : IsTextOf tree parts.scenario
@@ -61,19 +61,19 @@ pub record AreServed (scenario rest : List ℕ) (limit steps : ℕ) (served : Se
   pub served_by : IsServedBy (scenario_of tree) requests limit steps served
 
 pub record IsServedInput (limit steps : ℕ) (input : List ℕ) (served : Served) : Type 0 where
-  pub parts : Parts input
+  pub parts : InputParts input
   pub short : length parts.scenario ≤ 1048576
   pub served_is : AreServed parts.scenario parts.rest limit steps served
 
 -- line n is the input's bad one
 pub record IsBadInput (input : List ℕ) (n : ℕ) : Type 0 where
-  pub parts : Parts input
+  pub parts : InputParts input
   pub short : length parts.scenario ≤ 1048576
   pub bad : IsBadIn parts.scenario parts.rest parts.count n
 
 -- its scenario has more bytes than it may
 pub record IsLongInput (input : List ℕ) : Type 0 where
-  pub parts : Parts input
+  pub parts : InputParts input
   pub long : 1048576 < length parts.scenario
 
 -- the parts were served, or the bad line is told; memory may be wanting

@@ -1,7 +1,7 @@
 //! The steps of a server: it replies a refusal, finishes the least call that has ended, starts the next request, answers, or waits.
 ghost use Rattle.request_server.specs.Knows.{Knows, Suits, func_of, knows_later};
 ghost use Rattle.request_server.specs.Serves.{Does};
-ghost use Rattle.request_server.specs.Steps.{FinishesNext, HasStepped, IsBusy, MayStep, NoneReturned, StartsNext};
+ghost use Rattle.request_server.specs.Steps.{FinishesNext, HasStepResult, IsBusy, MayStep, NoneReturned, StartsNext};
 ghost use Rattle.std.specs.Prelude.{◌≡◌, IfErr, IfOk, false, true};
 ghost use Rattle.state_calls.specs.declared.error.TaskError.TheVariants as task_error;
 ghost use Rattle.task_loop.specs.Says.{unscripted};
@@ -50,7 +50,7 @@ fn reply_refusal<T, H: HostWork>(
     requires may { MayStep H.course component.now main.old access.now.store.now }
     requires due { main.old.due ≡ true }
     requires trapped { access.now.store.now.state.core.trapped ≡ true }
-    ensures step { HasStepped H.course component.now main.old access.now.store.now result main.new access.now.store.now }
+    ensures step { HasStepResult H.course component.now main.old access.now.store.now result main.new access.now.store.now }
 {
     let _component = component;
     let _access = access;
@@ -133,7 +133,7 @@ fn rest<T, H: HostWork>(
     requires undue { main.now.due ≡ false }
     requires none { NoneReturned main.now access.now.store.now.state.core }
     requires busy { IsBusy main.now }
-    ensures step { HasStepped H.course component.now main.now access.now.store.now result main.now access.now.store.now }
+    ensures step { HasStepResult H.course component.now main.now access.now.store.now result main.now access.now.store.now }
 {
     let _component = component;
     let _access = access;

@@ -58,7 +58,7 @@ fn given_in(rooms: &BTreeMap<u64, ResultRoom>, call: u64) -> Option<u64>
 
 // The result in a call's room, where so many rooms have one: none is looked for where there is none.
 #[inline(always)]
-fn given_there(rooms: &BTreeMap<u64, ResultRoom>, given: u64, call: u64) -> Option<u64>
+fn given_unchecked(rooms: &BTreeMap<u64, ResultRoom>, given: u64, call: u64) -> Option<u64>
     requires { given ≡ count_given rooms.now.entries }
     ensures { result ≡ given_in (lookup (is_at (nat_cmp call)) rooms.now.entries) }
 {
@@ -84,7 +84,7 @@ impl ResultRooms {
     pub fn result(&self, call: u64) -> Option<u64>
         ensures { result ≡ given_in (lookup (is_at (nat_cmp call)) self.now) }
     {
-        given_there(&self.rooms, self.given, call)
+        given_unchecked(&self.rooms, self.given, call)
     }
 
     /// Whether a result stands in some room.
@@ -110,7 +110,7 @@ impl ResultRooms {
         ensures made { OnOk result ((q : ℕ) → lookup (is_at (nat_cmp q)) self.new ≡ (if is_at (nat_cmp call) q then Some (record { given = given_in (lookup (is_at (nat_cmp call)) self.old); lives = true }) else lookup (is_at (nat_cmp q)) self.old)) }
         ensures err { OnErr result (self.new ≡ self.old) }
     {
-        let given = given_there(&self.rooms, self.given, call);
+        let given = given_unchecked(&self.rooms, self.given, call);
         match self.rooms.insert(call, ResultRoom { given, lives: true }) {
             Ok(_) => Ok(()),
             Err(_) => Err(NoMemory),
@@ -122,7 +122,7 @@ impl ResultRooms {
         requires { IsSome (lookup (is_at (nat_cmp call)) self.old) }
         ensures { (q : ℕ) → lookup (is_at (nat_cmp q)) self.new ≡ (if is_at (nat_cmp call) q then wanted room else lookup (is_at (nat_cmp q)) self.old) }
     {
-        let less = self.given - weight(given_there(&self.rooms, self.given, call));
+        let less = self.given - weight(given_unchecked(&self.rooms, self.given, call));
         let _few = self.rooms.len();
         if room.lives || room.given.is_some() {
             self.given = less + weight(room.given);

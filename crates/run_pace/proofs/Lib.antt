@@ -1,1 +1,1 @@
-pub mod PaceLemmas
+pub mod YieldBudgetLemmas

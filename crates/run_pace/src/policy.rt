@@ -1,9 +1,9 @@
 //! When the turns of a run stop, though it could go on.
 ghost use Rattle.std.specs.Prelude.{◌≡◌, ◌&&◌, Bool, false, true};
 ghost use Rattle.label_laws.specs.Own.{rests_by};
-ghost use Rattle.run_pace.specs.Pace.{counted, unless_yielded, yields_before};
+ghost use Rattle.run_pace.specs.YieldBudget.{counted, unless_yielded, yields_before};
 
-use crate::pace::{Pace, rests};
+use crate::yield_budget::{YieldBudget, rests};
 use task_machine::{Mark, Turn};
 
 /// Says when the turns of a run stop, though it could go on. A turn pays nothing for it, as a loop is built for each policy.
@@ -35,10 +35,10 @@ impl Policy for Polled {
 
 /// Tells whether the turns stop before an entry of this mark is taken, or none.
 #[inline(always)]
-pub fn yields_by<P: Policy>(pace: Pace, next: Option<Mark>) -> bool
-    ensures { result ≡ (P.YIELDS && yields_before pace.passes pace.since next) }
+pub fn yields_by<P: Policy>(yield_budget: YieldBudget, next: Option<Mark>) -> bool
+    ensures { result ≡ (P.YIELDS && yields_before yield_budget.passes yield_budget.since next) }
 {
-    P::YIELDS && pace.yields(next)
+    P::YIELDS && yield_budget.yields(next)
 }
 
 /// Tells whether the turns stop after a turn before which an entry of this mark is next, or none.
@@ -51,31 +51,31 @@ pub fn rests_with<P: Policy>(turn: Turn, next: Option<Mark>) -> bool
 
 /// Counts a step that took an entry of this mark, or none, before which the turns didn't stop. Nothing is counted if they never do.
 #[inline(always)]
-pub fn paced_by<P: Policy>(pace: Pace, mark: Option<Mark>) -> Pace
-    requires { (P.YIELDS && yields_before pace.passes pace.since mark) ≡ false }
-    ensures kept { P.YIELDS ≡ false → result ≡ pace }
-    ensures since { P.YIELDS ≡ true → result.since ≡ counted pace.since mark }
+pub fn paced_by<P: Policy>(yield_budget: YieldBudget, mark: Option<Mark>) -> YieldBudget
+    requires { (P.YIELDS && yields_before yield_budget.passes yield_budget.since mark) ≡ false }
+    ensures kept { P.YIELDS ≡ false → result ≡ yield_budget }
+    ensures since { P.YIELDS ≡ true → result.since ≡ counted yield_budget.since mark }
     ensures passes { P.YIELDS ≡ true → result.passes ≡ false }
 {
     if P::YIELDS {
-        return pace.after(mark);
+        return yield_budget.after(mark);
     }
-    pace
+    yield_budget
 }
 
 /// Ends the count if the turns stop for want of steps, and keeps it if the run ends or nothing can go on. No turn was made by that.
 /// Nothing is counted if they never stop.
 #[inline(always)]
-pub fn ended_by<P: Policy>(pace: Pace, used_up: bool) -> Pace
-    ensures kept { P.YIELDS ≡ false → result ≡ pace }
-    ensures since { P.YIELDS ≡ true → result.since ≡ unless_yielded used_up pace.since }
+pub fn ended_by<P: Policy>(yield_budget: YieldBudget, used_up: bool) -> YieldBudget
+    ensures kept { P.YIELDS ≡ false → result ≡ yield_budget }
+    ensures since { P.YIELDS ≡ true → result.since ≡ unless_yielded used_up yield_budget.since }
     ensures passes { P.YIELDS ≡ true → result.passes ≡ false }
 {
     if !P::YIELDS {
-        return pace;
+        return yield_budget;
     }
     if used_up {
-        return Pace::yielded(false);
+        return YieldBudget::yielded(false);
     }
-    pace.after(None)
+    yield_budget.after(None)
 }

@@ -1,5 +1,5 @@
 -- In a store in which nothing was made few numbers were given.
-use Rattle.host_works.specs.Kept.{HoldsNone}
+use Rattle.host_works.specs.KeptWorks.{HoldsNone}
 use Rattle.std.proofs.Common.{ap, arith, subst}
 use Rattle.std.specs.Prelude.{is_some, true, ◌<◌, ◌^◌, ◌≡◌}
 use Rattle.task_machine.specs.Core.{fresh}

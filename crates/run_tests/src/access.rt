@@ -1,6 +1,6 @@
 //! A store in a slot, and what an accessor does with it.
 ghost use Rattle.std.specs.Prelude.{◌≡◌, ◌<◌, ◌^◌};
-ghost use Rattle.host_works.specs.Kept.{HoldsNone};
+ghost use Rattle.host_works.specs.KeptWorks.{HoldsNone};
 ghost use Rattle.task_records.specs.Seen.{nothing};
 ghost use Rattle.task_turns.specs.Turn.{given};
 

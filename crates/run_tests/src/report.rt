@@ -3,7 +3,7 @@ use report_text::{LINE, PAGE, Page, outcome_line};
 use std::alloc::Global;
 use std::process::Abort;
 use task_machine::{
-    CallLabel, Given, Label, LoopLabel, MainLabel, Mark, Outcome, OwnEvent, Phase, SetLabel,
+    CallLabel, Given, Label, LoopLabel, MainLabel, Mark, Outcome, TaskEvent, Phase, SetLabel,
     Status, TakeLabel, ThreadLabel, Trap,
 };
 
@@ -55,7 +55,7 @@ fn prints_labels_of_threads(rt: HostRuntime) {
         event,
         b"take switch thread 2 event 1 5 2\n",
     );
-    let cancelled = TakeLabel::EventWakes(Mark::Switch, OwnEvent::Cancelled, 2, 3);
+    let cancelled = TakeLabel::EventWakes(Mark::Switch, TaskEvent::Cancelled, 2, 3);
     let text = b"take switch thread 2 event 6 0 0 wakes 3\n";
     prints(&rt, rt.alloc(), Label::Take(cancelled), text);
     let new = Label::Thread(ThreadLabel::New(2, 2, 6));

@@ -1,5 +1,5 @@
 use record_core::TaskCore;
-use task_words::{QueueWords, ResultWords, View};
+use task_words::{QueuePrimitives, ResultPrimitives, View};
 
 #[test]
 fn nothing_stands_in_a_new_core_which_has_its_limits(rt: HostRuntime) {

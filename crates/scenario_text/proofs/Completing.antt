@@ -12,43 +12,43 @@ use Rattle.scenario_text.specs.declared.state.State.TheVariants as state
 use Rattle.scenario_text.specs.declared.tree.PartText.TheVariants as part
 use Rattle.scenario_text.specs.declared.tree.MainOpText.{MainOpText}
 use Rattle.scenario_text.specs.Spelling.{Lines, head_lines, main_lines, lines_of}
-use Rattle.scenario_text.specs.Grammar.{Begins}
+use Rattle.scenario_text.specs.Grammar.{PartBegins}
 use Rattle.scenario_text.specs.State.{with_instance, with_part, with_export, script_closed, instance_closed, whole}
 use Rattle.scenario_text.proofs.SoFar.{front, so_far, BodyFits, MainFits, AnswerFits, IsSound, closes_instance}
 use Rattle.scenario_text.proofs.StateLaws.{well_formed}
 
-pub begins_front : (lines more : Lines) → Begins (lines ++ more) → Begins lines
+pub begins_front : (lines more : Lines) → PartBegins (lines ++ more) → PartBegins lines
 begins_front lines more b = (b.0, more ++ b.1, b.2, b.3 ∙ append_assoc lines more b.1)
 
-pub begins_same : (xs ys : Lines) → xs ≡ ys → Begins ys → Begins xs
-begins_same xs ys e b = subst Begins (sym e) b
+pub begins_same : (xs ys : Lines) → xs ≡ ys → PartBegins ys → PartBegins xs
+begins_same xs ys e b = subst PartBegins (sym e) b
 
 -- from the answer on
 begins_answer : (b : Body) (ops : List MainOpText) (x : Operand) (aborters : List (List ℕ)) → AnswerFits b ops x aborters
-    → Begins (front b ++ main_lines b.hosts b.instances ops ++ answer_words x ∷ [] ++ map aborter_words aborters)
+    → PartBegins (front b ++ main_lines b.hosts b.instances ops ++ answer_words x ∷ [] ++ map aborter_words aborters)
 begins_answer b ops x aborters fits = (whole b ops x aborters, end_words ∷ [], well_formed b ops x aborters fits, refl)
 
 -- main may answer at any time
-begins_main : (b : Body) (ops : List MainOpText) → MainFits b ops → Begins (front b ++ main_lines b.hosts b.instances ops)
+begins_main : (b : Body) (ops : List MainOpText) → MainFits b ops → PartBegins (front b ++ main_lines b.hosts b.instances ops)
 begins_main b ops fits =
     let x : Operand = Number 0 in
     let lines = front b ++ main_lines b.hosts b.instances ops in
     begins_front lines (answer_words x ∷ []) (begins_front (lines ++ answer_words x ∷ []) [] (begins_answer b ops x [] (record { main = fits; answer = refl; each = tt })))
 
 -- and begin after any instance
-begins_body : (b : Body) → BodyFits b → Begins (front b)
+begins_body : (b : Body) → BodyFits b → PartBegins (front b)
 begins_body b fits = begins_front (front b) (main_lines b.hosts b.instances []) (begins_main b [] (record { body = fits; each = tt }))
 
-begins_closed : (s : State) (b : Body) → instance_closed s ≡ Some b → IsSound s → Begins (so_far s)
+begins_closed : (s : State) (b : Body) → instance_closed s ≡ Some b → IsSound s → PartBegins (so_far s)
 begins_closed s b e sound = let c = closes_instance s b e sound in begins_same (so_far s) (front b) c.lines (begins_body b c.body)
 
-begins_head : (h t : ℕ) → handles_fit h ≡ true → table_fits t ≡ true → Begins (head_lines h t idle.Trap)
+begins_head : (h t : ℕ) → handles_fit h ≡ true → table_fits t ≡ true → PartBegins (head_lines h t idle.Trap)
 begins_head h t fh ft =
     let b : Body = record { handles = h; table = t; idle = idle.Trap; hosts = []; instances = [] } in
     begins_body b (record { handles = fh; table = ft; hosts = tt; instances = tt })
 
 -- what was read begins a scenario
-pub begins : (s : State) → IsSound s → Begins (so_far s)
+pub begins : (s : State) → IsSound s → PartBegins (so_far s)
 unfolding script_closed instance_closed
 begins state.Empty sound = begins_front [] (head_lines 100000 1000000 idle.Trap) (begins_head 100000 1000000 refl refl)
 begins state.Titled sound = begins_front (title_words ∷ []) (handles_words 100000 ∷ table_words 1000000 ∷ idle_words idle.Trap ∷ []) (begins_head 100000 1000000 refl refl)

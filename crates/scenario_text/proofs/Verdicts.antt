@@ -10,9 +10,9 @@ use Rattle.scenario_text.specs.declared.state.State.TheVariants as state
 use Rattle.text_lines.specs.Line.{line_at}
 use Rattle.scenario_text.specs.Spelling.{Lines, lines_of}
 use Rattle.scenario_text.specs.Placement.{IsWellFormed}
-use Rattle.scenario_text.specs.Grammar.{lines, words, spelled, IsTextOf, Begins, IsBadLine}
+use Rattle.scenario_text.specs.Grammar.{lines, words, spelled, IsTextOf, PartBegins, IsBadLine}
 use Rattle.scenario_text.specs.State.{after, after_words, read_from, go_on, end_at, scenario_of, ReadsAs}
-use Rattle.scenario_text.specs.Answers.{Answers}
+use Rattle.scenario_text.specs.AnswersLine.{AnswersLine}
 use Rattle.text_lines.proofs.WordLaws.{bind_some}
 use Rattle.text_lines.proofs.LineLaws.{line_takes}
 use Rattle.scenario_text.proofs.SoFar.{so_far, IsSound, Follows}
@@ -57,7 +57,7 @@ record Stops (s : State) (n : ℕ) (ls : Lines) (m : ℕ) : Type 0 where
   count : ℕ
   is : m ≡ n + count
   within : count ≤ length ls
-  begins : Begins (so_far s ++ take count ls)
+  begins : PartBegins (so_far s ++ take count ls)
   stops : count < length ls → (rest : Lines) → read_from s n (take (suc count) ls ++ rest) ≡ Err m
 
 stops_here : (s : State) (n : ℕ) (ls : Lines) (m : ℕ) → n ≡ m → IsSound s → (0 < length ls → (rest : Lines) → read_from s n (take 1 ls ++ rest) ≡ Err m) → Stops s n ls m
@@ -91,7 +91,7 @@ stops_from s n [] m e sound = stops_here s n [] m (ends_at s n m (scenario_of s)
 stops_from s n (ws ∷ ls) m e sound = stops_on s n ws ls m (after_words s ws) refl e sound (λ t. stops_from t (n + 1) ls m)
 
 -- lines that begin a scenario stop no reading
-not_stopped : (front : Lines) (m : ℕ) → ((rest : Lines) → read_from state.Empty 1 (front ++ rest) ≡ Err m) → Begins front → ⊥
+not_stopped : (front : Lines) (m : ℕ) → ((rest : Lines) → read_from state.Empty 1 (front ++ rest) ≡ Err m) → PartBegins front → ⊥
 not_stopped front m stops b =
     let again = read_again b.0 b.2 in
     let stopped = stops b.1 in
@@ -116,7 +116,7 @@ bad_line text m e =
 -- ---- Answers
 
 -- what was read is the answer to the text
-pub answers : (r : Result ScenarioText TextError) (text : List ℕ) → ReadsAs r (read_from state.Empty 1 (spelled text)) → Answers r text
+pub answers : (r : Result ScenarioText TextError) (text : List ℕ) → ReadsAs r (read_from state.Empty 1 (spelled text)) → AnswersLine r text
 answers (Ok x) text e = let f = found_from state.Empty 1 (spelled text) x e tt in record { well_formed = f.0; lines = f.1 }
 answers (Err (errors.Bad n)) text e = bad_line text n e
 answers (Err errors.NoMemory) text e = tt
@@ -132,7 +132,7 @@ one_tree x y text a b =
     ok_is x y (sym one ∙ ap (read_from state.Empty 1) (sym a.lines ∙ b.lines) ∙ two)
 
 -- a scenario's text is refused for want of memory alone
-pub only_memory : (r : Result ScenarioText TextError) (x : ScenarioText) (text : List ℕ) → Answers r text → IsTextOf x text → IsOkUnless r errors.NoMemory
+pub only_memory : (r : Result ScenarioText TextError) (x : ScenarioText) (text : List ℕ) → AnswersLine r text → IsTextOf x text → IsOkUnless r errors.NoMemory
 only_memory (Ok y) x text answer text_of = tt
 only_memory (Err (errors.Bad n)) x text answer text_of = absurd (answer.past x text_of)
 only_memory (Err errors.NoMemory) x text answer text_of = refl

@@ -24,13 +24,13 @@ pub record IsTextOf (s : ScenarioText) (text : List ℕ) : Type 0 where
   pub lines : spelled text ≡ lines_of s
 
 -- these lines begin a scenario
-abbrev pub Begins : Lines → Type 0
-Begins front = (s : ScenarioText) × (rest : Lines) × IsWellFormed s × (lines_of s ≡ front ++ rest)
+abbrev pub PartBegins : Lines → Type 0
+PartBegins front = (s : ScenarioText) × (rest : Lines) × IsWellFormed s × (lines_of s ≡ front ++ rest)
 
 -- Line n is the bad one: the lines before it begin a scenario, and with it they begin none; or it is one past the last, and
 -- the text is none.
 pub record IsBadLine (text : List ℕ) (n : ℕ) : Type 0 where
   pub counts : (1 ≤ n) × (n ≤ length (lines text) + 1)
-  pub before : Begins (take (n - 1) (spelled text))
-  pub at : n ≤ length (lines text) → Begins (take n (spelled text)) → ⊥
+  pub before : PartBegins (take (n - 1) (spelled text))
+  pub at : n ≤ length (lines text) → PartBegins (take n (spelled text)) → ⊥
   pub past : (s : ScenarioText) → IsTextOf s text → ⊥

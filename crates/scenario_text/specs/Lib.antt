@@ -3,4 +3,4 @@ pub mod Placement
 pub mod MainLines
 pub mod Grammar
 pub mod State
-pub mod Answers
+pub mod AnswersLine

@@ -1,9 +1,9 @@
 //! A text, line by line.
 ghost use Rattle.std.specs.Prelude.{◌≡◌, ◌==◌, ◌<◌, ◌-◌, [], ◌∷◌, ℕ, List, drop, length, map, position, IsOkUnless, IfSome, MatchOption, OnOk};
-ghost use Rattle.text_lines.specs.Gives.{Becomes};
+ghost use Rattle.text_lines.specs.Gives.{BecomesValue};
 ghost use Rattle.scenario_text.specs.Grammar.{lines, words, spelled, IsTextOf};
 ghost use Rattle.scenario_text.specs.State.{after_words, read_from, ReadsAs};
-ghost use Rattle.scenario_text.specs.Answers.{Answers};
+ghost use Rattle.scenario_text.specs.AnswersLine.{AnswersLine};
 ghost use Rattle.scenario_text.specs.declared.tree.ScenarioText.{ScenarioText};
 
 use crate::state::State;
@@ -95,7 +95,7 @@ fn add_line<'a>(
     list: &mut Vec<&'a [u8]>,
     line: &'a [u8],
 ) -> Result<(), LineError>
-    ensures { Becomes state.new result (after_words state.old (words line.now)) }
+    ensures { BecomesValue state.new result (after_words state.old (words line.now)) }
 {
     split_words(list, line)?;
     state.add(alloc, list)
@@ -127,7 +127,7 @@ fn read(alloc: Global, text: &[u8]) -> Result<ScenarioText, TextError>
 pub fn read_text(alloc: Global, text: &[u8]) -> Result<ScenarioText, TextError>
     requires { length text.now < 4294967295 }
     // A tree is the text's own, and a line is the bad one.
-    ensures answer { Answers result text.now }
+    ensures answer { AnswersLine result text.now }
     // A scenario's text is refused for want of memory alone.
     ensures only { (tree : ScenarioText) → IsTextOf tree text.now → IsOkUnless result TextError.NoMemory }
 {

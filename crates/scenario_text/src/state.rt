@@ -1,7 +1,7 @@
 //! What was read so far, and what each kind of line adds to it.
 ghost use Rattle.std.specs.Prelude.{◌≡◌, Some, map};
 ghost use Rattle.std.specs.Option.{option_map};
-ghost use Rattle.text_lines.specs.Gives.{Gives, Becomes};
+ghost use Rattle.text_lines.specs.Gives.{Gives, BecomesValue};
 ghost use Rattle.text_lines.specs.declared.keyword.Keyword.TheVariants as keyword;
 ghost use Rattle.text_lines.specs.declared.keyword.MainWord.TheVariants as main_word;
 ghost use Rattle.scenario_text.specs.State.{with_op, with_part, start_of, finish_of, spawn_of, ready_of, main_op_of};
@@ -122,7 +122,7 @@ fn with_part(
 #[inline(always)]
 #[tactic(auto, unfolding(crate::specs::State::with_op))]
 fn push_op(callback: bool, ops: &mut Seq<Op>, op: Op) -> Result<(), LineError>
-    ensures { Becomes ops.new result (with_op callback ops.old op) }
+    ensures { BecomesValue ops.new result (with_op callback ops.old op) }
 {
     if !op_opens(callback, ops.as_slice(), &op) {
         return Err(LineError::Bad);
@@ -436,7 +436,7 @@ impl State {
     #[inline(never)]
     #[tactic(auto, unfolding(crate::specs::State::after_op))]
     fn add_op(&mut self, op: Op) -> Result<(), LineError>
-        ensures { Becomes self.new result (after_op self.old op) }
+        ensures { BecomesValue self.new result (after_op self.old op) }
     {
         match self {
             State::Script(_, _, opening, start) => push_op(is_callback(opening.kind), start, op),
@@ -462,7 +462,7 @@ impl State {
     #[inline(never)]
     #[tactic(auto, unfolding(crate::specs::State::after_call))]
     fn add_call(&mut self, call: NamedCall) -> Result<(), LineError>
-        ensures { Becomes self.new result (after_call self.old call) }
+        ensures { BecomesValue self.new result (after_call self.old call) }
     {
         let body = self.script_body().ok_or(LineError::Bad)?;
         let op = call_of(body.hosts.as_slice(), body.instances.as_slice(), call);
@@ -492,7 +492,7 @@ impl State {
     #[inline(never)]
     #[tactic(auto, unfolding(crate::specs::State::after_main_op, crate::specs::State::main_open))]
     fn add_main_op(&mut self, op: NamedOp) -> Result<(), LineError>
-        ensures { Becomes self.new result (after_main_op self.old op) }
+        ensures { BecomesValue self.new result (after_main_op self.old op) }
     {
         let State::Main(body, ops) = self else {
             return Err(LineError::Bad);
@@ -508,7 +508,7 @@ impl State {
     #[inline(never)]
     #[tactic(auto, unfolding(text_lines::specs::Line::line_after, text_lines::specs::Line::main_op_after, crate::specs::State::after, crate::specs::State::after_main_op, crate::specs::State::main_open, crate::specs::State::main_op_of, crate::specs::State::start_of))]
     fn add_start(&mut self, alloc: Global, words: &[&[u8]]) -> Result<(), LineError>
-        ensures { Becomes self.new result (after_keyword self.old (keyword.Main main_word.Start) (map (λ w. w.now) words.now)) }
+        ensures { BecomesValue self.new result (after_keyword self.old (keyword.Main main_word.Start) (map (λ w. w.now) words.now)) }
     {
         let (instance, export, operands) = start_words(alloc, words)?;
         let State::Main(body, ops) = self else {
@@ -529,7 +529,7 @@ impl State {
     #[inline(never)]
     #[tactic(auto, unfolding(text_lines::specs::Line::line_after, text_lines::specs::Line::main_op_after, crate::specs::State::after, crate::specs::State::after_main_op, crate::specs::State::main_open, crate::specs::State::main_op_of))]
     fn add_finish(&mut self, words: &[&[u8]]) -> Result<(), LineError>
-        ensures { Becomes self.new result (after_keyword self.old (keyword.Main main_word.Finish) (map (λ w. w.now) words.now)) }
+        ensures { BecomesValue self.new result (after_keyword self.old (keyword.Main main_word.Finish) (map (λ w. w.now) words.now)) }
     {
         let Some((start, to)) = finish_words(words) else {
             return Err(LineError::Bad);
@@ -624,7 +624,7 @@ impl State {
         keyword: Keyword,
         words: &[&[u8]],
     ) -> Result<(), LineError>
-        ensures { Becomes self.new result (after_keyword self.old keyword (map (λ w. w.now) words.now)) }
+        ensures { BecomesValue self.new result (after_keyword self.old keyword (map (λ w. w.now) words.now)) }
     {
         match line_after(alloc, keyword, words)? {
             Line::Op(op) => self.add_op(op),
@@ -641,7 +641,7 @@ impl State {
     #[inline(always)]
     #[tactic(auto, unfolding(text_lines::specs::Line::line_after, text_lines::specs::Line::data_op_after, crate::specs::State::after))]
     fn add_data(&mut self, word: DataWord, words: &[&[u8]]) -> Result<(), LineError>
-        ensures { Becomes self.new result (after_keyword self.old (keyword.Data word) (map (λ w. w.now) words.now)) }
+        ensures { BecomesValue self.new result (after_keyword self.old (keyword.Data word) (map (λ w. w.now) words.now)) }
     {
         match word {
             DataWord::Set => {
@@ -668,7 +668,7 @@ impl State {
     // Adds an op of main. The frequent ones are made where they are added, as those on registers.
     #[inline(always)]
     fn add_main(&mut self, alloc: Global, word: MainWord, words: &[&[u8]]) -> Result<(), LineError>
-        ensures { Becomes self.new result (after_keyword self.old (keyword.Main word) (map (λ w. w.now) words.now)) }
+        ensures { BecomesValue self.new result (after_keyword self.old (keyword.Main word) (map (λ w. w.now) words.now)) }
     {
         match word {
             MainWord::Start => self.add_start(alloc, words),
@@ -680,7 +680,7 @@ impl State {
     /// Adds the line that these words spell to what was read. After an error nothing is said of the state.
     #[tactic(auto, unfolding(crate::specs::State::after_words, crate::specs::State::after, text_lines::specs::Line::line_at, text_lines::specs::Line::line_after))]
     pub fn add(&mut self, alloc: Global, words: &[&[u8]]) -> Result<(), LineError>
-        ensures { Becomes self.new result (after_words self.old (map (λ w. w.now) words.now)) }
+        ensures { BecomesValue self.new result (after_words self.old (map (λ w. w.now) words.now)) }
     {
         let Some((word, words)) = words.split_first() else {
             return Err(LineError::Bad);

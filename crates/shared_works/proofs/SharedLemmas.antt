@@ -12,15 +12,15 @@ use Rattle.shared_works.specs.declared.cells.SharedSpawn.{SharedSpawn}
 use Rattle.task_abort.proofs.KnownLemmas.{known}
 use Rattle.task_abort.proofs.LogLemmas.{begins_more, begins_refl}
 use Rattle.task_abort.proofs.StagedLemmas.{staged_legal}
-use Rattle.task_abort.specs.PhaseLog.{Begins, IsLegal, Log, Name, callers, calls_by, entry}
+use Rattle.task_abort.specs.PhaseLog.{LogBegins, IsLegal, Log, Name, callers, calls_by, entry}
 use Rattle.task_abort.specs.Rule.{Calls, HasMetAll, Meets}
 use Rattle.task_abort.specs.Cells.{TellsComplete}
 use Rattle.task_abort.specs.Staged.{LastRound, Lists, OnlyAborted, made, staged, told}
-use Rattle.task_abort.specs.declared.log.Caller.{Caller}
+use Rattle.task_abort.specs.declared.log.HandleCaller.{HandleCaller}
 use Rattle.task_abort.specs.declared.log.CallMade.{CallMade}
 use Rattle.task_abort.specs.declared.log.PhaseCall.{PhaseCall}
 use Rattle.task_abort.specs.declared.log.PhaseCall.TheVariants.{Abort, PollHandle}
-use Rattle.task_abort.specs.declared.log.View.{View}
+use Rattle.task_abort.specs.declared.log.PassView.{PassView}
 use Rattle.task_machine.specs.declared.words.Phase.{Phase}
 use Rattle.task_machine.specs.declared.words.Phase.TheVariants.{AbortRequested, Complete, Running}
 use Rattle.futures.specs.declared.task.Poll.TheVariants.{Pending, Ready}
@@ -63,13 +63,13 @@ pub all_met : (s : SharedSpawn) → HasMetEach s → HasMetAll (spawn_view s)
 all_met s each = (s.first, there)
   where
     there : (k : ℕ) → k < (spawn_view s).own.splits →
-        (c : Caller) × ((a : ℕ) × (get_elem? (callers (spawn_view s)) a ≡ some c)) × (c.name ≡ k ∷ []) × (c.splits ≡ 0)
+        (c : HandleCaller) × ((a : ℕ) × (get_elem? (callers (spawn_view s)) a ≡ some c)) × (c.name ≡ k ∷ []) × (c.splits ≡ 0)
     there k lt =
         let few : k < length (phases_in s.met.items) = omega (arith, s.splits, each, phases_length s.met.items) in
         let r = aborter_there 0 k (phases_in s.met.items) few in
         let own : 0 + k ≡ k = omega arith in
         let at : get_elem? (aborters_from 0 (phases_in s.met.items)) k ≡ some (aborter_at k r.0) = r.1 ∙ ap (λ (n : ℕ). some (aborter_at n r.0)) own in
-        (aborter_at k r.0, (suc k, subst (λ (cs : List Caller). get_elem? cs k ≡ some (aborter_at k r.0)) (sym s.met_each) at), refl, refl)
+        (aborter_at k r.0, (suc k, subst (λ (cs : List HandleCaller). get_elem? cs k ≡ some (aborter_at k r.0)) (sym s.met_each) at), refl, refl)
 
 only_aborted : (k : ℕ) (fs : List Found) → OnlyAborted (aborters_from k (phases_in fs)) (listed fs)
 only_aborted k [] = tt
@@ -101,19 +101,19 @@ round_now s = record {
     own = omega (arith, calls)
 
 -- a call keeps that
-pub round_kept : (c : PhaseCall) (v w : View) (found : Phase) (n : ℕ) → Calls c v found w → LastRound v n → LastRound w n
+pub round_kept : (c : PhaseCall) (v w : PassView) (found : Phase) (n : ℕ) → Calls c v found w → LastRound v n → LastRound w n
 round_kept c v w found n call round = record {
   early = round.early;
   begins = begins;
   others = λ a d at. round.others a d (subst (λ ds. get_elem? ds a ≡ some d) call.same.0 at);
-  count = subst (λ (m : Name). length (calls_by m round.early) ≤ n) (sym (ap (λ (d : Caller). d.name) call.own)) round.count;
+  count = subst (λ (m : Name). length (calls_by m round.early) ≤ n) (sym (ap (λ (d : HandleCaller). d.name) call.own)) round.count;
 }
   where
     seen : w.seen ≡ v.seen ++ (call.between ++ entry v.own.name c found ∷ [])
     seen = call.seen ∙ append_assoc v.seen call.between (entry v.own.name c found ∷ [])
 
-    begins : Begins round.early w.seen
-    begins = subst (λ log. Begins round.early log) (sym seen) (begins_more round.early v.seen (call.between ++ entry v.own.name c found ∷ []) round.begins)
+    begins : LogBegins round.early w.seen
+    begins = subst (λ log. LogBegins round.early log) (sym seen) (begins_more round.early v.seen (call.between ++ entry v.own.name c found ∷ []) round.begins)
 
 -- ---- What a call leaves
 
@@ -121,50 +121,50 @@ pub written : {A : Type 0} (xs ys : List A) (n : ℕ) (x y : A) → ys ≡ xs ++
 written xs ys n x y is at = ap (λ zs. slice_set zs n y) is ∙ (ap (λ (k : ℕ). slice_set (xs ++ x ∷ []) k y) at ∙ set-append_seam xs x [] y)
 
 -- the list of the pass's calls, with the one that was made
-pub listed_after : (call : PhaseCall) (v w : View) (found : Phase) (old new : List CallMade) (m : CallMade) → Calls call v found w →
+pub listed_after : (call : PhaseCall) (v w : PassView) (found : Phase) (old new : List CallMade) (m : CallMade) → Calls call v found w →
     old ≡ map told v.own.calls → told (entry v.own.name call found) ≡ m → new ≡ old ++ m ∷ [] → new ≡ map told w.own.calls
 listed_after call v w found old new m made was is now =
     now ∙ (ap (λ (ms : List CallMade). ms ++ m ∷ []) was
     ∙ (ap (λ (k : CallMade). map told v.own.calls ++ k ∷ []) (sym is)
     ∙ (sym (map-append told v.own.calls (entry v.own.name call found ∷ []))
-    ∙ ap (λ (c : Caller). map told c.calls) (sym made.own))))
+    ∙ ap (λ (c : HandleCaller). map told c.calls) (sym made.own))))
 
-pub name_after : (call : PhaseCall) (v w : View) (found : Phase) (n : Name) → Calls call v found w → v.own.name ≡ n → w.own.name ≡ n
-name_after call v w found n made is = ap (λ (c : Caller). c.name) made.own ∙ is
+pub name_after : (call : PhaseCall) (v w : PassView) (found : Phase) (n : Name) → Calls call v found w → v.own.name ≡ n → w.own.name ≡ n
+name_after call v w found n made is = ap (λ (c : HandleCaller). c.name) made.own ∙ is
 
-pub splits_after : (call : PhaseCall) (v w : View) (found : Phase) (n : ℕ) → Calls call v found w → v.own.splits ≡ n → w.own.splits ≡ n
-splits_after call v w found n made is = ap (λ (c : Caller). c.splits) made.own ∙ is
+pub splits_after : (call : PhaseCall) (v w : PassView) (found : Phase) (n : ℕ) → Calls call v found w → v.own.splits ≡ n → w.own.splits ≡ n
+splits_after call v w found n made is = ap (λ (c : HandleCaller). c.splits) made.own ∙ is
 
-pub met_after : (call : PhaseCall) (v w : View) (found : Phase) (cs : List Caller) → Calls call v found w → v.met ≡ cs → w.met ≡ cs
+pub met_after : (call : PhaseCall) (v w : PassView) (found : Phase) (cs : List HandleCaller) → Calls call v found w → v.met ≡ cs → w.met ≡ cs
 met_after call v w found cs made is = made.same.0 ∙ is
 
 -- the aborts of an aborter's pass, with the one that was made
-pub aborts_after : (v w : View) (found : Phase) (n : Name) (old new : List Phase) → Calls Abort v found w → v.own.name ≡ n →
+pub aborts_after : (v w : PassView) (found : Phase) (n : Name) (old new : List Phase) → Calls Abort v found w → v.own.name ≡ n →
     v.own.calls ≡ aborts_by n old → new ≡ old ++ found ∷ [] → w.own.calls ≡ aborts_by n new
 aborts_after v w found n old new made name was now =
-    ap (λ (c : Caller). c.calls) made.own
+    ap (λ (c : HandleCaller). c.calls) made.own
     ∙ (ap (λ (m : Name). v.own.calls ++ entry m Abort found ∷ []) name
     ∙ (ap (λ (log : Log). log ++ entry n Abort found ∷ []) was
     ∙ (sym (map-append (λ p. entry n Abort p) old (found ∷ []))
     ∙ ap (aborts_by n) (sym now))))
 
-same_caller : (c : Caller) (n : Name) (log : Log) (k : ℕ) → c.name ≡ n → c.calls ≡ log → c.splits ≡ k → c ≡ record { name = n; calls = log; splits = k }
+same_caller : (c : HandleCaller) (n : Name) (log : Log) (k : ℕ) → c.name ≡ n → c.calls ≡ log → c.splits ≡ k → c ≡ record { name = n; calls = log; splits = k }
 same_caller c n log k a b d = λ i. record { name = a i; calls = b i; splits = d i }
 
 -- with a pass that is met
-pub met_more : (v o w : View) (fs gs : List Found) (f : Found) (place : ℕ) → Meets v o w → v.met ≡ aborters_from 0 (phases_in fs) → o.met ≡ [] →
+pub met_more : (v o w : PassView) (fs gs : List Found) (f : Found) (place : ℕ) → Meets v o w → v.met ≡ aborters_from 0 (phases_in fs) → o.met ≡ [] →
     o.own.name ≡ place ∷ [] → o.own.splits ≡ 0 → o.own.calls ≡ aborts_by (place ∷ []) f.found.items → place ≡ length fs → gs ≡ fs ++ f ∷ [] →
     w.met ≡ aborters_from 0 (phases_in gs)
 met_more v o w fs gs f place meets was apart name splits calls at now =
     meets.met
-    ∙ (ap (λ (cs : List Caller). cs ++ callers o) was
-    ∙ (ap (λ (cs : List Caller). aborters_from 0 (phases_in fs) ++ cs) (one ∙ ap (λ (k : ℕ). aborter_at k f.found.items ∷ []) at)
+    ∙ (ap (λ (cs : List HandleCaller). cs ++ callers o) was
+    ∙ (ap (λ (cs : List HandleCaller). aborters_from 0 (phases_in fs) ++ cs) (one ∙ ap (λ (k : ℕ). aborter_at k f.found.items ∷ []) at)
     ∙ (sym (met_snoc fs f)
     ∙ ap (λ (hs : List Found). aborters_from 0 (phases_in hs)) (sym now))))
   where
     one : callers o ≡ aborter_at place f.found.items ∷ []
-    one = ap (λ (cs : List Caller). o.own ∷ cs) apart
-        ∙ ap (λ (c : Caller). c ∷ []) (same_caller o.own (place ∷ []) (aborts_by (place ∷ []) f.found.items) 0 name calls splits)
+    one = ap (λ (cs : List HandleCaller). o.own ∷ cs) apart
+        ∙ ap (λ (c : HandleCaller). c ∷ []) (same_caller o.own (place ∷ []) (aborts_by (place ∷ []) f.found.items) 0 name calls splits)
 
 -- what a poll of the handle tells
 pub told_complete : (n : Name) (found : Phase) → TellsComplete {A = Unit {0}} found (Ready (tt {0})) → told (entry n PollHandle found) ≡ made PollHandle (Some Complete)

@@ -3,7 +3,7 @@ use Rattle.std.specs.Prelude.{List, [], map, ℕ, ◌+◌, ◌∷◌}
 use Rattle.shared_works.specs.declared.log.Found.{Found}
 use Rattle.task_abort.specs.PhaseLog.{Log, Name, entry}
 use Rattle.task_abort.specs.Staged.{Aborter, aborts_of}
-use Rattle.task_abort.specs.declared.log.Caller.{Caller}
+use Rattle.task_abort.specs.declared.log.HandleCaller.{HandleCaller}
 use Rattle.task_abort.specs.declared.log.LogEntry.{LogEntry}
 use Rattle.task_abort.specs.declared.log.PhaseCall.TheVariants.{Abort}
 use Rattle.task_machine.specs.declared.words.Phase.{Phase}
@@ -13,11 +13,11 @@ abbrev pub aborts_by : Name → List Phase → Log
 aborts_by n ps = map (λ p. entry n Abort p) ps
 
 -- the pass that was split off k-th, and did nothing but these aborts
-abbrev pub aborter_at : ℕ → List Phase → Caller
+abbrev pub aborter_at : ℕ → List Phase → HandleCaller
 aborter_at k ps = record { name = k ∷ []; calls = aborts_by (k ∷ []) ps; splits = 0 }
 
 -- the passes that were split off from the k-th on, with what the aborts of each found
-abbrev pub aborters_from : ℕ → List (List Phase) → List Caller
+abbrev pub aborters_from : ℕ → List (List Phase) → List HandleCaller
 aborters_from k [] = []
 aborters_from k (ps ∷ pss) = aborter_at k ps ∷ aborters_from (k + 1) pss
 

@@ -5,14 +5,14 @@ use Rattle.shared_works.specs.declared.log.Found.{Found}
 use Rattle.shared_works.specs.declared.cells.SharedSpawn.{SharedSpawn}
 use Rattle.task_abort.specs.Cells.{CellId, handle_cell, view_of}
 use Rattle.task_abort.specs.declared.log.CallMade.{CallMade}
-use Rattle.task_abort.specs.declared.log.View.{View}
+use Rattle.task_abort.specs.declared.log.PassView.{PassView}
 use Rattle.task_machine.specs.declared.words.Phase.{Phase}
 
 -- the cell, and what the run's pass has seen and done there
 abbrev pub spawn_cell : SharedSpawn → CellId
 spawn_cell s = handle_cell s.handle
 
-abbrev pub spawn_view : SharedSpawn → View
+abbrev pub spawn_view : SharedSpawn → PassView
 spawn_view s = view_of s.pass
 
 -- the run's own calls, as it lists them
@@ -38,7 +38,7 @@ HasMetEach s = split_count s ≡ length (met_list s)
 abbrev pub pass_cell_of : AborterPass → CellId
 pass_cell_of a = handle_cell a.handle
 
-abbrev pub aborter_view : AborterPass → View
+abbrev pub aborter_view : AborterPass → PassView
 aborter_view a = view_of a.pass
 
 -- how many passes were split off before it

@@ -3,7 +3,7 @@ use Rattle.spawn_laws.specs.Spawns.{RunsKeepSpawns, SpawnsStay}
 use Rattle.std.proofs.Common.{ap, arith, inl, inr, le_trans, refl, subst, sym, ⊎_elim, ◌∙◌}
 use Rattle.std.proofs.lemmas.Bool.Decides.{nat_tests}
 use Rattle.task_laws.proofs.KnownWorks.{caller_stays}
-use Rattle.task_laws.proofs.Words.{add_call, add_group, add_set, add_thread, add_work, after_word, Allowed, along, call_made, count_work, Core, free_handle, free_thread_handle, get, get-change, get-insert, get-remove, give_handle, give_result, give_thread_handle, made_works_word, MayRemoveWork, by_number, of_base, on_call, on_instance, on_thread, on_work, poll_pends, push_high, RemoveWork, remove_call, remove_group, remove_set, remove_thread, remove_work, Scene, scene_of, set_backpressure, set_cancel_delivered, set_cancelled, set_course, set_do_not_enter, set_do_not_suspend, set_end, set_event, set_exited, set_how_far, set_join, set_own_event, set_phase, set_position, set_register, set_result, set_saved_callee, set_saved_own, set_script, set_stage, set_started, set_starting_published, set_subtask_handle, set_thread_handle, set_trapped, set_uninteresting, set_word, step_walks, take_result, with_handle, with_thread_handle, Word, Work, work_caller_of, work_queued, WorkCaller, WorksKnown}
+use Rattle.task_laws.proofs.Words.{add_call, add_group, add_set, add_thread, add_work, after_primitive, Allowed, along, call_made, count_work, Core, free_handle, free_thread_handle, get, get-change, get-insert, get-remove, give_handle, give_result, give_thread_handle, made_works_word, MayRemoveWork, by_number, of_base, on_call, on_instance, on_thread, on_work, poll_pends, push_high, RemoveWork, remove_call, remove_group, remove_set, remove_thread, remove_work, Scene, scene_of, set_backpressure, set_cancel_delivered, set_cancelled, set_course, set_do_not_enter, set_do_not_suspend, set_end, set_event, set_exited, set_op_progress, set_join, set_task_event, set_phase, set_position, set_register, set_result, set_saved_callee, set_saved_own, set_script, set_stage, set_started, set_starting_published, set_subtask_handle, set_thread_handle, set_trapped, set_uninteresting, set_word, step_walks, take_result, with_handle, with_thread_handle, Primitive, Work, work_caller_of, work_queued, WorkCaller, WorksKnown}
 use Rattle.std.specs.Option.{option_map_or}
 use Rattle.std.specs.Prelude.{None, Option, Some, [], false, is_some, true, ℕ, ◌∷◌, ◌≡◌, ◌≤◌}
 use Rattle.task_machine.specs.Core.{State}
@@ -22,9 +22,9 @@ module _ (a : Scene) (base : WorksKnown a.base) (i : ℕ) where
       let spawn : work_caller_of i a.base ≡ WorkCaller.Spawn = sym same ∙ is in
       grind (arith, async, spawn)
 
-  there_word : (w : Word) (s : Core) → Allowed a w s → (MayRemoveWork a i s → ⊥) → i ≤ s.made.works →
-      is_some (get s.works i) ≡ true → is_some (get (after_word w s).works i) ≡ true
-  unfolding add_call add_group add_set add_thread add_work call_made count_work free_handle free_thread_handle give_handle give_result give_thread_handle on_call on_instance on_thread on_work poll_pends push_high remove_call remove_group remove_set remove_thread remove_work set_backpressure set_cancel_delivered set_cancelled set_course set_do_not_enter set_do_not_suspend set_end set_event set_exited set_how_far set_join set_own_event set_phase set_position set_register set_result set_saved_callee set_saved_own set_script set_stage set_started set_starting_published set_subtask_handle set_thread_handle set_trapped set_uninteresting set_word take_result with_handle with_thread_handle work_queued
+  there_word : (w : Primitive) (s : Core) → Allowed a w s → (MayRemoveWork a i s → ⊥) → i ≤ s.made.works →
+      is_some (get s.works i) ≡ true → is_some (get (after_primitive w s).works i) ≡ true
+  unfolding add_call add_group add_set add_thread add_work call_made count_work free_handle free_thread_handle give_handle give_result give_thread_handle on_call on_instance on_thread on_work poll_pends push_high remove_call remove_group remove_set remove_thread remove_work set_backpressure set_cancel_delivered set_cancelled set_course set_do_not_enter set_do_not_suspend set_end set_event set_exited set_op_progress set_join set_task_event set_phase set_position set_register set_result set_saved_callee set_saved_own set_script set_stage set_started set_starting_published set_subtask_handle set_thread_handle set_trapped set_uninteresting set_word take_result with_handle with_thread_handle work_queued
   there_word (RemoveWork j) s ok stays below there = by_number j i _ (λ e. absurd (stays (rw e at ok))) (λ e. grind (arith, nat_tests, get-remove, e, there))
   there_word w s ok stays below there = grind (arith, nat_tests, get-change, get-insert, there)
 
@@ -34,7 +34,7 @@ module _ (a : Scene) (base : WorksKnown a.base) (i : ℕ) where
     there : is_some (get s.works i) ≡ true
     caller : work_caller_of i s ≡ WorkCaller.Spawn
 
-  spawned_word : (w : Word) (s : Core) → Allowed a w s → Spawned s → Spawned (after_word w s)
+  spawned_word : (w : Primitive) (s : Core) → Allowed a w s → Spawned s → Spawned (after_primitive w s)
   spawned_word w s ok q =
       let stays = spared s q.caller in record {
         below = le_trans q.below (made_works_word a w s);

@@ -1,6 +1,6 @@
 //! Laws of the works that main spawns.
 #![tactic(auto)]
 
-mod laws;
+mod laws_of_spawns;
 
-pub use laws::{runs_keep_spawns, spawns_stay};
+pub use laws_of_spawns::{runs_keep_spawns, spawns_stay};

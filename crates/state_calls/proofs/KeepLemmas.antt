@@ -6,14 +6,14 @@ use Rattle.state_calls.specs.Currents.{LosesNoWake, entered, is_left, left_for, 
 use Rattle.state_calls.specs.Woken.{member_woken, set_joined}
 use Rattle.state_calls.specs.declared.currents.CurrentThread.{CurrentThread}
 use Rattle.task_machine.specs.Core.{Core}
-use Rattle.task_machine.specs.Moves.{OwnGift, ended, may_publish, published, stopped, taken, taken_own}
+use Rattle.task_machine.specs.Moves.{PickedTaskEvent, ended, may_publish, published, stopped, taken, taken_own}
 use Rattle.task_machine.specs.Read.{event_of}
 use Rattle.task_machine.specs.Write.{set_event, set_join, set_place}
 use Rattle.task_machine.specs.declared.records.Join.{Join}
 use Rattle.task_machine.specs.declared.records.Place.TheVariants as place
 use Rattle.task_machine.specs.declared.records.Subtask.{Subtask}
 use Rattle.task_machine.specs.declared.words.Mark.{Mark}
-use Rattle.task_machine.specs.declared.words.OwnEvent.{OwnEvent}
+use Rattle.task_machine.specs.declared.words.TaskEvent.{TaskEvent}
 use Rattle.task_machine.specs.declared.words.Status.{Status}
 use Rattle.task_rules.specs.Sets.{joins, may_wake_new, wakes_joined}
 use Rattle.task_rules.specs.Takes.{popped}
@@ -43,9 +43,9 @@ pub taken_kept : (sub : Subtask) (s t : StateView) → t ≡ on_core (set_event 
 unfolding TakeKeeps
 taken_kept sub s t is = core_kept (set_event sub None) s t is (take_keeps sub s.core)
 
-pub own_taken_kept : (e : OwnEvent) (k : ℕ) (s t : StateView) → t ≡ on_core (taken_own e k) s → NoWakeLost s.core → NoWakeLost t.core
+pub own_taken_kept : (e : TaskEvent) (k : ℕ) (s t : StateView) → t ≡ on_core (taken_own e k) s → NoWakeLost s.core → NoWakeLost t.core
 unfolding GiveKeeps taken
-own_taken_kept e k s t is = core_kept (taken_own e k) s t is (give_keeps (OwnGift e) k s.core)
+own_taken_kept e k s t is = core_kept (taken_own e k) s t is (give_keeps (PickedTaskEvent e) k s.core)
 
 pub stopped_kept : (f : ℕ) (s t : StateView) → t ≡ on_core (stopped f) s → NoWakeLost s.core → NoWakeLost t.core
 unfolding StopKeeps

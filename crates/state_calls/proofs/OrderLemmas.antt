@@ -1,7 +1,7 @@
 -- The calls keep order.
 use Rattle.order_laws.proofs.{BackOrder.back_in_order, EntryOrder.first_in_order, EntryOrder.promote_in_order, EntryOrder.put_in_order, EntryOrder.stop_in_order, EntryOrder.switch_in_order, EntryOrder.taken_is_in_hand, EventOrder.give_in_order, EventOrder.join_in_order, EventOrder.publish_in_order, EventOrder.take_in_order, EventOrder.wake_in_order, TurnOrder.end_in_order, TurnOrder.turn_in_order, TurnOrder.turn_of}
-use Rattle.order_laws.specs.Kept.{BackInOrder, CanGive, CanJoin, CanTell, EndInOrder, FirstInOrder, GiveInOrder, Hand, JoinInOrder, LeavesInOrder, PromoteInOrder, PublishInOrder, PutInOrder, StaysInOrder, StopInOrder, SwitchInOrder, TakeInOrder, TakenIsInHand, TurnInOrder, TurnsInOrder, WakeInOrder, is_idle, is_off_switch, placed_at, put_back, running_in}
-use Rattle.order_laws.specs.Pieces.{KeepsOrder, Orderly, SameInstances}
+use Rattle.order_laws.specs.KeptOrder.{BackInOrder, CanGive, CanJoin, CanTell, EndInOrder, FirstInOrder, GiveInOrder, Hand, JoinInOrder, LeavesInOrder, PromoteInOrder, PublishInOrder, PutInOrder, StaysInOrder, StopInOrder, SwitchInOrder, TakeInOrder, TakenIsInHand, TurnInOrder, TurnsInOrder, WakeInOrder, is_idle, is_off_switch, placed_at, put_back, running_in}
+use Rattle.order_laws.specs.Pieces.{KeepsOrder, InOrderForAnyMain, SameInstances}
 use Rattle.std.proofs.Common.{ap, arith, refl, subst, sym, ◌∙◌}
 use Rattle.std.proofs.lemmas.Bool.Decides.{nat_tests}
 use Rattle.std.specs.Prelude.{Bool, None, Option, Some, false, if◌then◌else◌, is_some, option_map, true, ℕ, ◌||◌, ◌≡◌, ◌≢◌}
@@ -12,11 +12,11 @@ use Rattle.state_calls.specs.declared.currents.CurrentThread.{CurrentThread}
 use Rattle.state_calls.specs.Items.{CanGet, CanReturn, IsItem, IsItemOf, Takes, entry_of, in_hand, item_put}
 use Rattle.state_calls.specs.Promotions.{is_ready_to_begin, local_promoted, thread_promoted}
 use Rattle.state_calls.specs.Woken.{member_woken, set_joined}
-use Rattle.state_calls.specs.declared.entries.Item.{Item}
-use Rattle.state_calls.specs.declared.entries.Item.TheVariants as item
+use Rattle.state_calls.specs.declared.entry_calls.Item.{Item}
+use Rattle.state_calls.specs.declared.entry_calls.Item.TheVariants as item
 use Rattle.task_laws.specs.Order.{is_open}
 use Rattle.task_machine.specs.Core.{Core, Unscripted}
-use Rattle.task_machine.specs.Moves.{MemberGift, OwnGift, ended, may_publish, own_gift_of, promoted_unless, published, stopped, taken, taken_own}
+use Rattle.task_machine.specs.Moves.{PickedMember, PickedTaskEvent, ended, may_publish, picked_task_event_of, promoted_unless, published, stopped, taken, taken_own}
 use Rattle.task_machine.specs.Read.{event_of, is_async_lifted, is_at, kind_of, next_entry, place_of, subtask_handle}
 use Rattle.task_machine.specs.Write.{set_event, set_join, set_place}
 use Rattle.task_machine.specs.declared.component.Component.{Component}
@@ -31,8 +31,8 @@ use Rattle.task_machine.specs.declared.records.Turn.TheVariants as turn
 use Rattle.task_machine.specs.declared.records.Why.{Why}
 use Rattle.task_machine.specs.declared.words.Mark.{Mark}
 use Rattle.task_machine.specs.declared.words.Mark.TheVariants as mark
-use Rattle.task_machine.specs.declared.words.OwnEvent.{OwnEvent}
-use Rattle.task_machine.specs.declared.words.OwnEvent.TheVariants as own
+use Rattle.task_machine.specs.declared.words.TaskEvent.{TaskEvent}
+use Rattle.task_machine.specs.declared.words.TaskEvent.TheVariants as own
 use Rattle.task_machine.specs.declared.words.Status.{Status}
 use Rattle.task_rules.proofs.StandLemmas.{by_number}
 use Rattle.task_rules.specs.Ends.{leaves_no_result}
@@ -96,19 +96,19 @@ joins_at d sub x s is can = subst (λ (y : Subtask). CanJoin y x s) (sym is) can
 
 -- ---- Gifts
 
-own_can : (b : Bool) (k : ℕ) (e : OwnEvent) (s : Core) → own_gift_of b k s ≡ Some e → (b ≡ true → is_async_lifted (kind_of k s) ≡ true) → CanGive (OwnGift e) k s
+own_can : (b : Bool) (k : ℕ) (e : TaskEvent) (s : Core) → picked_task_event_of b k s ≡ Some e → (b ≡ true → is_async_lifted (kind_of k s) ≡ true) → CanGive (PickedTaskEvent e) k s
 own_can b k own.None s at kind = tt
 own_can true k own.Cancelled s at kind = (grind (arith, at), kind refl)
 own_can false k own.Cancelled s at kind = absurd (grind (arith, at))
 
-pub own_in_order : (b : Bool) (k : ℕ) (e : OwnEvent) (s t : StateView) → own_gift_of b k s.core ≡ Some e → t ≡ on_core (taken_own e k) s → (b ≡ true → is_async_lifted (kind_of k s.core) ≡ true) → StaysInOrder s.core t.core
+pub own_in_order : (b : Bool) (k : ℕ) (e : TaskEvent) (s t : StateView) → picked_task_event_of b k s.core ≡ Some e → t ≡ on_core (taken_own e k) s → (b ≡ true → is_async_lifted (kind_of k s.core) ≡ true) → StaysInOrder s.core t.core
 unfolding GiveInOrder taken
-own_in_order b k e s t at is kind = by_move (taken_own e k) s t is (give_in_order (OwnGift e) k s.core (own_can b k e s.core at kind))
+own_in_order b k e s t at is kind = by_move (taken_own e k) s t is (give_in_order (PickedTaskEvent e) k s.core (own_can b k e s.core at kind))
 
 pub member_in_order : (x : Option ℕ) (k : ℕ) (sub : Subtask) (s t : StateView) → is_ready_in x sub s.core ≡ true → t ≡ on_core (set_event sub None) s → StaysInOrder s.core t.core
 unfolding GiveInOrder taken
 member_in_order None k sub s t ready is = absurd (cc)
-member_in_order (Some x) k sub s t ready is = by_move (set_event sub None) s t is (give_in_order (MemberGift sub) k s.core (x, grind (arith, ready)))
+member_in_order (Some x) k sub s t ready is = by_move (set_event sub None) s t is (give_in_order (PickedMember sub) k s.core (x, grind (arith, ready)))
 
 pub nothing_in_order : (s : Core) → StaysInOrder s s
 nothing_in_order s c p h going order = (order, record { instances = λ i. refl; handles = λ i. refl })
@@ -224,14 +224,14 @@ turns_order thread s t is c p q from to may order =
     new : Option ℕ
     new = number_in s thread
 
-    runs : (n : ℕ) → running_in p ≡ Some n → Orderly c p s.core → place_of n s.core ≡ Some place.Running
+    runs : (n : ℕ) → running_in p ≡ Some n → InOrderForAnyMain c p s.core → place_of n s.core ≡ Some place.Running
     runs n at o = (o Unscripted).in_place.runs n (turn_of p n at)
 
-    by : (old : Option ℕ) → runner s ≡ old → Orderly c p s.core → Orderly c q (entered new (left_for old new s.core)) × SameInstances s.core (entered new (left_for old new s.core))
-    by None at o = subst (λ (u : Core). Orderly c q u × SameInstances s.core u) (sym (entered_is new s.core))
+    by : (old : Option ℕ) → runner s ≡ old → InOrderForAnyMain c p s.core → InOrderForAnyMain c q (entered new (left_for old new s.core)) × SameInstances s.core (entered new (left_for old new s.core))
+    by None at o = subst (λ (u : Core). InOrderForAnyMain c q u × SameInstances s.core u) (sym (entered_is new s.core))
         (turn_in_order None new s.core c p q (rw at at from) to (rw at at may) o)
-    by (Some n) at o = subst (λ (u : Core). Orderly c q u × SameInstances s.core u) (sym (entered_is new (left_for (Some n) new s.core)))
-        (subst (λ (b : Bool). Orderly c q (placed_at new place.Running (if b then set_place n place.Suspended s.core else s.core)) × SameInstances s.core (placed_at new place.Running (if b then set_place n place.Suspended s.core else s.core)))
+    by (Some n) at o = subst (λ (u : Core). InOrderForAnyMain c q u × SameInstances s.core u) (sym (entered_is new (left_for (Some n) new s.core)))
+        (subst (λ (b : Bool). InOrderForAnyMain c q (placed_at new place.Running (if b then set_place n place.Suspended s.core else s.core)) × SameInstances s.core (placed_at new place.Running (if b then set_place n place.Suspended s.core else s.core)))
         (sym (left_is n new s.core (λ e. may.apart n at e) (runs n (from.1 ∙ at) o)))
         (turn_in_order (Some n) new s.core c p q (rw at at from) to (rw at at may) o))
 

@@ -1,22 +1,22 @@
 -- The event that a task is given.
 use Rattle.std.specs.Prelude.{Bool, false, None, Option, Some, unwrap_or, ℕ, ◌≡◌}
 use Rattle.task_machine.specs.Core.{Core}
-use Rattle.task_machine.specs.Moves.{Gift, MemberGift, NoGift, OwnGift, gift, own_gift_of, own_or_nothing, taken}
+use Rattle.task_machine.specs.Moves.{PickedEvent, PickedMember, NothingPicked, PickedTaskEvent, picked_event, picked_task_event_of, own_or_nothing, taken}
 use Rattle.task_machine.specs.Read.{event_of, has_ready_member, is_ready_member, subtask_handle}
 use Rattle.task_machine.specs.declared.records.Subtask.{Subtask}
-use Rattle.task_machine.specs.declared.words.OwnEvent.{OwnEvent}
-use Rattle.task_machine.specs.declared.words.OwnEvent.TheVariants as own
+use Rattle.task_machine.specs.declared.words.TaskEvent.{TaskEvent}
+use Rattle.task_machine.specs.declared.words.TaskEvent.TheVariants as own
 use Rattle.task_machine.specs.declared.words.Status.TheVariants as status
 use Rattle.task_wait.specs.declared.codes.Event.{Event}
 use Rattle.task_wait.specs.declared.codes.Event.TheVariants as event
 use Rattle.task_words.specs.StateView.{StateView, on_core}
 
 -- what the task is given by the set, with this member chosen; without a set its own event alone; None where the choice isn't lawful
-abbrev pub gift_of : Bool → ℕ → Option ℕ → Option Subtask → Core → Option Gift
-gift_of cancellable k None chosen s = Some (own_or_nothing (own_gift_of cancellable k s))
-gift_of cancellable k (Some x) chosen s = gift cancellable k x chosen s
+abbrev pub picked_event_of : Bool → ℕ → Option ℕ → Option Subtask → Core → Option PickedEvent
+picked_event_of cancellable k None chosen s = Some (own_or_nothing (picked_task_event_of cancellable k s))
+picked_event_of cancellable k (Some x) chosen s = picked_event cancellable k x chosen s
 
-abbrev pub own_told : OwnEvent → Event
+abbrev pub own_told : TaskEvent → Event
 own_told own.None = event.None
 own_told own.Cancelled = event.Cancelled
 
@@ -25,10 +25,10 @@ abbrev pub member_told : Subtask → Core → Event × ℕ
 member_told sub s = (event.Subtask (unwrap_or (event_of sub s) status.Starting), unwrap_or (subtask_handle sub s) 0)
 
 -- the event, and the handle of the member whose it is; the handle of the own event is 0
-abbrev pub handed : Gift → Core → Option (Event × ℕ)
-handed (OwnGift e) s = Some (own_told e, 0)
-handed (MemberGift sub) s = Some (member_told sub s)
-handed NoGift s = None
+abbrev pub handed : PickedEvent → Core → Option (Event × ℕ)
+handed (PickedTaskEvent e) s = Some (own_told e, 0)
+handed (PickedMember sub) s = Some (member_told sub s)
+handed NothingPicked s = None
 
 -- the set, if one is given, has a ready member
 abbrev pub has_ready_in : Option ℕ → Core → Bool
@@ -43,7 +43,7 @@ is_ready_in (Some x) sub s = is_ready_member x sub s
 pub record Gives (cancellable : Bool) (k : ℕ) (set : Option ℕ) (s : StateView) (r : Option (Event × ℕ)) (t : StateView) :
     Type 0 where
   pub chosen : Option Subtask
-  pub given : Gift
-  pub lawful : gift_of cancellable k set chosen s.core ≡ Some given
+  pub given : PickedEvent
+  pub lawful : picked_event_of cancellable k set chosen s.core ≡ Some given
   pub answer : r ≡ handed given s.core
   pub core : t ≡ on_core (taken given k) s

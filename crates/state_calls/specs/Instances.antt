@@ -1,6 +1,6 @@
 -- What a host reads of an instance.
 use Rattle.std.specs.Prelude.{Bool, Option, option_map, ℕ}
-use Rattle.state_calls.specs.declared.instances.ConcurrentInstanceState.{ConcurrentInstanceState}
+use Rattle.state_calls.specs.declared.instance_calls.ConcurrentInstanceState.{ConcurrentInstanceState}
 use Rattle.task_machine.specs.Core.{Core}
 use Rattle.task_machine.specs.Maps.{get}
 use Rattle.task_machine.specs.Read.{is_nil}

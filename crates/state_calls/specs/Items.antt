@@ -1,10 +1,10 @@
 -- What is queued: items, and the entries that they are.
-use Rattle.order_laws.specs.Kept.{Hand}
+use Rattle.order_laws.specs.KeptOrder.{Hand}
 use Rattle.std.specs.Prelude.{Bool, None, Option, Some, false, option_map, true, ℕ, ◌<◌, ◌≡◌}
 use Rattle.state_calls.specs.Named.{IsLive}
-use Rattle.state_calls.specs.declared.entries.Item.{Item}
-use Rattle.state_calls.specs.declared.entries.Item.TheVariants as item
-use Rattle.state_calls.specs.declared.names.QualifiedThreadId.{QualifiedThreadId}
+use Rattle.state_calls.specs.declared.entry_calls.Item.{Item}
+use Rattle.state_calls.specs.declared.entry_calls.Item.TheVariants as item
+use Rattle.state_calls.specs.declared.name_calls.QualifiedThreadId.{QualifiedThreadId}
 use Rattle.task_laws.specs.Order.{is_finishing}
 use Rattle.task_machine.specs.Core.{Core}
 use Rattle.task_machine.specs.Moves.{why_of}

@@ -1,6 +1,6 @@
 -- What the ids of these calls name.
 use Rattle.std.specs.Prelude.{Option, option_map, ℕ, ◌<◌, ◌≡◌}
-use Rattle.state_calls.specs.declared.names.QualifiedThreadId.{QualifiedThreadId}
+use Rattle.state_calls.specs.declared.name_calls.QualifiedThreadId.{QualifiedThreadId}
 use Rattle.task_machine.specs.Read.{task_of}
 use Rattle.task_machine.specs.declared.records.Subtask.{Subtask}
 use Rattle.task_machine.specs.declared.records.Subtask.TheVariants as subtask

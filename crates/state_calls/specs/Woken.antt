@@ -1,9 +1,9 @@
 -- Calls that may wake a waiter of a set.
-use Rattle.order_laws.specs.Kept.{CanTell}
+use Rattle.order_laws.specs.KeptOrder.{CanTell}
 use Rattle.std.specs.Prelude.{Bool, IfSome, None, Ok, Option, Result, Some, true, ℕ, ◌≡◌}
 use Rattle.state_calls.specs.Named.{IsLive, number_of}
 use Rattle.state_calls.specs.declared.error.TaskError.{TaskError}
-use Rattle.state_calls.specs.declared.names.QualifiedThreadId.{QualifiedThreadId}
+use Rattle.state_calls.specs.declared.name_calls.QualifiedThreadId.{QualifiedThreadId}
 use Rattle.task_machine.specs.Core.{Core}
 use Rattle.task_machine.specs.Moves.{published, wake_joined}
 use Rattle.task_machine.specs.Read.{event_of, join_of}

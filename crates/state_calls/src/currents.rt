@@ -1,14 +1,14 @@
 //! The thread that runs.
-ghost use Rattle.order_laws.specs.Kept.{TurnsInOrder};
+ghost use Rattle.order_laws.specs.KeptOrder.{TurnsInOrder};
 ghost use Rattle.std.specs.Prelude.{◌≡◌, IfOk, OnErr};
 ghost use Rattle.state_calls.specs.Currents.{IsCurrent, LeavesNobody, LosesNoWake, MayRun, left_for, now_runs, number_in, runner, thread_in};
 ghost use Rattle.task_words.specs.StateView.{on_core};
 ghost use Rattle.wake_laws.specs.Stands.{NoWakeLost};
 
 use crate::error::TaskError;
-use crate::names::QualifiedThreadId;
+use crate::name_calls::QualifiedThreadId;
 use task_machine::Place;
-use task_words::{PlaceId, ThreadId, Words};
+use task_words::{PlaceId, ThreadId, Primitives};
 
 /// Which thread runs. No thread runs while the loop polls a work of the host.
 #[derive(Clone, Copy, PartialEq, Eq)]
@@ -18,7 +18,7 @@ pub enum CurrentThread {
 }
 
 // The thread that runs, with its call.
-fn current_thread<W: Words>(w: &W) -> CurrentThread
+fn current_thread<W: Primitives>(w: &W) -> CurrentThread
     ensures { IsCurrent (W.view w.now) result }
 {
     match w.current() {
@@ -41,7 +41,7 @@ fn id_in(thread: CurrentThread) -> Option<ThreadId>
 }
 
 // A thread that runs, and isn't the one that is to run, is suspended.
-fn leave<W: Words>(w: &mut W, thread: CurrentThread)
+fn leave<W: Primitives>(w: &mut W, thread: CurrentThread)
     ensures { W.view w.new ≡ on_core (left_for (runner (W.view w.old)) (number_in (W.view w.old) thread)) (W.view w.old) }
 {
     let Some(old) = w.current() else {
@@ -57,7 +57,7 @@ fn leave<W: Words>(w: &mut W, thread: CurrentThread)
 }
 
 // The thread that ran, if it isn't the one that is to run, is suspended, and that one runs.
-fn pass_to<W: Words>(w: &mut W, thread: CurrentThread)
+fn pass_to<W: Primitives>(w: &mut W, thread: CurrentThread)
     requires { MayRun (W.view w.old) thread }
     ensures { W.view w.new ≡ now_runs thread (W.view w.old) }
 {
@@ -75,7 +75,7 @@ fn pass_to<W: Words>(w: &mut W, thread: CurrentThread)
 /// callers at its foot. It is refused by nothing. No wake is lost by it where the thread that is suspended
 /// isn't inside a wait, and the one that runs wasn't woken by a delivery. Order goes over from a turn of
 /// the one to a turn of the other, where that one may be resumed.
-pub fn set_thread<W: Words>(w: &mut W, thread: CurrentThread) -> Result<CurrentThread, TaskError>
+pub fn set_thread<W: Primitives>(w: &mut W, thread: CurrentThread) -> Result<CurrentThread, TaskError>
     requires may { MayRun (W.view w.old) thread }
     requires leaves { LeavesNobody (runner (W.view w.old)) (number_in (W.view w.old) thread) (W.view w.old).core }
     ensures answer { IfOk result (λ before. IsCurrent (W.view w.old) before) }

@@ -1,51 +1,51 @@
 //! The event that a task is given.
-ghost use Rattle.order_laws.specs.Kept.{StaysInOrder};
+ghost use Rattle.order_laws.specs.KeptOrder.{StaysInOrder};
 ghost use Rattle.std.specs.Prelude.{◌≡◌, ◌<◌, IfNone, IfSome, None, false, option_map, true};
 ghost use Rattle.state_calls.specs.Gives.{Gives, has_ready_in, is_ready_in, member_told, own_told};
-ghost use Rattle.task_machine.specs.Moves.{own_gift_of, taken_own};
+ghost use Rattle.task_machine.specs.Moves.{picked_task_event_of, taken_own};
 ghost use Rattle.task_machine.specs.Read.{is_async_lifted, kind_of};
 ghost use Rattle.task_machine.specs.Write.{set_event};
 ghost use Rattle.task_words.specs.Names.{subtask_in};
 ghost use Rattle.task_words.specs.StateView.{call_of, on_core, set_of};
 ghost use Rattle.wake_laws.specs.Stands.{NoWakeLost};
 
-use task_machine::{OwnEvent, Status};
+use task_machine::{TaskEvent, Status};
 use task_wait::Event;
-use task_words::{CallId, SetId, SubtaskId, Words};
+use task_words::{CallId, SetId, SubtaskId, Primitives};
 
 // The own event, Cancelled only where it may be told.
-fn own_event<W: Words>(w: &W, task: CallId, cancellable: bool) -> Option<OwnEvent>
-    ensures { result ≡ own_gift_of cancellable (call_of (W.view w.now) task) (W.view w.now).core }
+fn task_event<W: Primitives>(w: &W, task: CallId, cancellable: bool) -> Option<TaskEvent>
+    ensures { result ≡ picked_task_event_of cancellable (call_of (W.view w.now) task) (W.view w.now).core }
 {
-    match w.own_event(task) {
-        Some(OwnEvent::None) => Some(OwnEvent::None),
-        Some(OwnEvent::Cancelled) if cancellable => Some(OwnEvent::Cancelled),
+    match w.task_event(task) {
+        Some(TaskEvent::None) => Some(TaskEvent::None),
+        Some(TaskEvent::Cancelled) if cancellable => Some(TaskEvent::Cancelled),
         _ => None,
     }
 }
 
 // The own event is taken.
-fn take_own<W: Words>(w: &mut W, task: CallId, event: OwnEvent)
+fn take_own<W: Primitives>(w: &mut W, task: CallId, event: TaskEvent)
     ensures { W.view w.new ≡ on_core (taken_own event (call_of (W.view w.old) task)) (W.view w.old) }
 {
-    w.set_own_event(task, None);
-    if let OwnEvent::Cancelled = event {
+    w.set_task_event(task, None);
+    if let TaskEvent::Cancelled = event {
         w.set_cancel_delivered(task);
     }
 }
 
 // The own event as an event.
-fn told(event: OwnEvent) -> Event
+fn told(event: TaskEvent) -> Event
     ensures { result ≡ own_told event }
 {
     match event {
-        OwnEvent::None => Event::None,
-        OwnEvent::Cancelled => Event::Cancelled,
+        TaskEvent::None => Event::None,
+        TaskEvent::Cancelled => Event::Cancelled,
     }
 }
 
 // The first ready member of the set, if one is given.
-fn ready_member<W: Words>(w: &W, set: Option<SetId>) -> Option<SubtaskId>
+fn ready_member<W: Primitives>(w: &W, set: Option<SetId>) -> Option<SubtaskId>
     requires { IfSome set (λ id. 0 < set_of (W.view w.now) id) }
     ensures none { IfNone result (has_ready_in (option_map (λ id. set_of (W.view w.now) id) set) (W.view w.now).core ≡ false) }
     ensures some { IfSome result (λ member. is_ready_in (option_map (λ id. set_of (W.view w.now) id) set) (subtask_in (W.view w.now).tags member) (W.view w.now).core ≡ true) }
@@ -57,7 +57,7 @@ fn ready_member<W: Words>(w: &W, set: Option<SetId>) -> Option<SubtaskId>
 }
 
 // The event of a ready member and its handle; the event is gone then.
-fn take_member<W: Words>(w: &mut W, member: SubtaskId) -> (Event, u32)
+fn take_member<W: Primitives>(w: &mut W, member: SubtaskId) -> (Event, u32)
     ensures told { result ≡ member_told (subtask_in (W.view w.old).tags member) (W.view w.old).core }
     ensures gone { W.view w.new ≡ on_core (set_event (subtask_in (W.view w.old).tags member) None) (W.view w.old) }
 {
@@ -72,7 +72,7 @@ fn take_member<W: Words>(w: &mut W, member: SubtaskId) -> (Event, u32)
 /// event is gone then. None exactly where neither is there. The set is one that a guest made. It is the
 /// machine's Give, and no wake is lost by it. Order is kept where a task of another export than an
 /// async-lifted one isn't told that it was cancelled.
-pub fn get_event<W: Words>(
+pub fn get_event<W: Primitives>(
     w: &mut W,
     task: CallId,
     set: Option<SetId>,
@@ -84,7 +84,7 @@ pub fn get_event<W: Words>(
     ensures wakes { NoWakeLost (W.view w.old).core → NoWakeLost (W.view w.new).core }
     ensures order { (cancellable ≡ true → is_async_lifted (kind_of (call_of (W.view w.old) task) (W.view w.old).core) ≡ true) → StaysInOrder (W.view w.old).core (W.view w.new).core }
 {
-    if let Some(event) = own_event(w, task, cancellable) {
+    if let Some(event) = task_event(w, task, cancellable) {
         take_own(w, task, event);
         return Some((told(event), 0));
     }

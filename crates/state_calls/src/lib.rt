@@ -4,25 +4,25 @@
 #![tactic(auto)]
 
 mod currents;
-mod ends;
-mod entries;
+mod end_calls;
+mod entry_calls;
 mod error;
-mod events;
+mod event_calls;
 mod gives;
-mod instances;
-mod joins;
-mod names;
+mod instance_calls;
+mod join_calls;
+mod name_calls;
 mod promotions;
 mod stops;
 
 pub use currents::{CurrentThread, set_thread};
-pub use ends::cleanup_thread;
-pub use entries::{Item, push_work_item, take_item};
+pub use end_calls::cleanup_thread;
+pub use entry_calls::{Item, push_work_item, take_item};
 pub use error::TaskError;
-pub use events::{mark_ready, set_event, take_event};
+pub use event_calls::{mark_ready, set_event, take_event};
 pub use gives::get_event;
-pub use instances::{ConcurrentInstanceState, instance};
-pub use joins::join;
-pub use names::{QualifiedThreadId, is_live};
+pub use instance_calls::{ConcurrentInstanceState, instance};
+pub use join_calls::join;
+pub use name_calls::{QualifiedThreadId, is_live};
 pub use promotions::{promote_instance_local_thread_work_item, promote_thread_work_item};
 pub use stops::stop;

@@ -11,14 +11,14 @@ ghost use Rattle.task_machine.specs.declared.records.Turn.{Turn};
 ghost use Rattle.task_rules.specs.Places.{HasPlace};
 ghost use Rattle.task_words.specs.StateView.{on_core, thread_of};
 
-use crate::names::QualifiedThreadId;
+use crate::name_calls::QualifiedThreadId;
 use task_machine::{Place, Why};
 use task_moves::{promote, promote_unless};
 use task_ops::has_yielded;
-use task_words::{ThreadId, Words};
+use task_words::{ThreadId, Primitives};
 
 // The thread's start or delivery is queued.
-fn is_ready_to_begin<W: Words>(w: &W, thread: ThreadId) -> bool
+fn is_ready_to_begin<W: Primitives>(w: &W, thread: ThreadId) -> bool
     ensures { result ≡ is_at (thread_of (W.view w.now) thread) (W.view w.now).core is_ready_to_begin }
 {
     match w.place(thread) {
@@ -28,7 +28,7 @@ fn is_ready_to_begin<W: Words>(w: &W, thread: ThreadId) -> bool
 }
 
 // The thread's start, delivery or resumption of a yield moves to switch, unless an entry stands there.
-fn move_ready<W: Words>(w: &mut W, thread: ThreadId)
+fn move_ready<W: Primitives>(w: &mut W, thread: ThreadId)
     requires live { 0 < thread_of (W.view w.old) thread }
     requires placed { HasPlace (thread_of (W.view w.old) thread) (W.view w.old).core }
     ensures { W.view w.new ≡ on_core (thread_promoted (thread_of (W.view w.old) thread)) (W.view w.old) }
@@ -41,7 +41,7 @@ fn move_ready<W: Words>(w: &mut W, thread: ThreadId)
 /// Moves a thread's start, delivery or resumption of a yield to switch, unless an entry stands there.
 /// Answers whether an entry stands at switch afterwards. The thread has its place, and so an entry
 /// just where that says so: its item isn't in hand. Order is kept.
-pub fn promote_thread_work_item<W: Words>(w: &mut W, thread: QualifiedThreadId) -> bool
+pub fn promote_thread_work_item<W: Primitives>(w: &mut W, thread: QualifiedThreadId) -> bool
     requires live { IsLive (W.view w.old) thread }
     requires placed { HasPlace (thread_of (W.view w.old) thread.thread) (W.view w.old).core }
     ensures answer { result ≡ is_some (W.view w.new).core.queues.switch }
@@ -53,7 +53,7 @@ pub fn promote_thread_work_item<W: Words>(w: &mut W, thread: QualifiedThreadId) 
 }
 
 // The instance's first entry moves to switch, unless an entry stands there.
-fn move_first<W: Words>(w: &mut W, instance: u32)
+fn move_first<W: Primitives>(w: &mut W, instance: u32)
     requires { IsSome (get (W.view w.old).core.instances instance) }
     ensures { W.view w.new ≡ on_core (local_promoted instance) (W.view w.old) }
 {
@@ -66,7 +66,7 @@ fn move_first<W: Words>(w: &mut W, instance: u32)
 
 /// Moves the oldest entry of an instance at high, and else the oldest at low, to switch, unless an
 /// entry stands there. Answers whether an entry stands at switch afterwards. Order is kept.
-pub fn promote_instance_local_thread_work_item<W: Words>(w: &mut W, instance: u32) -> bool
+pub fn promote_instance_local_thread_work_item<W: Primitives>(w: &mut W, instance: u32) -> bool
     requires { IsSome (get (W.view w.old).core.instances instance) }
     ensures answer { result ≡ is_some (W.view w.new).core.queues.switch }
     ensures moved { W.view w.new ≡ on_core (local_promoted instance) (W.view w.old) }

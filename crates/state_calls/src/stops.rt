@@ -1,5 +1,5 @@
 //! The Stop of a strand.
-ghost use Rattle.order_laws.specs.Kept.{Hand, is_idle, is_off_switch, put_back};
+ghost use Rattle.order_laws.specs.KeptOrder.{Hand, is_idle, is_off_switch, put_back};
 ghost use Rattle.order_laws.specs.Pieces.{KeepsOrder};
 ghost use Rattle.std.specs.Prelude.{◌≡◌, Ok, true};
 ghost use Rattle.state_calls.specs.Named.{IsLive};
@@ -11,14 +11,14 @@ ghost use Rattle.task_words.specs.StateView.{on_core, thread_of};
 ghost use Rattle.wake_laws.specs.Stands.{NoWakeLost};
 
 use crate::error::TaskError;
-use crate::names::QualifiedThreadId;
-use task_words::Words;
+use crate::name_calls::QualifiedThreadId;
+use task_words::Primitives;
 
 /// The strand with this foot stops: its callers go behind the foot of the entry at switch, if one
 /// stands there; else the newest gets that entry, and the others get theirs at high, oldest first. The
 /// entry at switch is of no thread whose foot this is. It is the machine's Stop, and is never refused. No
 /// wake is lost by it. Order is kept while no thread runs and nothing is in hand that stood at switch.
-pub fn stop<W: Words>(w: &mut W, foot: QualifiedThreadId) -> Result<(), TaskError>
+pub fn stop<W: Primitives>(w: &mut W, foot: QualifiedThreadId) -> Result<(), TaskError>
     requires live { IsLive (W.view w.old) foot }
     requires may { MayStop (thread_of (W.view w.old) foot.thread) (W.view w.old).core }
     ensures answer { result ≡ Ok tt }

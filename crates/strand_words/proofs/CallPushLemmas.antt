@@ -1,13 +1,13 @@
 -- A call more, whose node and chain hung on nothing: the chains and the nodes of the parts.
-use Rattle.task_records.proofs.Core.{ap, AreApart, AreChained, arith, BlockedOn, call_key, cases_eq, filings, found_record, HaveRowNodes, HeldIn, inl, inr, IsTable, Kinds, None, Parts, place_chain, place_filing, pushed, ready_call_chain, ready_in, refl, same_Some, Some, Subtask, sym, UnderOf, WaitsOn, Where, ℕ, ◌<◌, ◌∙◌, ◌≡◌, ◌⊎◌, StartsIn}
-use Rattle.task_records.specs.declared.{calls.GuestTask.GuestTask}
+use Rattle.task_records.proofs.Core.{ap, AreApart, AreChained, arith, BlockedOn, call_key, cases_eq, filings, found_record, HaveRowNodes, HeldIn, inl, inr, IsTable, Kinds, None, CoreImage, place_chain, place_filing, pushed, ready_call_chain, ready_in, refl, same_Some, Some, Subtask, sym, UnderOf, WaitsOn, Where, ℕ, ◌<◌, ◌∙◌, ◌≡◌, ◌⊎◌, StartsIn}
+use Rattle.task_records.specs.declared.{call_records.GuestTask.GuestTask}
 use Rattle.make_words.proofs.FreshLemmas.{chain_new, chain_other}
 use Rattle.make_words.proofs.LooseLemmas.{IsIndex-opened}
 use Rattle.make_words.proofs.MoreLemmas.{index_more}
 use Rattle.strand_words.proofs.ThreadPushLemmas.{PlacesNamed, none_in_list}
-use Rattle.strand_words.specs.Loose.{AreCallLoose}
-use Rattle.strand_words.specs.declared.nodes.CallNodes.{CallNodes}
-use Rattle.task_records.specs.Places.{member_seat}
+use Rattle.strand_words.specs.LooseCalls.{AreCallLoose}
+use Rattle.strand_words.specs.declared.node_makes.CallNodes.{CallNodes}
+use Rattle.task_records.specs.RecordPlaces.{member_order_key}
 
 abbrev guest_in : Where → ℕ
 guest_in (BlockedOn (Subtask.Guest k)) = k
@@ -27,8 +27,8 @@ blocked_is n (BlockedOn (Subtask.Host i)) = inr (λ same. absurd (cc))
 abbrev pub nodes_of : GuestTask → CallNodes
 nodes_of g = record { ready = g.ready; blocked = g.blocked }
 
-module _ (p : Parts) (g : GuestTask) (table : IsTable p.calls) (apart : AreApart call_key p.calls.places) (new : found_record call_key g.number p.calls.places ≡ None) (loose : AreCallLoose p (nodes_of g)) where
-  abbrev pub with_call : Parts
+module _ (p : CoreImage) (g : GuestTask) (table : IsTable p.calls) (apart : AreApart call_key p.calls.places) (new : found_record call_key g.number p.calls.places ≡ None) (loose : AreCallLoose p (nodes_of g)) where
+  abbrev pub with_call : CoreImage
   with_call = record p { calls = pushed (record { item = g }) p.calls }
 
   place_others : (k : Where) → (k ≡ BlockedOn (Subtask.Guest g.number) → ⊥) → place_chain with_call k ≡ place_chain p k
@@ -53,15 +53,15 @@ module _ (p : Parts) (g : GuestTask) (table : IsTable p.calls) (apart : AreApart
   call_chained k later named unfiled was = record {
     places = IsIndex-opened (place_chain p) (place_chain with_call) p.places (BlockedOn (Subtask.Guest g.number)) (blocked_is g.number) place_others g.blocked has_blocked loose.blocked (filings place_filing p.threads) was.places
         (none_in_list k p.threads (BlockedOn (Subtask.Guest g.number)) named (λ rep at. let few = at.0 in omega arith));
-    ready_calls = index_more p.calls g table (λ h. h.ready.index) (λ h. ready_in h.call.event h.call.join) (λ r h. member_seat h.entry r) p.ready_calls loose.ready (ready_call_chain p) was.ready_calls unfiled;
+    ready_calls = index_more p.calls g table (λ h. h.ready.index) (λ h. ready_in h.call.event h.call.join) (λ r h. member_order_key h.entry r) p.ready_calls loose.ready (ready_call_chain p) was.ready_calls unfiled;
     ready_works = was.ready_works;
     polled = was.polled;
     rising = was.rising;
     marks = was.marks;
-    shelves = was.shelves;
+    instance_queues = was.instance_queues;
     low = was.low;
     behind = was.behind;
   }
 
   pub call_nodes : HaveRowNodes p → HaveRowNodes with_call
-  call_nodes was = record { marks = was.marks; shelves = was.shelves; callers = was.callers; works = was.works; apart = was.apart }
+  call_nodes was = record { marks = was.marks; instance_queues = was.instance_queues; callers = was.callers; works = was.works; apart = was.apart }

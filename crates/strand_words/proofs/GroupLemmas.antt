@@ -1,7 +1,7 @@
 -- The numbers of groups: where a group is counted anew, and where one is made.
 use Rattle.task_records.proofs.Core.{[], ap, arith, Bool, by_order, cond, eq-eqb, eq_by_cmp, Equal, false, find, Greater, group_key, Less, List, map, mapped, mapped-with_entry_same, nat_cmp, nat_lt, None, numbers, on_item, Option, place_at, Placed, put, ranked, Records, records, refl, Some, sym, Table, true, unsigned_tied, with_entry, ℕ, ◌++◌, ◌<◌, ◌∙◌, ◌∷◌, ◌≡◌, ◌≤◌}
 use Rattle.std.proofs.Common.{Ordering}
-use Rattle.task_records.specs.declared.{calls.TaskGroup.TaskGroup, single.Single.Single}
+use Rattle.task_records.specs.declared.{call_records.TaskGroup.TaskGroup, single.Single.Single}
 use Rattle.task_records.proofs.KeptLemmas.{records_seconds}
 use Rattle.task_records.specs.Instances.{mapped as mapped_list}
 

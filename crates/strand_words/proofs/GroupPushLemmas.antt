@@ -1,13 +1,13 @@
 -- A group more: the parts stay whole, and contracts see just that.
-use Rattle.task_records.proofs.Core.{AreEnded, Global, known_of, with_group as grouped_view, [], add_group, ap, ap₂, arith, bare, Call, call_key, calls_of, core_of, false, filter, filter-append, filter-one, fits, get, get-records, group_key, HasHome, HasNumber, insert, is_of_group, IsCallNamed, IsGroupKept, IsSound, IsTable, IsWhole, IsWorkNamed, key_in, kinds, length, length-append, List, nat_lt, ne_eqb, None, numbers, on_core, Option, option_map_or, Parts, parts_of, place_at, Placed, pushed, Records, records, refl, same_Some, seen, Some, SoundTable, subst, sym, Table, table_use, true, Work, work_key, ℕ, ◌++◌, ◌+◌, ◌<◌, ◌==◌, ◌^◌, ◌∙◌, ◌∷◌, ◌≡◌, ◌≤◌}
-use Rattle.task_records.specs.declared.{calls.GuestTask.GuestTask, calls.TaskGroup.TaskGroup, parts.CoreParts.CoreParts, single.Single.Single, threads.GuestThread.GuestThread, works.HostWork.HostWork}
+use Rattle.task_records.proofs.Core.{AreEnded, Global, tracked_of, with_group as grouped_view, [], add_group, ap, ap₂, arith, bare, Call, call_key, calls_of, core_of, false, filter, filter-append, filter-one, fits, get, get-records, group_key, HasHome, HasNumber, insert, is_of_group, IsCallNamed, IsGroupKept, IsSoundCore, IsTable, IsWhole, IsWorkNamed, key_in, kinds, length, length-append, List, nat_lt, ne_eqb, None, numbers, on_core, Option, option_map_or, CoreImage, parts_of, place_at, Placed, pushed, Records, records, refl, same_Some, seen, Some, SoundTable, subst, sym, Table, table_use, true, Work, work_key, ℕ, ◌++◌, ◌+◌, ◌<◌, ◌==◌, ◌^◌, ◌∙◌, ◌∷◌, ◌≡◌, ◌≤◌}
+use Rattle.task_records.specs.declared.{call_records.GuestTask.GuestTask, call_records.TaskGroup.TaskGroup, parts.CoreParts.CoreParts, single.Single.Single, thread_records.GuestThread.GuestThread, work_records.WorkRecord.WorkRecord}
 use Rattle.make_words.proofs.FreshLemmas.{each_more, none_passing}
 use Rattle.make_words.proofs.MoreLemmas.{early_at, number_stays}
 use Rattle.std.specs.Prelude.{Vec, vec_capacity}
 use Rattle.strand_words.proofs.GroupLemmas.{last_number}
 use Rattle.strand_words.specs.Ends.{HasEndRoom}
 use Rattle.task_records.proofs.KeptLemmas.{groups_are, used_is}
-use Rattle.task_records.proofs.KnownLemmas.{ended_alike, ended_more, known_more}
+use Rattle.task_records.proofs.TrackedLemmas.{ended_alike, ended_more, known_more}
 use Rattle.task_records.proofs.LaterLemmas.{IsLater, handles_later}
 use Rattle.task_records.proofs.MakeLemmas.{records_more, table_more}
 
@@ -19,11 +19,11 @@ of_group : (n : ℕ) (o : Option ℕ) → ((m : ℕ) → o ≡ Some m → m ≡ 
 of_group n None none = refl
 of_group n (Some m) none = ne_eqb m n (none m refl)
 
-module _ (p : Parts) (whole : IsWhole p) (groups : SoundTable group_key p.groups p.made.groups) (entry : ℕ) where
+module _ (p : CoreImage) (whole : IsWhole p) (groups : SoundTable group_key p.groups p.made.groups) (entry : ℕ) where
   abbrev next : ℕ
   next = p.made.groups + 1
 
-  abbrev pub with_group : Parts
+  abbrev pub with_group : CoreImage
   with_group = record p { groups = pushed (record { item = new_group next entry }) p.groups; made = record p.made { groups = next }; kept = record p.kept { used = p.kept.used + 1; groups = p.kept.groups + 1 } }
 
   -- ---- The numbers of the groups
@@ -56,7 +56,7 @@ module _ (p : Parts) (whole : IsWhole p) (groups : SoundTable group_key p.groups
           let named = whole.named.calls r q at in
           ap (λ (d : ℕ × Call). d.1.group == next) (sym (same_Some (q.entry.item.number, q.entry.item.call) e is)) ∙ ne_eqb q.entry.item.call.group next (none_of_it q.entry.item.group q.entry.item.call.group named.group named.positive)
 
-      by_work : (r : ℕ) (e : ℕ × Work) (o : Option (Placed (Single HostWork))) → place_at p.works r ≡ o → key_in work_key o ≡ Some e → is_of_group next e.1 ≡ false
+      by_work : (r : ℕ) (e : ℕ × Work) (o : Option (Placed (Single WorkRecord))) → place_at p.works r ≡ o → key_in work_key o ≡ Some e → is_of_group next e.1 ≡ false
       by_work r e None at is = absurd (cc)
       by_work r e (Some q) at is =
           let named = whole.named.works r q at in
@@ -68,12 +68,12 @@ module _ (p : Parts) (whole : IsWhole p) (groups : SoundTable group_key p.groups
   group_still = number_stays p.groups (new_group next entry) groups.table group_key
 
   home_still : (g : GuestThread) → HasHome p g → HasHome with_group g
-  home_still g h = record { call = h.call; there = h.there; instance = h.instance; barred = h.barred; within = h.within; place = h.place; how_far = h.how_far }
+  home_still g h = record { call = h.call; there = h.there; instance = h.instance; barred = h.barred; within = h.within; place = h.place; op_progress = h.op_progress }
 
   call_still : (c : GuestTask) → IsCallNamed p c → IsCallNamed with_group c
   call_still c h = record { caller = h.caller; first = h.first; join = h.join; group = group_still c.group c.call.group h.group h.positive; positive = h.positive }
 
-  work_still : (w : HostWork) → IsWorkNamed p w → IsWorkNamed with_group w
+  work_still : (w : WorkRecord) → IsWorkNamed p w → IsWorkNamed with_group w
   work_still w h = record { caller = h.caller; join = h.join; group = λ n is. let one = h.group n is in (group_still w.group n one.0 one.1, one.1) }
 
   length_more : length (core_of with_group).groups ≡ length (core_of p).groups + 1
@@ -98,11 +98,11 @@ module _ (p : Parts) (whole : IsWhole p) (groups : SoundTable group_key p.groups
       polled = whole.chained.polled;
       rising = whole.chained.rising;
       marks = whole.chained.marks;
-      shelves = whole.chained.shelves;
+      instance_queues = whole.chained.instance_queues;
       low = whole.chained.low;
       behind = whole.chained.behind;
     };
-    nodes = record { marks = whole.nodes.marks; shelves = whole.nodes.shelves; callers = whole.nodes.callers; works = whole.nodes.works; apart = whole.nodes.apart };
+    nodes = record { marks = whole.nodes.marks; instance_queues = whole.nodes.instance_queues; callers = whole.nodes.callers; works = whole.nodes.works; apart = whole.nodes.apart };
     counted = record {
       kept = record { used = used; groups = let was = whole.counted.kept.groups in let more = length_more in omega arith; live = whole.counted.kept.live };
       calls = whole.counted.calls;
@@ -119,9 +119,9 @@ module _ (p : Parts) (whole : IsWhole p) (groups : SoundTable group_key p.groups
 
 -- ---- A core
 
-module _ (a : CoreParts) (sound : IsSound a) where
+module _ (a : CoreParts) (sound : IsSoundCore a) where
   pub group_counts : fits 1 (seen a).core ≡ true → (a.kept.used + 1 < 2 ^ 64) × (a.kept.groups + 1 < 2 ^ 64)
-  unfolding fits seen IsSound table_use
+  unfolding fits seen IsSoundCore table_use
   group_counts room =
       let used = used_is a sound in
       let groups = groups_are a sound in
@@ -144,21 +144,21 @@ module _ (a : CoreParts) (sound : IsSound a) where
 
   module _ (entry : ℕ) (t : Table (Single TaskGroup)) (is : t ≡ pushed (record { item = new_group (a.made.groups + 1) entry }) a.groups) where
     more_live : (core_of (parts_of (grouped (pushed (record { item = new_group (a.made.groups + 1) entry }) a.groups)))).groups ≡ (core_of (parts_of a)).groups ++ (a.made.groups + 1) ∷ []
-    unfolding IsSound
+    unfolding IsSoundCore
     more_live = groups_more (bare (parts_of a)) sound.whole sound.tables.groups entry
 
-    more_is_known : known_of a.ended.items (core_of (parts_of (grouped (pushed (record { item = new_group (a.made.groups + 1) entry }) a.groups)))).groups (a.made.groups + 1)
-        ≡ known_of a.ended.items (core_of (parts_of a)).groups a.made.groups ++ (a.made.groups + 1) ∷ []
-    more_is_known = ap (λ gs. known_of a.ended.items gs (a.made.groups + 1)) more_live ∙ known_more a.ended.items (core_of (parts_of a)).groups a.made.groups
+    more_is_known : tracked_of a.ended.items (core_of (parts_of (grouped (pushed (record { item = new_group (a.made.groups + 1) entry }) a.groups)))).groups (a.made.groups + 1)
+        ≡ tracked_of a.ended.items (core_of (parts_of a)).groups a.made.groups ++ (a.made.groups + 1) ∷ []
+    more_is_known = ap (λ gs. tracked_of a.ended.items gs (a.made.groups + 1)) more_live ∙ known_more a.ended.items (core_of (parts_of a)).groups a.made.groups
 
     pub group_seen : seen (grouped t) ≡ grouped_view (seen a)
     unfolding seen add_group
     group_seen = subst (λ (u : Table (Single TaskGroup)). seen (grouped u) ≡ grouped_view (seen a)) (sym is)
-        (ap₂ (λ (gs ks : List ℕ). record (seen a) { core = record (seen a).core { groups = gs; made = record a.made { groups = a.made.groups + 1 } }; tags = record (seen a).tags { known = ks } }) more_live more_is_known)
+        (ap₂ (λ (gs ks : List ℕ). record (seen a) { core = record (seen a).core { groups = gs; made = record a.made { groups = a.made.groups + 1 } }; tags = record (seen a).tags { tracked = ks } }) more_live more_is_known)
 
-    pub group_sound : HasEndRoom a → IsTable t → IsSound (grouped t)
-    unfolding IsSound
-    group_sound fits table = subst (λ (u : Table (Single TaskGroup)). IsSound (grouped u)) (sym is) (record {
+    pub group_sound : HasEndRoom a → IsTable t → IsSoundCore (grouped t)
+    unfolding IsSoundCore
+    group_sound fits table = subst (λ (u : Table (Single TaskGroup)). IsSoundCore (grouped u)) (sym is) (record {
       tables = record {
         threads = sound.tables.threads;
         calls = sound.tables.calls;
@@ -177,13 +177,13 @@ module _ (a : CoreParts) (sound : IsSound a) where
 
 -- ---- Room for one to end
 
-module _ (a : CoreParts) (sound : IsSound a) (v : Vec ℕ Global) (same : v.items ≡ a.ended.items) (more : vec_capacity a.ended ≤ vec_capacity v) where
+module _ (a : CoreParts) (sound : IsSoundCore a) (v : Vec ℕ Global) (same : v.items ≡ a.ended.items) (more : vec_capacity a.ended ≤ vec_capacity v) where
   pub roomy_seen : seen (record a { ended = v }) ≡ seen a
   unfolding seen
-  roomy_seen = ap (λ (ns : List ℕ). record (seen a) { tags = record (seen a).tags { known = known_of ns (core_of (parts_of a)).groups a.made.groups } }) same
+  roomy_seen = ap (λ (ns : List ℕ). record (seen a) { tags = record (seen a).tags { tracked = tracked_of ns (core_of (parts_of a)).groups a.made.groups } }) same
 
-  pub roomy_sound : IsSound (record a { ended = v })
-  unfolding IsSound
+  pub roomy_sound : IsSoundCore (record a { ended = v })
+  unfolding IsSoundCore
   roomy_sound = record {
     tables = record { threads = sound.tables.threads; calls = sound.tables.calls; works = sound.tables.works; sets = sound.tables.sets; groups = sound.tables.groups };
     whole = sound.whole;

@@ -1,6 +1,6 @@
 -- A thread more of a call that is there, as a core: it is sound, contracts see just that, and it can be taken back.
-use Rattle.task_records.proofs.Core.{add_thread, ap, ap₂, arith, AtPlace, bare, bare_call, bare_thread, Call, call_key, call_number, core_of, count_by-le-length, deleted, fits, GuestTaskKey, IsSound, IsTable, IsWhole, item_at, item_of, Keeps, kinds, length, List, mapped, mapped-pushed, mapped-with_entry, named, next_place, None, Ok, on_item, Option, OwnsHandle, Parts, parts_of, passing, place_at, place_at-mapped, Placed, placed_as, pushed, Records, records, refl, seen, set_number, size, slice_get, Some, SoundTable, subst, sym, Table, table_use, TableId, Tag, tags_in, Target, Thread, thread_key, thread_of, ThreadKey, threads_of, true, with_entry, work_number, ℕ, ◌+◌, ◌-◌, ◌<◌, ◌==◌, ◌^◌, ◌∙◌, ◌≡◌, ◌≤◌}
-use Rattle.task_records.specs.declared.{calls.GuestTask.GuestTask, parts.CoreParts.CoreParts, single.Single.Single, threads.GuestThread.GuestThread}
+use Rattle.task_records.proofs.Core.{add_thread, ap, ap₂, arith, AtPlace, bare, bare_call, bare_thread, Call, call_key, call_number, core_of, count_by-le-length, deleted, fits, GuestTaskKey, IsSoundCore, IsTable, IsWhole, item_at, item_of, Keeps, kinds, length, List, mapped, mapped-pushed, mapped-with_entry, named, next_place, None, Ok, on_item, Option, OwnsHandle, CoreImage, parts_of, passing, place_at, place_at-mapped, Placed, placed_as, pushed, Records, records, refl, seen, set_number, size, slice_get, Some, SoundTable, subst, sym, Table, table_use, TableId, Tag, tags_in, Target, Thread, thread_key, thread_of, ThreadKey, threads_of, true, with_entry, work_number, ℕ, ◌+◌, ◌-◌, ◌<◌, ◌==◌, ◌^◌, ◌∙◌, ◌≡◌, ◌≤◌}
+use Rattle.task_records.specs.declared.{call_records.GuestTask.GuestTask, parts.CoreParts.CoreParts, single.Single.Single, thread_records.GuestThread.GuestThread}
 use Rattle.make_words.proofs.FreshLemmas.{each_more}
 use Rattle.make_words.proofs.RestoreLemmas.{Restores-deleted, Restores-pushed, Restores-same, Restores-written, handles_grown, restored_from}
 use Rattle.make_words.specs.Restored.{IsRestored}
@@ -9,7 +9,7 @@ use Rattle.strand_words.proofs.MemberLemmas.{grows, member_whole}
 use Rattle.strand_words.proofs.StrandAddLemmas.{places_few, tables_bare}
 use Rattle.strand_words.proofs.ThreadPushLemmas.{nodes_of}
 use Rattle.strand_words.proofs.ThreadSeenLemmas.{callers_are, thread_new, thread_still, threads_are}
-use Rattle.strand_words.specs.Loose.{AreThreadLoose}
+use Rattle.strand_words.specs.LooseCalls.{AreThreadLoose}
 use Rattle.strand_words.specs.Member.{IsMember}
 use Rattle.strand_words.specs.Pushed.{PushesThread}
 use Rattle.task_records.proofs.KeptLemmas.{call_threads, used_is}
@@ -21,9 +21,9 @@ use Rattle.task_records.proofs.TableLemmas.{records_unseen}
 later_table : {E X : Type 0} {key : E → Option (ℕ × X)} {t : Table E} {made : ℕ} → SoundTable key t made → SoundTable key t (made + 1)
 later_table sound = record { table = sound.table; childless = sound.childless; apart = sound.apart; above_zero = sound.above_zero; later = λ n later. sound.later n (omega arith) }
 
-module _ (a : CoreParts) (sound : IsSound a) where
+module _ (a : CoreParts) (sound : IsSoundCore a) where
   pub member_used : fits 2 (seen a).core ≡ true → a.kept.used + 2 < 2 ^ 64
-  unfolding fits seen IsSound
+  unfolding fits seen IsSoundCore
   member_used room =
       let used = used_is a sound in
       let few = sound.whole.counted.few in
@@ -45,11 +45,11 @@ module _ (a : CoreParts) (sound : IsSound a) where
     as_member t k is_t is_k P shown = subst (λ (u : Table (Single GuestThread)). P (member_with u k)) (sym is_t) (subst (λ (u : Table (Single GuestTask)). P (member_with member.threads u)) (sym is_k) shown)
 
     placed : (q : Placed (Single GuestTask)) × ((place_at a.calls id.rep ≡ Some q) × ((q.serial ≡ id.serial) × (q.entry ≡ record { item = c })))
-    unfolding IsSound
+    unfolding IsSoundCore
     placed = item_stands (λ (d : GuestTask). d.number) (λ (d : GuestTask). d.call) a.calls a.made.threads sound.tables.calls id.rep id.serial c stands
 
     pub threads_few : c.threads + 1 < 2 ^ 64
-    unfolding IsSound size records seen
+    unfolding IsSoundCore size records seen
     threads_few =
         let s = core_of (parts_of a) in
         let is : c.threads ≡ threads_of c.number s = call_threads a sound id c stands in
@@ -74,7 +74,7 @@ module _ (a : CoreParts) (sound : IsSound a) where
       member_core = rw (threads_are a sound g is.next, calls_same, callers_are a sound g is.next loose.callers) refl
 
       call_tags : tags_in call_key member.calls ≡ tags_in call_key a.calls
-      unfolding IsSound
+      unfolding IsSoundCore
       call_tags = tags_written (λ (d : GuestTask). d.number) (λ (d : GuestTask). d.call) a.calls a.made.threads sound.tables.calls id.rep id.serial c stands one_more refl
 
       pub member_tags : Keeps (seen a).tags (seen member).tags
@@ -86,16 +86,16 @@ module _ (a : CoreParts) (sound : IsSound a) where
 
       -- ---- It is sound
 
-      abbrev with_tables : Table (Single GuestThread) → Table (Single GuestTask) → Parts
+      abbrev with_tables : Table (Single GuestThread) → Table (Single GuestTask) → CoreImage
       with_tables t k = record (bare (parts_of member)) { threads = t; calls = k }
 
-      moved : (P : Parts → Type 0) → P (with_tables (pushed (record { item = bare_thread g }) (mapped (on_item bare_thread) a.threads)) (with_entry id.rep (record { item = bare_call one_more }) (mapped (on_item bare_call) a.calls))) → P (bare (parts_of member))
+      moved : (P : CoreImage → Type 0) → P (with_tables (pushed (record { item = bare_thread g }) (mapped (on_item bare_thread) a.threads)) (with_entry id.rep (record { item = bare_call one_more }) (mapped (on_item bare_call) a.calls))) → P (bare (parts_of member))
       moved P is_after =
           subst (λ (k : Table (Single GuestTask)). P (with_tables (mapped (on_item bare_thread) member.threads) k)) (sym (mapped-with_entry (on_item bare_call) a.calls id.rep (record { item = one_more })))
           (subst (λ (t : Table (Single GuestThread)). P (with_tables t (with_entry id.rep (record { item = bare_call one_more }) (mapped (on_item bare_call) a.calls)))) (sym (mapped-pushed (on_item bare_thread) a.threads (record { item = g }))) is_after)
 
       named_still : (rep : ℕ) (t : Target) → AtPlace (bare (parts_of a)) rep t → AtPlace (bare (parts_of member)) rep t
-      unfolding IsSound
+      unfolding IsSoundCore
       named_still rep t at = moved (λ q. AtPlace q rep t)
           (at_grown (bare (parts_of a)) (bare_thread g) (tables_bare a sound).threads is.next (with_entry id.rep (record { item = bare_call one_more }) (bare (parts_of a)).calls) a.groups (bare (parts_of member)).kept
           (grows (bare (parts_of a)) sound.whole (tables_bare a sound) id.rep bare_placed bare_at (bare_thread g) is loose) rep t at)
@@ -104,8 +104,8 @@ module _ (a : CoreParts) (sound : IsSound a) where
         none_owned : OwnsHandle (parts_of member) g
         none_owned h is_h = absurd (let none : ◌≡◌ {A = Option ℕ} None (Some h) = sym unnamed ∙ is_h in cc)
 
-        pub member_sound : IsSound member
-        unfolding IsSound
+        pub member_sound : IsSoundCore member
+        unfolding IsSoundCore
         member_sound = record {
           tables = record {
             threads = table_more (λ (h : GuestThread). h.number) (λ (h : GuestThread). h.thread) a.threads a.made.threads sound.tables.threads g is.next threads_table;
@@ -125,11 +125,11 @@ module _ (a : CoreParts) (sound : IsSound a) where
 
 -- ---- It is taken back
 
-module _ (a b c e : CoreParts) (sound_a : IsSound a) (sound_b : IsSound b) (id : TableId GuestTaskKey) (call : GuestTask) (stands : Ok call ≡ item_at item_of a.calls id.rep id.serial) (new : TableId ThreadKey)
+module _ (a b c e : CoreParts) (sound_a : IsSoundCore a) (sound_b : IsSoundCore b) (id : TableId GuestTaskKey) (call : GuestTask) (stands : Ok call ≡ item_at item_of a.calls id.rep id.serial) (new : TableId ThreadKey)
     (made : PushesThread a b id call new) (same : parts_of c ≡ parts_of b)
     (only_e : e ≡ record c { threads = e.threads; calls = e.calls; made = record c.made { threads = c.made.threads - 1 }; kept = record c.kept { used = c.kept.used - 2 } })
     (threads : e.threads ≡ deleted new.rep c.threads) (calls : e.calls ≡ with_entry id.rep (record { item = call }) c.calls) (threads_table : IsTable e.threads) where
-  abbrev less : Parts → Parts
+  abbrev less : CoreImage → CoreImage
   less q = record q { threads = e.threads; calls = e.calls; made = record q.made { threads = q.made.threads - 1 }; kept = record q.kept { used = q.kept.used - 2 } }
 
   one_less : (n : ℕ) → n + 1 - 1 ≡ n
@@ -144,12 +144,12 @@ module _ (a b c e : CoreParts) (sound_a : IsSound a) (sound_b : IsSound b) (id :
       ∙ ap₂ (λ (m n : ℕ). record (parts_of a) { threads = e.threads; calls = e.calls; made = record a.made { threads = m }; kept = record a.kept { used = n } }) (one_less a.made.threads) (two_less a.kept.used)))
 
   pub member_restored : IsRestored (parts_of a) (parts_of e)
-  unfolding IsSound
+  unfolding IsSoundCore
   member_restored =
       let at = item_stands (λ (d : GuestTask). d.number) (λ (d : GuestTask). d.call) a.calls a.made.threads sound_a.tables.calls id.rep id.serial call stands in
       restored_from (parts_of a) (parts_of e) e.threads e.calls a.works a.sets a.groups differs
-      (Restores-deleted a.threads c.threads e.threads (record { item = made.thread }) sound_a.tables.threads.table (Restores-pushed a.threads b.threads c.threads made.thread sound_b.tables.threads.table made.threads (ap (λ (q : Parts). q.threads) same)) new.rep made.thread_at threads threads_table)
-      (Restores-written a.calls c.calls e.calls id.rep at.0 at.1.0 call (record call { threads = call.threads + 1 }) at.1.1.1 (ap (λ (q : Parts). q.calls) same ∙ made.calls) calls sound_a.tables.calls.table)
+      (Restores-deleted a.threads c.threads e.threads (record { item = made.thread }) sound_a.tables.threads.table (Restores-pushed a.threads b.threads c.threads made.thread sound_b.tables.threads.table made.threads (ap (λ (q : CoreImage). q.threads) same)) new.rep made.thread_at threads threads_table)
+      (Restores-written a.calls c.calls e.calls id.rep at.0 at.1.0 call (record call { threads = call.threads + 1 }) at.1.1.1 (ap (λ (q : CoreImage). q.calls) same ∙ made.calls) calls sound_a.tables.calls.table)
       (Restores-same a.works sound_a.tables.works.table)
       (Restores-same a.sets sound_a.tables.sets.table)
       (Restores-same a.groups sound_a.tables.groups.table)

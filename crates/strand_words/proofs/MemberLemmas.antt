@@ -1,24 +1,24 @@
 -- A thread more of a call that is there: the parts stay whole.
-use Rattle.task_records.proofs.Core.{ap, AreChained, AreCounted, AreTables, arith, AtPlace, blocked_key, BlockedOn, Bool, Call, call_key, core_of, EachEntry, eq-eqb, filings, found_record, found_record_at, get, get-records, HasHome, HaveRowNodes, HeldIn, how_far_target, HowFar, is_in_set, IsCallKept, IsCallNamed, IsIndex-same_chains, IsIndex-with_entry_same, IsSetKept, IsSome, IsWhole, keeps_set, key_in, kinds, ne_eqb, no_callee, number_in, one_if_passes, Option, option_map_or, Parts, passing, Place, place_at, place_chain, place_filing, place_target, Placed, pushed, ready_call, ready_call_chain, Records, records, refl, size, Some, subst, Subtask, sym, Table, table_use, Thread, UnderOf, WaitsOn, Where, where_at, with_entry, ℕ, ◌+◌, ◌<◌, ◌==◌, ◌∙◌, ◌≡◌, StartsIn, ExportKind}
-use Rattle.task_records.specs.declared.{calls.GuestTask.GuestTask, sets.WaitSet.WaitSet, single.Single.Single, threads.GuestThread.GuestThread}
+use Rattle.task_records.proofs.Core.{ap, AreChained, AreCounted, AreTables, arith, AtPlace, blocked_key, BlockedOn, Bool, Call, call_key, core_of, EachEntry, eq-eqb, filings, found_record, found_record_at, get, get-records, HasHome, HaveRowNodes, HeldIn, op_progress_target, OpProgress, is_in_set, IsCallKept, IsCallNamed, IsIndex-same_chains, IsIndex-with_entry_same, IsSetKept, IsSome, IsWhole, keeps_set, key_in, kinds, ne_eqb, no_callee, number_in, one_if_passes, Option, option_map_or, CoreImage, passing, Place, place_at, place_chain, place_filing, place_target, Placed, pushed, ready_call, ready_call_chain, Records, records, refl, size, Some, subst, Subtask, sym, Table, table_use, Thread, UnderOf, WaitsOn, Where, where_at, with_entry, ℕ, ◌+◌, ◌<◌, ◌==◌, ◌∙◌, ◌≡◌, StartsIn, ExportKind}
+use Rattle.task_records.specs.declared.{call_records.GuestTask.GuestTask, set_records.WaitSet.WaitSet, single.Single.Single, thread_records.GuestThread.GuestThread}
 use Rattle.make_words.proofs.MoreLemmas.{at_written, each_but, number_written, passing_more, size_more}
 use Rattle.queue_words.proofs.BareLemmas.{number_positive, one_place}
 use Rattle.strand_words.proofs.GrowLemmas.{Grows, call_grown, named_grown}
 use Rattle.strand_words.proofs.StrandCountLemmas.{fails_none, passes_one}
 use Rattle.strand_words.proofs.ThreadPushLemmas.{PlacesNamed, nodes_of, thread_chained, thread_nodes}
-use Rattle.strand_words.specs.Loose.{AreThreadLoose}
+use Rattle.strand_words.specs.LooseCalls.{AreThreadLoose}
 use Rattle.strand_words.specs.Member.{IsMember}
 use Rattle.task_records.proofs.TableLemmas.{found_unseen, records_unseen}
 use Rattle.task_words.specs.Barred.{bars_start}
 
-module _ (p : Parts) (whole : IsWhole p) (tables : AreTables p) (rep : ℕ) (q : Placed (Single GuestTask)) (at : place_at p.calls rep ≡ Some q) (g : GuestThread) (is : IsMember p q.entry.item rep g) (loose : AreThreadLoose p (nodes_of g)) where
+module _ (p : CoreImage) (whole : IsWhole p) (tables : AreTables p) (rep : ℕ) (q : Placed (Single GuestTask)) (at : place_at p.calls rep ≡ Some q) (g : GuestThread) (is : IsMember p q.entry.item rep g) (loose : AreThreadLoose p (nodes_of g)) where
   abbrev one_more : GuestTask
   one_more = record q.entry.item { threads = q.entry.item.threads + 1 }
 
   abbrev calls_now : Table (Single GuestTask)
   calls_now = with_entry rep (record { item = one_more }) p.calls
 
-  abbrev pub with_member : Parts
+  abbrev pub with_member : CoreImage
   with_member = record p { threads = pushed (record { item = g }) p.threads; calls = calls_now; made = record p.made { threads = p.made.threads + 1 }; kept = record p.kept { used = p.kept.used + 2 } }
 
   later : p.made.threads < g.number
@@ -40,7 +40,7 @@ module _ (p : Parts) (whole : IsWhole p) (tables : AreTables p) (rep : ℕ) (q :
 
   -- ---- Chains and nodes
 
-  abbrev recounted : Parts
+  abbrev recounted : CoreImage
   recounted = record p { calls = calls_now }
 
   chains_same : (k : Where) → place_chain recounted k ≡ place_chain p k
@@ -59,7 +59,7 @@ module _ (p : Parts) (whole : IsWhole p) (tables : AreTables p) (rep : ℕ) (q :
     polled = whole.chained.polled;
     rising = whole.chained.rising;
     marks = whole.chained.marks;
-    shelves = whole.chained.shelves;
+    instance_queues = whole.chained.instance_queues;
     low = whole.chained.low;
     behind = whole.chained.behind;
   }
@@ -68,7 +68,7 @@ module _ (p : Parts) (whole : IsWhole p) (tables : AreTables p) (rep : ℕ) (q :
   recounted_loose = record {
     node = loose.node;
     mark = loose.mark;
-    shelf = loose.shelf;
+    instance_queue = loose.instance_queue;
     caller = loose.caller;
     callers = record { empty = loose.callers.empty; apart = loose.callers.apart };
     under = record { empty = loose.under.empty; apart = λ k is_k. loose.under.apart k (sym (chains_same k) ∙ is_k) };
@@ -81,13 +81,13 @@ module _ (p : Parts) (whole : IsWhole p) (tables : AreTables p) (rep : ℕ) (q :
   chained : AreChained with_member
   chained =
       let both = thread_chained recounted g tables.threads.table tables.threads.apart (tables.threads.later g.number later) recounted_loose (kinds p) later named (ap (where_at g.instance g.barred) is.unplaced) recounted_chained in
-      record { places = both.places; ready_calls = both.ready_calls; ready_works = both.ready_works; polled = both.polled; rising = both.rising; marks = both.marks; shelves = both.shelves; low = both.low; behind = both.behind }
+      record { places = both.places; ready_calls = both.ready_calls; ready_works = both.ready_works; polled = both.polled; rising = both.rising; marks = both.marks; instance_queues = both.instance_queues; low = both.low; behind = both.behind }
 
   nodes : HaveRowNodes with_member
   nodes =
       let was = whole.nodes in
-      let both = thread_nodes recounted g tables.threads.table tables.threads.apart (tables.threads.later g.number later) recounted_loose (record { marks = was.marks; shelves = was.shelves; callers = was.callers; works = was.works; apart = was.apart }) in
-      record { marks = both.marks; shelves = both.shelves; callers = both.callers; works = both.works; apart = both.apart }
+      let both = thread_nodes recounted g tables.threads.table tables.threads.apart (tables.threads.later g.number later) recounted_loose (record { marks = was.marks; instance_queues = was.instance_queues; callers = was.callers; works = was.works; apart = was.apart }) in
+      record { marks = both.marks; instance_queues = both.instance_queues; callers = both.callers; works = both.works; apart = both.apart }
 
   -- ---- Names
 
@@ -105,7 +105,7 @@ module _ (p : Parts) (whole : IsWhole p) (tables : AreTables p) (rep : ℕ) (q :
     barred = ap (λ (o : Option Call). bars_start g.thread.explicit (option_map_or (λ (d : Call). d.kind) o ExportKind.Callback)) call_found ∙ is.barred;
     within = is.within;
     place = subst (λ (x : Place). AtPlace with_member g.beside (place_target x)) (sym is.unplaced) tt;
-    how_far = subst (λ (x : HowFar). AtPlace with_member g.awaited (how_far_target x)) (sym is.fresh) tt;
+    op_progress = subst (λ (x : OpProgress). AtPlace with_member g.awaited (op_progress_target x)) (sym is.fresh) tt;
   }
 
   -- ---- Kept numbers

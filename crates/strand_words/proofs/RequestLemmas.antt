@@ -1,9 +1,9 @@
 -- The records that a request makes are a call and its first thread.
 use Rattle.task_records.proofs.Core.{add_call, add_thread, ap, ap₂, AtPlace, bare, bare_call, bare_instance, bare_thread, Bool, Call, call_instance, caller_target, cond, Core, eq-eqb, false, get, get-insert, Goal, handle_table, HasRoom, instance_of, is_some, IsSome, List, named_of, new_call, new_thread, next_place, next_place-mapped, no_callee, None, on_item, Option, option_map, option_map_or, parts_of, refl, Script, seen, slice_get, slice_get-map, Some, subst, sym, Thread, true, ℕ, ◌+◌, ◌∙◌, ◌≡◌, is_sync, not}
-use Rattle.task_records.specs.declared.{calls.GuestTask.GuestTask, instances.InstanceRecord.InstanceRecord, parts.CoreParts.CoreParts, threads.GuestThread.GuestThread}
+use Rattle.task_records.specs.declared.{call_records.GuestTask.GuestTask, instance_records.InstanceRecord.InstanceRecord, parts.CoreParts.CoreParts, thread_records.GuestThread.GuestThread}
 use Rattle.strand_words.specs.Member.{IsMember}
 use Rattle.strand_words.specs.Strand.{IsStrand}
-use Rattle.strand_words.specs.declared.records.Request.{Request}
+use Rattle.strand_words.specs.declared.record_makes.Request.{Request}
 use Rattle.task_records.proofs.HomeLemmas.{place_in_bare}
 use Rattle.task_records.proofs.InstanceReads.{handles_read, instance_read}
 use Rattle.task_words.specs.Barred.{bars_start}
@@ -43,7 +43,7 @@ module _ (a : CoreParts) (request : Request) (group : ℕ) (words : List ℕ) (c
     eventless = ap (λ (k : Call). k.event) call_is;
     nowhere = ap (λ (k : Call). k.join) call_is;
     unplaced = ap (λ (t : Thread). t.place) thread_is;
-    fresh = ap (λ (t : Thread). t.how_far) thread_is;
+    fresh = ap (λ (t : Thread). t.op_progress) thread_is;
     task = sym (next_place-mapped (on_item bare_call) a.calls);
     first_at = sym (next_place-mapped (on_item bare_thread) a.threads);
     instance = instance ∙ sym (ap (λ (k : Call). k.callee.instance) call_is);
@@ -72,7 +72,7 @@ module _ (a : CoreParts) (k : ℕ) (c : GuestTask) (rep : ℕ) (x : Script) (wor
     next = number;
     of_call = ap (λ (t : Thread). t.call) thread;
     unplaced = ap (λ (t : Thread). t.place) thread;
-    fresh = ap (λ (t : Thread). t.how_far) thread;
+    fresh = ap (λ (t : Thread). t.op_progress) thread;
     task = task;
     instance = instance;
     barred = ap (λ (t : Thread). bars_start t.explicit c.call.kind) thread ∙ sym barred;

@@ -1,11 +1,11 @@
 -- A call more and its thread, as a core: it is sound, and contracts see just that.
-use Rattle.task_records.proofs.Core.{add_call, add_thread, ap, AreApart, AreTables, arith, AtPlace, bare, bare_call, bare_thread, bare_work, Call, call_key, call_of, calls_of, core_of, count_by-le-length, fits, GroupKey, GuestTaskKey, insert, is_of_group, is_some, IsSound, IsTable, IsWhole, item_at, item_of, Keeps, kinds, length, loose_call, loose_thread, loose_work, mapped, mapped-pushed, next_place, None, Ok, on_item, Option, OwnsHandle, Parts, parts_of, passing, place_at, Placed, pushed, records, refl, seen, set_number, size, size-records-le, Some, subst, sym, Table, table_len, table_use, TableId, Target, thread_of, ThreadKey, true, uninterested, unmoved, with_entry, Work, work_key, work_number, ℕ, ◌+◌, ◌<◌, ◌==◌, ◌^◌, ◌∙◌, ◌≡◌, ◌≤◌, filter, nat_lt, numbers, group_key, known_of}
-use Rattle.task_records.specs.declared.{calls.GuestTask.GuestTask, calls.TaskGroup.TaskGroup, parts.CoreParts.CoreParts, single.Single.Single, threads.GuestThread.GuestThread, works.HostWork.HostWork}
+use Rattle.task_records.proofs.Core.{add_call, add_thread, ap, AreApart, AreTables, arith, AtPlace, bare, bare_call, bare_thread, bare_work, Call, call_key, call_of, calls_of, core_of, count_by-le-length, fits, GroupKey, GuestTaskKey, insert, is_of_group, is_some, IsSoundCore, IsTable, IsWhole, item_at, item_of, Keeps, kinds, length, loose_call, loose_thread, loose_work, mapped, mapped-pushed, next_place, None, Ok, on_item, Option, OwnsHandle, CoreImage, parts_of, passing, place_at, Placed, pushed, records, refl, seen, set_number, size, size-records-le, Some, subst, sym, Table, table_len, table_use, TableId, Target, thread_of, ThreadKey, true, uninterested, unmoved, with_entry, Work, work_key, work_number, ℕ, ◌+◌, ◌<◌, ◌==◌, ◌^◌, ◌∙◌, ◌≡◌, ◌≤◌, filter, nat_lt, numbers, group_key, tracked_of}
+use Rattle.task_records.specs.declared.{call_records.GuestTask.GuestTask, call_records.TaskGroup.TaskGroup, parts.CoreParts.CoreParts, single.Single.Single, thread_records.GuestThread.GuestThread, work_records.WorkRecord.WorkRecord}
 use Rattle.make_words.proofs.FreshLemmas.{each_more}
 use Rattle.make_words.proofs.MoreLemmas.{passing_more, table_bare}
 use Rattle.make_words.proofs.RestoreLemmas.{handles_grown}
 use Rattle.std.specs.Prelude.{vec_capacity}
-use Rattle.task_records.proofs.KnownLemmas.{ended_alike}
+use Rattle.task_records.proofs.TrackedLemmas.{ended_alike}
 use Rattle.strand_words.proofs.CallPushLemmas.{nodes_of as call_nodes_of}
 use Rattle.strand_words.proofs.GroupLemmas.{group_numbers}
 use Rattle.strand_words.proofs.GrowLemmas.{at_grown}
@@ -13,7 +13,7 @@ use Rattle.strand_words.proofs.StrandCountLemmas.{passes_one}
 use Rattle.strand_words.proofs.StrandLemmas.{grows, strand_whole}
 use Rattle.strand_words.proofs.ThreadPushLemmas.{nodes_of}
 use Rattle.strand_words.proofs.ThreadSeenLemmas.{callers_are, thread_new, thread_still, threads_are}
-use Rattle.strand_words.specs.Loose.{AreStrandLoose}
+use Rattle.strand_words.specs.LooseCalls.{AreStrandLoose}
 use Rattle.strand_words.specs.Strand.{IsStrand}
 use Rattle.task_records.proofs.KeptLemmas.{used_is}
 use Rattle.task_records.proofs.KindLemmas.{item_stands, table_written}
@@ -29,9 +29,9 @@ places_few key t table apart =
     let few = table.places_fit in
     omega arith
 
-module _ (a : CoreParts) (sound : IsSound a) where
+module _ (a : CoreParts) (sound : IsSoundCore a) where
   pub used_few : fits 3 (seen a).core ≡ true → a.kept.used + 3 < 2 ^ 64
-  unfolding fits seen IsSound
+  unfolding fits seen IsSoundCore
   used_few room =
       let used = used_is a sound in
       let few = sound.whole.counted.few in
@@ -39,7 +39,7 @@ module _ (a : CoreParts) (sound : IsSound a) where
       omega arith
 
   pub interesting_few : a.kept.interesting + 1 < 2 ^ 64
-  unfolding IsSound
+  unfolding IsSoundCore
   interesting_few =
       let some : passing (λ (d : Call). d.interesting) (core_of (parts_of a)).calls ≤ length (core_of (parts_of a)).calls.list = count_by-le-length (λ (e : ℕ × Call). e.1.interesting) (core_of (parts_of a)).calls.list in
       let few = places_few call_key a.calls sound.tables.calls.table sound.tables.calls.apart in
@@ -47,11 +47,11 @@ module _ (a : CoreParts) (sound : IsSound a) where
       omega arith
 
   pub tables_bare : AreTables (bare (parts_of a))
-  unfolding IsSound
+  unfolding IsSoundCore
   tables_bare = record {
     threads = table_bare (λ (g : GuestThread). g.number) (λ (g : GuestThread). g.thread) a.threads a.made.threads sound.tables.threads bare_thread loose_thread (λ g. refl) (λ g. refl);
     calls = table_bare (λ (c : GuestTask). c.number) (λ (c : GuestTask). c.call) a.calls a.made.threads sound.tables.calls bare_call (λ c. uninterested (loose_call c)) (λ c. refl) (λ c. refl);
-    works = table_bare (λ (w : HostWork). w.number) (λ (w : HostWork). w.work) a.works a.made.works sound.tables.works bare_work (λ w. unmoved (loose_work w)) (λ w. refl) (λ w. refl);
+    works = table_bare (λ (w : WorkRecord). w.number) (λ (w : WorkRecord). w.work) a.works a.made.works sound.tables.works bare_work (λ w. unmoved (loose_work w)) (λ w. refl) (λ w. refl);
     sets = sound.tables.sets;
     groups = sound.tables.groups;
   }
@@ -71,7 +71,7 @@ module _ (a : CoreParts) (sound : IsSound a) where
     as_made t k gs is_t is_k is_gs P shown = subst (λ (u : Table (Single GuestThread)). P (made_with u k gs)) (sym is_t) (subst (λ (u : Table (Single GuestTask)). P (made_with made.threads u gs)) (sym is_k) (subst (λ (u : Table (Single TaskGroup)). P (made_with made.threads made.calls u)) (sym is_gs) shown))
 
     placed : (q : Placed (Single TaskGroup)) × ((place_at a.groups id.rep ≡ Some q) × ((q.serial ≡ id.serial) × (q.entry ≡ record { item = r })))
-    unfolding IsSound
+    unfolding IsSoundCore
     placed = item_stands (λ (h : TaskGroup). h.number) (λ (h : TaskGroup). h.calls) a.groups a.made.groups sound.tables.groups id.rep id.serial r stands
 
     same_number : one_more.number ≡ placed.0.entry.item.number
@@ -80,7 +80,7 @@ module _ (a : CoreParts) (sound : IsSound a) where
     -- ---- There is room to count
 
     pub group_few : r.calls + 1 < 2 ^ 64
-    unfolding IsSound size
+    unfolding IsSoundCore size
     group_few =
         let s = core_of (bare (parts_of a)) in
         let is : r.calls ≡ calls_of placed.0.entry.item.number s = sym (ap (λ (e : Single TaskGroup). e.item.calls) placed.1.1.1) ∙ sound.whole.counted.groups id.rep placed.0 placed.1.0 in
@@ -94,7 +94,7 @@ module _ (a : CoreParts) (sound : IsSound a) where
       -- ---- What contracts see
 
       calls_are : records call_key (pushed (record { item = c }) a.calls).places ≡ insert (records call_key a.calls.places) c.number c.call
-      unfolding IsSound
+      unfolding IsSoundCore
       calls_are = records_more (λ (d : GuestTask). d.number) (λ (d : GuestTask). d.call) a.calls a.made.threads sound.tables.calls c is.call_next
 
       pub strand_core : (seen made).core ≡ add_thread g.thread (add_call c.number c.call (seen a).core)
@@ -105,7 +105,7 @@ module _ (a : CoreParts) (sound : IsSound a) where
       live_same = ap (filter (nat_lt a.finished)) (group_numbers a.groups id.rep placed.0 placed.1.0 one_more same_number)
 
       call_kept : (k : TableId GuestTaskKey) → 0 < call_of (seen a) k → call_of (seen made) k ≡ call_of (seen a) k
-      unfolding IsSound
+      unfolding IsSoundCore
       call_kept k live =
           call_shown made k
           ∙ (number_kept (λ (d : GuestTask). d.number) (λ (d : GuestTask). d.call) a.calls a.made.threads sound.tables.calls c is.call_next k.rep k.serial (subst (λ (n : ℕ). 0 < n) (call_shown a k) live)
@@ -113,13 +113,13 @@ module _ (a : CoreParts) (sound : IsSound a) where
 
       pub strand_tags : Keeps (seen a).tags (seen made).tags
       unfolding seen set_number work_number
-      strand_tags = record { threads = thread_still a sound g is.thread_next made refl; calls = call_kept; sets = λ k live. refl; works = λ k live. refl; same = ap (λ gs. known_of a.ended.items gs a.made.groups) live_same }
+      strand_tags = record { threads = thread_still a sound g is.thread_next made refl; calls = call_kept; sets = λ k live. refl; works = λ k live. refl; same = ap (λ gs. tracked_of a.ended.items gs a.made.groups) live_same }
 
       pub thread_named : (k : TableId ThreadKey) → k.rep ≡ next_place a.threads → k.serial ≡ a.threads.given → thread_of (seen made) k ≡ a.made.threads + 1
       thread_named = thread_new a sound g is.thread_next made refl
 
       pub call_named : (k : TableId GuestTaskKey) → k.rep ≡ next_place a.calls → k.serial ≡ a.calls.given → call_of (seen made) k ≡ a.made.threads + 1
-      unfolding IsSound
+      unfolding IsSoundCore
       call_named k at serial = call_shown made k ∙ (number_new (λ (d : GuestTask). d.number) (λ (d : GuestTask). d.call) a.calls a.made.threads sound.tables.calls c is.call_next k.rep k.serial at serial ∙ is.call_next)
 
       -- ---- It is sound
@@ -128,21 +128,21 @@ module _ (a : CoreParts) (sound : IsSound a) where
         group_is : placed.0.entry.item.number ≡ c.call.group
         group_is = sym same_number ∙ of_group
 
-        abbrev with_tables : Table (Single GuestThread) → Table (Single GuestTask) → Table (Single TaskGroup) → Parts
+        abbrev with_tables : Table (Single GuestThread) → Table (Single GuestTask) → Table (Single TaskGroup) → CoreImage
         with_tables t k gs = record (bare (parts_of made)) { threads = t; calls = k; groups = gs }
 
-        abbrev bare_after : Parts
+        abbrev bare_after : CoreImage
         bare_after = with_tables (pushed (record { item = bare_thread g }) (mapped (on_item bare_thread) a.threads)) (pushed (record { item = bare_call c }) (mapped (on_item bare_call) a.calls)) (with_entry id.rep (record { item = record placed.0.entry.item { calls = placed.0.entry.item.calls + 1 } }) a.groups)
 
         -- the parts with the bare records are the bare parts with the records
-        moved : (P : Parts → Type 0) → P bare_after → P (bare (parts_of made))
+        moved : (P : CoreImage → Type 0) → P bare_after → P (bare (parts_of made))
         moved P is_after =
             subst (λ (k : Table (Single GuestTask)). P (with_tables (mapped (on_item bare_thread) made.threads) k made.groups)) (sym (mapped-pushed (on_item bare_call) a.calls (record { item = c })))
             (subst (λ (t : Table (Single GuestThread)). P (with_tables t (pushed (record { item = bare_call c }) (mapped (on_item bare_call) a.calls)) made.groups)) (sym (mapped-pushed (on_item bare_thread) a.threads (record { item = g })))
             (subst (λ (e : Single TaskGroup). P (with_tables (pushed (record { item = bare_thread g }) (mapped (on_item bare_thread) a.threads)) (pushed (record { item = bare_call c }) (mapped (on_item bare_call) a.calls)) (with_entry id.rep (record { item = record e.item { calls = e.item.calls + 1 } }) a.groups))) placed.1.1.1 is_after))
 
         named_still : (rep : ℕ) (t : Target) → AtPlace (bare (parts_of a)) rep t → AtPlace (bare (parts_of made)) rep t
-        unfolding IsSound
+        unfolding IsSoundCore
         named_still rep t at = moved (λ q. AtPlace q rep t) (at_grown (bare (parts_of a)) (bare_thread g) tables_bare.threads is.thread_next bare_after.calls bare_after.groups bare_after.kept
             (grows (bare (parts_of a)) sound.whole tables_bare (bare_call c) (bare_thread g) is loose.call loose.thread loose.two id.rep placed.0 placed.1.0 group_place group_is) rep t at)
 
@@ -150,8 +150,8 @@ module _ (a : CoreParts) (sound : IsSound a) where
           none_owned : OwnsHandle (parts_of made) g
           none_owned h is_h = absurd (let none : ◌≡◌ {A = Option ℕ} None (Some h) = sym unnamed ∙ is_h in cc)
 
-          pub strand_sound : IsSound made
-          unfolding IsSound
+          pub strand_sound : IsSoundCore made
+          unfolding IsSoundCore
           strand_sound = record {
             tables = record {
               threads = table_more (λ (h : GuestThread). h.number) (λ (h : GuestThread). h.thread) a.threads a.made.threads sound.tables.threads g is.thread_next threads_table;

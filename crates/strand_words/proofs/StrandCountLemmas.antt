@@ -1,6 +1,6 @@
 -- A call more and its thread: what the parts count.
-use Rattle.task_records.proofs.Core.{ap, AreCounted, arith, Bool, Call, call_key, cases_eq, cond, core_of, EachEntry, eq-eqb, false, filter, get, Goal, group_key, HasRoom, inl, inr, is_in_set, IsCallKept, IsGroupKept, IsSetKept, IsWhole, Join, keeps_set, key_in, length, List, nat_lt, ne_eqb, None, one_if_passes, Option, Parts, passing, Place, place_at, Placed, pushed, refl, same_Some, Some, SoundTable, subst, sym, table_use, Thread, thread_key, threads_of, true, with_entry, ℕ, ◌+◌, ◌<◌, ◌==◌, ◌∙◌, ◌≡◌, ◌⊎◌}
-use Rattle.task_records.specs.declared.{calls.GuestTask.GuestTask, calls.TaskGroup.TaskGroup, sets.WaitSet.WaitSet, single.Single.Single, threads.GuestThread.GuestThread}
+use Rattle.task_records.proofs.Core.{ap, AreCounted, arith, Bool, Call, call_key, cases_eq, cond, core_of, EachEntry, eq-eqb, false, filter, get, Goal, group_key, HasRoom, inl, inr, is_in_set, IsCallKept, IsGroupKept, IsSetKept, IsWhole, Join, keeps_set, key_in, length, List, nat_lt, ne_eqb, None, one_if_passes, Option, CoreImage, passing, Place, place_at, Placed, pushed, refl, same_Some, Some, SoundTable, subst, sym, table_use, Thread, thread_key, threads_of, true, with_entry, ℕ, ◌+◌, ◌<◌, ◌==◌, ◌∙◌, ◌≡◌, ◌⊎◌}
+use Rattle.task_records.specs.declared.{call_records.GuestTask.GuestTask, call_records.TaskGroup.TaskGroup, set_records.WaitSet.WaitSet, single.Single.Single, thread_records.GuestThread.GuestThread}
 use Rattle.make_words.proofs.FreshLemmas.{each_more, none_passing}
 use Rattle.make_words.proofs.MoreLemmas.{each_but, early, early_at, get_more, passing_more, size_more}
 use Rattle.queue_words.proofs.BareLemmas.{one_place}
@@ -12,7 +12,7 @@ fails_none test x fails = ap (λ b. cond b 1 0) fails
 pub passes_one : {X : Type 0} (test : X → Bool) (x : X) → test x ≡ true → one_if_passes test (Some x) ≡ 1
 passes_one test x passes = ap (λ b. cond b 1 0) passes
 
-module _ (p : Parts) (whole : IsWhole p) (threads : SoundTable thread_key p.threads p.made.threads) (calls : SoundTable call_key p.calls p.made.threads) where
+module _ (p : CoreImage) (whole : IsWhole p) (threads : SoundTable thread_key p.threads p.made.threads) (calls : SoundTable call_key p.calls p.made.threads) where
   -- no thread is of a call that was not made
   pub no_threads : (k : ℕ) → p.made.threads < k → threads_of k (core_of p) ≡ 0
   no_threads k later = none_passing (λ (t : Thread). t.call == k) thread_key p.threads.places (λ r e at. by r e (place_at p.threads r) refl at)
@@ -29,7 +29,7 @@ module _ (p : Parts) (whole : IsWhole p) (threads : SoundTable thread_key p.thre
     abbrev one_more : TaskGroup
     one_more = record q.entry.item { calls = q.entry.item.calls + 1 }
 
-    abbrev pub with_strand : Parts
+    abbrev pub with_strand : CoreImage
     with_strand = record p { threads = pushed (record { item = g }) p.threads; calls = pushed (record { item = c }) p.calls; groups = with_entry rep (record { item = one_more }) p.groups; made = record p.made { threads = p.made.threads + 1 }; kept = record p.kept { used = p.kept.used + 3 } }
 
     thread_more : (test : Thread → Bool) → passing test (core_of with_strand).threads ≡ passing test (core_of p).threads + one_if_passes test (Some g.thread)

@@ -1,6 +1,6 @@
 -- A call more and its thread, whose nodes and chains hung on nothing: the parts stay whole.
-use Rattle.task_records.proofs.Core.{ap, AreChained, AreTables, arith, AtPlace, Call, call_key, cond, core_of, eq-eqb, get, group_key, HasHome, HaveRowNodes, how_far_target, HowFar, IsCallNamed, IsWhole, Join, join_target, key_in, kinds, ne_eqb, no_callee, number_in, Option, option_map_or, Parts, Place, place_at, place_target, Placed, pushed, ready_in, refl, Some, Status, subst, sym, thread_key, where_at, ℕ, ◌+◌, ◌<◌, ◌==◌, ◌∙◌, ◌≡◌, ExportKind}
-use Rattle.task_records.specs.declared.{calls.GuestTask.GuestTask, calls.TaskGroup.TaskGroup, single.Single.Single, threads.GuestThread.GuestThread}
+use Rattle.task_records.proofs.Core.{ap, AreChained, AreTables, arith, AtPlace, Call, call_key, cond, core_of, eq-eqb, get, group_key, HasHome, HaveRowNodes, op_progress_target, OpProgress, IsCallNamed, IsWhole, Join, join_target, key_in, kinds, ne_eqb, no_callee, number_in, Option, option_map_or, CoreImage, Place, place_at, place_target, Placed, pushed, ready_in, refl, Some, Status, subst, sym, thread_key, where_at, ℕ, ◌+◌, ◌<◌, ◌==◌, ◌∙◌, ◌≡◌, ExportKind}
+use Rattle.task_records.specs.declared.{call_records.GuestTask.GuestTask, call_records.TaskGroup.TaskGroup, single.Single.Single, thread_records.GuestThread.GuestThread}
 use Rattle.make_words.proofs.FreshLemmas.{each_more}
 use Rattle.make_words.proofs.MoreLemmas.{at_new, early_at, get_more, number_stays, number_written}
 use Rattle.queue_words.proofs.BareLemmas.{number_positive}
@@ -8,14 +8,14 @@ use Rattle.strand_words.proofs.CallPushLemmas.{call_chained, call_nodes, nobody_
 use Rattle.strand_words.proofs.GrowLemmas.{Grows, at_grown, call_grown, named_grown}
 use Rattle.strand_words.proofs.StrandCountLemmas.{strand_counted, with_strand}
 use Rattle.strand_words.proofs.ThreadPushLemmas.{PlacesNamed, nodes_of, thread_chained, thread_nodes}
-use Rattle.strand_words.specs.Loose.{AreCallLoose, AreThreadLoose}
+use Rattle.strand_words.specs.LooseCalls.{AreCallLoose, AreThreadLoose}
 use Rattle.strand_words.specs.Strand.{IsStrand}
 use Rattle.task_records.proofs.MakeLemmas.{stands_more}
 use Rattle.task_words.specs.Barred.{bars_start}
 
-module _ (p : Parts) (whole : IsWhole p) (tables : AreTables p) (c : GuestTask) (g : GuestThread) (is : IsStrand p c g) (call_loose : AreCallLoose p (call_nodes_of c)) (loose : AreThreadLoose p (nodes_of g)) (two : g.under ≡ c.blocked → ⊥)
+module _ (p : CoreImage) (whole : IsWhole p) (tables : AreTables p) (c : GuestTask) (g : GuestThread) (is : IsStrand p c g) (call_loose : AreCallLoose p (call_nodes_of c)) (loose : AreThreadLoose p (nodes_of g)) (two : g.under ≡ c.blocked → ⊥)
     (rep : ℕ) (q : Placed (Single TaskGroup)) (at : place_at p.groups rep ≡ Some q) (place : c.group ≡ rep) (of_group : q.entry.item.number ≡ c.call.group) where
-  abbrev pub after : Parts
+  abbrev pub after : CoreImage
   after = with_strand p whole tables.threads tables.calls g is.thread_next c is.call_next tables.groups rep q at
 
   later : p.made.threads < c.number
@@ -29,14 +29,14 @@ module _ (p : Parts) (whole : IsWhole p) (tables : AreTables p) (c : GuestTask) 
 
   -- ---- Chains and nodes: the call first
 
-  abbrev with_calls : Parts
+  abbrev with_calls : CoreImage
   with_calls = record p { calls = pushed (record { item = c }) p.calls }
 
   still_loose : AreThreadLoose with_calls (nodes_of g)
   still_loose = record {
     node = loose.node;
     mark = loose.mark;
-    shelf = loose.shelf;
+    instance_queue = loose.instance_queue;
     caller = loose.caller;
     callers = record { empty = loose.callers.empty; apart = loose.callers.apart };
     under = record { empty = loose.under.empty; apart = nobody_still p c tables.calls.table tables.calls.apart (tables.calls.later c.number later) call_loose g.under two loose.under.apart };
@@ -47,13 +47,13 @@ module _ (p : Parts) (whole : IsWhole p) (tables : AreTables p) (c : GuestTask) 
   chained =
       let first = call_chained p c tables.calls.table tables.calls.apart (tables.calls.later c.number later) call_loose (kinds p) later named (ap (λ (e : Option Status). ready_in e c.call.join) is.eventless) whole.chained in
       let both = thread_chained with_calls g tables.threads.table tables.threads.apart (tables.threads.later g.number thread_later) still_loose (kinds p) thread_later named (ap (where_at g.instance g.barred) is.unplaced) first in
-      record { places = both.places; ready_calls = both.ready_calls; ready_works = both.ready_works; polled = both.polled; rising = both.rising; marks = both.marks; shelves = both.shelves; low = both.low; behind = both.behind }
+      record { places = both.places; ready_calls = both.ready_calls; ready_works = both.ready_works; polled = both.polled; rising = both.rising; marks = both.marks; instance_queues = both.instance_queues; low = both.low; behind = both.behind }
 
   nodes : HaveRowNodes after
   nodes =
       let first = call_nodes p c tables.calls.table tables.calls.apart (tables.calls.later c.number later) call_loose whole.nodes in
       let both = thread_nodes with_calls g tables.threads.table tables.threads.apart (tables.threads.later g.number thread_later) still_loose first in
-      record { marks = both.marks; shelves = both.shelves; callers = both.callers; works = both.works; apart = both.apart }
+      record { marks = both.marks; instance_queues = both.instance_queues; callers = both.callers; works = both.works; apart = both.apart }
 
   -- ---- Names
 
@@ -81,7 +81,7 @@ module _ (p : Parts) (whole : IsWhole p) (tables : AreTables p) (c : GuestTask) 
     barred = ap (λ (o : Option Call). bars_start g.thread.explicit (option_map_or (λ (d : Call). d.kind) o ExportKind.Callback)) (get_call g.thread.call ∙ ap (λ b. cond b (Some c.call) (get (core_of p).calls g.thread.call)) (eq-eqb g.thread.call c.number is.first)) ∙ is.barred;
     within = is.within;
     place = subst (λ (x : Place). AtPlace after g.beside (place_target x)) (sym is.unplaced) tt;
-    how_far = subst (λ (x : HowFar). AtPlace after g.awaited (how_far_target x)) (sym is.fresh) tt;
+    op_progress = subst (λ (x : OpProgress). AtPlace after g.awaited (op_progress_target x)) (sym is.fresh) tt;
   }
 
   call_named : IsCallNamed after c

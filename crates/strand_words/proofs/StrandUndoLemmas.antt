@@ -1,19 +1,19 @@
 -- A call and its thread that were made are taken back, and the thread that has a handle now is in its call's instance.
-use Rattle.task_records.proofs.Core.{add_call, add_thread, ap, ap₂, arith, Bool, Call, call_made, Callee, Caller, cond, Core, deleted, entry_put, eq-eqb, ExportKind, false, found, found-with_entry, get, get-insert, Goal, GroupKey, GuestTaskKey, instance_of, IsSound, IsTable, item_at, item_in, item_of, List, new_call, new_thread, no_callee, None, Ok, Option, option_map_or, Parts, parts_of, Placed, refl, registers_for, Script, Some, sym, Table, TableId, Thread, ThreadKey, with_entry, with_thread_handle, ℕ, ◌+◌, ◌-◌, ◌∙◌, ◌≡◌}
-use Rattle.task_records.specs.declared.{calls.TaskGroup.TaskGroup, parts.CoreParts.CoreParts, single.Single.Single}
+use Rattle.task_records.proofs.Core.{add_call, add_thread, ap, ap₂, arith, Bool, Call, call_made, Callee, Caller, cond, Core, deleted, entry_put, eq-eqb, ExportKind, false, found, found-with_entry, get, get-insert, Goal, GroupKey, GuestTaskKey, instance_of, IsSoundCore, IsTable, item_at, item_in, item_of, List, new_call, new_thread, no_callee, None, Ok, Option, option_map_or, CoreImage, parts_of, Placed, refl, registers_for, Script, Some, sym, Table, TableId, Thread, ThreadKey, with_entry, with_thread_handle, ℕ, ◌+◌, ◌-◌, ◌∙◌, ◌≡◌}
+use Rattle.task_records.specs.declared.{call_records.TaskGroup.TaskGroup, parts.CoreParts.CoreParts, single.Single.Single}
 use Rattle.make_words.proofs.RestoreLemmas.{Restores-deleted, Restores-pushed, Restores-same, Restores-written, restored_from}
 use Rattle.make_words.specs.Restored.{IsRestored}
 use Rattle.strand_words.specs.Pushed.{PushesStrand}
 use Rattle.task_records.proofs.KindLemmas.{item_stands}
 
-module _ (a b c e : CoreParts) (sound_a : IsSound a) (sound_b : IsSound b) (id : TableId GroupKey) (group : TaskGroup) (stands : Ok group ≡ item_at item_of a.groups id.rep id.serial) (first : TableId ThreadKey) (task : TableId GuestTaskKey)
+module _ (a b c e : CoreParts) (sound_a : IsSoundCore a) (sound_b : IsSoundCore b) (id : TableId GroupKey) (group : TaskGroup) (stands : Ok group ≡ item_at item_of a.groups id.rep id.serial) (first : TableId ThreadKey) (task : TableId GuestTaskKey)
     (made : PushesStrand a b id group first task) (same : parts_of c ≡ parts_of b)
     (only_e : e ≡ record c { threads = e.threads; calls = e.calls; groups = e.groups; made = record c.made { threads = c.made.threads - 1 }; kept = record c.kept { used = c.kept.used - 3; interesting = c.kept.interesting - 1 } })
     (threads : e.threads ≡ deleted first.rep c.threads) (calls : e.calls ≡ deleted task.rep c.calls) (groups : e.groups ≡ with_entry id.rep (record { item = group }) c.groups) (threads_table : IsTable e.threads) (calls_table : IsTable e.calls) where
-  abbrev less : Parts → Parts
+  abbrev less : CoreImage → CoreImage
   less q = record q { threads = e.threads; calls = e.calls; groups = e.groups; made = record q.made { threads = q.made.threads - 1 }; kept = record q.kept { used = q.kept.used - 3; interesting = q.kept.interesting - 1 } }
 
-  abbrev with_counts : ℕ → ℕ → ℕ → Parts
+  abbrev with_counts : ℕ → ℕ → ℕ → CoreImage
   with_counts n used interesting = record (parts_of a) { threads = e.threads; calls = e.calls; groups = e.groups; made = record a.made { threads = n }; kept = record a.kept { used = used; interesting = interesting } }
 
   one_less : (n : ℕ) → n + 1 - 1 ≡ n
@@ -28,15 +28,15 @@ module _ (a b c e : CoreParts) (sound_a : IsSound a) (sound_b : IsSound b) (id :
       ∙ (ap (λ (n : ℕ). with_counts n (a.kept.used + 3 - 3) (a.kept.interesting + 1 - 1)) (one_less a.made.threads) ∙ ap₂ (λ (m n : ℕ). with_counts a.made.threads m n) (three_less a.kept.used) (one_less a.kept.interesting))))
 
   pub strand_restored : IsRestored (parts_of a) (parts_of e)
-  unfolding IsSound
+  unfolding IsSoundCore
   strand_restored =
       let placed = item_stands (λ (r : TaskGroup). r.number) (λ (r : TaskGroup). r.calls) a.groups a.made.groups sound_a.tables.groups id.rep id.serial group stands in
       restored_from (parts_of a) (parts_of e) e.threads e.calls a.works a.sets e.groups differs
-      (Restores-deleted a.threads c.threads e.threads (record { item = made.thread }) sound_a.tables.threads.table (Restores-pushed a.threads b.threads c.threads made.thread sound_b.tables.threads.table made.threads (ap (λ (q : Parts). q.threads) same)) first.rep made.first_at threads threads_table)
-      (Restores-deleted a.calls c.calls e.calls (record { item = made.call }) sound_a.tables.calls.table (Restores-pushed a.calls b.calls c.calls made.call sound_b.tables.calls.table made.calls (ap (λ (q : Parts). q.calls) same)) task.rep made.task_at calls calls_table)
+      (Restores-deleted a.threads c.threads e.threads (record { item = made.thread }) sound_a.tables.threads.table (Restores-pushed a.threads b.threads c.threads made.thread sound_b.tables.threads.table made.threads (ap (λ (q : CoreImage). q.threads) same)) first.rep made.first_at threads threads_table)
+      (Restores-deleted a.calls c.calls e.calls (record { item = made.call }) sound_a.tables.calls.table (Restores-pushed a.calls b.calls c.calls made.call sound_b.tables.calls.table made.calls (ap (λ (q : CoreImage). q.calls) same)) task.rep made.task_at calls calls_table)
       (Restores-same a.works sound_a.tables.works.table)
       (Restores-same a.sets sound_a.tables.sets.table)
-      (Restores-written a.groups c.groups e.groups id.rep placed.0 placed.1.0 group (record group { calls = group.calls + 1 }) placed.1.1.1 (ap (λ (q : Parts). q.groups) same ∙ made.groups) groups sound_a.tables.groups.table)
+      (Restores-written a.groups c.groups e.groups id.rep placed.0 placed.1.0 group (record group { calls = group.calls + 1 }) placed.1.1.1 (ap (λ (q : CoreImage). q.groups) same ∙ made.groups) groups sound_a.tables.groups.table)
 
 -- ---- The instance of a call that was made
 

@@ -1,15 +1,15 @@
 -- A thread more, whose nodes and chains hung on nothing: the chains and the nodes of the parts.
-use Rattle.task_records.proofs.Core.{[], ap, AreApart, AreChained, arith, BlockedOn, callers_chain, callers_row, cases_eq, chained, EachEntry, Entry, entry_seated, Filing, filings, follower, found_record, HaveRowNodes, HeldIn, inl, inr, IsFollower, IsNamedAt, IsRows-opened, IsSeated, IsTable, Kinds, list_or_nil, map, None, Nothing, Option, Parts, Place, place_at, place_chain, place_filing, place_target, Placed, pushed, refl, said, same_Some, SetOf, Some, subst, Subtask, subtask_target, sym, Table, Target, thread_entry, thread_key, ThreadOf, UnderOf, WaitsOn, Where, where_at, ℕ, ◌<◌, ◌∙◌, ◌≡◌, ◌⊎◌, StartsIn, held_list, ◌&&◌, Bool, true, false, cond}
-use Rattle.task_records.specs.declared.{single.Single.Single, threads.Follower.Follower, threads.GuestThread.GuestThread, threads.Queued.Queued}
+use Rattle.task_records.proofs.Core.{[], ap, AreApart, AreChained, arith, BlockedOn, callers_chain, callers_row, cases_eq, chained, EachEntry, Entry, entry_keyed, Filing, filings, follower, found_record, HaveRowNodes, HeldIn, inl, inr, IsFollower, IsNamedAt, IsRows-opened, IsKeyed, IsTable, Kinds, list_or_nil, map, None, Nothing, Option, CoreImage, Place, place_at, place_chain, place_filing, place_target, Placed, pushed, refl, said, same_Some, SetOf, Some, subst, Subtask, subtask_target, sym, Table, Target, thread_entry, thread_key, ThreadOf, UnderOf, WaitsOn, Where, where_at, ℕ, ◌<◌, ◌∙◌, ◌≡◌, ◌⊎◌, StartsIn, held_list, ◌&&◌, Bool, true, false, cond}
+use Rattle.task_records.specs.declared.{single.Single.Single, thread_records.Follower.Follower, thread_records.GuestThread.GuestThread, thread_records.Queued.Queued}
 use Rattle.make_words.proofs.FreshLemmas.{chain_new, chain_other}
 use Rattle.make_words.proofs.LooseLemmas.{IsIndex-opened}
-use Rattle.make_words.proofs.MoreLemmas.{IsRows-known, index_more, new_or_old, nodes_more, seat_stays}
+use Rattle.make_words.proofs.MoreLemmas.{IsRows-known, index_more, new_or_old, nodes_more, order_key_stays}
 use Rattle.queue_words.proofs.CallerLemmas.{none_as}
-use Rattle.strand_words.specs.Loose.{AreThreadLoose}
-use Rattle.strand_words.specs.declared.nodes.ThreadNodes.{ThreadNodes}
+use Rattle.strand_words.specs.LooseCalls.{AreThreadLoose}
+use Rattle.strand_words.specs.declared.node_makes.ThreadNodes.{ThreadNodes}
 use Rattle.task_rules.specs.Places.{is_for_start}
-use Rattle.table_order.specs.declared.seat_links.Seat.{Seat}
-use Rattle.task_records.specs.Places.{thread_seat}
+use Rattle.table_order.specs.declared.ordered_lists.OrderKey.{OrderKey}
+use Rattle.task_records.specs.RecordPlaces.{thread_order_key}
 
 -- ---- What a list is named by
 
@@ -40,7 +40,7 @@ abbrev pub PlacesNamed : Kinds → Table (Single GuestThread) → Type 0
 PlacesNamed k t = EachEntry (λ (g : GuestThread). IsNamedAt k g.beside (place_target g.thread.place)) t
 
 -- nobody is in the list of what was not made
-pub none_in_list : (k : Kinds) (t : Table (Single GuestThread)) (w : Where) → PlacesNamed k t → ((rep : ℕ) → IsNamedAt k rep (target_of w) → ⊥) → (rep : ℕ) (f : Filing Where Seat) → filings place_filing t rep ≡ Some f → f.key ≡ Some w → ⊥
+pub none_in_list : (k : Kinds) (t : Table (Single GuestThread)) (w : Where) → PlacesNamed k t → ((rep : ℕ) → IsNamedAt k rep (target_of w) → ⊥) → (rep : ℕ) (f : Filing Where OrderKey) → filings place_filing t rep ≡ Some f → f.key ≡ Some w → ⊥
 unfolding filings
 none_in_list k t w named new rep f is key = by (place_at t rep) refl is
   where
@@ -48,7 +48,7 @@ none_in_list k t w named new rep f is key = by (place_at t rep) refl is
     by None at is = absurd (cc)
     by (Some q) at is =
         let g = q.entry.item in
-        new g.beside (names_list k g.beside g.instance g.barred g.thread.place w (named rep q at) (ap (λ (h : Filing Where Seat). h.key) (same_Some _ f is) ∙ key))
+        new g.beside (names_list k g.beside g.instance g.barred g.thread.place w (named rep q at) (ap (λ (h : Filing Where OrderKey). h.key) (same_Some _ f is) ∙ key))
 
 abbrev under_in : Where → ℕ
 under_in (UnderOf n) = n
@@ -67,10 +67,10 @@ under_is n (BlockedOn sub) = inr (λ same. absurd (cc))
 -- ---- The thread
 
 abbrev pub nodes_of : GuestThread → ThreadNodes
-nodes_of g = record { node = g.node; mark = g.mark; shelf = g.shelf; caller = g.caller; callers = g.callers; under = g.under }
+nodes_of g = record { node = g.node; mark = g.mark; instance_queue = g.instance_queue; caller = g.caller; callers = g.callers; under = g.under }
 
-module _ (p : Parts) (g : GuestThread) (table : IsTable p.threads) (apart : AreApart thread_key p.threads.places) (new : found_record thread_key g.number p.threads.places ≡ None) (loose : AreThreadLoose p (nodes_of g)) where
-  abbrev pub with_thread : Parts
+module _ (p : CoreImage) (g : GuestThread) (table : IsTable p.threads) (apart : AreApart thread_key p.threads.places) (new : found_record thread_key g.number p.threads.places ≡ None) (loose : AreThreadLoose p (nodes_of g)) where
+  abbrev pub with_thread : CoreImage
   with_thread = record p { threads = pushed (record { item = g }) p.threads }
 
   module _ (chain : GuestThread → ℕ) where
@@ -88,16 +88,16 @@ module _ (p : Parts) (g : GuestThread) (table : IsTable p.threads) (apart : AreA
   place_others (BlockedOn (Subtask.Guest k)) other = refl
   place_others (BlockedOn (Subtask.Host i)) other = refl
 
-  seated_still : (x : Queued) → IsSeated p x → IsSeated with_thread x
-  seated_still x is = by x.entry is
+  keyed_still : (x : Queued) → IsKeyed p x → IsKeyed with_thread x
+  keyed_still x is = by x.entry is
     where
-      by : (e : Entry) → entry_seated p e x.place ≡ Some x → entry_seated with_thread e x.place ≡ Some x
-      by (Entry.Thread n) is = seat_stays p.threads g table thread_entry x.place x is
+      by : (e : Entry) → entry_keyed p e x.place ≡ Some x → entry_keyed with_thread e x.place ≡ Some x
+      by (Entry.Thread n) is = order_key_stays p.threads g table thread_entry x.place x is
       by (Entry.Push i) is = is
       by (Entry.Host i) is = is
 
   pub follower_still : (f : Follower) → IsFollower p f → IsFollower with_thread f
-  follower_still f is = seat_stays p.threads g table follower f.place f is
+  follower_still f is = order_key_stays p.threads g table follower f.place f is
 
   callers_others : (n : ℕ) → (n ≡ g.number → ⊥) → callers_chain with_thread n ≡ callers_chain p n
   callers_others = other_chain (λ h. h.callers)
@@ -107,7 +107,7 @@ module _ (p : Parts) (g : GuestThread) (table : IsTable p.threads) (apart : AreA
 
   pub thread_chained : (k : Kinds) → k.made.threads < g.number → PlacesNamed k p.threads → where_at g.instance g.barred g.thread.place ≡ None → AreChained p → AreChained with_thread
   thread_chained k later named filed was = record {
-    places = index_more p.threads g table (λ h. h.node.index) (λ h. where_at h.instance h.barred h.thread.place) thread_seat p.places loose.node (place_chain with_thread)
+    places = index_more p.threads g table (λ h. h.node.index) (λ h. where_at h.instance h.barred h.thread.place) thread_order_key p.places loose.node (place_chain with_thread)
         (IsIndex-opened (place_chain p) (place_chain with_thread) p.places (UnderOf g.number) (under_is g.number) place_others g.under (has_chain (λ h. h.under)) loose.under (filings place_filing p.threads) was.places
         (none_in_list k p.threads (UnderOf g.number) named (λ rep at. let few = at.0 in omega arith)))
         filed;
@@ -115,8 +115,8 @@ module _ (p : Parts) (g : GuestThread) (table : IsTable p.threads) (apart : AreA
     ready_works = was.ready_works;
     polled = was.polled;
     rising = was.rising;
-    marks = IsRows-known _ _ (IsSeated p) (IsSeated with_thread) _ _ seated_still was.marks;
-    shelves = IsRows-known _ _ (IsSeated p) (IsSeated with_thread) _ _ seated_still was.shelves;
+    marks = IsRows-known _ _ (IsKeyed p) (IsKeyed with_thread) _ _ keyed_still was.marks;
+    instance_queues = IsRows-known _ _ (IsKeyed p) (IsKeyed with_thread) _ _ keyed_still was.instance_queues;
     low = was.low;
     behind = IsRows-opened (callers_chain p) (λ f. f.node.index) (IsFollower with_thread) p.behind (callers_row p)
         (IsRows-known _ _ (IsFollower p) (IsFollower with_thread) _ _ follower_still was.behind)
@@ -127,7 +127,7 @@ module _ (p : Parts) (g : GuestThread) (table : IsTable p.threads) (apart : AreA
   pub thread_nodes : HaveRowNodes p → HaveRowNodes with_thread
   thread_nodes was = record {
     marks = nodes_more p.threads g table (λ h. h.mark.index) p.marks loose.mark was.marks;
-    shelves = nodes_more p.threads g table (λ h. h.shelf.index) p.shelves loose.shelf was.shelves;
+    instance_queues = nodes_more p.threads g table (λ h. h.instance_queue.index) p.instance_queues loose.instance_queue was.instance_queues;
     callers = nodes_more p.threads g table (λ h. h.caller.index) p.behind loose.caller was.callers;
     works = was.works;
     apart = λ r s q w at_q at_w same. elim (new_or_old p.threads g table r q at_q) [

@@ -11,6 +11,6 @@ pub record Extends (a b : CoreParts) : Type 0 where
   pub places : Grown a.places b.places
   pub ready_calls : Grown a.ready_calls b.ready_calls
   pub marks : Grown a.marks b.marks
-  pub shelves : Grown a.shelves b.shelves
+  pub instance_queues : Grown a.instance_queues b.instance_queues
   pub behind : Grown a.behind b.behind
-  pub only : b ≡ record a { places = b.places; ready_calls = b.ready_calls; marks = b.marks; shelves = b.shelves; behind = b.behind }
+  pub only : b ≡ record a { places = b.places; ready_calls = b.ready_calls; marks = b.marks; instance_queues = b.instance_queues; behind = b.behind }

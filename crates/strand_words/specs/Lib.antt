@@ -1,4 +1,4 @@
-pub mod Loose
+pub mod LooseCalls
 pub mod Extends
 pub mod Strand
 pub mod Pushed

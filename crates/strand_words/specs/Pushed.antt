@@ -1,21 +1,21 @@
 -- What a make of records asks, and what it changed, so that it can be taken back.
 use Rattle.std.specs.Prelude.{◌≡◌, ◌+◌, ◌<◌, ◌≤◌, ◌^◌, ℕ, IsSome, List, Ok, length, true}
-use Rattle.strand_words.specs.Loose.{AreStrandLoose}
-use Rattle.strand_words.specs.declared.nodes.CallNodes.{CallNodes}
-use Rattle.strand_words.specs.declared.nodes.ThreadNodes.{ThreadNodes}
-use Rattle.strand_words.specs.declared.records.Request.{Request}
+use Rattle.strand_words.specs.LooseCalls.{AreStrandLoose}
+use Rattle.strand_words.specs.declared.node_makes.CallNodes.{CallNodes}
+use Rattle.strand_words.specs.declared.node_makes.ThreadNodes.{ThreadNodes}
+use Rattle.strand_words.specs.declared.record_makes.Request.{Request}
 use Rattle.task_machine.specs.Maps.{get}
 use Rattle.task_machine.specs.Read.{fits}
 use Rattle.task_machine.specs.declared.records.Goal.TheVariants as goals
 use Rattle.task_records.specs.Image.{HasRoom}
 use Rattle.task_records.specs.Kinds.{entry_of, item_of}
-use Rattle.task_records.specs.Seen.{IsSound, parts_of, seen}
+use Rattle.task_records.specs.Seen.{IsSoundCore, parts_of, seen}
 use Rattle.task_records.specs.Sound.{bare}
-use Rattle.task_records.specs.declared.calls.GuestTask.{GuestTask}
-use Rattle.task_records.specs.declared.calls.TaskGroup.{TaskGroup}
+use Rattle.task_records.specs.declared.call_records.GuestTask.{GuestTask}
+use Rattle.task_records.specs.declared.call_records.TaskGroup.{TaskGroup}
 use Rattle.task_records.specs.declared.parts.CoreParts.{CoreParts}
-use Rattle.task_records.specs.declared.threads.GuestThread.{GuestThread}
-use Rattle.task_table.specs.Answers.{item_at}
+use Rattle.task_records.specs.declared.thread_records.GuestThread.{GuestThread}
+use Rattle.task_table.specs.TableAnswers.{item_at}
 use Rattle.task_table.specs.Changes.{next_place, pushed, with_entry}
 use Rattle.task_table.specs.declared.id.TableId.{TableId}
 use Rattle.task_wait.specs.declared.keys.GroupKey.{GroupKey}
@@ -25,7 +25,7 @@ use Rattle.task_wait.specs.declared.keys.ThreadKey.{ThreadKey}
 -- There is room for both and for a result that goes to main, and the group and the callee's instance are there.
 pub record MayAdd
     (a : CoreParts) (id : TableId GroupKey) (of : TaskGroup) (request : Request) (given : List ℕ) (nodes : CallNodes × ThreadNodes) : Type 0 where
-  pub sound : IsSound a
+  pub sound : IsSoundCore a
   pub words : length given ≤ 16
   pub few : (seen a).core.made.threads + 1 < 2 ^ 64
   pub room : fits 3 (seen a).core ≡ true

@@ -1,19 +1,19 @@
 -- A call that is made, and its first thread.
 use Rattle.std.specs.Prelude.{◌≡◌, ◌+◌, None, IsSome, slice_get}
 use Rattle.task_machine.specs.declared.records.Goal.TheVariants as goal
-use Rattle.task_machine.specs.declared.records.HowFar.TheVariants as how_far
+use Rattle.task_machine.specs.declared.records.OpProgress.TheVariants as op_progress
 use Rattle.task_machine.specs.declared.records.Join.TheVariants as join
 use Rattle.task_machine.specs.declared.records.Place.TheVariants as place
-use Rattle.task_records.specs.Image.{HasRoom, Parts}
+use Rattle.task_records.specs.Image.{HasRoom, CoreImage}
 use Rattle.task_records.specs.Names.{AtPlace, caller_target}
-use Rattle.task_records.specs.declared.calls.GuestTask.{GuestTask}
-use Rattle.task_records.specs.declared.threads.GuestThread.{GuestThread}
+use Rattle.task_records.specs.declared.call_records.GuestTask.{GuestTask}
+use Rattle.task_records.specs.declared.thread_records.GuestThread.{GuestThread}
 use Rattle.task_table.specs.Changes.{next_place}
 use Rattle.task_words.specs.Barred.{bars_start}
 
 -- The next number is that of both. The thread stands nowhere yet, and its instance is there, as are who called and
 -- room for a result that goes to main.
-pub record IsStrand (p : Parts) (c : GuestTask) (g : GuestThread) : Type 0 where
+pub record IsStrand (p : CoreImage) (c : GuestTask) (g : GuestThread) : Type 0 where
   pub call_next : c.number ≡ p.made.threads + 1
   pub thread_next : g.number ≡ p.made.threads + 1
   pub first : g.thread.call ≡ c.number
@@ -21,7 +21,7 @@ pub record IsStrand (p : Parts) (c : GuestTask) (g : GuestThread) : Type 0 where
   pub eventless : c.call.event ≡ None
   pub nowhere : c.call.join ≡ join.Nowhere
   pub unplaced : g.thread.place ≡ place.New
-  pub fresh : g.thread.how_far ≡ how_far.Fresh
+  pub fresh : g.thread.op_progress ≡ op_progress.Fresh
   pub task : g.task ≡ next_place p.calls
   pub first_at : c.first ≡ next_place p.threads
   pub instance : g.instance ≡ c.call.callee.instance

@@ -2,16 +2,16 @@
 //! that what was made for nothing hangs on nothing and isn't seen.
 #![tactic(auto)]
 
-mod calls;
-mod entries;
-mod groups;
-mod members;
-mod nodes;
-mod records;
+mod call_makes;
+mod call_entries;
+mod group_makes;
+mod member_makes;
+mod node_makes;
+mod record_makes;
 mod strands;
 mod thread_calls;
 
-pub use calls::make_call_by_main;
-pub use members::make_thread;
+pub use call_makes::make_call_by_main;
+pub use member_makes::make_thread;
 pub use strands::{one_less, one_more};
 pub use thread_calls::{group_of, make_call, make_direct_call};

@@ -1,19 +1,19 @@
 ghost use Rattle.std.specs.Prelude.{◌≡◌, ◌+◌, ◌-◌, ◌<◌, ◌≤◌, ◌^◌, IfOk, None, Ok, OnErr, OnOk, true};
 ghost use Rattle.make_words.specs.Restored.{IsRestored};
-ghost use Rattle.strand_words.specs.Loose.{AreStrandLoose};
+ghost use Rattle.strand_words.specs.LooseCalls.{AreStrandLoose};
 ghost use Rattle.strand_words.specs.Pushed.{PushesStrand};
 ghost use Rattle.strand_words.specs.Strand.{IsStrand};
 ghost use Rattle.task_machine.specs.Read.{fits};
 ghost use Rattle.task_machine.specs.Write.{add_call, add_thread};
 ghost use Rattle.task_records.specs.Keys.{call_key, thread_key};
 ghost use Rattle.task_records.specs.Kinds.{entry_of, item_of};
-ghost use Rattle.task_records.specs.Seen.{IsSound, parts_of, seen};
+ghost use Rattle.task_records.specs.Seen.{IsSoundCore, parts_of, seen};
 ghost use Rattle.task_records.specs.Sound.{bare, bare_call, bare_thread};
-ghost use Rattle.task_table.specs.Answers.{item_at};
+ghost use Rattle.task_table.specs.TableAnswers.{item_at};
 ghost use Rattle.task_table.specs.Changes.{deleted, next_place, with_entry};
 ghost use Rattle.task_table.specs.Records.{number_of};
 ghost use Rattle.task_table.specs.Table.{IsTable, children_of};
-ghost use Rattle.task_words.specs.Becomes.{Becomes};
+ghost use Rattle.task_words.specs.BecomesRecord.{BecomesRecord};
 ghost use Rattle.task_words.specs.StateView.{call_of, thread_of};
 
 use record_table::RecordTable;
@@ -34,7 +34,7 @@ pub fn one_more(
     requires few { group.calls + 1 < 2 ^ 64 }
     ensures { groups.new ≡ with_entry id.rep (entry_of (record group { calls = group.calls + 1 })) groups.old }
 {
-    groups.known_mut(id).calls += 1;
+    groups.get_mut_unchecked(id).calls += 1;
 }
 
 // One call less is of the group: as many as before one more was.
@@ -46,7 +46,7 @@ pub fn one_less(
     requires item { Ok (record group { calls = group.calls + 1 }) ≡ item_at item_of groups.old id.rep id.serial }
     ensures { groups.new ≡ with_entry id.rep (entry_of group) groups.old }
 {
-    *groups.known_mut(id) = group;
+    *groups.get_mut_unchecked(id) = group;
 }
 
 // The record of a thread that was just pushed is gone.
@@ -78,25 +78,25 @@ pub fn drop_call(calls: &mut RecordTable<Single<GuestTask>>, id: CallId)
 // The record of a call, in a group that is there, and that of its first thread. Where memory is
 // wanting, neither is there.
 #[inline(always)]
-pub fn push_strand(
+pub fn push_call_with_thread(
     parts: &mut CoreParts,
     id: TableId<GroupKey>,
     group: TaskGroup,
     call: GuestTask,
     thread: GuestThread,
 ) -> Result<(ThreadId, CallId), NoMemory>
-    requires sound { IsSound parts.old }
+    requires sound { IsSoundCore parts.old }
     requires few { parts.old.made.threads + 1 < 2 ^ 64 }
     requires room { fits 3 (seen parts.old).core ≡ true }
     requires group { Ok group ≡ item_at item_of parts.old.groups id.rep id.serial }
     requires place { call.group ≡ id.rep }
     requires of_group { group.number ≡ call.call.group }
     requires strand { IsStrand (bare (parts_of parts.old)) (bare_call (record call { first = next_place parts.old.threads })) (bare_thread (record thread { task = next_place parts.old.calls })) }
-    requires loose { AreStrandLoose (bare (parts_of parts.old)) (record { ready = call.ready; blocked = call.blocked }) (record { node = thread.node; mark = thread.mark; shelf = thread.shelf; caller = thread.caller; callers = thread.callers; under = thread.under }) }
+    requires loose { AreStrandLoose (bare (parts_of parts.old)) (record { ready = call.ready; blocked = call.blocked }) (record { node = thread.node; mark = thread.mark; instance_queue = thread.instance_queue; caller = thread.caller; callers = thread.callers; under = thread.under }) }
     requires unnamed { thread.thread.handle ≡ None }
     requires interests { call.call.interesting ≡ true }
-    ensures sound { IsSound parts.new }
-    ensures new { OnOk result (Becomes (add_thread thread.thread (add_call call.number call.call (seen parts.old).core)) (seen parts.old) (seen parts.new)) }
+    ensures sound { IsSoundCore parts.new }
+    ensures new { OnOk result (BecomesRecord (add_thread thread.thread (add_call call.number call.call (seen parts.old).core)) (seen parts.old) (seen parts.new)) }
     ensures thread { IfOk result (λ ids. thread_of (seen parts.new) ids.0 ≡ parts.old.made.threads + 1) }
     ensures call { IfOk result (λ ids. call_of (seen parts.new) ids.1 ≡ parts.old.made.threads + 1) }
     ensures pushes { IfOk result (λ ids. PushesStrand parts.old parts.new id group ids.0 ids.1) }
@@ -130,14 +130,14 @@ pub fn push_strand(
 }
 
 // The records of a call and of its first thread that were just pushed are gone.
-pub fn drop_strand(
+pub fn drop_call_with_thread(
     parts: &mut CoreParts,
     id: TableId<GroupKey>,
     group: TaskGroup,
     first: ThreadId,
     task: CallId,
 )
-    requires sound { IsSound parts.old }
+    requires sound { IsSoundCore parts.old }
     requires thread { 0 < thread_of (seen parts.old) first }
     requires call { 0 < call_of (seen parts.old) task }
     requires item { Ok (record group { calls = group.calls + 1 }) ≡ item_at item_of parts.old.groups id.rep id.serial }

@@ -4,15 +4,15 @@ ghost use Rattle.task_machine.specs.Read.{fits, thread_group};
 ghost use Rattle.task_machine.specs.declared.records.Caller.TheVariants as callers;
 ghost use Rattle.task_machine.specs.declared.records.Goal.TheVariants as goals;
 ghost use Rattle.task_records.specs.Kinds.{item_of};
-ghost use Rattle.task_records.specs.Seen.{IsSound, seen};
+ghost use Rattle.task_records.specs.Seen.{IsSoundCore, seen};
 ghost use Rattle.task_rules.specs.Calls.{call_made, next_thread, with_thread_handle};
-ghost use Rattle.task_table.specs.Answers.{item_at};
-ghost use Rattle.task_words.specs.Becomes.{Makes, names_call};
+ghost use Rattle.task_table.specs.TableAnswers.{item_at};
+ghost use Rattle.task_words.specs.BecomesRecord.{MakesRecord, names_call};
 ghost use Rattle.task_words.specs.StateView.{thread_of};
 
-use crate::calls::{add_named_strand, add_strand_apart, prepare, prepare_apart};
-use crate::entries::{Entries, give_strand, take_strand};
-use crate::records::Request;
+use crate::call_makes::{add_named_strand, add_call_with_thread_outlined, prepare, prepare_outlined};
+use crate::call_entries::{Entries, give_strand, take_strand};
+use crate::record_makes::Request;
 use record_words::number;
 use task_machine::{Callee, Caller, ExportKind, Goal, NoMemory};
 use task_records::{CoreParts, TaskGroup};
@@ -22,7 +22,7 @@ use task_words::{CallId, ThreadId};
 
 // The group of a thread's call, and how many calls are of it.
 pub fn group_of(parts: &CoreParts, thread: ThreadId) -> (TableId<GroupKey>, TaskGroup)
-    requires sound { IsSound parts.now }
+    requires sound { IsSoundCore parts.now }
     requires live { 0 < thread_of (seen parts.now) thread }
     ensures item { Ok result.1 ≡ item_at item_of parts.now.groups result.0.rep result.0.serial }
     ensures number { result.1.number ≡ thread_group (thread_of (seen parts.now) thread) (seen parts.now).core }
@@ -30,7 +30,7 @@ pub fn group_of(parts: &CoreParts, thread: ThreadId) -> (TableId<GroupKey>, Task
     let found = task_records::thread_there(parts, thread);
     let call = parts.calls.there::<GuestTaskKey>(found.task);
     let place = call.group;
-    let id = TableId::new(place, parts.groups.serial_there(place));
+    let id = TableId::new(place, parts.groups.serial_unchecked(place));
     (id, *parts.groups.there::<GroupKey>(place))
 }
 
@@ -44,14 +44,14 @@ fn make_call_with(
     words: &[u64],
     entries: Entries,
 ) -> Result<(ThreadId, CallId), NoMemory>
-    requires sound { IsSound parts.old }
+    requires sound { IsSoundCore parts.old }
     requires live { 0 < thread_of (seen parts.old) thread }
     requires there { IsSome (get (seen parts.old).core.instances callee.instance) }
     requires words { length words.now ≤ 16 }
     requires few { (seen parts.old).core.made.threads + 1 < 2 ^ 64 }
     requires room { fits 3 (seen parts.old).core ≡ true }
-    ensures sound { IsSound parts.new }
-    ensures new { Makes (names_call (next_thread (seen parts.old).core)) (call_made (callers.Thread (thread_of (seen parts.old) thread)) callee kind goal (thread_group (thread_of (seen parts.old) thread) (seen parts.old).core) words.now (seen parts.old).core) (seen parts.old) result (seen parts.new) }
+    ensures sound { IsSoundCore parts.new }
+    ensures new { MakesRecord (names_call (next_thread (seen parts.old).core)) (call_made (callers.Thread (thread_of (seen parts.old) thread)) callee kind goal (thread_group (thread_of (seen parts.old) thread) (seen parts.old).core) words.now (seen parts.old).core) (seen parts.old) result (seen parts.new) }
 {
     let request = Request {
         caller: Caller::Thread {
@@ -63,10 +63,10 @@ fn make_call_with(
         goal,
         entries,
     };
-    match prepare_apart(parts, goal) {
+    match prepare_outlined(parts, goal) {
         Ok(nodes) => {
             let (id, group) = group_of(parts, thread);
-            match add_strand_apart(parts, id, group, request, words, nodes) {
+            match add_call_with_thread_outlined(parts, id, group, request, words, nodes) {
                 Ok(ids) => Ok(ids),
                 Err(why) => Err(why),
             }
@@ -77,7 +77,7 @@ fn make_call_with(
 
 /// Makes a call by a thread, in the thread's group, and the call's first thread. Where memory is
 /// wanting, all is as before.
-#[tactic(auto, unfolding(task_records::specs::Seen::seen, task_records::specs::Seen::IsSound))]
+#[tactic(auto, unfolding(task_records::specs::Seen::seen, task_records::specs::Seen::IsSoundCore))]
 pub fn make_call(
     parts: &mut CoreParts,
     thread: ThreadId,
@@ -86,14 +86,14 @@ pub fn make_call(
     goal: Goal,
     words: &[u64],
 ) -> Result<(ThreadId, CallId), NoMemory>
-    requires sound { IsSound parts.old }
+    requires sound { IsSoundCore parts.old }
     requires live { 0 < thread_of (seen parts.old) thread }
     requires there { IsSome (get (seen parts.old).core.instances callee.instance) }
     requires words { length words.now ≤ 16 }
     requires few { (seen parts.old).core.made.threads + 1 < 2 ^ 64 }
     requires room { fits 3 (seen parts.old).core ≡ true }
-    ensures sound { IsSound parts.new }
-    ensures new { Makes (names_call (next_thread (seen parts.old).core)) (call_made (callers.Thread (thread_of (seen parts.old) thread)) callee kind goal (thread_group (thread_of (seen parts.old) thread) (seen parts.old).core) words.now (seen parts.old).core) (seen parts.old) result (seen parts.new) }
+    ensures sound { IsSoundCore parts.new }
+    ensures new { MakesRecord (names_call (next_thread (seen parts.old).core)) (call_made (callers.Thread (thread_of (seen parts.old) thread)) callee kind goal (thread_group (thread_of (seen parts.old) thread) (seen parts.old).core) words.now (seen parts.old).core) (seen parts.old) result (seen parts.new) }
 {
     let entries = take_strand(&mut parts.table_places)?;
     match make_call_with(parts, thread, callee, kind, goal, words, entries) {
@@ -115,15 +115,15 @@ fn make_direct_call_with(
     words: &[u64],
     entries: Entries,
 ) -> Result<(ThreadId, CallId), NoMemory>
-    requires sound { IsSound parts.old }
+    requires sound { IsSoundCore parts.old }
     requires live { 0 < thread_of (seen parts.old) thread }
     requires named { number ≡ thread_of (seen parts.old) thread }
     requires there { IsSome (get (seen parts.old).core.instances callee.instance) }
     requires words { length words.now ≤ 16 }
     requires few { (seen parts.old).core.made.threads + 1 < 2 ^ 64 }
     requires room { fits 3 (seen parts.old).core ≡ true }
-    ensures sound { IsSound parts.new }
-    ensures new { Makes (names_call (next_thread (seen parts.old).core)) (with_thread_handle callee.instance (next_thread (seen parts.old).core) (call_made (callers.Thread (thread_of (seen parts.old) thread)) callee kind goals.Direct (thread_group (thread_of (seen parts.old) thread) (seen parts.old).core) words.now (seen parts.old).core)) (seen parts.old) result (seen parts.new) }
+    ensures sound { IsSoundCore parts.new }
+    ensures new { MakesRecord (names_call (next_thread (seen parts.old).core)) (with_thread_handle callee.instance (next_thread (seen parts.old).core) (call_made (callers.Thread (thread_of (seen parts.old) thread)) callee kind goals.Direct (thread_group (thread_of (seen parts.old) thread) (seen parts.old).core) words.now (seen parts.old).core)) (seen parts.old) result (seen parts.new) }
 {
     let request = Request {
         caller: Caller::Thread { thread: number },
@@ -147,7 +147,7 @@ fn make_direct_call_with(
 
 /// Makes a direct call by a thread, in the thread's group, and gives the call's first thread its
 /// handle. Where memory is wanting, all is as before.
-#[tactic(auto, unfolding(task_records::specs::Seen::seen, task_records::specs::Seen::IsSound))]
+#[tactic(auto, unfolding(task_records::specs::Seen::seen, task_records::specs::Seen::IsSoundCore))]
 pub fn make_direct_call(
     parts: &mut CoreParts,
     thread: ThreadId,
@@ -155,14 +155,14 @@ pub fn make_direct_call(
     kind: ExportKind,
     words: &[u64],
 ) -> Result<(ThreadId, CallId), NoMemory>
-    requires sound { IsSound parts.old }
+    requires sound { IsSoundCore parts.old }
     requires live { 0 < thread_of (seen parts.old) thread }
     requires there { IsSome (get (seen parts.old).core.instances callee.instance) }
     requires words { length words.now ≤ 16 }
     requires few { (seen parts.old).core.made.threads + 1 < 2 ^ 64 }
     requires room { fits 3 (seen parts.old).core ≡ true }
-    ensures sound { IsSound parts.new }
-    ensures new { Makes (names_call (next_thread (seen parts.old).core)) (with_thread_handle callee.instance (next_thread (seen parts.old).core) (call_made (callers.Thread (thread_of (seen parts.old) thread)) callee kind goals.Direct (thread_group (thread_of (seen parts.old) thread) (seen parts.old).core) words.now (seen parts.old).core)) (seen parts.old) result (seen parts.new) }
+    ensures sound { IsSoundCore parts.new }
+    ensures new { MakesRecord (names_call (next_thread (seen parts.old).core)) (with_thread_handle callee.instance (next_thread (seen parts.old).core) (call_made (callers.Thread (thread_of (seen parts.old) thread)) callee kind goals.Direct (thread_group (thread_of (seen parts.old) thread) (seen parts.old).core) words.now (seen parts.old).core)) (seen parts.old) result (seen parts.new) }
 {
     let number = number(parts, thread);
     let entries = take_strand(&mut parts.table_places)?;

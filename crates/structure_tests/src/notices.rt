@@ -1,4 +1,4 @@
-use group_notices::{Asked, tell_at_once, tell_finishes, tell_moves};
+use group_notices::{GroupsBefore, tell_at_once, tell_finishes, tell_moves};
 use std::alloc::Global;
 use std::process::Abort;
 use task_group::{Listeners, NoHook, NoticeKind, Notices};
@@ -41,7 +41,7 @@ fn a_notice_is_told_at_once_where_that_is_all(rt: HostRuntime) {
     assert!(&rt;
         tell_at_once(
             &mut listeners,
-            &Asked {
+            &GroupsBefore {
                 running: 0,
                 worked: None
             },
@@ -52,7 +52,7 @@ fn a_notice_is_told_at_once_where_that_is_all(rt: HostRuntime) {
     assert!(&rt;
         !tell_at_once(
             &mut listeners,
-            &Asked {
+            &GroupsBefore {
                 running: 1,
                 worked: None
             },
@@ -63,7 +63,7 @@ fn a_notice_is_told_at_once_where_that_is_all(rt: HostRuntime) {
     assert!(&rt;
         tell_at_once(
             &mut listeners,
-            &Asked {
+            &GroupsBefore {
                 running: 1,
                 worked: None
             },
@@ -74,7 +74,7 @@ fn a_notice_is_told_at_once_where_that_is_all(rt: HostRuntime) {
     assert!(&rt;
         tell_at_once(
             &mut listeners,
-            &Asked {
+            &GroupsBefore {
                 running: 1,
                 worked: None
             },
@@ -85,7 +85,7 @@ fn a_notice_is_told_at_once_where_that_is_all(rt: HostRuntime) {
     assert!(&rt;
         !tell_at_once(
             &mut listeners,
-            &Asked {
+            &GroupsBefore {
                 running: 0,
                 worked: Some(2)
             },
@@ -95,7 +95,7 @@ fn a_notice_is_told_at_once_where_that_is_all(rt: HostRuntime) {
     assert!(&rt;
         tell_at_once(
             &mut listeners,
-            &Asked {
+            &GroupsBefore {
                 running: 0,
                 worked: Some(2)
             },
@@ -111,7 +111,7 @@ fn steps_are_told(rt: HostRuntime) {
     assert!(&rt;
         tell_moves(
             &mut listeners,
-            &Asked {
+            &GroupsBefore {
                 running: 1,
                 worked: None
             },
@@ -123,7 +123,7 @@ fn steps_are_told(rt: HostRuntime) {
     assert!(&rt;
         tell_moves(
             &mut listeners,
-            &Asked {
+            &GroupsBefore {
                 running: 2,
                 worked: None
             },
@@ -135,7 +135,7 @@ fn steps_are_told(rt: HostRuntime) {
     assert!(&rt;
         tell_moves(
             &mut listeners,
-            &Asked {
+            &GroupsBefore {
                 running: 0,
                 worked: Some(1)
             },

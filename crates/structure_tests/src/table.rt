@@ -315,11 +315,11 @@ fn known_records_are_read_written_and_taken(rt: HostRuntime) {
         panic!(rt; "not there")
     };
     assert!(rt; *table.known(second) == 8);
-    *table.known_mut(second) = 6;
+    *table.get_mut_unchecked(second) = 6;
     let (Ok(7), Ok(6), Some(1)) = (table.get(first), table.get(second), table.serial_at(1)) else {
         panic!(rt; "not written")
     };
-    assert!(rt; table.serial_there(1) == 1);
+    assert!(rt; table.serial_unchecked(1) == 1);
     table.take(first);
     let (Err(ResourceTableError::NotPresent), Some(0)) = (table.get(first), table.next_place())
     else {

@@ -10,7 +10,7 @@ use Rattle.task_machine.proofs.MapLemmas.{get-insert_same}
 use Rattle.task_machine.specs.Core.{Core}
 use Rattle.task_machine.specs.Moves.{behind_one, put_switch}
 use Rattle.task_machine.specs.Read.{may_not_suspend, place_of, thread_group}
-use Rattle.task_machine.specs.Write.{add_call, add_thread, on_instance, on_thread, set_do_not_suspend, set_how_far, set_saved_callee}
+use Rattle.task_machine.specs.Write.{add_call, add_thread, on_instance, on_thread, set_do_not_suspend, set_op_progress, set_saved_callee}
 use Rattle.task_machine.specs.declared.component.Callee.{Callee}
 use Rattle.task_machine.specs.declared.component.ExportKind.{ExportKind}
 use Rattle.task_machine.specs.declared.component.ExportKind.TheVariants as kind
@@ -18,7 +18,7 @@ use Rattle.task_machine.specs.declared.records.Call.{Call}
 use Rattle.task_machine.specs.declared.records.Caller.{Caller}
 use Rattle.task_machine.specs.declared.records.Caller.TheVariants as caller
 use Rattle.task_machine.specs.declared.records.Goal.{Goal}
-use Rattle.task_machine.specs.declared.records.HowFar.TheVariants as how_far
+use Rattle.task_machine.specs.declared.records.OpProgress.TheVariants as op_progress
 use Rattle.task_machine.specs.declared.records.Place.{Place}
 use Rattle.task_machine.specs.declared.records.Place.TheVariants as place
 use Rattle.task_machine.specs.declared.records.Script.TheVariants as script
@@ -108,7 +108,7 @@ cleared_behind n m x j t u v runs new d c =
     let b = stands_on n place.Running (call_clears_flag (thread_of u n) j x) u v c (cleared_stand (thread_of u n) j x u.core a) in
     (own_apart (thread_of v n) place.Running v.core b).behind
 
-pub starts_is : (n m : TableId ThreadKey) (k : TableId GuestTaskKey) (j : ℕ) (x : ExportKind) (t u v y z : StateView) → u ≡ on_core (put_switch (thread_of t m) why.Start) t → v ≡ on_core (call_clears_flag (thread_of u n) j x) u → y ≡ on_core (behind_one (thread_of v m) (thread_of v n)) v → z ≡ on_core (set_how_far (thread_of y n) (how_far.Calls (subtask.Guest (call_of y k)))) y → z ≡ on_core (call_starts (thread_of t n) (thread_of t m) (call_of t k) j x) t
+pub starts_is : (n m : TableId ThreadKey) (k : TableId GuestTaskKey) (j : ℕ) (x : ExportKind) (t u v y z : StateView) → u ≡ on_core (put_switch (thread_of t m) why.Start) t → v ≡ on_core (call_clears_flag (thread_of u n) j x) u → y ≡ on_core (behind_one (thread_of v m) (thread_of v n)) v → z ≡ on_core (set_op_progress (thread_of y n) (op_progress.Calls (subtask.Guest (call_of y k)))) y → z ≡ on_core (call_starts (thread_of t n) (thread_of t m) (call_of t k) j x) t
 starts_is n m k j x t u v y z pu pv py pz = rw (pz, py, pv, pu) refl
 
 module _ (n m : TableId ThreadKey) (f : Caller) (e : Callee) (x : ExportKind) (g : Goal) (group : ℕ) (words : List ℕ) (s t : StateView) (live : 0 < thread_of s n) (keeps : Keeps s.tags t.tags) (st : IsRunning (thread_of s n) s.core) (core : t.core ≡ call_made f e x g group words s.core) where

@@ -13,8 +13,8 @@ use Rattle.task_machine.specs.declared.records.Subtask.{Subtask}
 use Rattle.task_machine.specs.declared.records.Subtask.TheVariants as subtask
 use Rattle.task_machine.specs.declared.records.Work.{Work}
 use Rattle.task_machine.specs.declared.trap.Trap.TheVariants as trap
-use Rattle.task_ops.specs.Came.{Meets}
-use Rattle.task_ops.specs.declared.came.Came.{Came}
+use Rattle.task_ops.specs.OpResult.{Implements}
+use Rattle.task_ops.specs.declared.op_result.OpResult.{OpResult}
 use Rattle.task_rules.proofs.StandLemmas.{by_number}
 use Rattle.task_rules.specs.Finish.{Doer}
 use Rattle.task_rules.specs.Cancels.{Mode, after_cancel_by, aborted_phase, cancel_aborts_host, cancel_by, cancel_ended_by, cancel_found_by, cancel_host_by, cancel_subtask_by}
@@ -79,10 +79,10 @@ named_call i h k q s there is e = go (subtask_at i h s) refl e
 pub there_live : (k : ℕ) (s : Core) → get s.calls 0 ≡ None → is_some (get s.calls k) ≡ true → 0 < k
 there_live k s none h = by_number k 0 (0 < k) (λ e. absurd (subst T (sym (ap (λ (o : Option Call). is_some o) (sym none) ∙ (ap (λ j. is_some (get s.calls j)) (sym e) ∙ h))) tt)) (λ d. grind (arith, d))
 
-pub host_meets : (mode : Mode) (n : ℕ) (r : Doer) (i : ℕ) (s : Core) (c : Came) (u : Core) → was_cancelled i s ≡ false → Meets (after_cancel_by r mode n (subtask.Host i) (cancel_aborts_host i s)) s c u → Meets (cancel_host_by r mode n i s) s c u
+pub host_meets : (mode : Mode) (n : ℕ) (r : Doer) (i : ℕ) (s : Core) (c : OpResult) (u : Core) → was_cancelled i s ≡ false → Implements (after_cancel_by r mode n (subtask.Host i) (cancel_aborts_host i s)) s c u → Implements (cancel_host_by r mode n i s) s c u
 host_meets mode n r i s c u fresh meets =
-    subst (λ (b : Bool). Meets (trap_if b trap.SubtaskCancelAfterTerminal (after_cancel_by r mode n (subtask.Host i) (cancel_aborts_host i s))) s c u) (sym fresh) meets
+    subst (λ (b : Bool). Implements (trap_if b trap.SubtaskCancelAfterTerminal (after_cancel_by r mode n (subtask.Host i) (cancel_aborts_host i s))) s c u) (sym fresh) meets
 
-pub found_meets : (mode : Mode) (n : ℕ) (r : Doer) (q : Subtask) (s : Core) (c : Came) (u : Core) → is_joined (join_of q s) ≡ false → Meets (cancel_subtask_by r mode n s q) s c u → Meets (cancel_found_by r mode n s q) s c u
+pub found_meets : (mode : Mode) (n : ℕ) (r : Doer) (q : Subtask) (s : Core) (c : OpResult) (u : Core) → is_joined (join_of q s) ≡ false → Implements (cancel_subtask_by r mode n s q) s c u → Implements (cancel_found_by r mode n s q) s c u
 found_meets mode n r q s c u apart meets =
-    subst (λ (b : Bool). Meets (trap_if b trap.WaitableSyncAndAsync (cancel_subtask_by r mode n s q)) s c u) (sym apart) meets
+    subst (λ (b : Bool). Implements (trap_if b trap.WaitableSyncAndAsync (cancel_subtask_by r mode n s q)) s c u) (sym apart) meets

@@ -24,11 +24,11 @@ use Rattle.task_machine.specs.declared.records.Subtask.TheVariants as subtask
 use Rattle.task_machine.specs.declared.records.Work.{Work}
 use Rattle.task_machine.specs.declared.trap.Trap.TheVariants as trap
 use Rattle.task_machine.specs.declared.words.Status.{Status}
-use Rattle.task_ops.specs.Came.{Meets}
+use Rattle.task_ops.specs.OpResult.{Implements}
 use Rattle.task_rules.specs.Calls.{settle_group_of, work_deleted, work_group}
 use Rattle.task_rules.specs.Cancels.{drop_by, subtask_settled, unnamed}
 use Rattle.task_rules.specs.Finish.{Doer, NoAnswer, finish}
-use Rattle.task_rules.specs.Progress.{Goes, Progress, trap_if}
+use Rattle.task_rules.specs.Progress.{Continues, Progress, trap_if}
 use Rattle.task_words.specs.Apart.{work_entries}
 use Rattle.task_words.specs.Live.{live_subtask}
 use Rattle.task_words.specs.Names.{subtask_in}
@@ -101,7 +101,7 @@ found_alike d n h s a b like same =
     ∙ ap (λ c. row (join_of b s) (subtask_ended b s) (event_of b s) c) same))
   where
     row : Join → Bool → Option Status → Core → Progress
-    row j o e c = trap_if (is_watched j) trap.WaitableSyncAndAsync (trap_if (not o) trap.SubtaskDropNotResolved (trap_if (is_some e) trap.SubtaskDropNotResolved (Goes (label.Call (call_label.Drop n)) c n)))
+    row j o e c = trap_if (is_watched j) trap.WaitableSyncAndAsync (trap_if (not o) trap.SubtaskDropNotResolved (trap_if (is_some e) trap.SubtaskDropNotResolved (Continues (label.Call (call_label.Drop n)) c n)))
 
 pub drop_kept : (d : Doer) (n h : ℕ) (s : Core) → get s.calls 0 ≡ None → get s.works 0 ≡ None → (sub : Subtask) → drop_by d n h s sub ≡ drop_by d n h s (live_subtask sub s)
 drop_kept d n h s calls works (subtask.Guest k) = go (get s.calls k) refl
@@ -184,14 +184,14 @@ module _ (n : TableId ThreadKey) (id : SubtaskId) (i h : ℕ) (s a b c : StateVi
 
 -- ---- The row
 
-pub drop_meets : (d : Doer) (n h m : ℕ) (q : Subtask) (s u : Core) → m ≡ n → is_watched (join_of q s) ≡ false → subtask_ended q s ≡ true → is_some (event_of q s) ≡ false → u ≡ unnamed n h q s → Meets (drop_by d n h s q) s (goes_as (label.Call (call_label.Drop m)) m) (finish d n NoAnswer u)
+pub drop_meets : (d : Doer) (n h m : ℕ) (q : Subtask) (s u : Core) → m ≡ n → is_watched (join_of q s) ≡ false → subtask_ended q s ≡ true → is_some (event_of q s) ≡ false → u ≡ unnamed n h q s → Implements (drop_by d n h s q) s (goes_as (label.Call (call_label.Drop m)) m) (finish d n NoAnswer u)
 drop_meets d n h m q s u number apart ended quiet core =
-    let done = Goes (label.Call (call_label.Drop n)) (dropped d n h q s) n in
+    let done = Continues (label.Call (call_label.Drop n)) (dropped d n h q s) n in
     let row : drop_by d n h s q ≡ done =
     ap (λ (b : Bool). trap_if b trap.WaitableSyncAndAsync (trap_if (not (subtask_ended q s)) trap.SubtaskDropNotResolved (trap_if (is_some (event_of q s)) trap.SubtaskDropNotResolved done))) apart
     ∙ (ap (λ (b : Bool). trap_if (not b) trap.SubtaskDropNotResolved (trap_if (is_some (event_of q s)) trap.SubtaskDropNotResolved done)) ended
     ∙ ap (λ (b : Bool). trap_if b trap.SubtaskDropNotResolved done) quiet) in
-    subst (λ (p : Progress). Meets p s (goes_as (label.Call (call_label.Drop m)) m) (finish d n NoAnswer u)) (sym row) (ap (λ (k : ℕ). goes_as (label.Call (call_label.Drop k)) k) number, ap (λ (c : Core). finish d n NoAnswer c) core)
+    subst (λ (p : Progress). Implements p s (goes_as (label.Call (call_label.Drop m)) m) (finish d n NoAnswer u)) (sym row) (ap (λ (k : ℕ). goes_as (label.Call (call_label.Drop k)) k) number, ap (λ (c : Core). finish d n NoAnswer c) core)
 
 -- ---- What ids of works name after a drop
 

@@ -17,10 +17,10 @@ use Rattle.task_machine.specs.declared.words.Status.{Status}
 use Rattle.task_moves.specs.Stops.{MayStop}
 use Rattle.task_ops.specs.Ended.{ended}
 use Rattle.task_ops.proofs.RunLemmas.{checked_stands, foot_may_stop}
-use Rattle.task_ops.specs.Came.{Meets}
+use Rattle.task_ops.specs.OpResult.{Implements}
 use Rattle.task_ops.specs.Running.{IsRunning}
-use Rattle.task_ops.specs.declared.came.Came.{Came}
-use Rattle.task_ops.specs.declared.came.Came.TheVariants as came
+use Rattle.task_ops.specs.declared.op_result.OpResult.{OpResult}
+use Rattle.task_ops.specs.declared.op_result.OpResult.TheVariants as op_result
 use Rattle.task_ops.specs.Shown.{goes_as}
 use Rattle.task_rules.specs.Finish.{Doer, OneNumber, finish}
 use Rattle.task_rules.specs.Cancels.{Async, Mode, Sync, after_cancel_by, cancel_by, cancel_ended_by, cancel_label, cancel_stops, cancel_unended_by, pauses}
@@ -42,45 +42,45 @@ same_trap t u e = cc
 
 -- ---- It traps
 
-refused_end_row : (mode : Mode) (n : ℕ) (r : Doer) (sub : Subtask) (s : Core) (o : Option Status) (t : Trap) → refused_end o ≡ Some t → cancel_ended_by r mode n sub s o ≡ Traps t
-refused_end_row mode n r sub s None t e = ap (λ (u : Trap). Traps u) (same_trap _ _ e)
-refused_end_row mode n r sub s (Some o) t e = no_trap (sym e)
+refused_end_rule : (mode : Mode) (n : ℕ) (r : Doer) (sub : Subtask) (s : Core) (o : Option Status) (t : Trap) → refused_end o ≡ Some t → cancel_ended_by r mode n sub s o ≡ Traps t
+refused_end_rule mode n r sub s None t e = ap (λ (u : Trap). Traps u) (same_trap _ _ e)
+refused_end_rule mode n r sub s (Some o) t e = no_trap (sym e)
 
-refused_block_row : (mode : Mode) (n : ℕ) (r : Doer) (sub : Subtask) (s : Core) (t : Trap) → refused_block mode n s ≡ Some t → cancel_unended_by r mode n sub s ≡ Traps t
-refused_block_row Async n r sub s t e = no_trap (sym e)
-refused_block_row Sync n r sub s t e = go (passes_check (instance_of n s) s) e
+refused_block_rule : (mode : Mode) (n : ℕ) (r : Doer) (sub : Subtask) (s : Core) (t : Trap) → refused_block mode n s ≡ Some t → cancel_unended_by r mode n sub s ≡ Traps t
+refused_block_rule Async n r sub s t e = no_trap (sym e)
+refused_block_rule Sync n r sub s t e = go (passes_check (instance_of n s) s) e
   where
     go : (b : Bool) → (if b then None else Some trap.CannotBlockSyncTask) ≡ Some t → trap_if (not b) trap.CannotBlockSyncTask (Stops (pauses n) (cancel_stops n sub s)) ≡ Traps t
     go true d = no_trap (sym d)
     go false d = ap (λ (u : Trap). Traps u) (same_trap _ _ d)
 
-pub refused_row : (mode : Mode) (n : ℕ) (r : Doer) (sub : Subtask) (s : Core) (t : Trap) → refused mode n sub s ≡ Some t → after_cancel_by r mode n sub s ≡ Traps t
+pub refused_rule : (mode : Mode) (n : ℕ) (r : Doer) (sub : Subtask) (s : Core) (t : Trap) → refused mode n sub s ≡ Some t → after_cancel_by r mode n sub s ≡ Traps t
 unfolding refused
-refused_row mode n r sub s t e = go (subtask_ended sub s) e
+refused_rule mode n r sub s t e = go (subtask_ended sub s) e
   where
     go : (b : Bool) → (if b then refused_end (undelivered_end (event_of sub s)) else refused_block mode n s) ≡ Some t → cancel_by r mode n sub s b ≡ Traps t
-    go true d = refused_end_row mode n r sub s (undelivered_end (event_of sub s)) t d
-    go false d = refused_block_row mode n r sub s t d
+    go true d = refused_end_rule mode n r sub s (undelivered_end (event_of sub s)) t d
+    go false d = refused_block_rule mode n r sub s t d
 
 -- ---- It doesn't, so it matters not where it began
 
-let_end : (mode : Mode) (n : ℕ) (r : Doer) (sub : Subtask) (s a b : Core) (o : Option Status) (c : Came) (u : Core) → refused_end o ≡ None → Meets (cancel_ended_by r mode n sub s o) a c u → Meets (cancel_ended_by r mode n sub s o) b c u
+let_end : (mode : Mode) (n : ℕ) (r : Doer) (sub : Subtask) (s a b : Core) (o : Option Status) (c : OpResult) (u : Core) → refused_end o ≡ None → Implements (cancel_ended_by r mode n sub s o) a c u → Implements (cancel_ended_by r mode n sub s o) b c u
 let_end mode n r sub s a b None c u e h = no_trap e
 let_end mode n r sub s a b (Some o) c u e h = h
 
-let_block : (mode : Mode) (n : ℕ) (r : Doer) (sub : Subtask) (s a b : Core) (c : Came) (u : Core) → refused_block mode n s ≡ None → Meets (cancel_unended_by r mode n sub s) a c u → Meets (cancel_unended_by r mode n sub s) b c u
+let_block : (mode : Mode) (n : ℕ) (r : Doer) (sub : Subtask) (s a b : Core) (c : OpResult) (u : Core) → refused_block mode n s ≡ None → Implements (cancel_unended_by r mode n sub s) a c u → Implements (cancel_unended_by r mode n sub s) b c u
 let_block Async n r sub s a b c u e h = h
 let_block Sync n r sub s a b c u e h = go (passes_check (instance_of n s) s) e h
   where
-    go : (y : Bool) → (if y then None else Some trap.CannotBlockSyncTask) ≡ None → Meets (trap_if (not y) trap.CannotBlockSyncTask (Stops (pauses n) (cancel_stops n sub s))) a c u → Meets (trap_if (not y) trap.CannotBlockSyncTask (Stops (pauses n) (cancel_stops n sub s))) b c u
+    go : (y : Bool) → (if y then None else Some trap.CannotBlockSyncTask) ≡ None → Implements (trap_if (not y) trap.CannotBlockSyncTask (Stops (pauses n) (cancel_stops n sub s))) a c u → Implements (trap_if (not y) trap.CannotBlockSyncTask (Stops (pauses n) (cancel_stops n sub s))) b c u
     go true d m = m
     go false d m = no_trap d
 
-pub let_go : (mode : Mode) (n : ℕ) (r : Doer) (sub : Subtask) (s a b : Core) (c : Came) (u : Core) → refused mode n sub s ≡ None → Meets (after_cancel_by r mode n sub s) a c u → Meets (after_cancel_by r mode n sub s) b c u
+pub let_go : (mode : Mode) (n : ℕ) (r : Doer) (sub : Subtask) (s a b : Core) (c : OpResult) (u : Core) → refused mode n sub s ≡ None → Implements (after_cancel_by r mode n sub s) a c u → Implements (after_cancel_by r mode n sub s) b c u
 unfolding refused
 let_go mode n r sub s a b c u e h = go (subtask_ended sub s) e h
   where
-    go : (y : Bool) → (if y then refused_end (undelivered_end (event_of sub s)) else refused_block mode n s) ≡ None → Meets (cancel_by r mode n sub s y) a c u → Meets (cancel_by r mode n sub s y) b c u
+    go : (y : Bool) → (if y then refused_end (undelivered_end (event_of sub s)) else refused_block mode n s) ≡ None → Implements (cancel_by r mode n sub s y) a c u → Implements (cancel_by r mode n sub s y) b c u
     go true d m = let_end mode n r sub s a b (undelivered_end (event_of sub s)) c u d m
     go false d m = let_block mode n r sub s a b c u d m
 
@@ -103,14 +103,14 @@ module _ (mode : Mode) (n : TableId ThreadKey) (r : Doer) (sub : SubtaskId) (f :
   pub refused_on : (o : Option Trap) → refused mode (thread_of s n) (subtask_in s.tags sub) (f s.core) ≡ o → refused mode (thread_of t n) (subtask_in t.tags sub) t.core ≡ o
   refused_on o h = ap (λ (v : StateView). refused mode (thread_of v n) (subtask_in v.tags sub) v.core) e ∙ h
 
-  pub finished : (c : Came) (u : Core) → refused mode (thread_of s n) (subtask_in s.tags sub) (f s.core) ≡ None → Meets (after_cancel_by r mode (thread_of t n) (subtask_in t.tags sub) t.core) t.core c (ended r (thread_of t n) c u) → Meets (after_cancel_by r mode (thread_of s n) (subtask_in s.tags sub) (f s.core)) s.core c (ended r (thread_of s n) c u)
+  pub finished : (c : OpResult) (u : Core) → refused mode (thread_of s n) (subtask_in s.tags sub) (f s.core) ≡ None → Implements (after_cancel_by r mode (thread_of t n) (subtask_in t.tags sub) t.core) t.core c (ended r (thread_of t n) c u) → Implements (after_cancel_by r mode (thread_of s n) (subtask_in s.tags sub) (f s.core)) s.core c (ended r (thread_of s n) c u)
   finished c u may meets =
       let_go mode (thread_of s n) r (subtask_in s.tags sub) (f s.core) (f s.core) s.core c (ended r (thread_of s n) c u) may
-      (subst (λ (v : StateView). Meets (after_cancel_by r mode (thread_of v n) (subtask_in v.tags sub) v.core) v.core c (ended r (thread_of v n) c u)) e meets)
+      (subst (λ (v : StateView). Implements (after_cancel_by r mode (thread_of v n) (subtask_in v.tags sub) v.core) v.core c (ended r (thread_of v n) c u)) e meets)
 
 -- it traps, and nothing has changed
-pub trapped_meets : (mode : Mode) (n : ℕ) (r : Doer) (q : Subtask) (s t : Core) (y : Trap) → refused mode n q t ≡ Some y → Meets (after_cancel_by r mode n q t) s (came.Traps y) s
-trapped_meets mode n r q s t y e = subst (λ (p : Progress). Meets p s (came.Traps y) s) (sym (refused_row mode n r q t y e)) (refl, refl)
+pub trapped_meets : (mode : Mode) (n : ℕ) (r : Doer) (q : Subtask) (s t : Core) (y : Trap) → refused mode n q t ≡ Some y → Implements (after_cancel_by r mode n q t) s (op_result.Traps y) s
+trapped_meets mode n r q s t y e = subst (λ (p : Progress). Implements p s (op_result.Traps y) s) (sym (refused_rule mode n r q t y e)) (refl, refl)
 
 -- ---- It answers
 

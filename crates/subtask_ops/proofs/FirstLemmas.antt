@@ -5,16 +5,16 @@ use Rattle.task_machine.specs.Core.{Core}
 use Rattle.task_machine.specs.declared.component.HostDef.{HostDef}
 use Rattle.task_machine.specs.declared.component.HostDef.TheVariants as host_def
 use Rattle.task_machine.specs.declared.words.HostPoll.{HostPoll}
-use Rattle.task_ops.specs.Came.{Meets}
-use Rattle.task_ops.specs.declared.came.Came.{Came}
+use Rattle.task_ops.specs.OpResult.{Implements}
+use Rattle.task_ops.specs.declared.op_result.OpResult.{OpResult}
 use Rattle.task_rules.specs.Calls.{FirstPoll, first_polled}
 use Rattle.task_rules.specs.Progress.{Progress}
 
-pub met_first : (host : HostDef) (answer : HostPoll) (next : FirstPoll → Progress) (s t : Core) (r : Came) → Meets (next (first_heard host answer)) s r t → Meets (first_polled host next) s r t
+pub met_first : (host : HostDef) (answer : HostPoll) (next : FirstPoll → Progress) (s t : Core) (r : OpResult) → Implements (next (first_heard host answer)) s r t → Implements (first_polled host next) s r t
 met_first (host_def.Settled polls value) answer next s t r h = h
 met_first host_def.Open answer next s t r h = (answer, h)
 
-pub met_ok : {A E : Type 0} (host : HostDef) (answer : HostPoll) (next : FirstPoll → Progress) (s t : Core) (a : Result (Came × A) E) →
-    IfOk a (λ r. Meets (next (first_heard host answer)) s r.0 t) → IfOk a (λ r. Meets (first_polled host next) s r.0 t)
+pub met_ok : {A E : Type 0} (host : HostDef) (answer : HostPoll) (next : FirstPoll → Progress) (s t : Core) (a : Result (OpResult × A) E) →
+    IfOk a (λ r. Implements (next (first_heard host answer)) s r.0 t) → IfOk a (λ r. Implements (first_polled host next) s r.0 t)
 met_ok host answer next s t (Ok r) h = met_first host answer next s t r.0 h
 met_ok host answer next s t (Err e) h = h

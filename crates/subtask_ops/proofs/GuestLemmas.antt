@@ -9,9 +9,9 @@ use Rattle.task_machine.specs.Core.{Core}
 use Rattle.task_machine.specs.Maps.{get}
 use Rattle.task_machine.specs.Moves.{has_entry, less, less_switch, promoted_unless, put_switch, unqueued, withdrawn}
 use Rattle.task_machine.specs.Read.{call_instance, event_of, has_ended, is_at, is_callback_yield, may_not_suspend, place_of, undelivered_end, was_started}
-use Rattle.task_machine.specs.Write.{on_call, on_instance, on_thread, remove_thread, set_do_not_suspend, set_end, set_exited, set_high, set_how_far, set_join, set_low, set_own_event, set_saved_callee, set_switch, set_uninteresting}
+use Rattle.task_machine.specs.Write.{on_call, on_instance, on_thread, remove_thread, set_do_not_suspend, set_end, set_exited, set_high, set_op_progress, set_join, set_low, set_task_event, set_saved_callee, set_switch, set_uninteresting}
 use Rattle.task_machine.specs.declared.records.CallEnd.TheVariants as call_end
-use Rattle.task_machine.specs.declared.records.HowFar.TheVariants as how_far
+use Rattle.task_machine.specs.declared.records.OpProgress.TheVariants as op_progress
 use Rattle.task_machine.specs.declared.records.Join.TheVariants as join
 use Rattle.task_machine.specs.declared.records.Subtask.TheVariants as subtask
 use Rattle.task_machine.specs.declared.records.Place.{Place}
@@ -19,13 +19,13 @@ use Rattle.task_machine.specs.declared.records.Place.TheVariants as place
 use Rattle.task_machine.specs.declared.records.Thread.{Thread}
 use Rattle.task_machine.specs.declared.records.Why.{Why}
 use Rattle.task_machine.specs.declared.words.Mark.{Mark}
-use Rattle.task_machine.specs.declared.words.OwnEvent.TheVariants as own
+use Rattle.task_machine.specs.declared.words.TaskEvent.TheVariants as own
 use Rattle.task_ops.proofs.BesideLemmas.{promoted_unless_stand, put_switch_good}
 use Rattle.task_ops.proofs.RunLemmas.{stands_on}
-use Rattle.task_ops.specs.Came.{Meets}
+use Rattle.task_ops.specs.OpResult.{Implements}
 use Rattle.task_ops.specs.Running.{IsRunning}
-use Rattle.task_ops.specs.declared.came.Came.{Came}
-use Rattle.task_ops.specs.declared.came.Came.TheVariants as came
+use Rattle.task_ops.specs.declared.op_result.OpResult.{OpResult}
+use Rattle.task_ops.specs.declared.op_result.OpResult.TheVariants as op_result
 use Rattle.task_places.proofs.Entries.{unqueued_cleared}
 use Rattle.task_places.proofs.PlaceLaw.{ReadyAt}
 use Rattle.task_rules.proofs.MoveLemmas.{no_time, one_time}
@@ -175,7 +175,7 @@ module _ (n f : TableId ThreadKey) (k : ℕ) (s a b : StateView) (asked : a ≡ 
   asked_switched = running_switched (thread_of a n) a.core asked_runs
 
   first_place : (p : Option Place) → place_of k s.core ≡ p → place_of (thread_of a f) a.core ≡ p
-  unfolding cancel_asks set_own_event on_call
+  unfolding cancel_asks set_task_event on_call
   first_place p at = ap (λ (v : StateView). place_of (thread_of v f) v.core) asked ∙ (ap (λ (j : ℕ). place_of j s.core) first ∙ at)
 
   pub switched_runs : (w : Why) → is_at k s.core is_callback_wait ≡ true → b ≡ on_core (put_switch (thread_of a f) w) a → IsRunning (thread_of b n) b.core
@@ -210,23 +210,23 @@ module _ (n : TableId ThreadKey) (k : TableId GuestTaskKey) (i : ℕ) (b : Bool)
   unfolding set_join on_call set_do_not_suspend on_instance set_saved_callee on_thread
   watched_behind st = subst (λ (v : StateView). IsBehindNobody (thread_of v n) v.core) (sym watched_as) (running_behind (thread_of s n) s.core st)
 
-  pub went_behind : (u v : StateView) → i ≡ call_instance (call_of s k) s.core → b ≡ may_not_suspend i s.core → u ≡ on_core (behind_switch (thread_of t n) t.core.queues.switch) t → v ≡ on_core (set_how_far (thread_of u n) (how_far.Cancels (subtask.Guest (call_of u k)))) u → v ≡ on_core (cancel_goes_behind (thread_of s n) (call_of s k)) s
+  pub went_behind : (u v : StateView) → i ≡ call_instance (call_of s k) s.core → b ≡ may_not_suspend i s.core → u ≡ on_core (behind_switch (thread_of t n) t.core.queues.switch) t → v ≡ on_core (set_op_progress (thread_of u n) (op_progress.Cancels (subtask.Guest (call_of u k)))) u → v ≡ on_core (cancel_goes_behind (thread_of s n) (call_of s k)) s
   unfolding cancel_goes_behind set_join on_call set_do_not_suspend on_instance set_saved_callee on_thread
   went_behind u v at flag stood far =
       let N = thread_of s n in
       let K = call_of s k in
       far
-      ∙ (ap (λ (y : StateView). on_core (set_how_far (thread_of y n) (how_far.Cancels (subtask.Guest (call_of y k)))) y) stood
-      ∙ (ap (λ (y : StateView). on_core (λ c. set_how_far (thread_of y n) (how_far.Cancels (subtask.Guest (call_of y k))) (behind_switch (thread_of y n) y.core.queues.switch c)) y) watched_as
-      ∙ (ap (λ (j : ℕ). with_core (set_how_far N (how_far.Cancels (subtask.Guest K)) (behind_switch N s.core.queues.switch (set_join (subtask.Guest K) (join.Watched N) (set_do_not_suspend j false (set_saved_callee N (Some b) s.core))))) s) at
-      ∙ ap (λ (c : Bool). with_core (set_how_far N (how_far.Cancels (subtask.Guest K)) (behind_switch N s.core.queues.switch (set_join (subtask.Guest K) (join.Watched N) (set_do_not_suspend (call_instance K s.core) false (set_saved_callee N (Some c) s.core))))) s) (flag ∙ ap (λ (j : ℕ). may_not_suspend j s.core) at))))
+      ∙ (ap (λ (y : StateView). on_core (set_op_progress (thread_of y n) (op_progress.Cancels (subtask.Guest (call_of y k)))) y) stood
+      ∙ (ap (λ (y : StateView). on_core (λ c. set_op_progress (thread_of y n) (op_progress.Cancels (subtask.Guest (call_of y k))) (behind_switch (thread_of y n) y.core.queues.switch c)) y) watched_as
+      ∙ (ap (λ (j : ℕ). with_core (set_op_progress N (op_progress.Cancels (subtask.Guest K)) (behind_switch N s.core.queues.switch (set_join (subtask.Guest K) (join.Watched N) (set_do_not_suspend j false (set_saved_callee N (Some b) s.core))))) s) at
+      ∙ ap (λ (c : Bool). with_core (set_op_progress N (op_progress.Cancels (subtask.Guest K)) (behind_switch N s.core.queues.switch (set_join (subtask.Guest K) (join.Watched N) (set_do_not_suspend (call_instance K s.core) false (set_saved_callee N (Some c) s.core))))) s) (flag ∙ ap (λ (j : ℕ). may_not_suspend j s.core) at))))
 
 -- ---- Which case it is
 
 -- it has ended
-pub ended_meets : (mode : Mode) (n : ℕ) (r : Doer) (k : ℕ) (s : Core) (c : Came) (u : Core) → has_ended k s ≡ true → Meets (cancel_ended_by r mode n (subtask.Guest k) s (undelivered_end (event_of (subtask.Guest k) s))) s c u → Meets (cancel_guest_by r mode n k s (cancel_case k s)) s c u
+pub ended_meets : (mode : Mode) (n : ℕ) (r : Doer) (k : ℕ) (s : Core) (c : OpResult) (u : Core) → has_ended k s ≡ true → Implements (cancel_ended_by r mode n (subtask.Guest k) s (undelivered_end (event_of (subtask.Guest k) s))) s c u → Implements (cancel_guest_by r mode n k s (cancel_case k s)) s c u
 ended_meets mode n r k s c u over meets =
-    subst (λ (y : CancelCase). Meets (cancel_guest_by r mode n k s y) s c u)
+    subst (λ (y : CancelCase). Implements (cancel_guest_by r mode n k s y) s c u)
     (sym (ap (λ (b : Bool). if b then AlreadyEnded else (if not (was_started k s) then StartNotRun else (if is_at k s is_callback_wait then CallbackWaits else (if is_at k s is_callback_yield then CallbackYields else OtherwiseRuns)))) over)) meets
 
 module _ (mode : Mode) (n : ℕ) (r : Doer) (k : ℕ) (s : Core) (unended : has_ended k s ≡ false) where
@@ -234,33 +234,33 @@ module _ (mode : Mode) (n : ℕ) (r : Doer) (k : ℕ) (s : Core) (unended : has_
   unended_case = ap (λ (b : Bool). if b then AlreadyEnded else (if not (was_started k s) then StartNotRun else (if is_at k s is_callback_wait then CallbackWaits else (if is_at k s is_callback_yield then CallbackYields else OtherwiseRuns)))) unended
 
   -- the start is withdrawn, and nothing is saved any more
-  pub withdrawn_meets : was_started k s ≡ false → (m : ℕ) (c : Came) (u : Core) → m ≡ n → c ≡ goes_as (cancel_label mode m 3) m → u ≡ set_saved_callee n None (withdrawn k s) → Meets (cancel_guest_by r mode n k s (cancel_case k s)) s c (ended r n c u)
+  pub withdrawn_meets : was_started k s ≡ false → (m : ℕ) (c : OpResult) (u : Core) → m ≡ n → c ≡ goes_as (cancel_label mode m 3) m → u ≡ set_saved_callee n None (withdrawn k s) → Implements (cancel_guest_by r mode n k s (cancel_case k s)) s c (ended r n c u)
   withdrawn_meets fresh m c u number is core =
-      subst (λ (y : CancelCase). Meets (cancel_guest_by r mode n k s y) s c (ended r n c u)) (sym (unended_case ∙ ap (λ (b : Bool). if not b then StartNotRun else (if is_at k s is_callback_wait then CallbackWaits else (if is_at k s is_callback_yield then CallbackYields else OtherwiseRuns))) fresh)) (
+      subst (λ (y : CancelCase). Implements (cancel_guest_by r mode n k s y) s c (ended r n c u)) (sym (unended_case ∙ ap (λ (b : Bool). if not b then StartNotRun else (if is_at k s is_callback_wait then CallbackWaits else (if is_at k s is_callback_yield then CallbackYields else OtherwiseRuns))) fresh)) (
         is ∙ ap (λ (j : ℕ). goes_as (cancel_label mode j 3) j) number,
-        ap (λ (y : Came). ended r n y u) is ∙ (cancel_ends mode r n m 3 u ∙ ap (λ (y : Core). finish r n (OneNumber 3) y) core),
+        ap (λ (y : OpResult). ended r n y u) is ∙ (cancel_ends mode r n m 3 u ∙ ap (λ (y : Core). finish r n (OneNumber 3) y) core),
       )
 
   module _ (started : was_started k s ≡ true) where
     started_case : cancel_case k s ≡ (if is_at k s is_callback_wait then CallbackWaits else (if is_at k s is_callback_yield then CallbackYields else OtherwiseRuns))
     started_case = unended_case ∙ ap (λ (b : Bool). if not b then StartNotRun else (if is_at k s is_callback_wait then CallbackWaits else (if is_at k s is_callback_yield then CallbackYields else OtherwiseRuns))) started
 
-    pub waits_meets : (m : ℕ) (u : Core) → is_at k s is_callback_wait ≡ true → m ≡ n → u ≡ cancel_wakes_callback n k s → Meets (cancel_guest_by r mode n k s (cancel_case k s)) s (came.Stops (pauses m)) u
+    pub waits_meets : (m : ℕ) (u : Core) → is_at k s is_callback_wait ≡ true → m ≡ n → u ≡ cancel_wakes_callback n k s → Implements (cancel_guest_by r mode n k s (cancel_case k s)) s (op_result.Stops (pauses m)) u
     waits_meets m u waits number core =
-        subst (λ (c : CancelCase). Meets (cancel_guest_by r mode n k s c) s (came.Stops (pauses m)) u) (sym (started_case ∙ ap (λ (b : Bool). if b then CallbackWaits else (if is_at k s is_callback_yield then CallbackYields else OtherwiseRuns)) waits))
-        (ap (λ (j : ℕ). came.Stops (pauses j)) number, core)
+        subst (λ (c : CancelCase). Implements (cancel_guest_by r mode n k s c) s (op_result.Stops (pauses m)) u) (sym (started_case ∙ ap (λ (b : Bool). if b then CallbackWaits else (if is_at k s is_callback_yield then CallbackYields else OtherwiseRuns)) waits))
+        (ap (λ (j : ℕ). op_result.Stops (pauses j)) number, core)
 
     module _ (awake : is_at k s is_callback_wait ≡ false) where
       awake_case : cancel_case k s ≡ (if is_at k s is_callback_yield then CallbackYields else OtherwiseRuns)
       awake_case = started_case ∙ ap (λ (b : Bool). if b then CallbackWaits else (if is_at k s is_callback_yield then CallbackYields else OtherwiseRuns)) awake
 
-      pub yields_meets : (m : ℕ) (u : Core) → is_at k s is_callback_yield ≡ true → m ≡ n → u ≡ cancel_promotes_yield n k s → Meets (cancel_guest_by r mode n k s (cancel_case k s)) s (came.Stops (pauses m)) u
+      pub yields_meets : (m : ℕ) (u : Core) → is_at k s is_callback_yield ≡ true → m ≡ n → u ≡ cancel_promotes_yield n k s → Implements (cancel_guest_by r mode n k s (cancel_case k s)) s (op_result.Stops (pauses m)) u
       yields_meets m u yields number core =
-          subst (λ (c : CancelCase). Meets (cancel_guest_by r mode n k s c) s (came.Stops (pauses m)) u) (sym (awake_case ∙ ap (λ (b : Bool). if b then CallbackYields else OtherwiseRuns) yields))
-          (ap (λ (j : ℕ). came.Stops (pauses j)) number, core)
+          subst (λ (c : CancelCase). Implements (cancel_guest_by r mode n k s c) s (op_result.Stops (pauses m)) u) (sym (awake_case ∙ ap (λ (b : Bool). if b then CallbackYields else OtherwiseRuns) yields))
+          (ap (λ (j : ℕ). op_result.Stops (pauses j)) number, core)
 
-      pub runs_meets : (c : Came) (u : Core) → is_at k s is_callback_yield ≡ false → Meets (after_cancel_by r mode n (subtask.Guest k) (cancel_asks k s)) s c u → Meets (cancel_guest_by r mode n k s (cancel_case k s)) s c u
-      runs_meets c u other meets = subst (λ (y : CancelCase). Meets (cancel_guest_by r mode n k s y) s c u) (sym (awake_case ∙ ap (λ (b : Bool). if b then CallbackYields else OtherwiseRuns) other)) meets
+      pub runs_meets : (c : OpResult) (u : Core) → is_at k s is_callback_yield ≡ false → Implements (after_cancel_by r mode n (subtask.Guest k) (cancel_asks k s)) s c u → Implements (cancel_guest_by r mode n k s (cancel_case k s)) s c u
+      runs_meets c u other meets = subst (λ (y : CancelCase). Implements (cancel_guest_by r mode n k s y) s c u) (sym (awake_case ∙ ap (λ (b : Bool). if b then CallbackYields else OtherwiseRuns) other)) meets
 
 pub asks_steady : (k : ℕ) (s : Core) → Steady s (cancel_asks k s)
 unfolding cancel_asks

@@ -15,7 +15,7 @@ use Rattle.task_rules.proofs.WalkMoves.{checked_shifts}
 use Rattle.task_rules.specs.Words.{Stop}
 use Rattle.task_machine.specs.Moves.{checked, first_entry, first_low, group_settled, has_entry, is_group_done, less, promoted, promoted_first, unqueued, why_of}
 use Rattle.task_machine.specs.Read.{course_of, entry_thread, foot_of, instance_of, is_entry_in, is_entry_of, may_not_suspend, thread_group}
-use Rattle.task_machine.specs.Write.{add_work, count_work, give_handle, on_thread, on_work, push_high, remove_group, remove_work, set_high, set_how_far, set_low, set_place, set_subtask_handle, set_switch}
+use Rattle.task_machine.specs.Write.{add_work, count_work, give_handle, on_thread, on_work, push_high, remove_group, remove_work, set_high, set_op_progress, set_low, set_place, set_subtask_handle, set_switch}
 use Rattle.task_machine.specs.declared.component.HostDef.{HostDef}
 use Rattle.task_machine.specs.declared.records.Entry.{Entry}
 use Rattle.task_machine.specs.declared.records.Entry.TheVariants as entry
@@ -23,7 +23,7 @@ use Rattle.task_machine.specs.declared.records.Place.TheVariants as place
 use Rattle.task_machine.specs.declared.records.Subtask.{Subtask}
 use Rattle.task_machine.specs.declared.records.Subtask.TheVariants as subtask
 use Rattle.task_machine.specs.declared.records.Course.TheVariants as course
-use Rattle.task_machine.specs.declared.records.Made.{Made}
+use Rattle.task_machine.specs.declared.records.MadeCounts.{MadeCounts}
 use Rattle.task_machine.specs.declared.records.Work.{Work}
 use Rattle.task_machine.specs.declared.records.WorkCaller.{WorkCaller}
 use Rattle.task_machine.specs.declared.records.WorkCaller.TheVariants as work_caller
@@ -36,7 +36,7 @@ use Rattle.task_rules.proofs.StopLemmas.{Untouched}
 use Rattle.task_machine.specs.Labels.{choice_of}
 use Rattle.task_machine.specs.declared.label.CallLabel.TheVariants as call_label
 use Rattle.task_machine.specs.declared.label.Label.TheVariants as label
-use Rattle.task_ops.specs.Came.{Meets}
+use Rattle.task_ops.specs.OpResult.{Implements}
 use Rattle.task_ops.specs.Shown.{goes_as}
 use Rattle.subtask_ops.specs.Rules.{answers_work}
 use Rattle.task_rules.specs.Calls.{call_stops, call_sync_host_stops, host_with_handle, new_work, next_work, settle_group_of, with_handle, work_deleted, work_group, work_queued, work_value}
@@ -139,11 +139,11 @@ host_pending_is n q host s t core = core
 
 -- ---- What the work that was made goes on with
 
-queued_course : (f : WorkCaller) (host : HostDef) (g : Option ℕ) (t : Core) → course_of (next_work t) (work_queued f host g t) ≡ course.Goes host
+queued_course : (f : WorkCaller) (host : HostDef) (g : Option ℕ) (t : Core) → course_of (next_work t) (work_queued f host g t) ≡ course.Continues host
 unfolding work_queued push_high add_work count_work
 queued_course f host g t = ap (λ (o : Option Work). option_map_or (λ w. w.course) o course.NoValue) (get-insert_same t.works (t.made.works + 1) (new_work f host g))
 
-pending_course : (n q : ℕ) (host : HostDef) (s : Core) → course_of (next_work s) (host_with_handle n q host s) ≡ course.Goes host
+pending_course : (n q : ℕ) (host : HostDef) (s : Core) → course_of (next_work s) (host_with_handle n q host s) ≡ course.Continues host
 unfolding host_with_handle with_handle set_subtask_handle give_handle on_work
 pending_course n q host s =
     let made = work_queued (work_caller.Async n q) host (Some (thread_group n s)) s in
@@ -154,22 +154,22 @@ shifted_works : {s t : Core} → Shifted s t → t.works ≡ s.works
 shifted_works h = sym (ap (λ (c : Core). c.works) h.only)
 
 stops_works : (n : ℕ) (sub : Subtask) (s : Core) → (call_stops n sub s).works ≡ s.works
-unfolding call_stops set_how_far set_place on_thread
+unfolding call_stops set_op_progress set_place on_thread
 stops_works n sub s = shifted_works (placing_shifted (Stop (foot_of n s)) s)
 
-stops_course : (n : ℕ) (host : HostDef) (s : Core) → course_of (next_work s) (call_sync_host_stops n host s) ≡ course.Goes host
+stops_course : (n : ℕ) (host : HostDef) (s : Core) → course_of (next_work s) (call_sync_host_stops n host s) ≡ course.Continues host
 unfolding call_sync_host_stops
 stops_course n host s =
     let t = checked (instance_of n s) s in
     let made = work_queued (work_caller.Sync n) host (Some (thread_group n s)) t in
     ap (λ (m : Records Work). option_map_or (λ w. w.course) (get m (next_work s)) course.NoValue) (stops_works n (subtask.Host (next_work s)) made)
-    ∙ (ap (λ (r : Made). course_of (r.works + 1) made) (sym (shifted_made (shifts_shifted (checked_shifts (instance_of n s) s))))
+    ∙ (ap (λ (r : MadeCounts). course_of (r.works + 1) made) (sym (shifted_made (shifts_shifted (checked_shifts (instance_of n s) s))))
     ∙ queued_course (work_caller.Sync n) host (Some (thread_group n s)) t)
 
-pub goes_on_pending : (id : TableId HostTaskKey) (n q : ℕ) (host : HostDef) (s : Core) (t : StateView) → work_of t id ≡ next_work s → t.core ≡ host_with_handle n q host s → course_of (work_of t id) t.core ≡ course.Goes host
+pub goes_on_pending : (id : TableId HostTaskKey) (n q : ℕ) (host : HostDef) (s : Core) (t : StateView) → work_of t id ≡ next_work s → t.core ≡ host_with_handle n q host s → course_of (work_of t id) t.core ≡ course.Continues host
 goes_on_pending id n q host s t named core = ap₂ (λ (k : ℕ) (c : Core). course_of k c) named core ∙ pending_course n q host s
 
-pub goes_on_stopped : (id : TableId HostTaskKey) (n : ℕ) (host : HostDef) (s : Core) (t : StateView) → work_of t id ≡ next_work s → t.core ≡ call_sync_host_stops n host s → course_of (work_of t id) t.core ≡ course.Goes host
+pub goes_on_stopped : (id : TableId HostTaskKey) (n : ℕ) (host : HostDef) (s : Core) (t : StateView) → work_of t id ≡ next_work s → t.core ≡ call_sync_host_stops n host s → course_of (work_of t id) t.core ≡ course.Continues host
 goes_on_stopped id n host s t named core = ap₂ (λ (k : ℕ) (c : Core). course_of k c) named core ∙ stops_course n host s
 
 pub work_gone : (i : ℕ) (s : Core) → get (work_deleted i s).works i ≡ None
@@ -185,7 +185,7 @@ work_gone i s = by_group (work_group i s)
     by_group (Some g) = settled (is_group_done g (remove_work i s)) g (remove_work i s) (get-remove_same s.works i)
 
 -- the answer of a call whose work is gone
-pub work_answers : (n : TableId ThreadKey) (d : Doer) (i m v : ℕ) (s t : StateView) → m ≡ thread_of s n → v ≡ work_value i s.core → t.core ≡ work_deleted i s.core → Meets (answers_work i d (thread_of s n) (choice_of (label.Call (call_label.CallSync m v))) s.core) s.core (goes_as (label.Call (call_label.CallSync m v)) m) (finish d (thread_of s n) (OneNumber v) t.core)
+pub work_answers : (n : TableId ThreadKey) (d : Doer) (i m v : ℕ) (s t : StateView) → m ≡ thread_of s n → v ≡ work_value i s.core → t.core ≡ work_deleted i s.core → Implements (answers_work i d (thread_of s n) (choice_of (label.Call (call_label.CallSync m v))) s.core) s.core (goes_as (label.Call (call_label.CallSync m v)) m) (finish d (thread_of s n) (OneNumber v) t.core)
 work_answers n d i m v s t number value core = (
   ap₂ (λ (k w : ℕ). goes_as (label.Call (call_label.CallSync k w)) k) number value,
   ap₂ (λ (w : ℕ) (c : Core). finish d (thread_of s n) (OneNumber w) c) value core,

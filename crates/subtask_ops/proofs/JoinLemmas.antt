@@ -20,13 +20,13 @@ use Rattle.task_machine.specs.declared.trap.Trap.TheVariants as trap
 use Rattle.task_machine.specs.declared.words.Status.{Status}
 use Rattle.task_moves.specs.Idle.{AreIdleUnqueued}
 use Rattle.task_ops.specs.Ended.{ended}
-use Rattle.task_ops.specs.Came.{Meets}
+use Rattle.task_ops.specs.OpResult.{Implements}
 use Rattle.task_ops.specs.Running.{IsRunning}
 use Rattle.task_rules.proofs.MoveLemmas.{no_time}
 use Rattle.task_rules.proofs.StandLemmas.{by_number}
 use Rattle.task_rules.specs.Finish.{Doer, NoAnswer, finish}
 use Rattle.task_rules.specs.Places.{HasPlace, is_at_high, is_at_low, says}
-use Rattle.task_rules.specs.Progress.{Goes, Progress, may, or_trap, trap_if}
+use Rattle.task_rules.specs.Progress.{Continues, Progress, may, or_trap, trap_if}
 use Rattle.task_rules.specs.Sets.{join_done_by, join_to_by, joins, may_wake_new, moved_over, wakes_joined}
 use Rattle.task_words.specs.Apart.{IsUnqueued}
 use Rattle.task_words.specs.Live.{live_subtask}
@@ -38,7 +38,7 @@ use Rattle.subtask_ops.proofs.SteadyLemmas.{join_steady, still_runs}
 use Rattle.subtask_ops.proofs.SubtaskLemmas.{Alike, kept_alike}
 use Rattle.task_ops.specs.Shown.{goes_as}
 use Rattle.task_ops.specs.Steps.{label_of}
-use Rattle.task_ops.specs.declared.came.Came.{Came}
+use Rattle.task_ops.specs.declared.op_result.OpResult.{OpResult}
 
 -- ---- Who waits or is blocked has no entry
 
@@ -77,7 +77,7 @@ unfolding moved_over
 done_alike d n a b w s x like = ap (λ j. row j (event_of a s) (set_join a (joins x) s)) like.join ∙ (ap (λ e. row (join_of b s) e (set_join a (joins x) s)) like.event ∙ ap (λ c. row (join_of b s) (event_of b s) c) (like.joined (joins x)))
   where
     row : Join → Option Status → Core → Progress
-    row j e c = trap_if (is_watched j) trap.WaitableSyncAndAsync (may (may_wake_new e x w s) (Goes (join_label n w) (finish d n NoAnswer (wakes_joined e x w c)) n))
+    row j e c = trap_if (is_watched j) trap.WaitableSyncAndAsync (may (may_wake_new e x w s) (Continues (join_label n w) (finish d n NoAnswer (wakes_joined e x w c)) n))
 
 to_alike : (d : Doer) (n y : ℕ) (w : Option ℕ) (s : Core) (a b : Subtask) → Alike a b s → join_to_by d n y w s a ≡ join_to_by d n y w s b
 to_alike d n zero w s a b like = done_alike d n a b w s None like
@@ -120,21 +120,21 @@ module _ (n : TableId ThreadKey) (q : Subtask) (e : Option Status) (x w : Option
   pub joined_idle : IsRunning (thread_of s n) s.core → AreIdleUnqueued t.core
   joined_idle st = running_idle (thread_of t n) t.core (still_runs n (set_join q (joins x)) s t joined_is (join_steady q (joins x) s.core) st)
 
-  done_is : (g : Doer) → is_watched (join_of q s.core) ≡ false → e ≡ event_of q s.core → may_wake_new e x w t.core ≡ true → join_done_by g (thread_of s n) q w s.core x ≡ Goes (join_label (thread_of s n) w) (finish g (thread_of s n) NoAnswer (moved_over q x w s.core)) (thread_of s n)
+  done_is : (g : Doer) → is_watched (join_of q s.core) ≡ false → e ≡ event_of q s.core → may_wake_new e x w t.core ≡ true → join_done_by g (thread_of s n) q w s.core x ≡ Continues (join_label (thread_of s n) w) (finish g (thread_of s n) NoAnswer (moved_over q x w s.core)) (thread_of s n)
   done_is g apart event may_w =
       let N = thread_of s n in
       let choice : may_wake_new (event_of q s.core) x w s.core ≡ true = ap (λ o. may_wake_new o x w s.core) (sym event) ∙ (sym (wakes_kept e x w q (joins x) s.core) ∙ (ap (λ (v : StateView). may_wake_new e x w v.core) (sym joined_is) ∙ may_w)) in
-      ap (λ b. trap_if b trap.WaitableSyncAndAsync (may (may_wake_new (event_of q s.core) x w s.core) (Goes (join_label N w) (finish g N NoAnswer (moved_over q x w s.core)) N))) apart
-      ∙ ap (λ b. may b (Goes (join_label N w) (finish g N NoAnswer (moved_over q x w s.core)) N)) choice
+      ap (λ b. trap_if b trap.WaitableSyncAndAsync (may (may_wake_new (event_of q s.core) x w s.core) (Continues (join_label N w) (finish g N NoAnswer (moved_over q x w s.core)) N))) apart
+      ∙ ap (λ b. may b (Continues (join_label N w) (finish g N NoAnswer (moved_over q x w s.core)) N)) choice
 
-  pub join_meets : (g : Doer) (m : ℕ) → m ≡ thread_of s n → is_watched (join_of q s.core) ≡ false → e ≡ event_of q s.core → may_wake_new e x w t.core ≡ true → u ≡ on_core (wakes_joined e x w) t → Meets (join_done_by g (thread_of s n) q (choice_of (join_label m w)).woken s.core x) s.core (goes_as (join_label m w) m) (ended g (thread_of s n) (goes_as (join_label m w) m) u.core)
+  pub join_meets : (g : Doer) (m : ℕ) → m ≡ thread_of s n → is_watched (join_of q s.core) ≡ false → e ≡ event_of q s.core → may_wake_new e x w t.core ≡ true → u ≡ on_core (wakes_joined e x w) t → Implements (join_done_by g (thread_of s n) q (choice_of (join_label m w)).woken s.core x) s.core (goes_as (join_label m w) m) (ended g (thread_of s n) (goes_as (join_label m w) m) u.core)
   unfolding moved_over
   join_meets g m number apart event may_w d =
       let N = thread_of s n in
       let core = ap (λ (y : StateView). finish g N NoAnswer y.core) d ∙ (ap (λ (y : StateView). finish g N NoAnswer (wakes_joined e x w y.core)) joined_is ∙ ap (λ o. finish g N NoAnswer (wakes_joined o x w (set_join q (joins x) s.core))) event) in
-      subst (λ (j : ℕ). Meets (join_done_by g N q (choice_of (join_label j w)).woken s.core x) s.core (goes_as (join_label j w) j) (ended g N (goes_as (join_label j w) j) u.core)) (sym number)
-      (subst (λ (o : Option ℕ). Meets (join_done_by g N q o s.core x) s.core (goes_as (join_label N w) N) (ended g N (goes_as (join_label N w) N) u.core)) (sym (woken_shown N w))
-      (subst (λ (p : Progress). Meets p s.core (goes_as (join_label N w) N) (ended g N (goes_as (join_label N w) N) u.core)) (sym (done_is g apart event may_w)) (refl, nothing_shown g N w u.core ∙ core)))
+      subst (λ (j : ℕ). Implements (join_done_by g N q (choice_of (join_label j w)).woken s.core x) s.core (goes_as (join_label j w) j) (ended g N (goes_as (join_label j w) j) u.core)) (sym number)
+      (subst (λ (o : Option ℕ). Implements (join_done_by g N q o s.core x) s.core (goes_as (join_label N w) N) (ended g N (goes_as (join_label N w) N) u.core)) (sym (woken_shown N w))
+      (subst (λ (p : Progress). Implements p s.core (goes_as (join_label N w) N) (ended g N (goes_as (join_label N w) N) u.core)) (sym (done_is g apart event may_w)) (refl, nothing_shown g N w u.core ∙ core)))
 
 -- ---- The steps of a join
 
@@ -152,14 +152,14 @@ module _ (n : TableId ThreadKey) (sub : SubtaskId) (set : Option (TableId SetKey
     woken_as : u ≡ on_core (wakes_joined e (option_map (λ id. set_of s id) set) (option_map (λ id. thread_of t id) waiter)) t
     woken_as = woken ∙ ap (λ (g : Tags). on_core (wakes_joined e (option_map (λ id. set_number g id) set) (option_map (λ id. thread_of t id) waiter)) t) same_tags
 
-    pub set_joined_meets : (h : Doer) (m : ℕ) (r : Came) (o : Option ℕ) → m ≡ thread_of s n → r ≡ goes_as (join_label m o) m → o ≡ option_map (λ id. thread_of t id) waiter → is_watched (join_of (subtask_in s.tags sub) s.core) ≡ false → e ≡ event_of (subtask_in s.tags sub) s.core → may_wake_new e (option_map (λ id. set_of t id) set) (option_map (λ id. thread_of t id) waiter) t.core ≡ true → Meets (join_done_by h (thread_of s n) (subtask_in s.tags sub) (choice_of (label_of (thread_of s n) r)).woken s.core (option_map (λ id. set_of s id) set)) s.core r (ended h (thread_of s n) r u.core)
+    pub set_joined_meets : (h : Doer) (m : ℕ) (r : OpResult) (o : Option ℕ) → m ≡ thread_of s n → r ≡ goes_as (join_label m o) m → o ≡ option_map (λ id. thread_of t id) waiter → is_watched (join_of (subtask_in s.tags sub) s.core) ≡ false → e ≡ event_of (subtask_in s.tags sub) s.core → may_wake_new e (option_map (λ id. set_of t id) set) (option_map (λ id. thread_of t id) waiter) t.core ≡ true → Implements (join_done_by h (thread_of s n) (subtask_in s.tags sub) (choice_of (label_of (thread_of s n) r)).woken s.core (option_map (λ id. set_of s id) set)) s.core r (ended h (thread_of s n) r u.core)
     set_joined_meets h m r o number shown chosen apart event may_w =
         let N = thread_of s n in
         let q = subtask_in s.tags sub in
         let x = option_map (λ id. set_of s id) set in
         let w = option_map (λ id. thread_of t id) waiter in
         let choice : may_wake_new e x w t.core ≡ true = ap (λ (g : Tags). may_wake_new e (option_map (λ id. set_number g id) set) w t.core) (sym same_tags) ∙ may_w in
-        subst (λ (y : Came). Meets (join_done_by h N q (choice_of (label_of N y)).woken s.core x) s.core y (ended h N y u.core)) (sym (shown ∙ ap (λ (k : Option ℕ). goes_as (join_label m k) m) chosen))
+        subst (λ (y : OpResult). Implements (join_done_by h N q (choice_of (label_of N y)).woken s.core x) s.core y (ended h N y u.core)) (sym (shown ∙ ap (λ (k : Option ℕ). goes_as (join_label m k) m) chosen))
         (join_meets n q e x w s t u joined_as h m number apart event choice woken_as)
 
 pub to_zero : (d : Doer) (n y : ℕ) (w : Option ℕ) (s : Core) (q : Subtask) → y ≡ 0 → join_to_by d n y w s q ≡ join_done_by d n q w s None

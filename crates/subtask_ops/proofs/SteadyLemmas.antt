@@ -9,7 +9,7 @@ use Rattle.task_machine.specs.Core.{Core, Queues}
 use Rattle.task_machine.specs.Maps.{Records, get}
 use Rattle.task_machine.specs.Moves.{first_entry, first_low, passes_check}
 use Rattle.task_machine.specs.Read.{call_instance, entry_thread, event_of, first_in, instance_of, is_entry_in, is_stage_ended, no_callee, subtask_ended, task_of}
-use Rattle.task_machine.specs.Write.{on_call, on_thread, on_work, set_cancelled, set_join, set_own_event, set_phase, set_saved_callee}
+use Rattle.task_machine.specs.Write.{on_call, on_thread, on_work, set_cancelled, set_join, set_task_event, set_phase, set_saved_callee}
 use Rattle.task_machine.specs.declared.component.Callee.{Callee}
 use Rattle.task_machine.specs.declared.records.Call.{Call}
 use Rattle.task_machine.specs.declared.records.Entry.{Entry}
@@ -22,7 +22,7 @@ use Rattle.task_machine.specs.declared.records.Subtask.{Subtask}
 use Rattle.task_machine.specs.declared.records.Subtask.TheVariants as subtask
 use Rattle.task_machine.specs.declared.records.Thread.{Thread}
 use Rattle.task_machine.specs.declared.records.Work.{Work}
-use Rattle.task_machine.specs.declared.words.OwnEvent.{OwnEvent}
+use Rattle.task_machine.specs.declared.words.TaskEvent.{TaskEvent}
 use Rattle.task_machine.specs.declared.words.Phase.{Phase}
 use Rattle.task_moves.proofs.TellLemmas.{map_or_is}
 use Rattle.task_ops.proofs.BesideLemmas.{quiet_stand}
@@ -133,9 +133,9 @@ pub saved_steady : (n : ℕ) (b : Option Bool) (s : Core) → Steady s (set_save
 unfolding set_saved_callee
 saved_steady n b s = thread_steady n (λ t. record t { saved_callee = b }) s (λ t. refl) (λ t. refl)
 
-pub asked_steady : (k : ℕ) (e : Option OwnEvent) (s : Core) → Steady s (set_own_event k e s)
-unfolding set_own_event
-asked_steady k e s = call_steady k (λ c. record c { own_event = e }) s (λ c. refl) (λ c. refl) (λ c. refl)
+pub asked_steady : (k : ℕ) (e : Option TaskEvent) (s : Core) → Steady s (set_task_event k e s)
+unfolding set_task_event
+asked_steady k e s = call_steady k (λ c. record c { task_event = e }) s (λ c. refl) (λ c. refl) (λ c. refl)
 
 pub phase_steady : (i : ℕ) (p : Phase) (s : Core) → Steady s (set_phase i p s)
 unfolding set_phase

@@ -15,8 +15,8 @@ use Rattle.task_machine.specs.declared.records.Subtask.{Subtask}
 use Rattle.task_machine.specs.declared.records.Subtask.TheVariants as subtask
 use Rattle.task_machine.specs.declared.records.Work.{Work}
 use Rattle.task_machine.specs.declared.trap.Trap.TheVariants as trap
-use Rattle.task_ops.specs.Came.{Meets}
-use Rattle.task_ops.specs.declared.came.Came.{Came}
+use Rattle.task_ops.specs.OpResult.{Implements}
+use Rattle.task_ops.specs.declared.op_result.OpResult.{OpResult}
 use Rattle.task_rules.specs.Progress.{Progress, or_trap}
 use Rattle.task_words.specs.Live.{kept_in, live_subtask}
 
@@ -85,6 +85,6 @@ at_kept i h q s row e same = go (subtask_at i h s) refl e
     go (Some sub) at d = same sub at ∙ ap row (same_some q (live_subtask sub s) d)
 
 -- the row in the words of what contracts see
-pub named_meets : (n i h : ℕ) (q : Subtask) (row : Subtask → Progress) (s t : Core) (r : Came) → i ≡ instance_of n s → Some q ≡ option_map (λ sub. live_subtask sub s) (subtask_at i h s) → ((sub : Subtask) → subtask_at i h s ≡ Some sub → row sub ≡ row (live_subtask sub s)) → Meets (row q) s r t → Meets (or_trap (subtask_at (instance_of n s) h s) trap.BadHandle row) s r t
+pub named_meets : (n i h : ℕ) (q : Subtask) (row : Subtask → Progress) (s t : Core) (r : OpResult) → i ≡ instance_of n s → Some q ≡ option_map (λ sub. live_subtask sub s) (subtask_at i h s) → ((sub : Subtask) → subtask_at i h s ≡ Some sub → row sub ≡ row (live_subtask sub s)) → Implements (row q) s r t → Implements (or_trap (subtask_at (instance_of n s) h s) trap.BadHandle row) s r t
 named_meets n i h q row s t r at named same meets =
-    subst (λ (j : ℕ). Meets (or_trap (subtask_at j h s) trap.BadHandle row) s r t) at (subst (λ (p : Progress). Meets p s r t) (sym (at_kept i h q s row named same)) meets)
+    subst (λ (j : ℕ). Implements (or_trap (subtask_at j h s) trap.BadHandle row) s r t) at (subst (λ (p : Progress). Implements p s r t) (sym (at_kept i h q s row named same)) meets)

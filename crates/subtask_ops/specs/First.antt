@@ -1,6 +1,6 @@
 -- What the first poll of a host finds.
-use Rattle.subtask_ops.specs.declared.hosts.First.{First}
-use Rattle.subtask_ops.specs.declared.hosts.First.TheVariants as first
+use Rattle.subtask_ops.specs.declared.host_ops.First.{First}
+use Rattle.subtask_ops.specs.declared.host_ops.First.TheVariants as first
 use Rattle.task_machine.specs.declared.component.HostDef.{HostDef}
 use Rattle.task_machine.specs.declared.component.HostDef.TheVariants as host_def
 use Rattle.task_machine.specs.declared.words.HostPoll.{HostPoll}

@@ -3,25 +3,25 @@ use Rattle.std.specs.Prelude.{None, Option, Some, option_map, ℕ, ◌≡◌}
 use Rattle.task_machine.specs.Core.{Core}
 use Rattle.task_machine.specs.Read.{course_of}
 use Rattle.task_machine.specs.declared.records.Course.TheVariants as course
-use Rattle.task_ops.specs.declared.came.Came.{Came}
-use Rattle.task_ops.specs.declared.came.Came.TheVariants as came
+use Rattle.task_ops.specs.declared.op_result.OpResult.{OpResult}
+use Rattle.task_ops.specs.declared.op_result.OpResult.TheVariants as op_result
 use Rattle.task_rules.specs.Calls.{FirstPoll, Later, next_work}
 use Rattle.task_table.specs.declared.id.TableId.{TableId}
 use Rattle.task_wait.specs.declared.keys.HostTaskKey.{HostTaskKey}
 use Rattle.task_words.specs.StateView.{StateView, work_of}
 
 -- the next one, where the host pends and the call hasn't trapped
-abbrev pub queued_work : FirstPoll → Came → Core → Option ℕ
-queued_work (Later host) (came.Goes l n said) s = Some (next_work s)
-queued_work (Later host) (came.Stops l) s = Some (next_work s)
+abbrev pub queued_work : FirstPoll → OpResult → Core → Option ℕ
+queued_work (Later host) (op_result.Continues l n said) s = Some (next_work s)
+queued_work (Later host) (op_result.Stops l) s = Some (next_work s)
 queued_work _ _ s = None
 
 -- it goes on with what its first poll has left of the host
 abbrev pub GoesOnWith : FirstPoll → Option (TableId HostTaskKey) → StateView → Type 0
-GoesOnWith (Later left) (Some id) s = course_of (work_of s id) s.core ≡ course.Goes left
+GoesOnWith (Later left) (Some id) s = course_of (work_of s id) s.core ≡ course.Continues left
 GoesOnWith _ _ s = Unit {0}
 
 -- The id of the work that was made is named beside what the call came to, and the work goes on so.
-pub record NamesQueued (p : FirstPoll) (s : StateView) (r : Came × Option (TableId HostTaskKey)) (t : StateView) : Type 0 where
+pub record NamesQueued (p : FirstPoll) (s : StateView) (r : OpResult × Option (TableId HostTaskKey)) (t : StateView) : Type 0 where
   pub work : option_map (λ id. work_of t id) r.1 ≡ queued_work p r.0 s.core
   pub goes_on : GoesOnWith p r.1 t

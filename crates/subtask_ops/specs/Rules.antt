@@ -9,15 +9,15 @@ use Rattle.task_machine.specs.declared.label.CallLabel.TheVariants as call_label
 use Rattle.task_machine.specs.declared.label.Label.TheVariants as label
 use Rattle.task_machine.specs.declared.records.Goal.{Goal}
 use Rattle.task_machine.specs.declared.records.Goal.TheVariants as goal
-use Rattle.task_machine.specs.declared.records.HowFar.{HowFar}
+use Rattle.task_machine.specs.declared.records.OpProgress.{OpProgress}
 use Rattle.task_machine.specs.declared.records.Subtask.{Subtask}
 use Rattle.task_machine.specs.declared.records.Subtask.TheVariants as subtask
 use Rattle.task_machine.specs.declared.trap.Trap.TheVariants as trap
 use Rattle.task_ops.specs.Does.{Rule}
-use Rattle.task_rules.specs.Calls.{FirstPoll, call_host_by, call_let_go, call_queues, call_status_by, call_sync_host_by, call_sync_status_by, call_taken, call_with_handle, enter_row, next_thread, status_found, work_deleted, work_value}
+use Rattle.task_rules.specs.Calls.{FirstPoll, call_host_by, call_let_go, call_queues, call_status_by, call_sync_host_by, call_sync_status_by, call_taken, call_with_handle, enter_rule, next_thread, status_found, work_deleted, work_value}
 use Rattle.task_rules.specs.Cancels.{Mode, after_cancel_by, cancel_asks, cancel_case, cancel_ended_by, cancel_guest_by, cancel_host_by, cancel_rule}
 use Rattle.task_rules.specs.Finish.{OneNumber, finish}
-use Rattle.task_rules.specs.Progress.{Goes, Stops, trap_if}
+use Rattle.task_rules.specs.Progress.{Continues, Stops, trap_if}
 use Rattle.task_rules.specs.Sets.{join_done_by}
 use Rattle.task_table.specs.declared.id.TableId.{TableId}
 use Rattle.task_wait.specs.declared.keys.SetKey.{SetKey}
@@ -35,7 +35,7 @@ queues_call x g e words d n ch s =
 
 -- a direct one
 abbrev pub enters_call : ExportKind → Callee → (words : List ℕ) → Rule
-enters_call x e words d n ch s = enter_row n e x words s
+enters_call x e words d n ch s = enter_rule n e x words s
 
 -- `call_sync R F X*` as it begins, by whether the export is async-lifted
 abbrev pub begins_call : (async_lifted : Bool) → ExportKind → Callee → (words : List ℕ) → Rule
@@ -44,7 +44,7 @@ begins_call false x e words d n ch s = enters_call x e words d n ch s
 
 -- `call_sync R F X*`, once its direct callee has answered this
 abbrev pub answers_value : (value : ℕ) → Rule
-answers_value v d n ch s = Goes (label.Call (call_label.CallSync n v)) (finish d n (OneNumber v) s) n
+answers_value v d n ch s = Continues (label.Call (call_label.CallSync n v)) (finish d n (OneNumber v) s) n
 
 -- `call R Q F X*` and `call_sync R F X*` of the call k, by the status that is found
 abbrev pub goes_on_with : (call : ℕ) → Rule
@@ -73,16 +73,16 @@ calls_sync_host p d n ch s = call_sync_host_by d n s p
 -- `call_sync R H`, once the work that it was blocked on has ended
 abbrev pub answers_work : (work : ℕ) → Rule
 answers_work i d n ch s =
-    Goes (label.Call (call_label.CallSync n (work_value i s))) (finish d n (OneNumber (work_value i s)) (work_deleted i s)) n
+    Continues (label.Call (call_label.CallSync n (work_value i s))) (finish d n (OneNumber (work_value i s)) (work_deleted i s)) n
 
 -- ---- Cancels
 
 -- a cancel of what the handle names, that has come so far
-abbrev pub cancels_from : Mode → HowFar → (handle : ℕ) → Rule
+abbrev pub cancels_from : Mode → OpProgress → (handle : ℕ) → Rule
 cancels_from mode f h d n ch s = cancel_rule d mode n h s f
 
 -- the same of one that is resumed inside, whatever its handle names by then
-abbrev pub goes_on_from : Mode → HowFar → Rule
+abbrev pub goes_on_from : Mode → OpProgress → Rule
 goes_on_from mode f d n ch s = cancel_rule d mode n 0 s f
 
 abbrev pub cancels_guest : Mode → (call : ℕ) → Rule

@@ -2,9 +2,9 @@
 use Rattle.std.specs.Prelude.{[], ℕ, ◌∷◌}
 use Rattle.task_machine.specs.Core.{Core}
 use Rattle.task_machine.specs.Moves.{behind, put_switch}
-use Rattle.task_machine.specs.Write.{set_how_far}
+use Rattle.task_machine.specs.Write.{set_op_progress}
 use Rattle.task_machine.specs.declared.component.ExportKind.{ExportKind}
-use Rattle.task_machine.specs.declared.records.HowFar.TheVariants as how_far
+use Rattle.task_machine.specs.declared.records.OpProgress.TheVariants as op_progress
 use Rattle.task_machine.specs.declared.records.Subtask.TheVariants as subtask
 use Rattle.task_machine.specs.declared.records.Why.TheVariants as why
 use Rattle.task_rules.specs.Calls.{call_clears_flag}
@@ -12,4 +12,4 @@ use Rattle.task_rules.specs.Calls.{call_clears_flag}
 -- The start of m, the first thread of the call k of an export of this instance and kind, becomes the switch entry, and n goes behind it.
 abbrev pub call_starts : (n m k j : ℕ) → ExportKind → Core → Core
 call_starts n m k j x s =
-    set_how_far n (how_far.Calls (subtask.Guest k)) (behind m (n ∷ []) (call_clears_flag n j x (put_switch m why.Start s)))
+    set_op_progress n (op_progress.Calls (subtask.Guest k)) (behind m (n ∷ []) (call_clears_flag n j x (put_switch m why.Start s)))

@@ -7,10 +7,10 @@ ghost use Rattle.task_ops.specs.Running.{IsRunning};
 ghost use Rattle.task_rules.specs.Cancels.{aborted_phase, cancel_aborts_host};
 ghost use Rattle.task_words.specs.StateView.{on_core, thread_of, work_of};
 
-use crate::ends::{finish_cancel, refusal};
+use crate::end_ops::{finish_cancel, refusal};
 use task_machine::{Phase, Trap};
-use task_ops::Came;
-use task_words::{SubtaskId, ThreadId, Words, WorkId};
+use task_ops::OpResult;
+use task_words::{SubtaskId, ThreadId, Primitives, WorkId};
 
 // An abort is asked for; a work that is aborted or complete stays as it is.
 fn aborted_phase(phase: Phase) -> Phase
@@ -24,7 +24,7 @@ fn aborted_phase(phase: Phase) -> Phase
 
 // The work is marked cancelled; one that runs is aborted.
 #[tactic(auto, unfolding(task_rules::specs::Cancels::cancel_aborts_host))]
-fn abort<W: Words>(w: &mut W, work: WorkId)
+fn abort<W: Primitives>(w: &mut W, work: WorkId)
     ensures { W.view w.new ≡ on_core (cancel_aborts_host (work_of (W.view w.old) work)) (W.view w.old) }
 {
     let phase = aborted_phase(w.phase(work));
@@ -33,17 +33,17 @@ fn abort<W: Words>(w: &mut W, work: WorkId)
 }
 
 // A cancel of a host call.
-pub(crate) fn cancel_host<W: Words>(w: &mut W, thread: ThreadId, sync: bool, work: WorkId) -> Came
+pub(crate) fn cancel_host<W: Primitives>(w: &mut W, thread: ThreadId, sync: bool, work: WorkId) -> OpResult
     requires live { 0 < thread_of (W.view w.old) thread }
     requires running { IsRunning (thread_of (W.view w.old) thread) (W.view w.old).core }
     ensures does { DoesRule SameNames (cancels_host (mode_of sync) (work_of (W.view w.old) work)) thread (W.view w.old) result (W.view w.new) }
 {
     if w.was_cancelled(work) {
-        return Came::Traps(Trap::SubtaskCancelAfterTerminal);
+        return OpResult::Traps(Trap::SubtaskCancelAfterTerminal);
     }
     let subtask = SubtaskId::Host(work);
     if let Some(trap) = refusal(w, thread, sync, subtask) {
-        return Came::Traps(trap);
+        return OpResult::Traps(trap);
     }
     abort(w, work);
     finish_cancel(w, thread, sync, subtask)

@@ -5,42 +5,42 @@ ghost use Rattle.subtask_ops.specs.Refused.{mode_of};
 ghost use Rattle.subtask_ops.specs.Rules.{cancels_from};
 ghost use Rattle.task_laws.specs.Order.{StartsAwaited, StartsThere};
 ghost use Rattle.task_machine.specs.Read.{is_joined, join_of};
-ghost use Rattle.task_machine.specs.declared.records.HowFar.TheVariants as how_fars;
+ghost use Rattle.task_machine.specs.declared.records.OpProgress.TheVariants as op_progresses;
 ghost use Rattle.task_ops.specs.Does.{DoesRule, KeepsRest};
 ghost use Rattle.task_ops.specs.Running.{IsRunning};
 ghost use Rattle.task_words.specs.Names.{subtask_in};
 ghost use Rattle.task_words.specs.StateView.{thread_of};
 
 use crate::aborts::cancel_host;
-use crate::guests::cancel_guest;
+use crate::guest_ops::cancel_guest;
 use task_machine::Trap;
-use task_ops::Came;
-use task_words::{JoinId, SubtaskId, ThreadId, Words};
+use task_ops::OpResult;
+use task_words::{JoinId, SubtaskId, ThreadId, Primitives};
 
 // Whether the subtask stands in any set.
-fn is_joined<W: Words>(w: &W, subtask: SubtaskId) -> bool
+fn is_joined<W: Primitives>(w: &W, subtask: SubtaskId) -> bool
     ensures { result ≡ is_joined (join_of (subtask_in (W.view w.now).tags subtask) (W.view w.now).core) }
 {
     !matches!(w.join(subtask), JoinId::Nowhere)
 }
 
 /// `cancel R X`, and `cancel_sync R X`, as they begin
-pub fn cancel<W: Words>(w: &mut W, thread: ThreadId, handle: u64, sync: bool) -> Came
+pub fn cancel<W: Primitives>(w: &mut W, thread: ThreadId, handle: u64, sync: bool) -> OpResult
     requires live { 0 < thread_of (W.view w.old) thread }
     requires running { IsRunning (thread_of (W.view w.old) thread) (W.view w.old).core }
     requires calls { NamedCallsThere (W.view w.old).core }
     requires starts { StartsAwaited (W.view w.old).core }
     requires waiting { StartsThere (W.view w.old).core }
-    ensures does { DoesRule KeepsRest (cancels_from (mode_of sync) how_fars.Fresh handle) thread (W.view w.old) result (W.view w.new) }
+    ensures does { DoesRule KeepsRest (cancels_from (mode_of sync) op_progresses.Fresh handle) thread (W.view w.old) result (W.view w.new) }
     ensures thread { thread_of (W.view w.new) thread ≡ thread_of (W.view w.old) thread }
 {
     w.none_is_zero();
     let instance = w.instance_of(thread);
     let Some(subtask) = w.subtask_at(instance, handle) else {
-        return Came::Traps(Trap::BadHandle);
+        return OpResult::Traps(Trap::BadHandle);
     };
     if is_joined(w, subtask) {
-        return Came::Traps(Trap::WaitableSyncAndAsync);
+        return OpResult::Traps(Trap::WaitableSyncAndAsync);
     }
     match subtask {
         SubtaskId::Guest(call) => cancel_guest(w, thread, sync, call),

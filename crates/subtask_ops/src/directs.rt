@@ -4,19 +4,19 @@ ghost use Rattle.subtask_ops.specs.Rules.{answers_value, begins_call, enters_cal
 ghost use Rattle.task_machine.specs.Maps.{get};
 ghost use Rattle.task_machine.specs.Read.{at_handle_limit, fits, is_async_lifted};
 ghost use Rattle.task_machine.specs.declared.records.Goal.TheVariants as goals;
-ghost use Rattle.task_ops.specs.Came.{IsCurrent};
+ghost use Rattle.task_ops.specs.OpResult.{IsCurrent};
 ghost use Rattle.task_ops.specs.Does.{DoesRule, KeepsTags, SameNames};
 ghost use Rattle.task_ops.specs.Running.{IsRunning};
 ghost use Rattle.task_rules.specs.Calls.{enter_runs, next_thread, sync_sets_flag};
 ghost use Rattle.task_words.specs.StateView.{Keeps, on_core, thread_of};
 
-use crate::calls::begin_call;
+use crate::call_ops::begin_call;
 use task_machine::{CallLabel, Callee, ExportKind, Goal, Label, Trap};
-use task_ops::{Came, OpAnswer};
-use task_words::{NoMemory, ThreadId, Words};
+use task_ops::{OpResult, OpAnswer};
+use task_words::{NoMemory, ThreadId, Primitives};
 
 // The flag of the callee's instance is saved and set.
-fn set_flag<W: Words>(w: &mut W, thread: ThreadId, instance: u32, kind: ExportKind)
+fn set_flag<W: Primitives>(w: &mut W, thread: ThreadId, instance: u32, kind: ExportKind)
     ensures { W.view w.new ≡ on_core (sync_sets_flag (thread_of (W.view w.old) thread) instance kind) (W.view w.old) }
 {
     if matches!(kind, ExportKind::Sync) {
@@ -27,7 +27,7 @@ fn set_flag<W: Words>(w: &mut W, thread: ThreadId, instance: u32, kind: ExportKi
 }
 
 // The call is made, and its thread, which is answered with its number, runs on top of the calling one.
-fn run_on_top<W: Words>(
+fn run_on_top<W: Primitives>(
     w: &mut W,
     thread: ThreadId,
     callee: Callee,
@@ -47,9 +47,9 @@ fn run_on_top<W: Words>(
     ensures err { OnErr result (W.view w.new ≡ W.view w.old) }
 {
     let (other, call) = w.make_direct_call(thread, callee, kind, words)?;
-    w.set_started_there(call);
+    w.set_started_unchecked(call);
     set_flag(w, other, callee.instance, kind);
-    let to = w.number_there(other);
+    let to = w.number_unchecked(other);
     w.run_first(other);
     w.stand_under(thread, other, call);
     Ok((other, to))
@@ -57,31 +57,31 @@ fn run_on_top<W: Words>(
 
 /// `call_sync R F X*` of a sync or blocking export, as it begins: the callee's thread is current from
 /// then on. Where memory is wanting, all is as before.
-pub fn enter<W: Words>(
+pub fn enter<W: Primitives>(
     w: &mut W,
     thread: ThreadId,
     callee: Callee,
     kind: ExportKind,
     words: &[u64],
-) -> Result<Came, NoMemory>
+) -> Result<OpResult, NoMemory>
     requires live { 0 < thread_of (W.view w.old) thread }
     requires there { IsSome (get (W.view w.old).core.instances callee.instance) }
     requires words { length words.now ≤ 16 }
     requires few { (W.view w.old).core.made.threads + 1 < 2 ^ 64 }
-    ensures does { IfOk result (λ came. DoesRule KeepsTags (enters_call kind callee words.now) thread (W.view w.old) came (W.view w.new)) }
-    ensures current { IfOk result (λ came. IsCurrent came (W.view w.new)) }
+    ensures does { IfOk result (λ op_result. DoesRule KeepsTags (enters_call kind callee words.now) thread (W.view w.old) op_result (W.view w.new)) }
+    ensures current { IfOk result (λ op_result. IsCurrent op_result (W.view w.new)) }
     ensures err { OnErr result (W.view w.new ≡ W.view w.old) }
 {
     if !w.fits(3) {
-        return Ok(Came::Traps(Trap::TableFull));
+        return Ok(OpResult::Traps(Trap::TableFull));
     }
     if w.at_handle_limit() {
-        return Ok(Came::Traps(Trap::HandleLimit));
+        return Ok(OpResult::Traps(Trap::HandleLimit));
     }
     let number = w.number(thread);
     let (other, to) = run_on_top(w, thread, callee, kind, words)?;
     w.set_current(Some(other));
-    Ok(Came::Goes(
+    Ok(OpResult::Continues(
         Label::Call(CallLabel::Enters(number, to)),
         to,
         OpAnswer::Entered(to),
@@ -91,43 +91,43 @@ pub fn enter<W: Words>(
 // `call_sync R F X*` of a stackful or callback export, as it begins. It is apart, as what `begin_call` answers stands in
 // memory.
 #[inline(always)]
-fn begin_queued<W: Words>(
+fn begin_queued<W: Primitives>(
     w: &mut W,
     thread: ThreadId,
     callee: Callee,
     kind: ExportKind,
     words: &[u64],
-) -> Result<Came, NoMemory>
+) -> Result<OpResult, NoMemory>
     requires live { 0 < thread_of (W.view w.old) thread }
     requires running { IsRunning (thread_of (W.view w.old) thread) (W.view w.old).core }
     requires there { IsSome (get (W.view w.old).core.instances callee.instance) }
     requires words { length words.now ≤ 16 }
     requires few { (W.view w.old).core.made.threads + 1 < 2 ^ 64 }
-    ensures does { IfOk result (λ came. DoesRule KeepsTags (queues_call kind goals.Answer callee words.now) thread (W.view w.old) came (W.view w.new)) }
-    ensures current { IfOk result (λ came. IsCurrent came (W.view w.new)) }
+    ensures does { IfOk result (λ op_result. DoesRule KeepsTags (queues_call kind goals.Answer callee words.now) thread (W.view w.old) op_result (W.view w.new)) }
+    ensures current { IfOk result (λ op_result. IsCurrent op_result (W.view w.new)) }
     ensures err { OnErr result (W.view w.new ≡ W.view w.old) }
 {
     match begin_call(w, thread, callee, kind, Goal::Answer, words) {
-        Ok(came) => Ok(came),
+        Ok(op_result) => Ok(op_result),
         Err(why) => Err(why),
     }
 }
 
 /// `call_sync R F X*`, as it begins. Where memory is wanting, all is as before.
-pub fn begin_call_sync<W: Words>(
+pub fn begin_call_sync<W: Primitives>(
     w: &mut W,
     thread: ThreadId,
     callee: Callee,
     kind: ExportKind,
     words: &[u64],
-) -> Result<Came, NoMemory>
+) -> Result<OpResult, NoMemory>
     requires live { 0 < thread_of (W.view w.old) thread }
     requires running { IsRunning (thread_of (W.view w.old) thread) (W.view w.old).core }
     requires there { IsSome (get (W.view w.old).core.instances callee.instance) }
     requires words { length words.now ≤ 16 }
     requires few { (W.view w.old).core.made.threads + 1 < 2 ^ 64 }
-    ensures does { IfOk result (λ came. DoesRule KeepsTags (begins_call (is_async_lifted kind) kind callee words.now) thread (W.view w.old) came (W.view w.new)) }
-    ensures current { IfOk result (λ came. IsCurrent came (W.view w.new)) }
+    ensures does { IfOk result (λ op_result. DoesRule KeepsTags (begins_call (is_async_lifted kind) kind callee words.now) thread (W.view w.old) op_result (W.view w.new)) }
+    ensures current { IfOk result (λ op_result. IsCurrent op_result (W.view w.new)) }
     ensures err { OnErr result (W.view w.new ≡ W.view w.old) }
 {
     match kind {
@@ -139,11 +139,11 @@ pub fn begin_call_sync<W: Words>(
 }
 
 /// `call_sync R F X*`, once its direct callee has answered.
-pub fn answer_call<W: Words>(w: &W, thread: ThreadId, value: u64) -> Came
+pub fn answer_call<W: Primitives>(w: &W, thread: ThreadId, value: u64) -> OpResult
     ensures does { DoesRule SameNames (answers_value value) thread (W.view w.now) result (W.view w.now) }
 {
     let number = w.number(thread);
-    Came::Goes(
+    OpResult::Continues(
         Label::Call(CallLabel::CallSync(number, value)),
         number,
         OpAnswer::Value(value),

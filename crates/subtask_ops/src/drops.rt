@@ -8,18 +8,18 @@ ghost use Rattle.task_ops.specs.Does.{DoesRule};
 ghost use Rattle.task_rules.specs.Cancels.{drop_rule, subtask_settled, unnamed};
 ghost use Rattle.task_words.specs.Apart.{work_entries};
 ghost use Rattle.task_words.specs.Names.{subtask_in};
-ghost use Rattle.task_words.specs.Becomes.{BecomesBut};
+ghost use Rattle.task_words.specs.BecomesRecord.{BecomesBut};
 ghost use Rattle.task_words.specs.StateView.{KeepsBut, thread_of, work_of};
 ghost use Rattle.task_ops.specs.Works.{NamesTold};
 
 use crate::joins::is_watched;
 use task_machine::{CallLabel, Label, Trap};
 use task_moves::settle_call;
-use task_ops::{Came, OpAnswer};
-use task_words::{JoinId, SubtaskId, ThreadId, Words, WorkId};
+use task_ops::{OpResult, OpAnswer};
+use task_words::{JoinId, SubtaskId, ThreadId, Primitives, WorkId};
 
 // A work is gone, if it is there.
-fn delete_work<W: Words>(w: &mut W, work: WorkId)
+fn delete_work<W: Primitives>(w: &mut W, work: WorkId)
     requires unqueued { work_entries (work_of (W.view w.old) work) (W.view w.old).core.queues.high ≡ 0 }
     ensures { BecomesBut (lost_subtask (subtasks.Host (work_of (W.view w.old) work))) (subtask_settled (subtasks.Host (work_of (W.view w.old) work)) (W.view w.old).core) (W.view w.old) (W.view w.new) }
 {
@@ -30,7 +30,7 @@ fn delete_work<W: Words>(w: &mut W, work: WorkId)
 }
 
 // What has no handle any more is gone, if nothing else keeps it.
-fn settle<W: Words>(w: &mut W, subtask: SubtaskId)
+fn settle<W: Primitives>(w: &mut W, subtask: SubtaskId)
     requires live { (k : ℕ) → subtask_in (W.view w.old).tags subtask ≡ subtasks.Guest k → 0 < k }
     requires unqueued { (i : ℕ) → subtask_in (W.view w.old).tags subtask ≡ subtasks.Host i → work_entries i (W.view w.old).core.queues.high ≡ 0 }
     ensures { BecomesBut (lost_subtask (subtask_in (W.view w.old).tags subtask)) (subtask_settled (subtask_in (W.view w.old).tags subtask) (W.view w.old).core) (W.view w.old) (W.view w.new) }
@@ -43,7 +43,7 @@ fn settle<W: Words>(w: &mut W, subtask: SubtaskId)
 
 // An ended subtask leaves its set, and its handle is gone.
 #[tactic(auto, unfolding(task_rules::specs::Cancels::unnamed))]
-fn part<W: Words>(w: &mut W, thread: ThreadId, handle: u32, subtask: SubtaskId)
+fn part<W: Primitives>(w: &mut W, thread: ThreadId, handle: u32, subtask: SubtaskId)
     requires live { 0 < thread_of (W.view w.old) thread }
     requires names { IsSome (subtask_at (instance_of (thread_of (W.view w.old) thread) (W.view w.old).core) handle (W.view w.old).core) }
     requires ended { subtask_ended (subtask_in (W.view w.old).tags subtask) (W.view w.old).core ≡ true }
@@ -62,7 +62,7 @@ fn part<W: Words>(w: &mut W, thread: ThreadId, handle: u32, subtask: SubtaskId)
 }
 
 /// `drop X`
-pub fn drop_subtask<W: Words>(w: &mut W, thread: ThreadId, handle: u64) -> Came
+pub fn drop_subtask<W: Primitives>(w: &mut W, thread: ThreadId, handle: u64) -> OpResult
     requires live { 0 < thread_of (W.view w.old) thread }
     requires works { WorksQueued (W.view w.old).core }
     ensures does { DoesRule NamesTold (λ d n ch s. drop_rule d n handle s) thread (W.view w.old) result (W.view w.new) }
@@ -73,19 +73,19 @@ pub fn drop_subtask<W: Words>(w: &mut W, thread: ThreadId, handle: u64) -> Came
     let number = w.number(thread);
     let instance = w.instance_of(thread);
     let Some(subtask) = w.subtask_at(instance, handle) else {
-        return Came::Traps(Trap::BadHandle);
+        return OpResult::Traps(Trap::BadHandle);
     };
     if is_watched(w, subtask) {
-        return Came::Traps(Trap::WaitableSyncAndAsync);
+        return OpResult::Traps(Trap::WaitableSyncAndAsync);
     }
     if !w.has_ended(subtask) {
-        return Came::Traps(Trap::SubtaskDropNotResolved);
+        return OpResult::Traps(Trap::SubtaskDropNotResolved);
     }
     if w.event(subtask).is_some() {
-        return Came::Traps(Trap::SubtaskDropNotResolved);
+        return OpResult::Traps(Trap::SubtaskDropNotResolved);
     }
     part(w, thread, handle as u32, subtask);
-    Came::Goes(
+    OpResult::Continues(
         Label::Call(CallLabel::Drop(number)),
         number,
         OpAnswer::Nothing,

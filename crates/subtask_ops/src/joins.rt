@@ -13,18 +13,18 @@ ghost use Rattle.task_words.specs.StateView.{on_core, set_of, thread_of};
 
 use task_machine::{Label, SetLabel, Status, Trap};
 use task_moves::wake;
-use task_ops::{Came, OpAnswer, set_named};
-use task_words::{JoinId, SetId, SubtaskId, ThreadId, Words};
+use task_ops::{OpResult, OpAnswer, set_named};
+use task_words::{JoinId, SetId, SubtaskId, ThreadId, Primitives};
 
 // Whether the subtask stands in a thread's own set.
-pub(crate) fn is_watched<W: Words>(w: &W, subtask: SubtaskId) -> bool
+pub(crate) fn is_watched<W: Primitives>(w: &W, subtask: SubtaskId) -> bool
     ensures { result ≡ is_watched (join_of (subtask_in (W.view w.now).tags subtask) (W.view w.now).core) }
 {
     matches!(w.join(subtask), JoinId::Watched(_))
 }
 
 // A waiter of the new set is woken, where the subtask has an event.
-fn wake_joined<W: Words>(w: &mut W, event: Option<Status>, set: Option<SetId>) -> Option<ThreadId>
+fn wake_joined<W: Primitives>(w: &mut W, event: Option<Status>, set: Option<SetId>) -> Option<ThreadId>
     requires live { IfSome set (λ id. 0 < set_of (W.view w.old) id) }
     requires idle { AreIdleUnqueued (W.view w.old).core }
     ensures choice { may_wake_new event (option_map (λ id. set_of (W.view w.old) id) set) (option_map (λ id. thread_of (W.view w.old) id) result) (W.view w.old).core ≡ true }
@@ -37,7 +37,7 @@ fn wake_joined<W: Words>(w: &mut W, event: Option<Status>, set: Option<SetId>) -
 }
 
 // The set as a join, or none.
-fn joins<W: Words>(w: &W, set: Option<SetId>) -> JoinId
+fn joins<W: Primitives>(w: &W, set: Option<SetId>) -> JoinId
     ensures { join_in (W.view w.now).tags result ≡ joins (option_map (λ id. set_of (W.view w.now) id) set) }
 {
     let _w = w;
@@ -48,16 +48,16 @@ fn joins<W: Words>(w: &W, set: Option<SetId>) -> JoinId
 }
 
 // The join is done, and this thread was woken.
-fn joined(thread: u64, woken: Option<u64>) -> Came
+fn joined(thread: u64, woken: Option<u64>) -> OpResult
     ensures { result ≡ goes_as (join_label thread woken) thread }
 {
     match woken {
-        None => Came::Goes(
+        None => OpResult::Continues(
             Label::Set(SetLabel::Join(thread)),
             thread,
             OpAnswer::Nothing,
         ),
-        Some(woken) => Came::Goes(
+        Some(woken) => OpResult::Continues(
             Label::Set(SetLabel::JoinWakes(thread, woken)),
             thread,
             OpAnswer::Nothing,
@@ -68,13 +68,13 @@ fn joined(thread: u64, woken: Option<u64>) -> Came
 // The subtask leaves its set and joins the other one, if there is one.
 #[tactic(auto, unfolding(task_rules::specs::Sets::moved_over))]
 #[inline(always)]
-fn join_set<W: Words>(w: &mut W, thread: ThreadId, subtask: SubtaskId, set: Option<SetId>) -> Came
+fn join_set<W: Primitives>(w: &mut W, thread: ThreadId, subtask: SubtaskId, set: Option<SetId>) -> OpResult
     requires live { IfSome set (λ id. 0 < set_of (W.view w.old) id) }
     requires running { IsRunning (thread_of (W.view w.old) thread) (W.view w.old).core }
     ensures does { DoesRule SameNames (joins_of (W.view w.old) subtask set) thread (W.view w.old) result (W.view w.new) }
 {
     if is_watched(w, subtask) {
-        return Came::Traps(Trap::WaitableSyncAndAsync);
+        return OpResult::Traps(Trap::WaitableSyncAndAsync);
     }
     let number = w.number(thread);
     let event = w.event(subtask);
@@ -88,7 +88,7 @@ fn join_set<W: Words>(w: &mut W, thread: ThreadId, subtask: SubtaskId, set: Opti
 }
 
 /// `join X Y`
-pub fn join<W: Words>(w: &mut W, thread: ThreadId, handle: u64, set: u64) -> Came
+pub fn join<W: Primitives>(w: &mut W, thread: ThreadId, handle: u64, set: u64) -> OpResult
     requires running { IsRunning (thread_of (W.view w.old) thread) (W.view w.old).core }
     requires sets { SetsThere (W.view w.old).core }
     ensures does { DoesRule SameNames (λ d n ch s. join_rule d n handle set ch.woken s) thread (W.view w.old) result (W.view w.new) }
@@ -96,13 +96,13 @@ pub fn join<W: Words>(w: &mut W, thread: ThreadId, handle: u64, set: u64) -> Cam
     w.none_is_zero();
     let instance = w.instance_of(thread);
     let Some(subtask) = w.subtask_at(instance, handle) else {
-        return Came::Traps(Trap::BadHandle);
+        return OpResult::Traps(Trap::BadHandle);
     };
     if set == 0 {
         return join_set(w, thread, subtask, None);
     }
     let Some(set) = set_named(w, instance, set) else {
-        return Came::Traps(Trap::BadHandle);
+        return OpResult::Traps(Trap::BadHandle);
     };
     join_set(w, thread, subtask, Some(set))
 }

@@ -3,13 +3,13 @@
 #![tactic(auto)]
 
 mod aborts;
-mod calls;
+mod call_ops;
 mod cancels;
 mod directs;
 mod drops;
-mod ends;
-mod guests;
-mod hosts;
+mod end_ops;
+mod guest_ops;
+mod host_ops;
 mod joins;
 mod operands;
 mod resumes;
@@ -17,11 +17,11 @@ mod returns;
 mod takes;
 mod withdrawals;
 
-pub use calls::{begin_call, start_made};
+pub use call_ops::{begin_call, start_made};
 pub use cancels::cancel;
 pub use directs::{answer_call, begin_call_sync, enter};
 pub use drops::drop_subtask;
-pub use hosts::{call_host, call_sync_host, go_on_calling_host};
+pub use host_ops::{call_host, call_sync_host, go_on_calling_host};
 pub use joins::join;
 pub use operands::read_operands;
 pub use resumes::{go_on_awaiting, go_on_cancelling};

@@ -3,7 +3,7 @@ ghost use Rattle.std.specs.Prelude.{◌≡◌, ◌<◌};
 ghost use Rattle.subtask_ops.specs.Refused.{mode_of, refused};
 ghost use Rattle.subtask_ops.specs.Rules.{goes_on_from};
 ghost use Rattle.task_machine.specs.Read.{saved_callee_of};
-ghost use Rattle.task_machine.specs.declared.records.HowFar.TheVariants as how_fars;
+ghost use Rattle.task_machine.specs.declared.records.OpProgress.TheVariants as op_progresses;
 ghost use Rattle.task_ops.specs.Does.{DoesRule, SameNames};
 ghost use Rattle.task_ops.specs.Running.{IsRunning};
 ghost use Rattle.task_rules.specs.Calls.{put_back};
@@ -11,13 +11,13 @@ ghost use Rattle.task_rules.specs.Cancels.{cancel_resumed, subtask_instance};
 ghost use Rattle.task_words.specs.Names.{subtask_in};
 ghost use Rattle.task_words.specs.StateView.{on_core, thread_of};
 
-use crate::ends::{answer_end, finish_cancel, refusal, undelivered_end};
+use crate::end_ops::{answer_end, finish_cancel, refusal, undelivered_end};
 use task_machine::Trap;
-use task_ops::Came;
-use task_words::{JoinId, SubtaskId, ThreadId, Words};
+use task_ops::OpResult;
+use task_words::{JoinId, SubtaskId, ThreadId, Primitives};
 
 // The instance of the callee; that of a host call is of no account.
-fn subtask_instance<W: Words>(w: &W, subtask: SubtaskId) -> u32
+fn subtask_instance<W: Primitives>(w: &W, subtask: SubtaskId) -> u32
     ensures { result ≡ subtask_instance (subtask_in (W.view w.now).tags subtask) (W.view w.now).core }
 {
     match subtask {
@@ -27,7 +27,7 @@ fn subtask_instance<W: Words>(w: &W, subtask: SubtaskId) -> u32
 }
 
 // A saved flag is written back.
-pub(crate) fn put_back<W: Words>(w: &mut W, saved: Option<bool>, instance: u32)
+pub(crate) fn put_back<W: Primitives>(w: &mut W, saved: Option<bool>, instance: u32)
     ensures { W.view w.new ≡ on_core (put_back saved instance) (W.view w.old) }
 {
     if let Some(flag) = saved {
@@ -36,7 +36,7 @@ pub(crate) fn put_back<W: Words>(w: &mut W, saved: Option<bool>, instance: u32)
 }
 
 // Why what follows would trap, once the saved flag is written back.
-fn refusal_after<W: Words>(
+fn refusal_after<W: Primitives>(
     w: &mut W,
     thread: ThreadId,
     sync: bool,
@@ -56,7 +56,7 @@ fn refusal_after<W: Words>(
 
 // The saved flag is written back, and the subtask leaves its set.
 #[tactic(auto, unfolding(task_rules::specs::Cancels::cancel_resumed))]
-fn resume_canceller<W: Words>(w: &mut W, thread: ThreadId, subtask: SubtaskId)
+fn resume_canceller<W: Primitives>(w: &mut W, thread: ThreadId, subtask: SubtaskId)
     ensures { W.view w.new ≡ on_core (cancel_resumed (thread_of (W.view w.old) thread) (subtask_in (W.view w.old).tags subtask)) (W.view w.old) }
 {
     let saved = w.saved_callee(thread);
@@ -67,29 +67,29 @@ fn resume_canceller<W: Words>(w: &mut W, thread: ThreadId, subtask: SubtaskId)
 }
 
 /// `cancel R X`, and `cancel_sync R X`, resumed behind the callee
-pub fn go_on_cancelling<W: Words>(
+pub fn go_on_cancelling<W: Primitives>(
     w: &mut W,
     thread: ThreadId,
     sync: bool,
     subtask: SubtaskId,
-) -> Came
+) -> OpResult
     requires live { 0 < thread_of (W.view w.old) thread }
     requires running { IsRunning (thread_of (W.view w.old) thread) (W.view w.old).core }
-    ensures does { DoesRule SameNames (goes_on_from (mode_of sync) (how_fars.Cancels (subtask_in (W.view w.old).tags subtask))) thread (W.view w.old) result (W.view w.new) }
+    ensures does { DoesRule SameNames (goes_on_from (mode_of sync) (op_progresses.Cancels (subtask_in (W.view w.old).tags subtask))) thread (W.view w.old) result (W.view w.new) }
 {
     if let Some(trap) = refusal_after(w, thread, sync, subtask) {
-        return Came::Traps(trap);
+        return OpResult::Traps(trap);
     }
     resume_canceller(w, thread, subtask);
     finish_cancel(w, thread, sync, subtask)
 }
 
 /// `cancel_sync R X`, resumed once the end was told
-pub fn go_on_awaiting<W: Words>(w: &mut W, thread: ThreadId, sync: bool, subtask: SubtaskId) -> Came
-    ensures does { DoesRule SameNames (goes_on_from (mode_of sync) (how_fars.AwaitsEnd (subtask_in (W.view w.old).tags subtask))) thread (W.view w.old) result (W.view w.new) }
+pub fn go_on_awaiting<W: Primitives>(w: &mut W, thread: ThreadId, sync: bool, subtask: SubtaskId) -> OpResult
+    ensures does { DoesRule SameNames (goes_on_from (mode_of sync) (op_progresses.AwaitsEnd (subtask_in (W.view w.old).tags subtask))) thread (W.view w.old) result (W.view w.new) }
 {
     let Some(status) = undelivered_end(w, subtask) else {
-        return Came::Traps(Trap::SubtaskCancelAfterTerminal);
+        return OpResult::Traps(Trap::SubtaskCancelAfterTerminal);
     };
     w.set_join(subtask, JoinId::Nowhere);
     answer_end(w, thread, sync, subtask, status)

@@ -10,13 +10,13 @@ ghost use Rattle.task_ops.specs.Does.{DoesRule};
 ghost use Rattle.task_ops.specs.Running.{IsRunning};
 ghost use Rattle.task_rules.specs.Calls.{call_resumes, call_stops, call_sync_stops, status_found};
 ghost use Rattle.task_words.specs.Names.{subtask_in};
-ghost use Rattle.task_words.specs.Becomes.{BecomesBut};
+ghost use Rattle.task_words.specs.BecomesRecord.{BecomesBut};
 ghost use Rattle.task_words.specs.StateView.{KeepsBut, call_of, lost_call, on_core, thread_of};
 
 use task_machine::{CallLabel, Label, Status, ThreadLabel, Trap};
 use task_moves::{check, foot_of, passes_check, settle_call, stop};
-use task_ops::{Came, OpAnswer};
-use task_words::{CallId, HowFarId, NoMemory, PlaceId, SubtaskId, ThreadId, Words};
+use task_ops::{OpResult, OpAnswer};
+use task_words::{CallId, OpProgressId, NoMemory, PlaceId, SubtaskId, ThreadId, Primitives};
 
 // The number under which a status is handed out.
 fn status_code(status: Status) -> u32
@@ -33,7 +33,7 @@ fn status_code(status: Status) -> u32
 }
 
 // The status that the calling thread finds.
-fn status_found<W: Words>(w: &W, call: CallId) -> Status
+fn status_found<W: Primitives>(w: &W, call: CallId) -> Status
     ensures { result ≡ status_found (call_of (W.view w.now) call) (W.view w.now).core }
 {
     w.event(SubtaskId::Guest(call)).unwrap_or(Status::Starting)
@@ -41,7 +41,7 @@ fn status_found<W: Words>(w: &W, call: CallId) -> Status
 
 // The calling thread is resumed: the saved flag is written back, and the callee's event is taken.
 #[tactic(auto, unfolding(task_rules::specs::Calls::call_resumes))]
-fn resume<W: Words>(w: &mut W, thread: ThreadId, call: CallId)
+fn resume<W: Primitives>(w: &mut W, thread: ThreadId, call: CallId)
     ensures { W.view w.new ≡ on_core (call_resumes (thread_of (W.view w.old) thread) (call_of (W.view w.old) call)) (W.view w.old) }
 {
     if let Some(flag) = w.saved_callee(thread) {
@@ -54,19 +54,19 @@ fn resume<W: Words>(w: &mut W, thread: ThreadId, call: CallId)
 // The strand stops, and its top is blocked on the subtask of its call.
 #[tactic(auto, unfolding(task_rules::specs::Calls::call_stops))]
 #[inline(always)]
-pub(crate) fn stop_blocked<W: Words>(w: &mut W, thread: ThreadId, subtask: SubtaskId)
+pub(crate) fn stop_blocked<W: Primitives>(w: &mut W, thread: ThreadId, subtask: SubtaskId)
     requires live { 0 < thread_of (W.view w.old) thread }
     requires running { IsRunning (thread_of (W.view w.old) thread) (W.view w.old).core }
     ensures { W.view w.new ≡ on_core (call_stops (thread_of (W.view w.old) thread) (subtask_in (W.view w.old).tags subtask)) (W.view w.old) }
 {
     let foot = foot_of(w, thread);
     stop(w, foot);
-    w.stand_at(thread, PlaceId::Blocked(subtask), HowFarId::Calls(subtask));
+    w.stand_at(thread, PlaceId::Blocked(subtask), OpProgressId::Calls(subtask));
 }
 
 // The callee has returned to a `call`.
 #[tactic(auto, unfolding(task_rules::specs::Calls::call_let_go))]
-fn take_return<W: Words>(w: &mut W, thread: ThreadId, call: CallId)
+fn take_return<W: Primitives>(w: &mut W, thread: ThreadId, call: CallId)
     requires live { 0 < thread_of (W.view w.old) thread }
     requires call { 0 < call_of (W.view w.old) call }
     ensures { BecomesBut (lost_call (call_of (W.view w.old) call)) (return_taken (thread_of (W.view w.old) thread) (call_of (W.view w.old) call) (W.view w.old).core) (W.view w.old) (W.view w.new) }
@@ -77,7 +77,7 @@ fn take_return<W: Words>(w: &mut W, thread: ThreadId, call: CallId)
 }
 
 // The subtask gets a handle, and the answer is packed of it and the status. Where memory is wanting, all is as before.
-fn pend<W: Words>(
+fn pend<W: Primitives>(
     w: &mut W,
     thread: ThreadId,
     call: CallId,
@@ -98,11 +98,11 @@ fn pend<W: Words>(
 }
 
 /// `call R Q F X*`, going on inside the call. Where memory is wanting, all is as before.
-pub fn go_on_calling<W: Words>(w: &mut W, thread: ThreadId, call: CallId) -> Result<Came, NoMemory>
+pub fn go_on_calling<W: Primitives>(w: &mut W, thread: ThreadId, call: CallId) -> Result<OpResult, NoMemory>
     requires live { 0 < thread_of (W.view w.old) thread }
     requires call { 0 < call_of (W.view w.old) call }
     requires there { is_some (get (W.view w.old).core.handles (instance_of (thread_of (W.view w.old) thread) (W.view w.old).core)) ≡ true }
-    ensures does { IfOk result (λ came. DoesRule (LosesCall (call_of (W.view w.old) call)) (goes_on_with (call_of (W.view w.old) call)) thread (W.view w.old) came (W.view w.new)) }
+    ensures does { IfOk result (λ op_result. DoesRule (LosesCall (call_of (W.view w.old) call)) (goes_on_with (call_of (W.view w.old) call)) thread (W.view w.old) op_result (W.view w.new)) }
     ensures thread { thread_of (W.view w.new) thread ≡ thread_of (W.view w.old) thread }
     ensures err { OnErr result (W.view w.new ≡ W.view w.old) }
 {
@@ -110,17 +110,17 @@ pub fn go_on_calling<W: Words>(w: &mut W, thread: ThreadId, call: CallId) -> Res
     let status = status_found(w, call);
     if matches!(status, Status::Returned) {
         take_return(w, thread, call);
-        return Ok(Came::Goes(
+        return Ok(OpResult::Continues(
             Label::Call(CallLabel::Call(2, number)),
             number,
             OpAnswer::Number(2),
         ));
     }
     if w.at_handle_limit() {
-        return Ok(Came::Traps(Trap::HandleLimit));
+        return Ok(OpResult::Traps(Trap::HandleLimit));
     }
     let value = pend(w, thread, call, status)?;
-    Ok(Came::Goes(
+    Ok(OpResult::Continues(
         Label::Call(CallLabel::Call(value, number)),
         number,
         OpAnswer::Number(value),
@@ -129,7 +129,7 @@ pub fn go_on_calling<W: Words>(w: &mut W, thread: ThreadId, call: CallId) -> Res
 
 // The callee has returned to a `call_sync`, whose answer is the result.
 #[tactic(auto, unfolding(task_rules::specs::Calls::call_taken))]
-fn take_answer<W: Words>(w: &mut W, thread: ThreadId, call: CallId) -> u64
+fn take_answer<W: Primitives>(w: &mut W, thread: ThreadId, call: CallId) -> u64
     requires live { 0 < thread_of (W.view w.old) thread }
     requires call { 0 < call_of (W.view w.old) call }
     ensures value { result ≡ result_of (call_of (W.view w.old) call) (W.view w.old).core }
@@ -146,7 +146,7 @@ fn take_answer<W: Words>(w: &mut W, thread: ThreadId, call: CallId) -> u64
 }
 
 // A check of the instance passes once the calling thread is resumed.
-fn passes_resumed<W: Words>(w: &mut W, thread: ThreadId, call: CallId, instance: u32) -> bool
+fn passes_resumed<W: Primitives>(w: &mut W, thread: ThreadId, call: CallId, instance: u32) -> bool
     ensures passes { result ≡ passes_check instance (call_resumes (thread_of (W.view w.old) thread) (call_of (W.view w.old) call) (W.view w.old).core) }
     ensures same { W.view w.new ≡ W.view w.old }
 {
@@ -162,7 +162,7 @@ fn passes_resumed<W: Words>(w: &mut W, thread: ThreadId, call: CallId, instance:
 
 // The strand stops after a check, and its top is blocked on the callee.
 #[tactic(auto, unfolding(task_rules::specs::Calls::call_sync_stops))]
-fn stop_sync<W: Words>(w: &mut W, thread: ThreadId, call: CallId)
+fn stop_sync<W: Primitives>(w: &mut W, thread: ThreadId, call: CallId)
     requires live { 0 < thread_of (W.view w.old) thread }
     requires running { IsRunning (thread_of (W.view w.old) thread) (W.view w.old).core }
     ensures { W.view w.new ≡ on_core (call_sync_stops (thread_of (W.view w.old) thread) (call_of (W.view w.old) call)) (W.view w.old) }
@@ -174,7 +174,7 @@ fn stop_sync<W: Words>(w: &mut W, thread: ThreadId, call: CallId)
 }
 
 /// `call_sync R F X*`, going on inside the call.
-pub fn go_on_calling_sync<W: Words>(w: &mut W, thread: ThreadId, call: CallId) -> Came
+pub fn go_on_calling_sync<W: Primitives>(w: &mut W, thread: ThreadId, call: CallId) -> OpResult
     requires live { 0 < thread_of (W.view w.old) thread }
     requires call { 0 < call_of (W.view w.old) call }
     requires running { IsRunning (thread_of (W.view w.old) thread) (W.view w.old).core }
@@ -184,7 +184,7 @@ pub fn go_on_calling_sync<W: Words>(w: &mut W, thread: ThreadId, call: CallId) -
     let number = w.number(thread);
     if matches!(status_found(w, call), Status::Returned) {
         let value = take_answer(w, thread, call);
-        return Came::Goes(
+        return OpResult::Continues(
             Label::Call(CallLabel::CallSync(number, value)),
             number,
             OpAnswer::Value(value),
@@ -192,8 +192,8 @@ pub fn go_on_calling_sync<W: Words>(w: &mut W, thread: ThreadId, call: CallId) -
     }
     let instance = w.instance_of(thread);
     if !passes_resumed(w, thread, call, instance) {
-        return Came::Traps(Trap::CannotBlockSyncTask);
+        return OpResult::Traps(Trap::CannotBlockSyncTask);
     }
     stop_sync(w, thread, call);
-    Came::Stops(Label::Thread(ThreadLabel::Pauses(number)))
+    OpResult::Stops(Label::Thread(ThreadLabel::Pauses(number)))
 }

@@ -4,18 +4,18 @@ ghost use Rattle.task_machine.specs.Labels.{choice_of, host_label};
 ghost use Rattle.task_machine.specs.Read.{course_of, course_value};
 ghost use Rattle.task_machine.specs.declared.records.Subtask.TheVariants as subtasks;
 ghost use Rattle.task_moves.specs.Idle.{CanPublish, IsJoinThere};
-ghost use Rattle.task_ops.specs.Came.{Meets};
+ghost use Rattle.task_ops.specs.OpResult.{Implements};
 ghost use Rattle.task_ops.specs.Stays.{StaysAfter};
 ghost use Rattle.task_ops.specs.Steps.{label_of};
 ghost use Rattle.task_rules.specs.Places.{Placed};
-ghost use Rattle.task_rules.specs.Takes.{host_done, host_result, host_row, host_status};
+ghost use Rattle.task_rules.specs.Takes.{host_done, host_result, scripted_host_rule, host_status};
 ghost use Rattle.task_words.specs.Names.{work_caller_in};
 ghost use Rattle.task_words.specs.StateView.{on_core, thread_of, work_of};
 
 use task_machine::{Course, Label, Mark, Stage, Status, TakeLabel};
 use task_moves::{publish, publish_waiter};
-use task_ops::Came;
-use task_words::{SubtaskId, ThreadId, Words, WorkCallerId, WorkId};
+use task_ops::OpResult;
+use task_words::{SubtaskId, ThreadId, Primitives, WorkCallerId, WorkId};
 
 // What the taking shows, with the thread that it woke.
 fn host_label(mark: Mark, work: u64, woken: Option<u64>) -> Label
@@ -28,7 +28,7 @@ fn host_label(mark: Mark, work: u64, woken: Option<u64>) -> Label
 }
 
 // The value that the work has ended with, if it has one.
-pub(crate) fn value_of_work<W: Words>(w: &W, work: WorkId) -> Option<u64>
+pub(crate) fn value_of_work<W: Primitives>(w: &W, work: WorkId) -> Option<u64>
     ensures { result ≡ course_value (course_of (work_of (W.view w.now) work) (W.view w.now).core) }
 {
     match w.course(work) {
@@ -48,7 +48,7 @@ fn host_status(value: Option<u64>) -> Status
 }
 
 // The value, if there is one, goes to the register of the calling thread.
-fn give_value<W: Words>(w: &mut W, caller: WorkCallerId, value: Option<u64>)
+fn give_value<W: Primitives>(w: &mut W, caller: WorkCallerId, value: Option<u64>)
     ensures { W.view w.new ≡ on_core (host_result (work_caller_in (W.view w.old).tags caller) value) (W.view w.old) }
 {
     if let (WorkCallerId::Async { thread, register }, Some(value)) = (caller, value) {
@@ -59,7 +59,7 @@ fn give_value<W: Words>(w: &mut W, caller: WorkCallerId, value: Option<u64>)
 // The subtask is done, its end is published, and the value goes to the calling thread.
 #[tactic(auto, unfolding(task_rules::specs::Takes::host_done))]
 #[inline(always)]
-fn end_host<W: Words>(w: &mut W, work: WorkId, waiter: Option<ThreadId>)
+fn end_host<W: Primitives>(w: &mut W, work: WorkId, waiter: Option<ThreadId>)
     requires { CanPublish (subtasks.Host (work_of (W.view w.old) work)) waiter (W.view w.old) }
     ensures { W.view w.new ≡ on_core (host_done (work_of (W.view w.old) work) (option_map (λ id. thread_of (W.view w.old) id) waiter)) (W.view w.old) }
 {
@@ -73,11 +73,11 @@ fn end_host<W: Words>(w: &mut W, work: WorkId, waiter: Option<ThreadId>)
 
 /// The entry of a host call that has ended, taken from the mark: the call is done, which is
 /// published, and its value goes to the calling thread.
-pub fn take_host<W: Words>(w: &mut W, mark: Mark, work: WorkId) -> Came
+pub fn take_host<W: Primitives>(w: &mut W, mark: Mark, work: WorkId) -> OpResult
     requires live { 0 < work_of (W.view w.old) work }
     requires placed { Placed (W.view w.old).core }
     requires there { IsJoinThere (subtasks.Host (work_of (W.view w.old) work)) (W.view w.old).core }
-    ensures meets { Meets (host_row mark (work_of (W.view w.old) work) (choice_of (label_of (work_of (W.view w.old) work) result)).woken (W.view w.old).core) (W.view w.old).core result (W.view w.new).core }
+    ensures meets { Implements (scripted_host_rule mark (work_of (W.view w.old) work) (choice_of (label_of (work_of (W.view w.old) work) result)).woken (W.view w.old).core) (W.view w.old).core result (W.view w.new).core }
     ensures stays { StaysAfter result (W.view w.old) (W.view w.new) }
     ensures tags { (W.view w.new).tags ≡ (W.view w.old).tags }
     ensures current { (W.view w.new).current ≡ (W.view w.old).current }
@@ -86,12 +86,12 @@ pub fn take_host<W: Words>(w: &mut W, mark: Mark, work: WorkId) -> Came
     match publish_waiter(w, SubtaskId::Host(work)) {
         None => {
             end_host(w, work, None);
-            Came::Stops(host_label(mark, number, None))
+            OpResult::Stops(host_label(mark, number, None))
         }
         Some(waiter) => {
             let woken = w.number(waiter);
             end_host(w, work, Some(waiter));
-            Came::Stops(host_label(mark, number, Some(woken)))
+            OpResult::Stops(host_label(mark, number, Some(woken)))
         }
     }
 }

@@ -4,14 +4,14 @@ ghost use Rattle.task_machine.specs.Moves.{less_switch, unqueued, withdrawn};
 ghost use Rattle.task_machine.specs.Read.{place_of};
 ghost use Rattle.task_machine.specs.Write.{set_switch};
 ghost use Rattle.task_rules.specs.Places.{HasPlace, is_fresh};
-ghost use Rattle.task_words.specs.Becomes.{BecomesBut};
+ghost use Rattle.task_words.specs.BecomesRecord.{BecomesBut};
 ghost use Rattle.task_words.specs.StateView.{call_of, lost_thread, on_core, thread_of};
 
 use task_machine::CallEnd;
-use task_words::{CallId, ThreadId, Words};
+use task_words::{CallId, ThreadId, Primitives};
 
 // Whether the thread's entry stands at switch.
-fn is_switched<W: Words>(w: &W, thread: ThreadId) -> bool
+fn is_switched<W: Primitives>(w: &W, thread: ThreadId) -> bool
     ensures yes { result ≡ true → less_switch (thread_of (W.view w.now) thread) (W.view w.now).core.queues.switch ≡ None }
     ensures no { result ≡ false → less_switch (thread_of (W.view w.now) thread) (W.view w.now).core.queues.switch ≡ (W.view w.now).core.queues.switch }
 {
@@ -22,7 +22,7 @@ fn is_switched<W: Words>(w: &W, thread: ThreadId) -> bool
 }
 
 // The thread's entry is gone, wherever it stands.
-fn take_out<W: Words>(w: &mut W, thread: ThreadId)
+fn take_out<W: Primitives>(w: &mut W, thread: ThreadId)
     ensures { W.view w.new ≡ on_core (λ s. set_switch (less_switch (thread_of (W.view w.old) thread) s.queues.switch) (unqueued (thread_of (W.view w.old) thread) s)) (W.view w.old) }
 {
     let switched = is_switched(w, thread);
@@ -34,7 +34,7 @@ fn take_out<W: Words>(w: &mut W, thread: ThreadId)
 
 // The start of the call's first thread is withdrawn, wherever it stands.
 #[tactic(auto, unfolding(task_machine::specs::Moves::withdrawn))]
-pub(crate) fn withdraw<W: Words>(w: &mut W, call: CallId, first: ThreadId)
+pub(crate) fn withdraw<W: Primitives>(w: &mut W, call: CallId, first: ThreadId)
     requires live { 0 < call_of (W.view w.old) call }
     requires first { thread_of (W.view w.old) first ≡ call_of (W.view w.old) call }
     requires place { HasPlace (call_of (W.view w.old) call) (W.view w.old).core }

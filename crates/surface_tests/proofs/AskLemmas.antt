@@ -2,21 +2,21 @@
 use Rattle.task_words.specs.Groups.{asked}
 use Rattle.std.proofs.Common.{ap, refl, subst, sym, ◌∙◌}
 use Rattle.std.specs.Prelude.{Bool, IfSome, List, None, Ok, Option, Some, false, is_some, length, option_map, true, ℕ, ◌<◌, ◌≡◌, ◌≢◌}
-use Rattle.state_calls.specs.declared.names.QualifiedThreadId.{QualifiedThreadId}
+use Rattle.state_calls.specs.declared.name_calls.QualifiedThreadId.{QualifiedThreadId}
 use Rattle.task_calls.specs.Asks.{CanAsk, HasPaused, IsRunningIn}
 use Rattle.task_calls.specs.Prepared.{CanStart, Prepared, Prepares}
 use Rattle.task_machine.specs.Maps.{get}
-use Rattle.task_machine.specs.Read.{how_far_of, instance_of}
+use Rattle.task_machine.specs.Read.{op_progress_of, instance_of}
 use Rattle.task_machine.specs.declared.component.Callee.{Callee}
 use Rattle.task_machine.specs.declared.component.Component.{Component}
 use Rattle.task_machine.specs.declared.records.Goal.{Goal}
-use Rattle.task_machine.specs.declared.records.HowFar.TheVariants as how_far
+use Rattle.task_machine.specs.declared.records.OpProgress.TheVariants as op_progress
 use Rattle.task_machine.specs.declared.records.Place.TheVariants as place
 use Rattle.task_machine.specs.declared.records.Thread.{Thread}
 use Rattle.task_machine.specs.declared.records.Turn.TheVariants as turn
 use Rattle.task_table.specs.declared.id.TableId.{TableId}
 use Rattle.task_turns.proofs.OrderLemmas.{number_at, positive, some_from}
-use Rattle.task_turns.specs.Turn.{Sits, running_of}
+use Rattle.task_turns.specs.Turn.{CoreInOrder, running_of}
 use Rattle.task_turns.specs.WellFormed.{IsWellFormed}
 use Rattle.task_wait.specs.declared.keys.ThreadKey.{ThreadKey}
 use Rattle.task_words.specs.StateView.{Keeps, StateView, call_number, thread_number, thread_of}
@@ -32,17 +32,17 @@ of_running s n P runs p = subst (λ (o : Option ℕ). IfSome o P) runs p
 pub home_of : (i : ℕ) (s : StateView) (paused : Bool) → (paused ≡ false → CanAsk i s) → (paused ≡ true → HasPaused i s) → IfSome (running_of s) (λ n. instance_of n s.core ≡ i)
 home_of i s paused fresh stopped = go (running_of s) paused fresh stopped
   where
-    go : (o : Option ℕ) (b : Bool) → (b ≡ false → IfSome o (λ n. (instance_of n s.core ≡ i) × (how_far_of n s.core ≡ how_far.Fresh))) →
-        (b ≡ true → IfSome o (λ n. (instance_of n s.core ≡ i) × (how_far_of n s.core ≢ how_far.Fresh))) → IfSome o (λ n. instance_of n s.core ≡ i)
+    go : (o : Option ℕ) (b : Bool) → (b ≡ false → IfSome o (λ n. (instance_of n s.core ≡ i) × (op_progress_of n s.core ≡ op_progress.Fresh))) →
+        (b ≡ true → IfSome o (λ n. (instance_of n s.core ≡ i) × (op_progress_of n s.core ≢ op_progress.Fresh))) → IfSome o (λ n. instance_of n s.core ≡ i)
     go None b fresh stopped = tt
     go (Some n) false fresh stopped = (fresh refl).0
     go (Some n) true fresh stopped = (stopped refl).0
 
 -- an instance of the running thread that is below the component's
-pub is_running_in : (c : Component) (s : StateView) (i : ℕ) → IsWellFormed c → IfSome (running_of s) (λ n. Sits c (turn.Run n) s.core) → is_some (running_of s) ≡ true → IfSome (running_of s) (λ n. instance_of n s.core ≡ i) → i < length c.instances → IsRunningIn c s
+pub is_running_in : (c : Component) (s : StateView) (i : ℕ) → IsWellFormed c → IfSome (running_of s) (λ n. CoreInOrder c (turn.Run n) s.core) → is_some (running_of s) ≡ true → IfSome (running_of s) (λ n. instance_of n s.core ≡ i) → i < length c.instances → IsRunningIn c s
 is_running_in c s i formed order there home below = go (running_of s) refl order home there
   where
-    go : (o : Option ℕ) → running_of s ≡ o → IfSome o (λ n. Sits c (turn.Run n) s.core) → IfSome o (λ n. instance_of n s.core ≡ i) → is_some o ≡ true → IsRunningIn c s
+    go : (o : Option ℕ) → running_of s ≡ o → IfSome o (λ n. CoreInOrder c (turn.Run n) s.core) → IfSome o (λ n. instance_of n s.core ≡ i) → is_some o ≡ true → IsRunningIn c s
     go None e order home there = absurd (cc)
     go (Some n) e order home there = record {
       well_formed = formed;

@@ -13,11 +13,11 @@ use Rattle.task_rules.specs.MainOps as row
 use Rattle.task_rules.specs.MainOps.{main_started}
 use Rattle.task_rules.specs.Turns.{at_turn}
 use Rattle.task_turns.specs.Main.{Answers}
-use Rattle.task_turns.specs.Turn.{Sits, given, running_of, runs_in}
+use Rattle.task_turns.specs.Turn.{CoreInOrder, given, running_of, runs_in}
 use Rattle.task_turns.specs.Covered.{HasPlainExports}
 use Rattle.task_turns.proofs.CoveredLemmas.{codes_of}
-use Rattle.task_turns.proofs.FreshLemmas.{given_fresh, sits_fresh}
-use Rattle.task_calls.specs.Calls.{Starts}
+use Rattle.task_turns.proofs.FreshLemmas.{given_fresh, core_in_order_fresh}
+use Rattle.task_calls.specs.MainCalls.{Starts}
 use Rattle.task_machine.specs.declared.trap.Trap.{Trap}
 use Rattle.task_records.specs.Seen.{nothing}
 use Rattle.task_words.specs.StateView.{StateView, thread_of, with_core}
@@ -39,8 +39,8 @@ turn_of (turn.Run k) n e = cc
 turn_of p n e = absurd (cc)
 
 -- the new store sits at main's turn
-pub opens : (c : Component) → HasPlainExports c → length c.instances ≡ 1 → (s : StateView) → s ≡ with_core (fresh 1 100000 1000000) nothing → Sits c turn.Main s.core
-opens c plain one s is = subst (λ (u : StateView). Sits c turn.Main u.core) (sym is) (sits_fresh c (codes_of c plain) 1 100000 1000000 (omega (arith, one)))
+pub opens : (c : Component) → HasPlainExports c → length c.instances ≡ 1 → (s : StateView) → s ≡ with_core (fresh 1 100000 1000000) nothing → CoreInOrder c turn.Main s.core
+opens c plain one s is = subst (λ (u : StateView). CoreInOrder c turn.Main u.core) (sym is) (core_in_order_fresh c (codes_of c plain) 1 100000 1000000 (omega (arith, one)))
 
 -- few numbers were given in it
 pub opens_given : (s : StateView) → s ≡ with_core (fresh 1 100000 1000000) nothing → given s.core ≡ 0

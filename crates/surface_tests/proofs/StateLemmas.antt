@@ -5,7 +5,7 @@ use Rattle.std.specs.Prelude.{Bool, None, Option, Result, Some, is_none, is_some
 use Rattle.state_calls.proofs.PlacedLemmas.{placed_idle, placed_may_stop}
 use Rattle.state_calls.specs.Woken.{Wakes}
 use Rattle.state_calls.specs.declared.error.TaskError.{TaskError}
-use Rattle.state_calls.specs.declared.names.QualifiedThreadId.{QualifiedThreadId}
+use Rattle.state_calls.specs.declared.name_calls.QualifiedThreadId.{QualifiedThreadId}
 use Rattle.task_machine.proofs.CommuteLemmas.{get-change}
 use Rattle.task_machine.specs.Core.{Core, Unscripted}
 use Rattle.task_machine.specs.Maps.{get}
@@ -20,20 +20,20 @@ use Rattle.task_moves.specs.Idle.{AreIdleUnqueued, IsJoinThere}
 use Rattle.task_moves.specs.Stops.{MayStop}
 use Rattle.task_rules.specs.Places.{Placed}
 use Rattle.task_table.specs.declared.id.TableId.{TableId}
-use Rattle.task_turns.specs.Turn.{Sits}
+use Rattle.task_turns.specs.Turn.{CoreInOrder}
 use Rattle.task_wait.specs.declared.keys.GuestTaskKey.{GuestTaskKey}
 use Rattle.task_wait.specs.declared.keys.ThreadKey.{ThreadKey}
 use Rattle.task_words.specs.StateView.{StateView, call_of, on_core, thread_of}
 
-pub sits_placed : (c : Component) (p : Turn) (s : Core) → Sits c p s → Placed s
-sits_placed c p s sits = (sits.order Unscripted).in_place.placed
+pub core_in_order_placed : (c : Component) (p : Turn) (s : Core) → CoreInOrder c p s → Placed s
+core_in_order_placed c p s sits = (sits.order Unscripted).in_place.placed
 
-instance_there : (i : ℕ) (o : Option Set) → option_map (λ (r : Set). r.instance) o ≡ Some i → is_some o ≡ true
-instance_there i (Some r) e = refl
-instance_there i None e = absurd (cc)
+instance_unchecked : (i : ℕ) (o : Option Set) → option_map (λ (r : Set). r.instance) o ≡ Some i → is_some o ≡ true
+instance_unchecked i (Some r) e = refl
+instance_unchecked i None e = absurd (cc)
 
-pub sits_joins : (c : Component) (p : Turn) (s : Core) → Sits c p s → (k : ℕ) → IsJoinThere (subtask.Guest k) s
-sits_joins c p s sits k x at = let n = (sits.order Unscripted).joins_named.joins (subtask.Guest k) x at in instance_there n.instance (get s.sets x) n.home
+pub core_in_order_joins : (c : Component) (p : Turn) (s : Core) → CoreInOrder c p s → (k : ℕ) → IsJoinThere (subtask.Guest k) s
+core_in_order_joins c p s sits k x at = let n = (sits.order Unscripted).joins_named.joins (subtask.Guest k) x at in instance_unchecked n.instance (get s.sets x) n.home
 
 -- ---- After an event
 

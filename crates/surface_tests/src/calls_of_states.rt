@@ -19,7 +19,7 @@ use task_calls::new_guest_task;
 use task_machine::{ExportKind, Mark, Place, Status};
 use task_store::{ScriptedHost, Store};
 use task_wait::{Event, Waitable};
-use task_words::{CallId, PlaceWords, QueueWords, SubtaskId, SubtaskWords, ThreadWords, View};
+use task_words::{CallId, PlacePrimitives, QueuePrimitives, SubtaskId, SubtaskPrimitives, ThreadPrimitives, View};
 
 // A store with one instance, in which a call of it is queued.
 fn queued(rt: &impl Abort, alloc: Global) -> Store<(), ScriptedHost>

@@ -1,15 +1,15 @@
 ghost use Rattle.std.specs.Prelude.{◌≡◌, ◌≤◌, true, IfOk, None, length, IsSome, IfSome};
 ghost use Rattle.std.specs.List.{list_all};
-ghost use Rattle.host_works.specs.Kept.{HoldsNone};
+ghost use Rattle.host_works.specs.KeptWorks.{HoldsNone};
 ghost use Rattle.task_loop.specs.Says.{unscripted};
 ghost use Rattle.task_machine.specs.Core.{fresh};
 ghost use Rattle.task_words.specs.Groups.{IsAsked};
 ghost use Rattle.task_store.specs.Hosts.{HoldsHosts};
 ghost use Rattle.task_records.specs.Seen.{nothing};
 ghost use Rattle.task_rules.specs.Scripts.{export_at};
-ghost use Rattle.task_loop.specs.Calls.{callee_of};
+ghost use Rattle.task_loop.specs.LoopCalls.{callee_of};
 ghost use Rattle.task_turns.specs.Covered.{HasPlainExports, is_covered_op};
-ghost use Rattle.task_turns.specs.Turn.{Sits, given, running_of};
+ghost use Rattle.task_turns.specs.Turn.{CoreInOrder, given, running_of};
 ghost use Rattle.task_turns.specs.WellFormed.{IsWellFormed};
 ghost use Rattle.task_words.specs.StateView.{with_core};
 
@@ -23,7 +23,7 @@ use task_loop::{
 };
 use task_machine::{DataOp, ExportKind, LoopLabel, MainLabel, NoMemory, Seq, TaskOp, Trap, Turn};
 use task_store::{Access, HostWork, ScriptedHost, Store, Whole};
-use task_words::{ThreadWords, View};
+use task_words::{ThreadPrimitives, View};
 
 pub(crate) const CALLEE: Func = Func {
     instance: Instance { index: 0 },
@@ -121,7 +121,7 @@ pub(crate) fn store(
 ) -> Store<(), ScriptedHost>
     requires exports { HasPlainExports component.now }
     requires one { length component.now.instances ≡ 1 }
-    ensures order { Sits component.now Turn.Main result.state.core }
+    ensures order { CoreInOrder component.now Turn.Main result.state.core }
     ensures given { given result.state.core ≡ 0 }
     ensures current { running_of result.state ≡ None }
     ensures hosts { HoldsHosts ⟦<ScriptedHost as HostWork>⟧.course result }
@@ -140,12 +140,12 @@ pub(crate) fn called(
     requires covered { IsWellFormed component.now }
     requires there { IsSome (export_at component.now (callee_of CALLEE)) }
     requires params { IfSome (export_at component.now (callee_of CALLEE)) (λ e. 1 ≡ e.params) }
-    requires order { Sits component.now Turn.Main store.old.state.core }
+    requires order { CoreInOrder component.now Turn.Main store.old.state.core }
     requires given { given store.old.state.core ≡ 0 }
     requires current { running_of store.old.state ≡ None }
     requires hosts { HoldsHosts ⟦<ScriptedHost as HostWork>⟧.course store.old }
     requires groups { IsAsked store.old.state }
-    ensures order { Sits component.now Turn.Main store.new.state.core }
+    ensures order { CoreInOrder component.now Turn.Main store.new.state.core }
     ensures given { given store.new.state.core ≡ 2 }
     ensures current { running_of store.new.state ≡ None }
     ensures hosts { HoldsHosts ⟦<ScriptedHost as HostWork>⟧.course store.new }

@@ -1,10 +1,10 @@
 //! The calls of an instance, each by a thread of a scenario that was run so far.
-ghost use Rattle.host_works.specs.Kept.{HoldsNone};
+ghost use Rattle.host_works.specs.KeptWorks.{HoldsNone};
 ghost use Rattle.std.specs.Prelude.{◌≡◌, ◌<◌, ◌≤◌, IfSome, IsSome, None, Some, [], false, length, true, ◌^◌};
 ghost use Rattle.state_calls.specs.Named.{IsLive};
 ghost use Rattle.task_calls.specs.Asks.{CanAsk, HasPaused, IsRunningIn};
 ghost use Rattle.task_calls.specs.Directs.{IsDirect};
-ghost use Rattle.task_loop.specs.Calls.{callee_of};
+ghost use Rattle.task_loop.specs.LoopCalls.{callee_of};
 ghost use Rattle.task_machine.specs.Read.{callers_of, is_async_lifted, place_of, under_of};
 ghost use Rattle.task_machine.specs.declared.records.Place.TheVariants as places;
 ghost use Rattle.task_rules.specs.Places.{Placed};
@@ -15,7 +15,7 @@ ghost use Rattle.task_records.specs.Seen.{nothing};
 ghost use Rattle.task_run.specs.Runnable.{IsRunnable};
 ghost use Rattle.task_words.specs.Groups.{IsAsked};
 ghost use Rattle.task_store.specs.Hosts.{HoldsHosts};
-ghost use Rattle.task_turns.specs.Turn.{Sits, given, running_of};
+ghost use Rattle.task_turns.specs.Turn.{CoreInOrder, given, running_of};
 ghost use Rattle.task_words.specs.StateView.{thread_of, with_core};
 
 use op_dispatch::export_def;
@@ -30,7 +30,7 @@ use task_loop::{
 use task_machine::{Callee, ExportKind, Goal, HostDef, Mark, Place, Trap, Turn};
 use task_run::{Scenario, ScriptMain, read_scenario};
 use task_store::{FromHost, HostWork, ScriptedHost, Store};
-use task_words::{CallWords, HowFarId, InstanceWords, PlaceWords, ThreadWords, View};
+use task_words::{CallPrimitives, OpProgressId, InstancePrimitives, PlacePrimitives, ThreadPrimitives, View};
 
 // A thread of b makes a set, calls a host that never answers, makes a thread, cancels the call, waits for its end, drops it,
 // and then calls and cancels a callback of a, which is told so.
@@ -106,7 +106,7 @@ fn drive(
     requires works { HoldsNone store.old.works }
     requires groups { IsAsked store.old.state }
     requires few { steps ≤ 100 }
-    ensures order { IfSome (running_of store.new.state) (λ n. Sits scenario.now.component (Turn.Run n) store.new.state.core) }
+    ensures order { IfSome (running_of store.new.state) (λ n. CoreInOrder scenario.now.component (Turn.Run n) store.new.state.core) }
     ensures given { given store.new.state.core ≤ 200 }
     ensures hosts { HoldsHosts ⟦<ScriptedHost as HostWork>⟧.course store.new }
     ensures two { length scenario.now.component.instances ≡ 2 }
@@ -135,7 +135,7 @@ fn is_asking(store: &Store<(), ScriptedHost>, instance: Instance, paused: bool) 
     if store.state.instance_of(thread) != instance.index {
         return false;
     }
-    matches!(store.state.how_far(thread), HowFarId::Fresh) != paused
+    matches!(store.state.op_progress(thread), OpProgressId::Fresh) != paused
 }
 
 // What the text's scenario leaves after so many labels, with a thread of the instance running.

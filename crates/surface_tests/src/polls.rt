@@ -1,7 +1,7 @@
 //! Polls of a run.
 ghost use Rattle.std.specs.Prelude.{◌≡◌, ◌*◌, ◌+◌, ◌≤◌, IfSome, IsSome, None, length};
-ghost use Rattle.host_works.specs.Kept.{HoldsNone};
-ghost use Rattle.task_loop.specs.Calls.{callee_of};
+ghost use Rattle.host_works.specs.KeptWorks.{HoldsNone};
+ghost use Rattle.task_loop.specs.LoopCalls.{callee_of};
 ghost use Rattle.task_loop.specs.HasRun.{MayRun, at};
 ghost use Rattle.task_machine.specs.Core.{fresh};
 ghost use Rattle.task_records.specs.Seen.{nothing};
@@ -9,7 +9,7 @@ ghost use Rattle.task_rules.specs.Scripts.{export_at};
 ghost use Rattle.task_run.specs.Runnable.{IsRunnable};
 ghost use Rattle.task_words.specs.Groups.{IsAsked};
 ghost use Rattle.task_store.specs.Hosts.{HoldsHosts};
-ghost use Rattle.task_turns.specs.Turn.{Sits, given, running_of};
+ghost use Rattle.task_turns.specs.Turn.{CoreInOrder, given, running_of};
 ghost use Rattle.task_turns.specs.WellFormed.{IsWellFormed};
 ghost use Rattle.task_words.specs.StateView.{with_core};
 
@@ -135,13 +135,13 @@ fn call_often<H: HostWork>(
     requires covered { IsWellFormed component.now }
     requires there { IsSome (export_at component.now (callee_of CALLEE)) }
     requires params { IfSome (export_at component.now (callee_of CALLEE)) (λ e. 1 ≡ e.params) }
-    requires order { (p : Turn) × Sits component.now p store.old.state.core }
+    requires order { (p : Turn) × CoreInOrder component.now p store.old.state.core }
     requires given { given store.old.state.core ≤ 10000 }
     requires few { count ≤ 1000 }
     requires current { running_of store.old.state ≡ None }
     requires hosts { HoldsHosts H.course store.old }
     requires groups { IsAsked store.old.state }
-    ensures order { (p : Turn) → Sits component.now p store.old.state.core → Sits component.now p store.new.state.core }
+    ensures order { (p : Turn) → CoreInOrder component.now p store.old.state.core → CoreInOrder component.now p store.new.state.core }
     ensures given { given store.new.state.core ≤ given store.old.state.core + 2 * count }
     ensures current { running_of store.new.state ≡ None }
     ensures hosts { HoldsHosts H.course store.new }

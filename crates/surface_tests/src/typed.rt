@@ -1,10 +1,10 @@
 //! Calls that are polled, and calls with typed parameters.
 ghost use Rattle.std.specs.Prelude.{◌≡◌, IfSome, IsSome, None};
-ghost use Rattle.task_loop.specs.Calls.{callee_of};
+ghost use Rattle.task_loop.specs.LoopCalls.{callee_of};
 ghost use Rattle.task_rules.specs.Scripts.{export_at};
 ghost use Rattle.task_words.specs.Groups.{IsAsked};
 ghost use Rattle.task_store.specs.Hosts.{HoldsHosts};
-ghost use Rattle.task_turns.specs.Turn.{Sits, given, running_of};
+ghost use Rattle.task_turns.specs.Turn.{CoreInOrder, given, running_of};
 ghost use Rattle.task_turns.specs.WellFormed.{IsWellFormed};
 
 use crate::drive::{CALLEE, Host, component, store};
@@ -24,7 +24,7 @@ fn drive(
     store: &mut Store<(), ScriptedHost>,
 )
     requires covered { IsWellFormed component.now }
-    requires order { Sits component.now Turn.Main store.old.state.core }
+    requires order { CoreInOrder component.now Turn.Main store.old.state.core }
     requires given { given store.old.state.core ≡ 2 }
     requires current { running_of store.old.state ≡ None }
     requires hosts { HoldsHosts ⟦<ScriptedHost as HostWork>⟧.course store.old }
@@ -51,12 +51,12 @@ fn called(
     requires covered { IsWellFormed component.now }
     requires there { IsSome (export_at component.now (callee_of CALLEE)) }
     requires params { IfSome (export_at component.now (callee_of CALLEE)) (λ e. 1 ≡ e.params) }
-    requires order { Sits component.now Turn.Main store.old.state.core }
+    requires order { CoreInOrder component.now Turn.Main store.old.state.core }
     requires given { given store.old.state.core ≡ 0 }
     requires current { running_of store.old.state ≡ None }
     requires hosts { HoldsHosts ⟦<ScriptedHost as HostWork>⟧.course store.old }
     requires groups { IsAsked store.old.state }
-    ensures order { Sits component.now Turn.Main store.new.state.core }
+    ensures order { CoreInOrder component.now Turn.Main store.new.state.core }
     ensures given { given store.new.state.core ≡ 2 }
     ensures current { running_of store.new.state ≡ None }
     ensures hosts { HoldsHosts ⟦<ScriptedHost as HostWork>⟧.course store.new }

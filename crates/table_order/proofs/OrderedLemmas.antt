@@ -6,8 +6,8 @@ use Rattle.std.proofs.lemmas.Option.{same_Some}
 use Rattle.std.specs.Ordering.{is_lt, ordering_reverse}
 use Rattle.std.specs.declared.cmp.Ordering.{Ordering}
 use Rattle.std.specs.declared.cmp.Ordering.TheVariants.{Less, Equal, Greater}
-use Rattle.table_order.specs.Seats.{AreOrdered, comes_first, seat_order}
-use Rattle.table_order.specs.declared.seat_links.Seat.{Seat}
+use Rattle.table_order.specs.OrderKeys.{AreOrdered, comes_first, order_key_order}
+use Rattle.table_order.specs.declared.ordered_lists.OrderKey.{OrderKey}
 use Rattle.task_links.proofs.ReadLemmas.{entries-linked_other, entries-unlinked_other, entries-unlinked_same}
 use Rattle.task_links.proofs.Paths.{before-at, split}
 use Rattle.task_links.specs.Links.{Apart, AreLinked, before, in_list, preceding, IsLinks, Spot, entries, head_of, is_made, link_of, linked, list_of, removed, removed_by, unlinked, without}
@@ -15,21 +15,21 @@ use Rattle.task_wait.proofs.OrderLemmas.{IsAscending-without, IsLeast-first, is_
 use Rattle.task_wait.specs.Sets.{IsAscending, IsLeast, place_of}
 use Rattle.task_wait.specs.Walks.{IsWalk}
 
-module _ (links new : List (Spot Seat)) (n : ℕ) where
+module _ (links new : List (Spot OrderKey)) (n : ℕ) where
   pub AreOrdered-removed : IsLinks links → is_made links n ≡ true → new ≡ removed n links → AreOrdered links → AreOrdered new
   AreOrdered-removed sound made is up = subst AreOrdered (sym is) (by (link_of links n) refl)
     where
-      by : (l : Option (ℕ × Seat)) → link_of links n ≡ l → AreOrdered (removed_by n l links)
+      by : (l : Option (ℕ × OrderKey)) → link_of links n ≡ l → AreOrdered (removed_by n l links)
       by None at = up
       by (Some l) at = λ c. elim (cases_eq c l.0) [
-        | inl same ↦ subst (λ d. IsAscending seat_order (entries (unlinked l.0 n (without n (entries links l.0)) links) d)) (sym same) (subst (IsAscending seat_order) (sym (entries-unlinked_same links l.0 n _ (sound.listed n l.0 l.1 at).0 made)) (IsAscending-without seat_order n (entries links l.0) (up l.0)))
-        | inr other ↦ subst (IsAscending seat_order) (sym (entries-unlinked_other links l.0 n _ (sound.listed n l.0 l.1 at).0 made c other)) (up c)
+        | inl same ↦ subst (λ d. IsAscending order_key_order (entries (unlinked l.0 n (without n (entries links l.0)) links) d)) (sym same) (subst (IsAscending order_key_order) (sym (entries-unlinked_same links l.0 n _ (sound.listed n l.0 l.1 at).0 made)) (IsAscending-without order_key_order n (entries links l.0) (up l.0)))
+        | inr other ↦ subst (IsAscending order_key_order) (sym (entries-unlinked_other links l.0 n _ (sound.listed n l.0 l.1 at).0 made c other)) (up c)
       ]
 
-  pub AreOrdered-linked : (c : ℕ) (v : Seat) (list : List (ℕ × Seat)) → IsSome (list_of links c) → is_made links n ≡ true → new ≡ linked c n v list links → (IsAscending seat_order (entries links c) → IsAscending seat_order (entries new c)) → AreOrdered links → AreOrdered new
+  pub AreOrdered-linked : (c : ℕ) (v : OrderKey) (list : List (ℕ × OrderKey)) → IsSome (list_of links c) → is_made links n ≡ true → new ≡ linked c n v list links → (IsAscending order_key_order (entries links c) → IsAscending order_key_order (entries new c)) → AreOrdered links → AreOrdered new
   AreOrdered-linked c v list live made is order up d = elim (cases_eq d c) [
-    | inl same ↦ subst (λ e. IsAscending seat_order (entries new e)) (sym same) (order (up c))
-    | inr other ↦ subst (IsAscending seat_order) (sym (ap (λ l. entries l d) is ∙ entries-linked_other links c n list live made v d other)) (up d)
+    | inl same ↦ subst (λ e. IsAscending order_key_order (entries new e)) (sym same) (order (up c))
+    | inr other ↦ subst (IsAscending order_key_order) (sym (ap (λ l. entries l d) is ∙ entries-linked_other links c n list live made v d other)) (up d)
   ]
 
 module _ {P : Type 0} (cmp : P → P → Ordering) (order : IsTotalOrder cmp) where

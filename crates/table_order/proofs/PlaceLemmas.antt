@@ -3,7 +3,7 @@ use Rattle.std.proofs.Common.{if◌then◌else◌, ◌≡◌, ◌-◌, ◌≤◌
 use Rattle.std.proofs.lemmas.List.{append-nil, append_assoc, drop_all, drop_at, length-append, length-drop, length-map, length-reverse, length-take, reverse-append, reverse-reverse, take_all, take_at}
 use Rattle.std.proofs.lemmas.List.Sorted.{length_permutation}
 use Rattle.std.specs.List.Sorted.{IsNonDecreasingBy, IsPermutation}
-use Rattle.table_order.specs.Places.{given_each, GivenInOrder, Places, used}
+use Rattle.table_order.specs.GivenPlaces.{given_each, GivenInOrder, Places, used}
 
 same_places : (p q : Places) → p.free ≡ q.free → p.made ≡ q.made → p ≡ q
 same_places p q free made = ap (λ (f : List ℕ). record p { free = f }) free ∙ ap (λ (m : ℕ). record q { made = m }) made

@@ -1,2 +1,2 @@
-pub mod Places
-pub mod Seats
+pub mod GivenPlaces
+pub mod OrderKeys

@@ -1,9 +1,9 @@
 //! The order of the resource table's places: which is given next, and lists that stand in that order.
 #![tactic(auto)]
 
-mod guides;
+mod skip_lists;
 mod places;
-mod seat_links;
+mod ordered_lists;
 
 pub use places::{Holders, TablePlaces};
-pub use seat_links::{Seat, SeatLinks};
+pub use ordered_lists::{OrderKey, OrderedLists};

@@ -1,6 +1,6 @@
 ghost use Rattle.std.specs.List.Sorted.{IsNonDecreasingBy};
 ghost use Rattle.std.specs.Prelude.{◌≡◌, ◌≤◌, ℕ, IfOk, IsPermutation, length, map, OnErr};
-ghost use Rattle.table_order.specs.Places.{given, next_place, no_places, PutsInOrder, taken};
+ghost use Rattle.table_order.specs.GivenPlaces.{given, next_place, no_places, PutsInOrder, taken};
 
 use std::alloc::Global;
 use std::marker::Model;
@@ -34,7 +34,7 @@ pub struct TablePlaces {
 
 impl Model for TablePlaces {
     ghost use Rattle.std.specs.Prelude.{◌≤◌, reverse, vec_capacity};
-    ghost use Rattle.table_order.specs.Places.{Places};
+    ghost use Rattle.table_order.specs.GivenPlaces.{Places};
 
     ghost Value = { Places };
 

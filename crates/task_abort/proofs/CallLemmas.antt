@@ -9,38 +9,38 @@ use Rattle.task_machine.specs.declared.words.Phase.TheVariants.{Running, AbortRe
 use Rattle.task_abort.specs.declared.log.PhaseCall.{PhaseCall}
 use Rattle.task_abort.specs.declared.log.PhaseCall.TheVariants.{Abort, Finish}
 use Rattle.task_abort.specs.declared.log.LogEntry.{LogEntry}
-use Rattle.task_abort.specs.declared.log.Caller.{Caller}
-use Rattle.task_abort.specs.declared.log.View.{View}
+use Rattle.task_abort.specs.declared.log.HandleCaller.{HandleCaller}
+use Rattle.task_abort.specs.declared.log.PassView.{PassView}
 use Rattle.task_abort.specs.PhaseLog.{code, phase_of_code, after, entry, phase, Name, Log, calls_by, IsFirst}
-use Rattle.task_abort.specs.Rule.{At, Has, Stands, GoesOn, Fits, Kept, Calls, Called}
+use Rattle.task_abort.specs.Rule.{At, Has, Stands, NameGoesOn, FitsLog, KeptPass, Calls, Called}
 use Rattle.task_abort.proofs.LogLemmas.{phase_of_code-code, phase_from-append, phase_from_rises, legal_push, begins_refl, begins_more, calls_by-own, calls_by-other}
 use Rattle.task_abort.proofs.CallerLemmas.{Stems, at_written, goes_on_stem, has_own, met_apart, others_apart, sole, stands_before, among_after, old_log_after, by_place, apart_after, named-here}
 
-module _ (words : List ℕ) (views : List View) (kept : Kept words views) (i : ℕ) (v : View) (at : At views i v) (call : PhaseCall) where
+module _ (words : List ℕ) (views : List PassView) (kept : KeptPass words views) (i : ℕ) (v : PassView) (at : At views i v) (call : PhaseCall) where
   abbrev pub made : LogEntry Name
   made = entry v.own.name call (phase kept.log)
 
   abbrev pub longer : Log
   longer = kept.log ++ made ∷ []
 
-  abbrev pub caller_now : View
+  abbrev pub caller_now : PassView
   caller_now = record v { own = record v.own { calls = v.own.calls ++ made ∷ [] }; seen = longer }
 
-  stems : (c : Caller) → Has caller_now c → Stems v c
-  stems c (zero, h) = let e = some-injective caller_now.own c h in let s : v.own.splits ≡ c.splits = ap (λ (z : Caller). z.splits) e in
-      record { from = v.own; has = has_own v; name = ap (λ (z : Caller). z.name) e; splits = omega arith }
+  stems : (c : HandleCaller) → Has caller_now c → Stems v c
+  stems c (zero, h) = let e = some-injective caller_now.own c h in let s : v.own.splits ≡ c.splits = ap (λ (z : HandleCaller). z.splits) e in
+      record { from = v.own; has = has_own v; name = ap (λ (z : HandleCaller). z.name) e; splits = omega arith }
   stems c (suc a, h) = record { from = c; has = (suc a, h); name = refl; splits = le_refl _ }
 
-  still : (c : Caller) → c.name ≢ v.own.name → calls_by c.name kept.log ≡ c.calls → calls_by c.name longer ≡ c.calls
+  still : (c : HandleCaller) → c.name ≢ v.own.name → calls_by c.name kept.log ≡ c.calls → calls_by c.name longer ≡ c.calls
   still c ne h = calls_by-other c.name kept.log made (λ e. ne (sym e)) ∙ h
 
-  whole : (c : Caller) → Has caller_now c → calls_by c.name longer ≡ c.calls
+  whole : (c : HandleCaller) → Has caller_now c → calls_by c.name longer ≡ c.calls
   whole c (zero, h) =
-      let P : Caller → Type 0 = λ z. calls_by z.name longer ≡ z.calls in
+      let P : HandleCaller → Type 0 = λ z. calls_by z.name longer ≡ z.calls in
       subst P (some-injective caller_now.own c h) (calls_by-own v.own.name kept.log made refl ∙ ap (λ (z : Log). z ++ made ∷ []) ((kept.fits i v at).calls v.own (has_own v)))
   whole c (suc a, h) = still c (met_apart words views kept i v at a c h) ((kept.fits i v at).calls c (suc a, h))
 
-  fits_here : Fits longer caller_now
+  fits_here : FitsLog longer caller_now
   fits_here = record {
     seen = begins_refl longer;
     heard = begins_more v.heard kept.log (made ∷ []) (kept.fits i v at).heard;
@@ -48,7 +48,7 @@ module _ (words : List ℕ) (views : List View) (kept : Kept words views) (i : �
     held = λ c h. inl (whole c h);
   }
 
-  fits_there : (j : ℕ) (u : View) → j ≢ i → At views j u → Fits longer u
+  fits_there : (j : ℕ) (u : PassView) → j ≢ i → At views j u → FitsLog longer u
   fits_there j u ne there = let f = kept.fits j u there in record {
     seen = begins_more u.seen kept.log (made ∷ []) f.seen;
     heard = begins_more u.heard kept.log (made ∷ []) f.heard;
@@ -56,19 +56,19 @@ module _ (words : List ℕ) (views : List View) (kept : Kept words views) (i : �
     held = f.held;
   }
 
-  in_longer : (c : Caller) (m : ℕ) (e : LogEntry Name) → Stands (set views i caller_now) c → get_elem? longer m ≡ some e → GoesOn c e.caller
+  in_longer : (c : HandleCaller) (m : ℕ) (e : LogEntry Name) → Stands (set views i caller_now) c → get_elem? longer m ≡ some e → NameGoesOn c e.caller
   in_longer c m e hc he = ⊎_elim
       (λ (t : get_elem? kept.log m ≡ some e). old_log_after words views kept i v at caller_now stems c m e hc t)
       (λ (t : made ≡ e). let c' = stands_before words views kept i v at caller_now stems c hc in
-      subst (λ (z : LogEntry Name). GoesOn c z.caller) t (goes_on_stem c'.0 c v.own.name c'.2 c'.3 (kept.among c'.0 v.own c'.1 (i, v, at, has_own v))))
+      subst (λ (z : LogEntry Name). NameGoesOn c z.caller) t (goes_on_stem c'.0 c v.own.name c'.2 c'.3 (kept.among c'.0 v.own c'.1 (i, v, at, has_own v))))
       (at_snoc kept.log made e m he)
 
-  pub kept_after : (words' : List ℕ) → words' ≡ code (after call (phase kept.log)) ∷ [] → Kept words' (set views i caller_now)
+  pub kept_after : (words' : List ℕ) → words' ≡ code (after call (phase kept.log)) ∷ [] → KeptPass words' (set views i caller_now)
   kept_after words' is = record {
     log = longer;
     legal = legal_push kept.log made kept.legal refl;
     word = is ∙ ap (λ (p : Phase). code p ∷ []) (sym (phase_from-append Running kept.log (made ∷ [])));
-    fits = by_place words views kept i v at caller_now stems (λ j u. Fits longer u) fits_here fits_there;
+    fits = by_place words views kept i v at caller_now stems (λ j u. FitsLog longer u) fits_here fits_there;
     apart = apart_after words views kept i v at caller_now stems (λ n. refl);
     among = among_after words views kept i v at caller_now stems;
     in_log = in_longer;
@@ -96,12 +96,12 @@ module _ (words : List ℕ) (views : List View) (kept : Kept words views) (i : �
   }
 
 -- what the step of each of the four calls asks of the table
-pub call_keeps : (call : PhaseCall) (f : ℕ → ℕ) → ((p : Phase) → f (code p) ≡ code (after call p)) → (slots i : ℕ) (m : Me ℕ View) → m.0.spent ≡ false
-    → Allows {S = ℕ} {V = View} (λ s. Kept s.words s.views) slots i m 0 f (Called call m)
+pub call_keeps : (call : PhaseCall) (f : ℕ → ℕ) → ((p : Phase) → f (code p) ≡ code (after call p)) → (slots i : ℕ) (m : Me ℕ PassView) → m.0.spent ≡ false
+    → Allows {S = ℕ} {V = PassView} (λ s. KeptPass s.words s.views) slots i m 0 f (Called call m)
 call_keeps call f computes slots i m alive s kept len there small =
     let at : At s.views i m.0 = (there, alive) in
     let w = caller_now s.words s.views kept i m.0 at call in
-    let P : List ℕ → Type 0 = λ ws. Kept (set ws 0 (f (slice_index ws 0))) (set s.views i w) × Calls call m.0 (phase_of_code (slice_index ws 0)) w in
+    let P : List ℕ → Type 0 = λ ws. KeptPass (set ws 0 (f (slice_index ws 0))) (set s.views i w) × Calls call m.0 (phase_of_code (slice_index ws 0)) w in
     let Q : Phase → Type 0 = λ p. Calls call m.0 p w in
     let done : P s.words = subst P (sym kept.word) (
       kept_after s.words s.views kept i m.0 at call _ (ap (λ (n : ℕ). n ∷ []) (computes (phase kept.log))),

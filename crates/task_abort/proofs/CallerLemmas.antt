@@ -5,10 +5,10 @@ use mathlib.Core.Option.{some, some-injective, some-ne-none}
 use lib.ListN.{get_elem?}
 use Rattle.atomic_table.proofs.Lists.{at_set}
 use Rattle.task_abort.specs.declared.log.LogEntry.{LogEntry}
-use Rattle.task_abort.specs.declared.log.Caller.{Caller}
-use Rattle.task_abort.specs.declared.log.View.{View}
+use Rattle.task_abort.specs.declared.log.HandleCaller.{HandleCaller}
+use Rattle.task_abort.specs.declared.log.PassView.{PassView}
 use Rattle.task_abort.specs.PhaseLog.{Name, same_name, callers, IsFirst}
-use Rattle.task_abort.specs.Rule.{named, named_at, At, Has, Stands, GoesOn, Kept}
+use Rattle.task_abort.specs.Rule.{named, named_at, At, Has, Stands, NameGoesOn, KeptPass}
 use Rattle.task_abort.proofs.LogLemmas.{same_name-refl, same_name-other, names}
 
 module _ {A : Type 0} where
@@ -59,46 +59,46 @@ module _ {A : Type 0} where
     sum_by-none [] h = refl
     sum_by-none (z ∷ xs) h = let e = h 0 z refl in let l = sum_by-none xs (λ i x g. h (suc i) x g) in omega (arith, sum_by-cons f z xs)
 
-abbrev pub counts : Name → Caller → ℕ
+abbrev pub counts : Name → HandleCaller → ℕ
 counts n c = cond (same_name c.name n) 1 0
 
-pub counts-same : (n : Name) (c : Caller) → c.name ≡ n → counts n c ≡ 1
+pub counts-same : (n : Name) (c : HandleCaller) → c.name ≡ n → counts n c ≡ 1
 counts-same n c e = ap (λ (b : Bool). cond b 1 0) (same_name-refl c.name n e)
 
-pub counts-other : (n : Name) (c : Caller) → c.name ≢ n → counts n c ≡ 0
+pub counts-other : (n : Name) (c : HandleCaller) → c.name ≢ n → counts n c ≡ 0
 counts-other n c ne = ap (λ (b : Bool). cond b 1 0) (same_name-other c.name n ne)
 
-pub named_at-alive : (n : Name) (v : View) → v.spent ≡ false → named_at n v ≡ named n (callers v)
+pub named_at-alive : (n : Name) (v : PassView) → v.spent ≡ false → named_at n v ≡ named n (callers v)
 named_at-alive n v alive = ap (λ (b : Bool). if b then 0 else named n (callers v)) alive
 
-pub named-has : (v : View) (c : Caller) → Has v c → 1 ≤ named c.name (callers v)
+pub named-has : (v : PassView) (c : HandleCaller) → Has v c → 1 ≤ named c.name (callers v)
 named-has v c h = let e = counts-same c.name c refl in let l = sum_by-at (counts c.name) (callers v) h.0 c h.1 in omega arith
 
-pub has_own : (v : View) → Has v v.own
+pub has_own : (v : PassView) → Has v v.own
 has_own v = (0, refl)
 
 -- the caller after a change has the name of one before, with no fewer splits
-pub record Stems (v : View) (c : Caller) : Type 0 where
-  pub from : Caller
+pub record Stems (v : PassView) (c : HandleCaller) : Type 0 where
+  pub from : HandleCaller
   pub has : Has v from
   pub name : from.name ≡ c.name
   pub splits : from.splits ≤ c.splits
 
-pub goes_on_stem : (d c : Caller) (n : Name) → d.name ≡ c.name → d.splits ≤ c.splits → GoesOn d n → GoesOn c n
+pub goes_on_stem : (d c : HandleCaller) (n : Name) → d.name ≡ c.name → d.splits ≤ c.splits → NameGoesOn d n → NameGoesOn c n
 goes_on_stem d c n same le g k rest h = let b : k < d.splits = g k rest (h ∙ ap (λ (z : Name). z ++ k ∷ rest) (sym same)) in omega arith
 
-module _ (words : List ℕ) (views : List View) (kept : Kept words views) (i : ℕ) (v : View) (at : At views i v) where
+module _ (words : List ℕ) (views : List PassView) (kept : KeptPass words views) (i : ℕ) (v : PassView) (at : At views i v) where
   -- what a pass knows of its own names
   pub named-here : (n : Name) → named n (callers v) ≤ 1
   named-here n = let e = named_at-alive n v at.1 in let l = sum_by-at (named_at n) views i v at.0 in let h = kept.apart n in omega arith
 
   -- no other caller has the pass's own name
-  pub met_apart : (a : ℕ) (c : Caller) → get_elem? v.met a ≡ some c → c.name ≢ v.own.name
+  pub met_apart : (a : ℕ) (c : HandleCaller) → get_elem? v.met a ≡ some c → c.name ≢ v.own.name
   met_apart a c h same =
       let l = sum_by-at (counts v.own.name) v.met a c h in let e = counts-same v.own.name c same in let own = counts-same v.own.name v.own refl in
       let le = named-here v.own.name in omega (arith, sum_by-cons (counts v.own.name) v.own v.met)
 
-  pub others_apart : (j : ℕ) (u : View) (c : Caller) → j ≢ i → At views j u → Has u c → c.name ≢ v.own.name
+  pub others_apart : (j : ℕ) (u : PassView) (c : HandleCaller) → j ≢ i → At views j u → Has u c → c.name ≢ v.own.name
   others_apart j u c ne there h same =
       let l = sum_by-two (named_at v.own.name) views j i u v ne there.0 at.0 in let le = kept.apart v.own.name in
       let here : 1 ≤ named v.own.name (callers v) = named-has v v.own (has_own v) in
@@ -106,7 +106,7 @@ module _ (words : List ℕ) (views : List View) (kept : Kept words views) (i : �
       omega (arith, named_at-alive v.own.name v at.1, named_at-alive v.own.name u there.1)
 
   -- where a first pass was never split there is no other
-  pub sole : (j : ℕ) (u : View) → j ≢ i → At views j u → IsFirst u → ⊥
+  pub sole : (j : ℕ) (u : PassView) → j ≢ i → At views j u → IsFirst u → ⊥
   sole j u ne there first = go v.own.name refl
     where
       go : (n : Name) → v.own.name ≡ n → ⊥
@@ -116,41 +116,41 @@ module _ (words : List ℕ) (views : List View) (kept : Kept words views) (i : �
           let none : u.own.splits ≡ 0 = first.1 in omega arith
 
   -- a view in the pass's place whose callers stem from its own
-  module _ (w : View) (stems : (c : Caller) → Has w c → Stems v c) where
-    pub stands_before : (c : Caller) → Stands (set views i w) c → (d : Caller) × Stands views d × (d.name ≡ c.name) × (d.splits ≤ c.splits)
+  module _ (w : PassView) (stems : (c : HandleCaller) → Has w c → Stems v c) where
+    pub stands_before : (c : HandleCaller) → Stands (set views i w) c → (d : HandleCaller) × Stands views d × (d.name ≡ c.name) × (d.splits ≤ c.splits)
     stands_before c h = ⊎_elim
-        (λ (t : (h.0 ≡ i) × (w ≡ h.1)). let s = stems c (subst (λ (z : View). Has z c) (sym t.1) h.3) in (s.from, (i, v, at, s.has), s.name, s.splits))
+        (λ (t : (h.0 ≡ i) × (w ≡ h.1)). let s = stems c (subst (λ (z : PassView). Has z c) (sym t.1) h.3) in (s.from, (i, v, at, s.has), s.name, s.splits))
         (λ (t : (h.0 ≢ i) × (get_elem? views h.0 ≡ some h.1)). (c, (h.0, h.1, (t.1, h.2.1), h.3), refl, le_refl _))
         (at_set views i h.0 w h.1 h.2.0)
 
-    pub among_after : (c d : Caller) → Stands (set views i w) c → Stands (set views i w) d → GoesOn c d.name
+    pub among_after : (c d : HandleCaller) → Stands (set views i w) c → Stands (set views i w) d → NameGoesOn c d.name
     among_after c d hc hd =
         let c' = stands_before c hc in let d' = stands_before d hd in
-        goes_on_stem c'.0 c d.name c'.2 c'.3 (subst (λ (n : Name). GoesOn c'.0 n) d'.2 (kept.among c'.0 d'.0 c'.1 d'.1))
+        goes_on_stem c'.0 c d.name c'.2 c'.3 (subst (λ (n : Name). NameGoesOn c'.0 n) d'.2 (kept.among c'.0 d'.0 c'.1 d'.1))
 
-    pub old_log_after : (c : Caller) (m : ℕ) (e : LogEntry Name) → Stands (set views i w) c → get_elem? kept.log m ≡ some e → GoesOn c e.caller
+    pub old_log_after : (c : HandleCaller) (m : ℕ) (e : LogEntry Name) → Stands (set views i w) c → get_elem? kept.log m ≡ some e → NameGoesOn c e.caller
     old_log_after c m e hc he = let c' = stands_before c hc in goes_on_stem c'.0 c e.caller c'.2 c'.3 (kept.in_log c'.0 m e c'.1 he)
 
-    pub by_place : (P : ℕ → View → Type 0) → P i w → ((j : ℕ) (u : View) → j ≢ i → At views j u → P j u) → (j : ℕ) (u : View) → At (set views i w) j u → P j u
+    pub by_place : (P : ℕ → PassView → Type 0) → P i w → ((j : ℕ) (u : PassView) → j ≢ i → At views j u → P j u) → (j : ℕ) (u : PassView) → At (set views i w) j u → P j u
     by_place P here there j u h = ⊎_elim
-        (λ (t : (j ≡ i) × (w ≡ u)). subst (λ (z : ℕ). P z u) (sym t.0) (subst (λ (z : View). P i z) t.1 here))
+        (λ (t : (j ≡ i) × (w ≡ u)). subst (λ (z : ℕ). P z u) (sym t.0) (subst (λ (z : PassView). P i z) t.1 here))
         (λ (t : (j ≢ i) × (get_elem? views j ≡ some u)). there j u t.0 (t.1, h.1))
         (at_set views i j w u h.0)
 
     pub apart_after : ((n : Name) → named_at n w ≡ named_at n v) → (n : Name) → sum_by (named_at n) (set views i w) ≤ 1
     apart_after same n = let e = same n in let s = sum_by-written (named_at n) views i v w at.0 in let l = kept.apart n in omega arith
 
-counts_at_most : (n : Name) (c : Caller) → counts n c ≤ 1
+counts_at_most : (n : Name) (c : HandleCaller) → counts n c ≤ 1
 counts_at_most n c = ⊎_elim
     (λ (t : (c.name ≡ n) × (same_name c.name n ≡ true)). let e = counts-same n c t.0 in omega arith)
     (λ (t : (c.name ≢ n) × (same_name c.name n ≡ false)). let e = counts-other n c t.0 in omega arith) (names c.name n)
 
 -- one caller alone has each name at most once
-pub named-one : (n : Name) (c : Caller) → named n (c ∷ []) ≤ 1
+pub named-one : (n : Name) (c : HandleCaller) → named n (c ∷ []) ≤ 1
 named-one n c = let l = counts_at_most n c in omega (arith, sum_by-cons (counts n) c [])
 
 -- a name that no caller has is at no pass
-pub named_at-none : (n : Name) (v : View) → (v.spent ≡ false → (c : Caller) → Has v c → c.name ≢ n) → named_at n v ≡ 0
+pub named_at-none : (n : Name) (v : PassView) → (v.spent ≡ false → (c : HandleCaller) → Has v c → c.name ≢ n) → named_at n v ≡ 0
 named_at-none n v none = go v.spent refl
   where
     go : (b : Bool) → v.spent ≡ b → named_at n v ≡ 0

@@ -3,13 +3,13 @@ use Rattle.std.proofs.Common.{◌≡◌, ℕ, ◌<◌, [], ◌∷◌, ◌++◌, 
 use mathlib.Core.Option.{some}
 use lib.ListN.{get_elem?}
 use Rattle.task_abort.specs.declared.log.LogEntry.{LogEntry}
-use Rattle.task_abort.specs.declared.log.Caller.{Caller}
-use Rattle.task_abort.specs.declared.log.View.{View}
+use Rattle.task_abort.specs.declared.log.HandleCaller.{HandleCaller}
+use Rattle.task_abort.specs.declared.log.PassView.{PassView}
 use Rattle.task_abort.specs.PhaseLog.{Name}
 use Rattle.task_abort.specs.Rule.{Has, Knows, HasMetAll, AllKnown}
 use Rattle.task_abort.proofs.CallerLemmas.{has_own}
 
-module _ (v : View) (knows : Knows v) (all : HasMetAll v) where
+module _ (v : PassView) (knows : Knows v) (all : HasMetAll v) where
   -- a name that was seen goes on from the first pass's below its count of splits
   split_below : (m k : ℕ) (rest : Name) (e : LogEntry Name) → get_elem? v.seen m ≡ some e → e.caller ≡ k ∷ rest → k < v.own.splits
   split_below m k rest e h is = knows.below v.own m e (has_own v) h k rest (is ∙ ap (λ (z : Name). z ++ k ∷ rest) (sym all.0))
@@ -17,7 +17,7 @@ module _ (v : View) (knows : Knows v) (all : HasMetAll v) where
   pub known : AllKnown v
   known m e h = go e.caller refl
     where
-      go : (n : Name) → e.caller ≡ n → (c : Caller) × Has v c × (c.name ≡ e.caller)
+      go : (n : Name) → e.caller ≡ n → (c : HandleCaller) × Has v c × (c.name ≡ e.caller)
       go [] is = (v.own, has_own v, all.0 ∙ sym is)
       go (k ∷ []) is = let t = all.1 k (split_below m k [] e h is) in (t.0, t.1, t.2 ∙ sym is)
       go (k ∷ j ∷ rest) is =

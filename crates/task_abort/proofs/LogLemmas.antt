@@ -9,7 +9,7 @@ use Rattle.task_machine.specs.declared.words.Phase.TheVariants.{Running, AbortRe
 use Rattle.task_abort.specs.declared.log.PhaseCall.{PhaseCall}
 use Rattle.task_abort.specs.declared.log.PhaseCall.TheVariants.{Abort, PollFuture, PollHandle, Finish}
 use Rattle.task_abort.specs.declared.log.LogEntry.{LogEntry}
-use Rattle.task_abort.specs.PhaseLog.{code, phase_of_code, after, phase_from, is_legal_from, phase, IsLegal, Name, Log, same_name, calls_by, Begins}
+use Rattle.task_abort.specs.PhaseLog.{code, phase_of_code, after, phase_from, is_legal_from, phase, IsLegal, Name, Log, same_name, calls_by, LogBegins}
 
 pub phase_of_code-code : (p : Phase) → phase_of_code (code p) ≡ p
 phase_of_code-code Running = refl
@@ -100,30 +100,30 @@ module _ {A : Type 0} where
   pub same_tail : (x y : A) (xs ys : List A) → x ∷ xs ≡ y ∷ ys → xs ≡ ys
   same_tail x y xs ys h = ap (λ (l : List A). drop 1 l) h
 
-pub begins_refl : (log : Log) → Begins log log
+pub begins_refl : (log : Log) → LogBegins log log
 begins_refl log = ([], sym (append-nil log))
 
-pub begins_more : (xs log ys : Log) → Begins xs log → Begins xs (log ++ ys)
+pub begins_more : (xs log ys : Log) → LogBegins xs log → LogBegins xs (log ++ ys)
 begins_more xs log ys h = (h.0 ++ ys, ap (λ (z : Log). z ++ ys) h.1 ∙ append_assoc xs h.0 ys)
 
 -- of two beginnings of one log one begins the other
-pub begins_both : (log xs ys : Log) → Begins xs log → Begins ys log → Begins xs ys ⊎ Begins ys xs
+pub begins_both : (log xs ys : Log) → LogBegins xs log → LogBegins ys log → LogBegins xs ys ⊎ LogBegins ys xs
 begins_both log [] ys h g = inl (ys, refl)
 begins_both log (x ∷ xs) [] h g = inr (x ∷ xs, refl)
 begins_both [] (x ∷ xs) (y ∷ ys) h g = absurd (let l : 0 ≡ length (x ∷ (xs ++ h.0)) = ap length h.1 in omega arith)
 begins_both (z ∷ log) (x ∷ xs) (y ∷ ys) h g =
     let e : x ≡ y = sym (same_head z x log (xs ++ h.0) h.1) ∙ same_head z y log (ys ++ g.0) g.1 in
-    ⊎_elim (λ (t : Begins xs ys). inl (t.0, ap₂ (λ (a : LogEntry Name) (r : Log). a ∷ r) (sym e) t.1)) (λ (t : Begins ys xs). inr (t.0, ap₂ (λ (a : LogEntry Name) (r : Log). a ∷ r) e t.1))
+    ⊎_elim (λ (t : LogBegins xs ys). inl (t.0, ap₂ (λ (a : LogEntry Name) (r : Log). a ∷ r) (sym e) t.1)) (λ (t : LogBegins ys xs). inr (t.0, ap₂ (λ (a : LogEntry Name) (r : Log). a ∷ r) e t.1))
     (begins_both log xs ys (h.0, same_tail z x log (xs ++ h.0) h.1) (g.0, same_tail z y log (ys ++ g.0) g.1))
 
 -- two logs that begin each other are one
-pub begins_same : (xs ys : Log) → Begins xs ys → Begins ys xs → xs ≡ ys
+pub begins_same : (xs ys : Log) → LogBegins xs ys → LogBegins ys xs → xs ≡ ys
 begins_same xs ys h g =
     let e : xs ≡ xs ++ (h.0 ++ g.0) = g.1 ∙ ap (λ (z : Log). z ++ g.0) h.1 ∙ append_assoc xs h.0 g.0 in
     sym (append-nil xs) ∙ ap (λ (z : Log). xs ++ z) (sym (both_nil h.0 g.0 (nothing_left xs (h.0 ++ g.0) e)).0) ∙ sym h.1
 
 -- a log between two with the same calls under a name has these too
-pub calls_by-between : (n : Name) (xs ys log : Log) → Begins xs ys → Begins ys log → calls_by n xs ≡ calls_by n log → calls_by n ys ≡ calls_by n xs
+pub calls_by-between : (n : Name) (xs ys log : Log) → LogBegins xs ys → LogBegins ys log → calls_by n xs ≡ calls_by n log → calls_by n ys ≡ calls_by n xs
 calls_by-between n xs ys log h g e =
     let low : calls_by n ys ≡ calls_by n xs ++ calls_by n h.0 = ap (calls_by n) h.1 ∙ calls_by-append n xs h.0 in
     let high : calls_by n log ≡ calls_by n ys ++ calls_by n g.0 = ap (calls_by n) g.1 ∙ calls_by-append n ys g.0 in

@@ -9,8 +9,8 @@ use Rattle.task_abort.specs.declared.log.PhaseCall.{PhaseCall}
 use Rattle.task_abort.specs.declared.log.PhaseCall.TheVariants.{Abort, PollFuture, PollHandle, Finish}
 use Rattle.task_abort.specs.declared.log.LogEntry.{LogEntry}
 use Rattle.task_abort.specs.declared.log.CallMade.{CallMade}
-use Rattle.task_abort.specs.declared.log.Caller.{Caller}
-use Rattle.task_abort.specs.declared.log.View.{View}
+use Rattle.task_abort.specs.declared.log.HandleCaller.{HandleCaller}
+use Rattle.task_abort.specs.declared.log.PassView.{PassView}
 use Rattle.task_abort.specs.PhaseLog.{code, after, entry, Name, Log}
 use Rattle.task_abort.specs.Rule.{Has, Knows, AllKnown}
 use Rattle.task_abort.specs.Staged.{told_answer, told, Aborter, aborts_of, all_aborts, any_abort, entered_answer, tells_request, entered, stage, in_stage, by_stages, by_number, Numbered, all_entries, staged, OnlyAborted, Lists, LastRound}
@@ -262,15 +262,15 @@ aborts_sorted k n (AbortRequested ∷ ps) b s rises h = let low = rises.0 in
 aborts_sorted k n (Complete ∷ ps) b s rises h =
     (⊎_elim (λ (l : s ≤ 2). let goal : s ≤ 5 = omega arith in goal) (⊎_elim (λ (t : (s ≤ 3) × (1 ≤ b)). let l = t.0 in let goal : s ≤ 5 = omega arith in goal) (λ (t : (s ≤ 5) × (2 ≤ b)). t.0)) h, aborts_sorted k n ps 2 5 rises.1 (inr (inr (omega arith, omega arith))))
 
-only_at : (ds : List Caller) (rest : List Aborter) (i : ℕ) (a : Aborter) → OnlyAborted ds rest → get_elem? rest i ≡ some a → (d : Caller) × (get_elem? ds i ≡ some d) × (d.calls ≡ map (λ p. entry d.name Abort p) a.1)
+only_at : (ds : List HandleCaller) (rest : List Aborter) (i : ℕ) (a : Aborter) → OnlyAborted ds rest → get_elem? rest i ≡ some a → (d : HandleCaller) × (get_elem? ds i ≡ some d) × (d.calls ≡ map (λ p. entry d.name Abort p) a.1)
 only_at [] [] i a h at = absurd (at_nothing a i at)
 only_at [] (b ∷ rest) i a h at = absurd h
 only_at (d ∷ ds) [] i a h at = absurd h
 only_at (d ∷ ds) (b ∷ rest) zero a h at = (d, refl, h.0 ∙ ap (λ (z : Aborter). map (λ p. entry d.name Abort p) z.1) (some-injective b a at))
 only_at (d ∷ ds) (b ∷ rest) (suc i) a h at = only_at ds rest i a h.1 at
 
-module _ (w : View) (knows : Knows w) (known : AllKnown w) (own : List CallMade) (aborters : List Aborter) (n : ℕ) (lists : Lists w own aborters) (round : LastRound w n) where
-  rises_of : (c : Caller) → Has w c → Rises 0 c.calls
+module _ (w : PassView) (knows : Knows w) (known : AllKnown w) (own : List CallMade) (aborters : List Aborter) (n : ℕ) (lists : Lists w own aborters) (round : LastRound w n) where
+  rises_of : (c : HandleCaller) → Has w c → Rises 0 c.calls
   rises_of c h = subst (Rises 0) (knows.whole c h) (rises_calls c.name Running w.seen knows.legal)
 
   pub run_sorted : Sorted 1 (entered n (any_abort aborters) false own)

@@ -11,8 +11,8 @@ use Rattle.task_abort.specs.declared.log.PhaseCall.{PhaseCall}
 use Rattle.task_abort.specs.declared.log.PhaseCall.TheVariants.{Abort, PollFuture, PollHandle, Finish}
 use Rattle.task_abort.specs.declared.log.LogEntry.{LogEntry}
 use Rattle.task_abort.specs.declared.log.CallMade.{CallMade}
-use Rattle.task_abort.specs.declared.log.Caller.{Caller}
-use Rattle.task_abort.specs.declared.log.View.{View}
+use Rattle.task_abort.specs.declared.log.HandleCaller.{HandleCaller}
+use Rattle.task_abort.specs.declared.log.PassView.{PassView}
 use Rattle.task_abort.specs.PhaseLog.{code, after, entry, phase_from, phase, is_legal_from, IsLegal, Name, Log, same_name, calls_by}
 use Rattle.task_abort.specs.Rule.{Knows, AllKnown}
 use Rattle.task_abort.specs.Staged.{told_answer, told, Aborter, aborts_of, all_aborts, is_any, any_abort, entered_answer, tells_request, entered, stage, in_stage, by_stages, staged, OnlyAborted, Lists, LastRound}
@@ -164,7 +164,7 @@ aborts_up_to : (m k : ℕ) (n : Name) (ps : List Phase) → 1 ≤ m → UpTo m (
 aborts_up_to m k n [] one h = tt
 aborts_up_to m k n (p ∷ ps) one h = (abort_floor p m one h.0, aborts_up_to m k n ps one h.1)
 
-all_aborts_up_to : (m : ℕ) (ds : List Caller) (rest : List Aborter) → 1 ≤ m → OnlyAborted ds rest → ((i : ℕ) (d : Caller) → get_elem? ds i ≡ some d → UpTo m d.calls) → AllUpTo (floor m) (all_aborts rest)
+all_aborts_up_to : (m : ℕ) (ds : List HandleCaller) (rest : List Aborter) → 1 ≤ m → OnlyAborted ds rest → ((i : ℕ) (d : HandleCaller) → get_elem? ds i ≡ some d → UpTo m d.calls) → AllUpTo (floor m) (all_aborts rest)
 all_aborts_up_to m [] [] one h up = tt
 all_aborts_up_to m [] (a ∷ rest) one h up = absurd h
 all_aborts_up_to m (d ∷ ds) [] one h up = absurd h
@@ -179,7 +179,7 @@ no_aborts : (rest : List Aborter) → any_abort rest ≡ false → all_aborts re
 no_aborts [] h = refl
 no_aborts (a ∷ rest) h = let t = or_parts (is_any a.1) (any_abort rest) h in joined_nil (aborts_of a) (all_aborts rest) (no_answers a.0 a.1 t.0) (no_aborts rest t.1)
 
-module _ (w : View) (knows : Knows w) (known : AllKnown w) (own : List CallMade) (aborters : List Aborter) (n : ℕ) (lists : Lists w own aborters) (round : LastRound w n) where
+module _ (w : PassView) (knows : Knows w) (known : AllKnown w) (own : List CallMade) (aborters : List Aborter) (n : ℕ) (lists : Lists w own aborters) (round : LastRound w n) where
   abbrev run : List (LogEntry ℕ)
   run = entered n (any_abort aborters) false own
 

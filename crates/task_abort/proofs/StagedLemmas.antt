@@ -9,8 +9,8 @@ use Rattle.task_abort.specs.declared.log.PhaseCall.{PhaseCall}
 use Rattle.task_abort.specs.declared.log.PhaseCall.TheVariants.{Abort, PollFuture, PollHandle, Finish}
 use Rattle.task_abort.specs.declared.log.LogEntry.{LogEntry}
 use Rattle.task_abort.specs.declared.log.CallMade.{CallMade}
-use Rattle.task_abort.specs.declared.log.Caller.{Caller}
-use Rattle.task_abort.specs.declared.log.View.{View}
+use Rattle.task_abort.specs.declared.log.HandleCaller.{HandleCaller}
+use Rattle.task_abort.specs.declared.log.PassView.{PassView}
 use Rattle.task_abort.specs.PhaseLog.{code, after, entry, phase_from, phase, is_legal_from, IsLegal, Name, Log, same_name, calls_by, callers}
 use Rattle.task_abort.specs.Rule.{named, Knows, AllKnown}
 use Rattle.task_abort.specs.Staged.{told_answer, told, Aborter, aborts_of, all_aborts, is_any, any_abort, entered_answer, tells_request, entered, all_entries, staged, OnlyAborted, Lists, LastRound}
@@ -67,13 +67,13 @@ tally-aborts : (t : Test) (k : ℕ) (n : Name) (ps : List Phase) → tally t (ma
 tally-aborts t k n [] = refl
 tally-aborts t k n (p ∷ ps) = let l = tally-aborts t k n ps in omega arith
 
-tally-all_aborts : (t : Test) (ds : List Caller) (rest : List Aborter) → OnlyAborted ds rest → tally t (all_aborts rest) ≡ sum_by (λ d. tally t d.calls) ds
+tally-all_aborts : (t : Test) (ds : List HandleCaller) (rest : List Aborter) → OnlyAborted ds rest → tally t (all_aborts rest) ≡ sum_by (λ d. tally t d.calls) ds
 tally-all_aborts t [] [] h = refl
 tally-all_aborts t [] (a ∷ rest) h = absurd h
 tally-all_aborts t (d ∷ ds) [] h = absurd h
 tally-all_aborts t (d ∷ ds) (a ∷ rest) h =
     let e : tally t (aborts_of a) ≡ tally t d.calls = tally-aborts t a.0 d.name a.1 ∙ ap (tally t) (sym h.0) in
-    let l = tally-all_aborts t ds rest h.1 in omega (arith, tally-append t (aborts_of a) (all_aborts rest), sum_by-cons (λ (c : Caller). tally t c.calls) d ds)
+    let l = tally-all_aborts t ds rest h.1 in omega (arith, tally-append t (aborts_of a) (all_aborts rest), sum_by-cons (λ (c : HandleCaller). tally t c.calls) d ds)
 
 -- each answer is no earlier phase than what the call before left
 abbrev pub Rises : ℕ → Log → Type 0
@@ -185,7 +185,7 @@ some_abort : (n : Name) (ps : List Phase) → is_any ps ≡ true → 0 < tally i
 some_abort n [] h = absurd (grind (arith, h))
 some_abort n (p ∷ ps) h = omega arith
 
-who_aborted : (ds : List Caller) (rest : List Aborter) → OnlyAborted ds rest → any_abort rest ≡ true → (a : ℕ) × (d : Caller) × (get_elem? ds a ≡ some d) × (0 < tally is_abort d.calls)
+who_aborted : (ds : List HandleCaller) (rest : List Aborter) → OnlyAborted ds rest → any_abort rest ≡ true → (a : ℕ) × (d : HandleCaller) × (get_elem? ds a ≡ some d) × (0 < tally is_abort d.calls)
 who_aborted [] [] h any = absurd (grind (arith, any))
 who_aborted [] (a ∷ rest) h any = absurd h
 who_aborted (d ∷ ds) [] h any = absurd h
@@ -312,7 +312,7 @@ five_had AbortRequested PollHandle = omega arith
 five_had AbortRequested Finish = omega arith
 five_had Complete c = omega arith
 
-module _ (w : View) (knows : Knows w) (known : AllKnown w) (own : List CallMade) (aborters : List Aborter) (n : ℕ) (lists : Lists w own aborters) (round : LastRound w n) where
+module _ (w : PassView) (knows : Knows w) (known : AllKnown w) (own : List CallMade) (aborters : List Aborter) (n : ℕ) (lists : Lists w own aborters) (round : LastRound w n) where
   abbrev W : Type 0
   W = 0 < tally first_abort w.seen
 
@@ -321,9 +321,9 @@ module _ (w : View) (knows : Knows w) (known : AllKnown w) (own : List CallMade)
 
   tally-lists : (t : Test) → tally t (all_aborts aborters) + tally t w.own.calls ≡ tally t w.seen
   tally-lists t =
-      let each = sum_by-same (λ (c : Caller). tally t c.calls) (λ c. tally t (calls_by c.name w.seen)) (callers w) (λ i c at. ap (tally t) (sym (knows.whole c (i, at)))) in
+      let each = sum_by-same (λ (c : HandleCaller). tally t c.calls) (λ c. tally t (calls_by c.name w.seen)) (callers w) (λ i c at. ap (tally t) (sym (knows.whole c (i, at)))) in
       let all = tally-callers t (callers w) w.seen once in let met = tally-all_aborts t w.met aborters lists.aborts in
-      omega (arith, sum_by-cons (λ (c : Caller). tally t c.calls) w.own w.met)
+      omega (arith, sum_by-cons (λ (c : HandleCaller). tally t c.calls) w.own w.met)
 
   tally-run : (t : Test) → tally t (entered n (any_abort aborters) false own) ≡ tally t (entered n (any_abort aborters) false (map told w.own.calls))
   tally-run t = ap (λ (z : List CallMade). tally t (entered n (any_abort aborters) false z)) lists.own_calls

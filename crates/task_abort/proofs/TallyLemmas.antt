@@ -6,7 +6,7 @@ use lib.ListN.{get_elem?}
 use Rattle.task_machine.specs.declared.words.Phase.{Phase}
 use Rattle.task_abort.specs.declared.log.PhaseCall.{PhaseCall}
 use Rattle.task_abort.specs.declared.log.LogEntry.{LogEntry}
-use Rattle.task_abort.specs.declared.log.Caller.{Caller}
+use Rattle.task_abort.specs.declared.log.HandleCaller.{HandleCaller}
 use Rattle.task_abort.specs.PhaseLog.{after, is_legal_from, Name, Log, same_name, calls_by}
 use Rattle.task_abort.specs.Rule.{named}
 use Rattle.task_abort.specs.Staged.{stage, in_stage}
@@ -101,12 +101,12 @@ module _ (t : Test) where
       none false = omega arith
 
   -- where each entry is by just one of the callers, their entries together are all
-  pub tally-callers : (cs : List Caller) (log : Log) → ((m : ℕ) (e : LogEntry Name) → get_elem? log m ≡ some e → named e.caller cs ≡ 1) → sum_by (λ c. tally t (calls_by c.name log)) cs ≡ tally t log
+  pub tally-callers : (cs : List HandleCaller) (log : Log) → ((m : ℕ) (e : LogEntry Name) → get_elem? log m ≡ some e → named e.caller cs ≡ 1) → sum_by (λ c. tally t (calls_by c.name log)) cs ≡ tally t log
   tally-callers cs [] h = sum_by-none (λ c. 0) cs (λ i c at. refl)
   tally-callers cs (e ∷ es) h =
       let one = h 0 e refl in let rest = tally-callers cs es (λ m x at. h (suc m) x at) in
-      let each = sum_by-plus (λ (c : Caller). cond (t e.answer e.call) (counts e.caller c) 0) (λ c. tally t (calls_by c.name es)) (λ c. tally t (calls_by c.name (e ∷ es)))
+      let each = sum_by-plus (λ (c : HandleCaller). cond (t e.answer e.call) (counts e.caller c) 0) (λ c. tally t (calls_by c.name es)) (λ c. tally t (calls_by c.name (e ∷ es)))
       (λ c. by_caller e (calls_by c.name es) (same_name e.caller c.name) (same_name c.name e.caller) (same_name-sym e.caller c.name)) cs in
-      let here = sum_by-if (λ (c : Caller). cond (t e.answer e.call) (counts e.caller c) 0) (counts e.caller) (t e.answer e.call) (λ c. refl) cs in
+      let here = sum_by-if (λ (c : HandleCaller). cond (t e.answer e.call) (counts e.caller c) 0) (counts e.caller) (t e.answer e.call) (λ c. refl) cs in
       let is : cond (t e.answer e.call) (named e.caller cs) 0 ≡ bit (t e.answer e.call) = ap (λ (n : ℕ). cond (t e.answer e.call) n 0) one in
       omega arith

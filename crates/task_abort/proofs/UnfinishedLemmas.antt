@@ -9,8 +9,8 @@ use Rattle.task_machine.specs.declared.words.Phase.TheVariants.{Running, AbortRe
 use Rattle.task_abort.specs.declared.log.PhaseCall.{PhaseCall}
 use Rattle.task_abort.specs.declared.log.PhaseCall.TheVariants.{Abort, PollFuture, PollHandle, Finish}
 use Rattle.task_abort.specs.declared.log.LogEntry.{LogEntry}
-use Rattle.task_abort.specs.declared.log.Caller.{Caller}
-use Rattle.task_abort.specs.declared.log.View.{View}
+use Rattle.task_abort.specs.declared.log.HandleCaller.{HandleCaller}
+use Rattle.task_abort.specs.declared.log.PassView.{PassView}
 use Rattle.task_abort.specs.PhaseLog.{after, entry, phase_from, phase, IsLegal, Name, Log, same_name, calls_by, callers}
 use Rattle.task_abort.specs.Rule.{named, Knows, AllKnown}
 use Rattle.task_abort.specs.Staged.{Aborter, OnlyAborted}
@@ -56,11 +56,11 @@ aborts_finish_nothing : (n : Name) (ps : List Phase) → tally is_finish (map (�
 aborts_finish_nothing n [] = refl
 aborts_finish_nothing n (p ∷ ps) = let l = aborts_finish_nothing n ps in omega arith
 
-aborters_finish_nothing : (ds : List Caller) (rest : List Aborter) → OnlyAborted ds rest → (i : ℕ) (d : Caller) → get_elem? ds i ≡ some d → tally is_finish d.calls ≡ 0
+aborters_finish_nothing : (ds : List HandleCaller) (rest : List Aborter) → OnlyAborted ds rest → (i : ℕ) (d : HandleCaller) → get_elem? ds i ≡ some d → tally is_finish d.calls ≡ 0
 aborters_finish_nothing [] rest h i d at = absurd (at_nothing d i at)
 aborters_finish_nothing (c ∷ ds) [] h i d at = absurd h
 aborters_finish_nothing (c ∷ ds) (a ∷ rest) h zero d at =
-    subst (λ (z : Caller). tally is_finish z.calls ≡ 0) (some-injective c d at) (ap (tally is_finish) h.0 ∙ aborts_finish_nothing c.name a.1)
+    subst (λ (z : HandleCaller). tally is_finish z.calls ≡ 0) (some-injective c d at) (ap (tally is_finish) h.0 ∙ aborts_finish_nothing c.name a.1)
 aborters_finish_nothing (c ∷ ds) (a ∷ rest) h (suc i) d at = aborters_finish_nothing ds rest h.1 i d at
 
 -- where a call stands among those under a name, the log before it has those before it
@@ -83,9 +83,9 @@ place_of n (z ∷ log) xs ys e h = ⊎_elim
         let r = rec ws (same_tail z w (calls_by n log) (ws ++ e ∷ ys) k) in let head : z ≡ w = same_head z w (calls_by n log) (ws ++ e ∷ ys) k in
         (z ∷ r.0, r.1, ap (λ (l : Log). z ∷ l) r.2, ap (λ (b : Bool). cond b (z ∷ calls_by n r.0) (calls_by n r.0)) is ∙ ap₂ (λ (a : LogEntry Name) (l : Log). a ∷ l) head r.3)
 
-module _ (w : View) (knows : Knows w) (known : AllKnown w) (aborters : List Aborter) (aborts : OnlyAborted w.met aborters) (xs ys : Log) (e : LogEntry Name) (own : w.own.calls ≡ xs ++ e ∷ ys) (running : (m : ℕ) (x : LogEntry Name) → get_elem? xs m ≡ some x → x.call ≢ Finish) where
+module _ (w : PassView) (knows : Knows w) (known : AllKnown w) (aborters : List Aborter) (aborts : OnlyAborted w.met aborters) (xs ys : Log) (e : LogEntry Name) (own : w.own.calls ≡ xs ++ e ∷ ys) (running : (m : ℕ) (x : LogEntry Name) → get_elem? xs m ≡ some x → x.call ≢ Finish) where
   pub unfinished : e.answer ≢ Complete
-  unfinished is = omega (arith, over_finished Running before, sum_by-cons (λ (c : Caller). tally is_finish (calls_by c.name before)) w.own w.met, all, mine, others, over)
+  unfinished is = omega (arith, over_finished Running before, sum_by-cons (λ (c : HandleCaller). tally is_finish (calls_by c.name before)) w.own w.met, all, mine, others, over)
     where
       place : Stands_at w.own.name w.seen xs e
       place = place_of w.own.name w.seen xs ys e (knows.whole w.own (has_own w) ∙ own)
@@ -104,14 +104,14 @@ module _ (w : View) (knows : Knows w) (known : AllKnown w) (aborters : List Abor
       mine : tally is_finish (calls_by w.own.name before) ≡ 0
       mine = ap (tally is_finish) place.3 ∙ none_finished xs running
 
-      other : (i : ℕ) (d : Caller) → get_elem? w.met i ≡ some d → tally is_finish (calls_by d.name before) ≡ 0
+      other : (i : ℕ) (d : HandleCaller) → get_elem? w.met i ≡ some d → tally is_finish (calls_by d.name before) ≡ 0
       other i d at =
           let whole : calls_by d.name before ++ calls_by d.name (e ∷ place.1) ≡ d.calls = sym (calls_by-append d.name before (e ∷ place.1)) ∙ ap (calls_by d.name) (sym place.2) ∙ knows.whole d (suc i, at) in
           let none = aborters_finish_nothing w.met aborters aborts i d at in
           omega (arith, tally-append is_finish (calls_by d.name before) (calls_by d.name (e ∷ place.1)), ap (tally is_finish) whole)
 
       others : sum_by (λ c. tally is_finish (calls_by c.name before)) w.met ≡ 0
-      others = sum_by-none (λ (c : Caller). tally is_finish (calls_by c.name before)) w.met other
+      others = sum_by-none (λ (c : HandleCaller). tally is_finish (calls_by c.name before)) w.met other
 
       over : is_over (phase before) ≡ 1
       over = let legal = (legal_cut Running before (e ∷ place.1) (subst IsLegal place.2 knows.legal)).1 in

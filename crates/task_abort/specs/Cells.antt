@@ -6,7 +6,7 @@ use Rattle.futures.specs.declared.task.Poll.{Poll}
 use Rattle.futures.specs.declared.task.Poll.TheVariants.{Ready, Pending}
 use Rattle.task_machine.specs.declared.words.Phase.{Phase}
 use Rattle.task_machine.specs.declared.words.Phase.TheVariants.{Running, Complete}
-use Rattle.task_abort.specs.declared.log.View.{View}
+use Rattle.task_abort.specs.declared.log.PassView.{PassView}
 use Rattle.task_abort.specs.declared.cell.JoinHandle.{JoinHandle}
 use Rattle.task_abort.specs.declared.cell.Abortable.{Abortable}
 use Rattle.task_abort.specs.declared.cell.JoinPass.{JoinPass}
@@ -39,11 +39,11 @@ work_of a = a.future
 abbrev pub with_work : {F : Type 0} → Abortable F → F → Abortable F
 with_work a f = record a { future = f }
 
-abbrev pub view_of : JoinPass → View
+abbrev pub view_of : JoinPass → PassView
 view_of p = p.seat.me.0
 
 -- what the pass of a cell with one owner has seen and done
-abbrev pub own_view : OwnCell → View
+abbrev pub own_view : OwnCell → PassView
 own_view cell = view_of cell.pass
 
 -- a poll of the handle is ready exactly where it found Complete

@@ -6,8 +6,8 @@ use Rattle.task_machine.specs.declared.words.Phase.TheVariants.{Running, AbortRe
 use Rattle.task_abort.specs.declared.log.PhaseCall.{PhaseCall}
 use Rattle.task_abort.specs.declared.log.PhaseCall.TheVariants.{Abort, PollFuture, PollHandle, Finish}
 use Rattle.task_abort.specs.declared.log.LogEntry.{LogEntry}
-use Rattle.task_abort.specs.declared.log.Caller.{Caller}
-use Rattle.task_abort.specs.declared.log.View.{View}
+use Rattle.task_abort.specs.declared.log.HandleCaller.{HandleCaller}
+use Rattle.task_abort.specs.declared.log.PassView.{PassView}
 
 -- the number by which the word stands for a phase
 abbrev pub code : Phase → ℕ
@@ -62,33 +62,33 @@ abbrev pub calls_by : Name → Log → Log
 calls_by n log = filter (λ e. same_name e.caller n) log
 
 -- the log begins with what was seen
-abbrev pub Begins : Log → Log → Type 0
-Begins seen log = (rest : Log) × (log ≡ seen ++ rest)
+abbrev pub LogBegins : Log → Log → Type 0
+LogBegins seen log = (rest : Log) × (log ≡ seen ++ rest)
 
 -- the pass's own name and calls, and those of the passes that were met into it
-abbrev pub callers : View → List Caller
+abbrev pub callers : PassView → List HandleCaller
 callers v = v.own ∷ v.met
 
-abbrev pub new_caller : Name → Caller
+abbrev pub new_caller : Name → HandleCaller
 new_caller n = record { name = n; calls = []; splits = 0 }
 
-abbrev pub first_view : View
+abbrev pub first_view : PassView
 first_view = record { spent = false; own = new_caller []; met = []; seen = []; heard = [] }
 
 -- the first pass, as long as it was never split
-abbrev pub IsFirst : View → Type 0
+abbrev pub IsFirst : PassView → Type 0
 IsFirst v = (v.own.name ≡ []) × (v.own.splits ≡ 0)
 
 -- a pass after it was split, and the new pass
-abbrev pub split_left : View → View
+abbrev pub split_left : PassView → PassView
 split_left v = record v { own = record v.own { splits = v.own.splits + 1 } }
 
-abbrev pub split_right : View → View
+abbrev pub split_right : PassView → PassView
 split_right v = record { spent = false; own = new_caller (v.own.name ++ v.own.splits ∷ []); met = []; seen = v.seen; heard = [] }
 
 -- a pass after the first step of a meet, and what is left of the other
-abbrev pub joined : View → View → View
+abbrev pub joined : PassView → PassView → PassView
 joined v w = record v { met = v.met ++ callers w; heard = w.seen }
 
-abbrev pub spent_view : View
+abbrev pub spent_view : PassView
 spent_view = record { spent = true; own = new_caller []; met = []; seen = []; heard = [] }

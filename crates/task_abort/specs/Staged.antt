@@ -8,9 +8,9 @@ use Rattle.task_abort.specs.declared.log.PhaseCall.{PhaseCall}
 use Rattle.task_abort.specs.declared.log.PhaseCall.TheVariants.{Abort, PollFuture, PollHandle, Finish}
 use Rattle.task_abort.specs.declared.log.LogEntry.{LogEntry}
 use Rattle.task_abort.specs.declared.log.CallMade.{CallMade}
-use Rattle.task_abort.specs.declared.log.Caller.{Caller}
-use Rattle.task_abort.specs.declared.log.View.{View}
-use Rattle.task_abort.specs.PhaseLog.{entry, Log, calls_by, Begins}
+use Rattle.task_abort.specs.declared.log.HandleCaller.{HandleCaller}
+use Rattle.task_abort.specs.declared.log.PassView.{PassView}
+use Rattle.task_abort.specs.PhaseLog.{entry, Log, calls_by, LogBegins}
 
 -- what its caller is told of a call
 abbrev pub told_answer : PhaseCall → Phase → Option Phase
@@ -102,21 +102,21 @@ Numbered k [] = Unit {0}
 Numbered k (a ∷ rest) = (k < a.0) × Numbered a.0 rest
 
 -- each of these callers made aborts alone, and these are what they found
-abbrev pub OnlyAborted : List Caller → List Aborter → Type 0
+abbrev pub OnlyAborted : List HandleCaller → List Aborter → Type 0
 OnlyAborted [] [] = Unit {0}
 OnlyAborted [] (a ∷ rest) = ⊥
 OnlyAborted (d ∷ ds) [] = ⊥
 OnlyAborted (d ∷ ds) (a ∷ rest) = (d.calls ≡ map (λ p. entry d.name Abort p) a.1) × OnlyAborted ds rest
 
 -- the lists are those of a pass and of the passes that were met into it
-pub record Lists (v : View) (own : List CallMade) (aborters : List Aborter) : Type 0 where
+pub record Lists (v : PassView) (own : List CallMade) (aborters : List Aborter) : Type 0 where
   pub own_calls : own ≡ map told v.own.calls
   pub aborts : OnlyAborted v.met aborters
 
 -- The pass's calls after its first n were made when all calls of the others had been made. Where n is the number of its calls this
 -- holds of every pass
-pub record LastRound (v : View) (n : ℕ) : Type 0 where
+pub record LastRound (v : PassView) (n : ℕ) : Type 0 where
   pub early : Log
-  pub begins : Begins early v.seen
-  pub others : (a : ℕ) (d : Caller) → get_elem? v.met a ≡ some d → calls_by d.name early ≡ d.calls
+  pub begins : LogBegins early v.seen
+  pub others : (a : ℕ) (d : HandleCaller) → get_elem? v.met a ≡ some d → calls_by d.name early ≡ d.calls
   pub count : length (calls_by v.own.name early) ≤ n

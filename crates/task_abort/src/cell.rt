@@ -3,7 +3,7 @@ ghost use Rattle.std.specs.Prelude.{◌≡◌, false, []};
 ghost use Rattle.task_abort.specs.PhaseLog.{IsFirst};
 ghost use Rattle.task_abort.specs.Rule.{Knows};
 
-use crate::log::View;
+use crate::log::PassView;
 use crate::rule::OneLog;
 use atomic_table::{Seat, Table};
 use futures::task::{Source, Waker};
@@ -19,8 +19,8 @@ pub struct Wakers {
 
 /// The word with the phase, and beside it the two wakers, of which no call without a runtime knows.
 #[derive(Drop)]
-pub struct Cell {
-    pub(crate) phase: Table<u8, View, (), OneLog, Global>,
+pub struct PhaseCell {
+    pub(crate) phase: Table<u8, PassView, (), OneLog, Global>,
     pub(crate) wakers: Mutex<Wakers>,
     pub(crate) aborts: Source,
     pub(crate) ends: Source,
@@ -31,21 +31,21 @@ pub struct Cell {
 /// pass of its cell. Dropping it changes no phase.
 #[derive(Drop)]
 pub struct JoinHandle {
-    pub(crate) cell: Arc<Cell, Global>,
+    pub(crate) cell: Arc<PhaseCell, Global>,
 }
 
 /// A work that can be aborted: a future, or any work that its owner polls. It is polled and finished with a pass of its
 /// cell.
 #[derive(Drop)]
 pub struct Abortable<F> {
-    pub(crate) cell: Arc<Cell, Global>,
+    pub(crate) cell: Arc<PhaseCell, Global>,
     pub(crate) future: F,
 }
 
 /// What one caller has seen and done at one cell. It has no bytes, is never copied, and can be given to another thread.
 #[derive(Drop)]
 pub struct JoinPass {
-    pub(crate) seat: Seat<u8, View>,
+    pub(crate) seat: Seat<u8, PassView>,
     ghost bare: { seat.me.1 ≡ [] },
     ghost alive: { seat.me.0.spent ≡ false },
     ghost settled: { seat.me.0.heard ≡ [] },
@@ -57,7 +57,7 @@ pub struct JoinPass {
 /// ever registered here, and dropping it wakes nobody and waits for nobody.
 #[derive(Drop)]
 pub struct OwnCell {
-    pub(crate) phase: Table<u8, View, (), OneLog, Global>,
+    pub(crate) phase: Table<u8, PassView, (), OneLog, Global>,
     pub(crate) pass: JoinPass,
     ghost one_word: { phase.shared.table_id.words ≡ 1 },
     ghost own: { pass.seat.table_id ≡ phase.shared.table_id },

@@ -9,7 +9,7 @@
 
 mod cell;
 mod handle;
-mod laws;
+mod handle_laws;
 mod log;
 mod own;
 mod rule;
@@ -17,9 +17,9 @@ mod wake;
 mod work;
 
 pub use cell::{Abortable, JoinHandle, JoinPass, OwnCell};
-pub use laws::{
+pub use handle_laws::{
     known_callers, late_calls_stand_last, phases_of_seen_calls, staged_log_is_legal,
     staged_log_keeps_lists, unfinished_calls,
 };
-pub use log::{CallMade, Caller, LogEntry, PhaseCall, View};
+pub use log::{CallMade, HandleCaller, LogEntry, PhaseCall, PassView};
 pub use task_machine::{NoMemory, Phase};

@@ -34,19 +34,19 @@ pub struct CallMade {
 }
 
 /// A name, the calls made under it in order, and how many passes were split off from it. No value of it is made.
-pub struct Caller {
+pub struct HandleCaller {
     pub name: LinkedList<u64>,
     pub calls: LinkedList<LogEntry<LinkedList<u64>>>,
     pub splits: u64,
 }
 
 /// What a pass has seen and done. No value of it is made.
-pub struct View {
+pub struct PassView {
     /// The pass was met into another.
     pub spent: bool,
-    pub own: Caller,
+    pub own: HandleCaller,
     /// The callers whose passes were met into this one, with those that they had met.
-    pub met: LinkedList<Caller>,
+    pub met: LinkedList<HandleCaller>,
     /// All calls of which the pass knows, in order.
     pub seen: LinkedList<LogEntry<LinkedList<u64>>>,
     /// Between the two steps of a meet, what the other pass had seen. Else nothing.

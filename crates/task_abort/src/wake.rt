@@ -9,7 +9,7 @@ ghost use Rattle.task_machine.specs.declared.words.Phase.{Phase};
 ghost use Rattle.task_machine.specs.declared.words.Phase.TheVariants.{Running, Complete};
 ghost use Rattle.task_abort.specs.declared.log.PhaseCall.TheVariants.{Abort, PollFuture, PollHandle, Finish};
 
-use crate::cell::{Abortable, Cell, JoinHandle, JoinPass};
+use crate::cell::{Abortable, PhaseCell, JoinHandle, JoinPass};
 use crate::handle::phase_of_word;
 use crate::rule::Finishing;
 use futures::Future;
@@ -17,7 +17,7 @@ use futures::task::{Context, Poll};
 use std::sync::Wait;
 use task_machine::Phase;
 
-impl Cell {
+impl PhaseCell {
     // A waker wakes when it is dropped, and that is outside the lock.
     fn wake_work<W: Wait>(&self, rt: &W) {
         let waker = self.wakers.lock(rt).work.take();

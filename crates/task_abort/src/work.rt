@@ -10,7 +10,7 @@ ghost use Rattle.task_machine.specs.declared.words.Phase.{Phase};
 ghost use Rattle.task_machine.specs.declared.words.Phase.TheVariants.{Running};
 ghost use Rattle.task_abort.specs.declared.log.PhaseCall.TheVariants.{PollFuture, Finish};
 
-use crate::cell::{Abortable, Cell, JoinHandle, JoinPass, Wakers};
+use crate::cell::{Abortable, PhaseCell, JoinHandle, JoinPass, Wakers};
 use crate::handle::phase_of_word;
 use crate::rule::{Finishing, PollingFuture};
 use atomic_table::Table;
@@ -21,11 +21,11 @@ use std::sync::{Arc, Mutex};
 use task_machine::Phase;
 
 /// A cell in phase `Running`, with its first pass.
-fn new_cell(alloc: Global) -> Option<(Arc<Cell, Global>, JoinPass)>
+fn new_cell(alloc: Global) -> Option<(Arc<PhaseCell, Global>, JoinPass)>
     ensures { IfSome result (λ r. (pass_cell r.1 ≡ (arc_value r.0).phase.shared.table_id) × (view_of r.1 ≡ first_view)) }
 {
     let (phase, seat) = Table::of_words(alloc, &[0], &()).ok()?;
-    let cell = Cell {
+    let cell = PhaseCell {
         phase,
         wakers: Mutex::new(Wakers {
             work: None,

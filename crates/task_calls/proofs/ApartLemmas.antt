@@ -7,13 +7,13 @@ use Rattle.task_machine.specs.Core.{Core}
 use Rattle.task_machine.specs.Write.{add_group, set_trapped, with_groups_made}
 use Rattle.task_machine.specs.declared.component.Component.{Component}
 use Rattle.task_machine.specs.declared.records.Turn.{Turn}
-use Rattle.task_turns.specs.Turn.{Sits, state_at}
+use Rattle.task_turns.specs.Turn.{CoreInOrder, state_at}
 
-module _ (c : Component) (p : Turn) (s : Core) (sits : Sits c p s) where
+module _ (c : Component) (p : Turn) (s : Core) (sits : CoreInOrder c p s) where
   abbrev beside : List ℕ → Bool → ℕ → Core
   beside groups trapped made = record s { groups = groups; trapped = trapped; made = with_groups_made made s.made }
 
-  sits_beside : (groups : List ℕ) (trapped : Bool) (made : ℕ) → Sits c p (beside groups trapped made)
+  sits_beside : (groups : List ℕ) (trapped : Bool) (made : ℕ) → CoreInOrder c p (beside groups trapped made)
   sits_beside groups trapped made = record {
     order = λ m. beside_in_order c (state_at s m p) (is_open p) (sits.order m) (beside groups trapped made)
         (record { threads = λ n. refl; calls = λ k. refl; works = λ i. refl; named = λ i h. refl; tables = λ kept. kept; enters = λ i. refl; presses = λ i. refl });
@@ -21,10 +21,10 @@ module _ (c : Component) (p : Turn) (s : Core) (sits : Sits c p s) where
     handles = sits.handles;
   }
 
-  pub trap_in_order : Sits c p (set_trapped s)
+  pub trap_in_order : CoreInOrder c p (set_trapped s)
   unfolding set_trapped
   trap_in_order = sits_beside [] true s.made.groups
 
-  pub group_in_order : Sits c p (add_group s)
+  pub group_in_order : CoreInOrder c p (add_group s)
   unfolding add_group
   group_in_order = sits_beside (s.groups ++ (s.made.groups + 1) ∷ []) s.trapped (s.made.groups + 1)

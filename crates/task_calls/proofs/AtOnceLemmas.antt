@@ -2,11 +2,11 @@
 use Rattle.task_machine.specs.declared.words.HostPoll.{HostPoll}
 use Rattle.std.proofs.Common.{ap}
 use Rattle.std.specs.Prelude.{Bool, List, None, Option, Some, false, nat_le, not, is_some, suc, true, zero, ℕ, ◌==◌, ◌≡◌}
-use Rattle.task_calls.specs.Answers.{has_stopped}
+use Rattle.task_calls.specs.OpAnswers.{has_stopped}
 use Rattle.task_calls.specs.Asks.{is_at_once}
 use Rattle.task_machine.specs.Core.{Core}
 use Rattle.task_machine.specs.Labels.{Choice, join_label, task_cancel_label}
-use Rattle.task_machine.specs.Moves.{gift}
+use Rattle.task_machine.specs.Moves.{picked_event}
 use Rattle.task_machine.specs.Read.{at_handle_limit, backpressure_of, cancel_was_delivered, event_of, fits, has_ended, has_member, has_waiters, instance_of, is_watched, join_of, new_handle, set_at, subtask_at, subtask_ended, task_of, thread_at}
 use Rattle.task_machine.specs.declared.component.Component.{Component}
 use Rattle.task_machine.specs.declared.component.Slot.{Slot}
@@ -30,12 +30,12 @@ use Rattle.task_machine.specs.declared.records.Subtask.{Subtask}
 use Rattle.task_machine.specs.declared.records.Why.{Why}
 use Rattle.task_machine.specs.declared.trap.Trap.{Trap}
 use Rattle.task_machine.specs.declared.trap.Trap.TheVariants as trap
-use Rattle.task_ops.specs.Came.{Meets}
-use Rattle.task_ops.specs.declared.came.Came.{Came}
+use Rattle.task_ops.specs.OpResult.{Implements}
+use Rattle.task_ops.specs.declared.op_result.OpResult.{OpResult}
 use Rattle.task_rules.specs.Cancels.{drop_by, subtask_rule}
 use Rattle.task_rules.specs.Ends.{may_tell}
 use Rattle.task_rules.specs.Finish.{SomeHost}
-use Rattle.task_rules.specs.Progress.{Asks, Fails, Goes, Never, Ordered, Progress, Stops, Traps, may, or_never, or_trap, trap_if}
+use Rattle.task_rules.specs.Progress.{Asks, Fails, Continues, Never, Ordered, Progress, Stops, Traps, may, or_never, or_trap, trap_if}
 use Rattle.task_rules.specs.Scripts.{slot_at, value_of}
 use Rattle.task_rules.specs.Sets.{chosen, join_done_by, join_to_by, may_wake_new, poll_takes_by, set_drop_by, set_rule}
 use Rattle.task_rules.specs.Step.{op_rule}
@@ -49,8 +49,8 @@ IsFree (Ordered ns next) = (order : List ℕ) → IsFree (next order)
 IsFree (Asks next) = (answer : HostPoll) → IsFree (next answer)
 IsFree p = Unit {0}
 
-pub goes_on : (p : Progress) (s : Core) (r : Came) (t : Core) → IsFree p → Meets p s r t → has_stopped r ≡ false
-goes_on (Goes l new m) s r t g h = ap has_stopped h.0
+pub goes_on : (p : Progress) (s : Core) (r : OpResult) (t : Core) → IsFree p → Implements p s r t → has_stopped r ≡ false
+goes_on (Continues l new m) s r t g h = ap has_stopped h.0
 goes_on (Stops l new) s r t g h = absurd g
 goes_on (Traps why) s r t g h = ap has_stopped h.0
 goes_on (Fails i) s r t g h = ap has_stopped h.0
@@ -113,8 +113,8 @@ set_free n s ch (set_op.Drop x) e =
 set_free n s ch (set_op.Wait r x) e = absurd (cc)
 set_free n s ch (set_op.Poll r x) e =
     let h = value_of n s x in
-    if_found (set_at (instance_of n s) h s) _ (λ y. or_never (gift false (task_of n s) y (chosen n ch s) s) (poll_takes_by SomeHost n ch s))
-    (λ y. if_given (gift false (task_of n s) y (chosen n ch s) s) (poll_takes_by SomeHost n ch s) (λ g. tt))
+    if_found (set_at (instance_of n s) h s) _ (λ y. or_never (picked_event false (task_of n s) y (chosen n ch s) s) (poll_takes_by SomeHost n ch s))
+    (λ y. if_given (picked_event false (task_of n s) y (chosen n ch s) s) (poll_takes_by SomeHost n ch s) (λ g. tt))
 set_free n s ch (set_op.Join x y) e =
     let h = value_of n s x in
     let z = value_of n s y in
@@ -147,5 +147,5 @@ op_free c n s ch (op.Set o) e = set_free n s ch o e
 op_free c n s ch (op.Call o) e = call_free c n s o e
 op_free c n s ch (op.Thread o) e = thread_free c n s o e
 
-pub never_stops : (c : Component) (n : ℕ) (s : Core) (ch : Choice) (o : Op) → is_at_once o ≡ true → (r : Came) (t : Core) → Meets (op_rule SomeHost c n s ch o) s r t → has_stopped r ≡ false
+pub never_stops : (c : Component) (n : ℕ) (s : Core) (ch : Choice) (o : Op) → is_at_once o ≡ true → (r : OpResult) (t : Core) → Implements (op_rule SomeHost c n s ch o) s r t → has_stopped r ≡ false
 never_stops c n s ch o e r t h = goes_on (op_rule SomeHost c n s ch o) s r t (op_free c n s ch o e) h

@@ -19,16 +19,16 @@ use Rattle.task_moves.proofs.UntouchedLemmas.{set_register_untouched}
 use Rattle.task_ops.proofs.BesideLemmas.{quiet_stand}
 use Rattle.task_ops.proofs.BlockLemmas.{first_found}
 use Rattle.task_ops.proofs.RunLemmas.{stands_on}
-use Rattle.task_ops.specs.Came.{Meets}
+use Rattle.task_ops.specs.OpResult.{Implements}
 use Rattle.task_ops.specs.Running.{IsRunning}
-use Rattle.task_ops.specs.declared.came.Came.TheVariants as came
-use Rattle.task_rules.specs.Ends.{direct_exit_row}
-use Rattle.task_rules.specs.Progress.{Asks, Fails, Goes, Never, Ordered, Progress, Stops, Traps}
+use Rattle.task_ops.specs.declared.op_result.OpResult.TheVariants as op_result
+use Rattle.task_rules.specs.Ends.{direct_exit_rule}
+use Rattle.task_rules.specs.Progress.{Asks, Fails, Continues, Never, Ordered, Progress, Stops, Traps}
 use Rattle.task_table.specs.declared.id.TableId.{TableId}
-use Rattle.task_turns.specs.Turn.{Sits, running_of}
+use Rattle.task_turns.specs.Turn.{CoreInOrder, running_of}
 use Rattle.task_wait.specs.declared.keys.ThreadKey.{ThreadKey}
 use Rattle.task_words.specs.StateView.{StateView, on_core, thread_of, with_core}
-use Rattle.task_ops.specs.declared.came.OpAnswer.{OpAnswer}
+use Rattle.task_ops.specs.declared.op_result.OpAnswer.{OpAnswer}
 
 -- ---- A register written and put back
 
@@ -68,7 +68,7 @@ module _ (id : TableId ThreadKey) (v : ℕ) (s t : StateView) (is : t ≡ on_cor
   written_under : (m : ℕ) → place_of m s.core ≡ Some (place.Under (thread_of s id)) → IsSome (under_of (thread_of t id) t.core)
   written_under m at = subst (λ (u : StateView). IsSome (under_of (thread_of u id) u.core)) (sym is) (found (thread_of s id) m (set_register (thread_of s id) 0 v s.core) ((set_register_untouched (thread_of s id) 0 v s.core).places m ∙ at))
 
-  pub direct_under : (c : Component) (n : ℕ) → Sits c (turn.Run n) s.core → running_of s ≡ Some n → thread_of s id ≡ n → IfSome (running_of s) (λ n. IsDirect n s.core) → IsSome (under_of (thread_of t id) t.core)
+  pub direct_under : (c : Component) (n : ℕ) → CoreInOrder c (turn.Run n) s.core → running_of s ≡ Some n → thread_of s id ≡ n → IfSome (running_of s) (λ n. IsDirect n s.core) → IsSome (under_of (thread_of t id) t.core)
   direct_under c n sits runs named direct =
       let d = subst (λ (o : Option ℕ). IfSome o (λ k. IsDirect k s.core)) runs direct in
       let order = sits.order Unscripted in
@@ -79,8 +79,8 @@ module _ (id : TableId ThreadKey) (v : ℕ) (s t : StateView) (is : t ≡ on_cor
 -- ---- The row of the exit, with the register written before
 
 -- one that goes on hangs on no core before
-pub goes_base : (p : Progress) (s u t : Core) (l : Label) (m : ℕ) (said : OpAnswer) → Meets p u (came.Goes l m said) t → Meets p s (came.Goes l m said) t
-goes_base (Goes k new n) s u t l m said h = h
+pub goes_base : (p : Progress) (s u t : Core) (l : Label) (m : ℕ) (said : OpAnswer) → Implements p u (op_result.Continues l m said) t → Implements p s (op_result.Continues l m said) t
+goes_base (Continues k new n) s u t l m said h = h
 goes_base (Stops k new) s u t l m said h = h
 goes_base (Traps why) s u t l m said h = let e = h.0 in absurd (cc)
 goes_base (Fails i) s u t l m said h = let e = h.0 in absurd (cc)
@@ -89,8 +89,8 @@ goes_base (Ordered ns next) s u t l m said h = (h.0, (h.1.0, goes_base (next h.0
 goes_base (Asks next) s u t l m said h = (h.0, goes_base (next h.0) s u t l m said h.1)
 
 -- a trap leaves the core before
-pub traps_base : (p : Progress) (s u t : Core) (why : Trap) → Meets p u (came.Traps why) t → Meets p s (came.Traps why) s
-traps_base (Goes k new n) s u t why h = let e = h.0 in absurd (cc)
+pub traps_base : (p : Progress) (s u t : Core) (why : Trap) → Implements p u (op_result.Traps why) t → Implements p s (op_result.Traps why) s
+traps_base (Continues k new n) s u t why h = let e = h.0 in absurd (cc)
 traps_base (Stops k new) s u t why h = let e = h.0 in absurd (cc)
 traps_base (Traps w) s u t why h = (h.0, refl)
 traps_base (Fails i) s u t why h = let e = h.0 in absurd (cc)
@@ -99,17 +99,17 @@ traps_base (Ordered ns next) s u t why h = (h.0, (h.1.0, traps_base (next h.0) s
 traps_base (Asks next) s u t why h = (h.0, traps_base (next h.0) s u t why h.1)
 
 module _ (id : TableId ThreadKey) (v : ℕ) (s u : StateView) (is : u ≡ on_core (set_register (thread_of s id) 0 v) s) (t : Core) where
-  pub exits_met : (l : Label) (m : ℕ) (said : OpAnswer) → Meets (direct_exit_row (thread_of u id) u.core) u.core (came.Goes l m said) t → Meets (direct_exit_row (thread_of s id) (set_register (thread_of s id) 0 v s.core)) s.core (came.Goes l m said) t
+  pub exits_met : (l : Label) (m : ℕ) (said : OpAnswer) → Implements (direct_exit_rule (thread_of u id) u.core) u.core (op_result.Continues l m said) t → Implements (direct_exit_rule (thread_of s id) (set_register (thread_of s id) 0 v s.core)) s.core (op_result.Continues l m said) t
   exits_met l m said h =
       let n = thread_of s id in
-      goes_base (direct_exit_row n (set_register n 0 v s.core)) s.core (set_register n 0 v s.core) t l m said
-      (subst (λ (w : StateView). Meets (direct_exit_row (thread_of w id) w.core) w.core (came.Goes l m said) t) is h)
+      goes_base (direct_exit_rule n (set_register n 0 v s.core)) s.core (set_register n 0 v s.core) t l m said
+      (subst (λ (w : StateView). Implements (direct_exit_rule (thread_of w id) w.core) w.core (op_result.Continues l m said) t) is h)
 
-  pub exits_trapped : (why : Trap) → Meets (direct_exit_row (thread_of u id) u.core) u.core (came.Traps why) t → Meets (direct_exit_row (thread_of s id) (set_register (thread_of s id) 0 v s.core)) s.core (came.Traps why) s.core
+  pub exits_trapped : (why : Trap) → Implements (direct_exit_rule (thread_of u id) u.core) u.core (op_result.Traps why) t → Implements (direct_exit_rule (thread_of s id) (set_register (thread_of s id) 0 v s.core)) s.core (op_result.Traps why) s.core
   exits_trapped why h =
       let n = thread_of s id in
-      traps_base (direct_exit_row n (set_register n 0 v s.core)) s.core (set_register n 0 v s.core) t why
-      (subst (λ (w : StateView). Meets (direct_exit_row (thread_of w id) w.core) w.core (came.Traps why) t) is h)
+      traps_base (direct_exit_rule n (set_register n 0 v s.core)) s.core (set_register n 0 v s.core) t why
+      (subst (λ (w : StateView). Implements (direct_exit_rule (thread_of w id) w.core) w.core (op_result.Traps why) t) is h)
 
 -- the register is put back
 pub all_back : (id : TableId ThreadKey) (v before : ℕ) (s u t w : StateView) → u ≡ on_core (set_register (thread_of s id) 0 v) s → before ≡ register_of (thread_of s id) 0 s.core → t ≡ u → w ≡ on_core (set_register (thread_of t id) 0 before) t → w ≡ s

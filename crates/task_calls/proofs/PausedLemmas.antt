@@ -13,24 +13,24 @@ use Rattle.task_laws.specs.Order.{FitsAs, InOrder, InOrderAs, ThreadFits}
 use Rattle.task_machine.specs.Core.{Core, Main, State, Unscripted}
 use Rattle.task_machine.specs.Labels.{choice_of}
 use Rattle.task_machine.specs.Maps.{get}
-use Rattle.task_machine.specs.Read.{how_far_of, instance_of, place_of}
+use Rattle.task_machine.specs.Read.{op_progress_of, instance_of, place_of}
 use Rattle.task_machine.specs.declared.component.Component.{Component}
 use Rattle.task_machine.specs.declared.label.Label.{Label}
 use Rattle.task_machine.specs.declared.op.Op.{Op}
 use Rattle.task_machine.specs.declared.op.Op.TheVariants as op
 use Rattle.task_machine.specs.declared.op.TaskOp.TheVariants as task
-use Rattle.task_machine.specs.declared.records.HowFar.{HowFar}
-use Rattle.task_machine.specs.declared.records.HowFar.TheVariants as how_far
+use Rattle.task_machine.specs.declared.records.OpProgress.{OpProgress}
+use Rattle.task_machine.specs.declared.records.OpProgress.TheVariants as op_progress
 use Rattle.task_machine.specs.declared.records.Place.TheVariants as place
 use Rattle.task_machine.specs.declared.records.Subtask.TheVariants as subtask
 use Rattle.task_machine.specs.declared.records.Thread.{Thread}
 use Rattle.task_machine.specs.declared.records.Turn.{Turn}
 use Rattle.task_machine.specs.declared.records.Turn.TheVariants as turn
-use Rattle.task_ops.specs.Came.{Meets}
+use Rattle.task_ops.specs.OpResult.{Implements}
 use Rattle.task_ops.specs.Stays.{StaysAfter}
 use Rattle.task_ops.specs.Steps.{label_of, turn_after}
-use Rattle.task_ops.specs.declared.came.Came.{Came}
-use Rattle.task_ops.specs.declared.came.Came.TheVariants as came
+use Rattle.task_ops.specs.declared.op_result.OpResult.{OpResult}
+use Rattle.task_ops.specs.declared.op_result.OpResult.TheVariants as op_result
 use Rattle.task_rules.specs.Finish.{SomeHost}
 use Rattle.task_rules.specs.OpParts.{callee_of_op, can_come, ends_activation, is_cancel, is_data_op, is_sync_call, is_sync_cancel, is_sync_host_call, is_thread_op, is_wait, suspends, yields}
 use Rattle.task_rules.specs.Progress.{Progress}
@@ -39,7 +39,7 @@ use Rattle.task_rules.specs.Stalled.{Setting}
 use Rattle.task_rules.specs.Step.{Progresses, op_rule}
 use Rattle.task_turns.proofs.KeptLemmas.{setting}
 use Rattle.task_turns.proofs.RunLemmas.{settled}
-use Rattle.task_turns.specs.Turn.{Sits, is_going, state_at}
+use Rattle.task_turns.specs.Turn.{CoreInOrder, is_going, state_at}
 use Rattle.task_words.specs.StateView.{StateView}
 
 pub not_there : {X : Type 0} (o : Option X) → ((x : X) → o ≡ Some x → ⊥) → o ≡ None
@@ -53,20 +53,20 @@ clash b is was = absurd (let e = sym is ∙ was in cc)
 
 -- an op that never pauses hasn't
 pub unpaused : {A : Type 0} (o : Op) → is_wait o ≡ false → is_some (callee_of_op o) ≡ false → is_sync_host_call o ≡ false → is_sync_call o ≡ false → is_cancel o ≡ false →
-    is_sync_cancel o ≡ false → is_thread_op suspends o ≡ false → is_thread_op yields o ≡ false → (f : HowFar) → can_come o f ≡ true → (f ≡ how_far.Fresh → ⊥) → A
-unpaused o w e h y a b u v how_far.Fresh can paused = absurd (paused refl)
-unpaused o w e h y a b u v (how_far.Waits x) can paused = clash (is_wait o) w can
-unpaused o w e h y a b u v (how_far.Calls (subtask.Guest k)) can paused = clash (is_some (callee_of_op o)) e can
-unpaused o w e h y a b u v (how_far.Calls (subtask.Host i)) can paused = clash (is_sync_host_call o) h can
-unpaused o w e h y a b u v (how_far.Answered x) can paused = clash (is_sync_call o) y can
-unpaused o w e h y a b u v (how_far.Cancels (subtask.Guest k)) can paused = clash (is_cancel o) a can
-unpaused o w e h y a b u v (how_far.Cancels (subtask.Host i)) can paused = clash false refl can
-unpaused o w e h y a b u v (how_far.AwaitsEnd sub) can paused = clash (is_sync_cancel o) b can
-unpaused o w e h y a b u v how_far.Suspends can paused = clash (is_thread_op suspends o) u can
-unpaused o w e h y a b u v how_far.Yields can paused = clash (is_thread_op yields o) v can
+    is_sync_cancel o ≡ false → is_thread_op suspends o ≡ false → is_thread_op yields o ≡ false → (f : OpProgress) → can_come o f ≡ true → (f ≡ op_progress.Fresh → ⊥) → A
+unpaused o w e h y a b u v op_progress.Fresh can paused = absurd (paused refl)
+unpaused o w e h y a b u v (op_progress.Waits x) can paused = clash (is_wait o) w can
+unpaused o w e h y a b u v (op_progress.Calls (subtask.Guest k)) can paused = clash (is_some (callee_of_op o)) e can
+unpaused o w e h y a b u v (op_progress.Calls (subtask.Host i)) can paused = clash (is_sync_host_call o) h can
+unpaused o w e h y a b u v (op_progress.Answered x) can paused = clash (is_sync_call o) y can
+unpaused o w e h y a b u v (op_progress.Cancels (subtask.Guest k)) can paused = clash (is_cancel o) a can
+unpaused o w e h y a b u v (op_progress.Cancels (subtask.Host i)) can paused = clash false refl can
+unpaused o w e h y a b u v (op_progress.AwaitsEnd sub) can paused = clash (is_sync_cancel o) b can
+unpaused o w e h y a b u v op_progress.Suspends can paused = clash (is_thread_op suspends o) u can
+unpaused o w e h y a b u v op_progress.Yields can paused = clash (is_thread_op yields o) v can
 
 -- so it isn't on registers and words, and ends no activation
-paused_plain : (o : Op) (f : HowFar) → can_come o f ≡ true → (f ≡ how_far.Fresh → ⊥) → (ends_activation o ≡ false) × (is_data_op o ≡ false)
+paused_plain : (o : Op) (f : OpProgress) → can_come o f ≡ true → (f ≡ op_progress.Fresh → ⊥) → (ends_activation o ≡ false) × (is_data_op o ≡ false)
 paused_plain (op.Data o) f can paused = unpaused (op.Data o) refl refl refl refl refl refl refl refl f can paused
 paused_plain (op.Task o) f can paused = unpaused (op.Task o) refl refl refl refl refl refl refl refl f can paused
 paused_plain (op.Set o) f can paused = (refl, refl)
@@ -74,17 +74,17 @@ paused_plain (op.Call o) f can paused = (refl, refl)
 paused_plain (op.Thread o) f can paused = (refl, refl)
 
 -- it makes nothing, since a call that has paused has made its own
-paused_makes : (k : Op) (h : HowFar) → can_come k h ≡ true → (h ≡ how_far.Fresh → ⊥) → makes h k ≡ false
-paused_makes k how_far.Fresh can paused = absurd (paused refl)
-paused_makes k (how_far.Waits x) can paused = grind (arith, can)
-paused_makes k (how_far.Calls (subtask.Guest j)) can paused = grind (arith, can)
-paused_makes k (how_far.Calls (subtask.Host i)) can paused = grind (arith, can)
-paused_makes k (how_far.Answered v) can paused = grind (arith, can)
-paused_makes k (how_far.Cancels (subtask.Guest j)) can paused = grind (arith, can)
-paused_makes k (how_far.Cancels (subtask.Host i)) can paused = absurd (cc)
-paused_makes k (how_far.AwaitsEnd sub) can paused = grind (arith, can)
-paused_makes k how_far.Suspends can paused = grind (arith, can)
-paused_makes k how_far.Yields can paused = grind (arith, can)
+paused_makes : (k : Op) (h : OpProgress) → can_come k h ≡ true → (h ≡ op_progress.Fresh → ⊥) → makes h k ≡ false
+paused_makes k op_progress.Fresh can paused = absurd (paused refl)
+paused_makes k (op_progress.Waits x) can paused = grind (arith, can)
+paused_makes k (op_progress.Calls (subtask.Guest j)) can paused = grind (arith, can)
+paused_makes k (op_progress.Calls (subtask.Host i)) can paused = grind (arith, can)
+paused_makes k (op_progress.Answered v) can paused = grind (arith, can)
+paused_makes k (op_progress.Cancels (subtask.Guest j)) can paused = grind (arith, can)
+paused_makes k (op_progress.Cancels (subtask.Host i)) can paused = absurd (cc)
+paused_makes k (op_progress.AwaitsEnd sub) can paused = grind (arith, can)
+paused_makes k op_progress.Suspends can paused = grind (arith, can)
+paused_makes k op_progress.Yields can paused = grind (arith, can)
 
 runs_there : (n : ℕ) (s : Core) → place_of n s ≡ Some place.Running → (r : Thread) × (get s.threads n ≡ Some r)
 runs_there n s running = by (get s.threads n) refl running
@@ -97,27 +97,27 @@ module _ (c : Component) (s : StateView) (q : IsRunningIn c s) (paused : (i : �
   abbrev n : ℕ
   n = q.number
 
-  pub begun : how_far_of n s.core ≡ how_far.Fresh → ⊥
-  begun = (running_is s n q.runs (λ k. (instance_of k s.core ≡ paused.0) × (how_far_of k s.core ≡ how_far.Fresh → ⊥)) paused.1).1
+  pub begun : op_progress_of n s.core ≡ op_progress.Fresh → ⊥
+  begun = (running_is s n q.runs (λ k. (instance_of k s.core ≡ paused.0) × (op_progress_of k s.core ≡ op_progress.Fresh → ⊥)) paused.1).1
 
   -- the op at the place of the thread that runs can come as far as it has
-  pub can_be_there : can_come (op_of c n s.core) (how_far_of n s.core) ≡ true
+  pub can_be_there : can_come (op_of c n s.core) (op_progress_of n s.core) ≡ true
   can_be_there =
       let thread = runs_there n s.core ((q.order.order Unscripted).in_place.runs n refl) in
       let fits = (q.order.order Unscripted).fits n thread.0 thread.1 in
       let op = fits.op in let at = thread.1 in grind (arith)
 
   pub is_plain : (ends_activation (op_of c n s.core) ≡ false) × (is_data_op (op_of c n s.core) ≡ false)
-  is_plain = paused_plain (op_of c n s.core) (how_far_of n s.core) can_be_there begun
+  is_plain = paused_plain (op_of c n s.core) (op_progress_of n s.core) can_be_there begun
 
-  pub makes_none : makes (how_far_of n s.core) (op_of c n s.core) ≡ false
-  makes_none = paused_makes (op_of c n s.core) (how_far_of n s.core) can_be_there begun
+  pub makes_none : makes (op_progress_of n s.core) (op_of c n s.core) ≡ false
+  makes_none = paused_makes (op_of c n s.core) (op_progress_of n s.core) can_be_there begun
 
   -- so it isn't at its script's end
   pub at_end : {A : Type 0} → op_of c n s.core ≡ op.Task task.Exit → A
   at_end is =
-      unpaused (op.Task task.Exit) refl refl refl refl refl refl refl refl (how_far_of n s.core)
-      (subst (λ (o : Op). can_come o (how_far_of n s.core) ≡ true) is can_be_there) begun
+      unpaused (op.Task task.Exit) refl refl refl refl refl refl refl refl (op_progress_of n s.core)
+      (subst (λ (o : Op). can_come o (op_progress_of n s.core) ≡ true) is can_be_there) begun
 
 -- ---- Order
 
@@ -149,14 +149,14 @@ own_steps x n s t l at plain other h row =
     (λ r b here was is. (same_place (λ k. SomeHost) x o n s t l at plain has row walked r b here was is).1) in
     with_ops kept (given_own c n t.core kept.fits)
 
-module _ (c : Component) (n : ℕ) (s t : StateView) (sits : Sits c (turn.Run n) s.core) (plain : (ends_activation (op_of c n s.core) ≡ false) × (is_data_op (op_of c n s.core) ≡ false)) where
+module _ (c : Component) (n : ℕ) (s t : StateView) (sits : CoreInOrder c (turn.Run n) s.core) (plain : (ends_activation (op_of c n s.core) ≡ false) × (is_data_op (op_of c n s.core) ≡ false)) where
   abbrev before : Main → State
   before m = state_at s.core m (turn.Run n)
 
   abbrev rule : Label → Progress
   rule l = op_rule SomeHost c n s.core (choice_of l) (op_of c n s.core)
 
-  along : (l : Label) (p : Turn) → ((m : Main) → Progresses (before m) s.core n (rule l) l (state_at t.core m p)) → Sits c p t.core
+  along : (l : Label) (p : Turn) → ((m : Main) → Progresses (before m) s.core n (rule l) l (state_at t.core m p)) → CoreInOrder c p t.core
   unfolding HostInstances
   along l p row =
       let same = host_instances (setting c) (op_of c n s.core) n (before Unscripted) (state_at t.core Unscripted p) l refl plain.1 (row Unscripted) in
@@ -166,14 +166,14 @@ module _ (c : Component) (n : ℕ) (s t : StateView) (sits : Sits c (turn.Run n)
         handles = λ i low. same.handles i ∙ sits.handles i low;
       }
 
-  row_of_place : (r : Came) → Meets (row_at c s.core n (choice_of (label_of n r))) s.core r t.core → is_going r ≡ true → (m : Main) →
+  rule_of_place : (r : OpResult) → Implements (row_at c s.core n (choice_of (label_of n r))) s.core r t.core → is_going r ≡ true → (m : Main) →
       Progresses (before m) s.core n (rule (label_of n r)) (label_of n r) (state_at t.core m (turn_after r))
-  row_of_place r met on m =
+  rule_of_place r met on m =
       subst (Progresses (before m) s.core n (rule (label_of n r)) (label_of n r)) (settled r s.core m (turn.Run n) t.core)
       (meets_progresses (before m) n (rule (label_of n r)) r t.core met on)
 
-  pub host_in_order : (r : Came) → Meets (row_at c s.core n (choice_of (label_of n r))) s.core r t.core → StaysAfter r s t → Sits c (turn_for (runs_after n r)) t.core
-  host_in_order (came.Goes l m said) met stays = along l (turn.Run m) (row_of_place (came.Goes l m said) met refl)
-  host_in_order (came.Stops l) met stays = along l turn.Main (row_of_place (came.Stops l) met refl)
-  host_in_order (came.Traps why) met stays = subst (λ (v : StateView). Sits c (turn.Run n) v.core) (sym stays) sits
-  host_in_order (came.Fails i) met stays = subst (λ (v : StateView). Sits c (turn.Run n) v.core) (sym stays) sits
+  pub host_in_order : (r : OpResult) → Implements (row_at c s.core n (choice_of (label_of n r))) s.core r t.core → StaysAfter r s t → CoreInOrder c (turn_for (runs_after n r)) t.core
+  host_in_order (op_result.Continues l m said) met stays = along l (turn.Run m) (rule_of_place (op_result.Continues l m said) met refl)
+  host_in_order (op_result.Stops l) met stays = along l turn.Main (rule_of_place (op_result.Stops l) met refl)
+  host_in_order (op_result.Traps why) met stays = subst (λ (v : StateView). CoreInOrder c (turn.Run n) v.core) (sym stays) sits
+  host_in_order (op_result.Fails i) met stays = subst (λ (v : StateView). CoreInOrder c (turn.Run n) v.core) (sym stays) sits

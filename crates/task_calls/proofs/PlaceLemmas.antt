@@ -3,12 +3,12 @@ use Rattle.std.proofs.Common.{ap, arith, refl, subst, sym, ◌∙◌}
 use Rattle.std.proofs.lemmas.Bool.Decides.{nat_tests}
 use Rattle.std.specs.Prelude.{Bool, None, Option, Result, Some, false, is_some, true, ℕ, ◌==◌, ◌≡◌}
 use Rattle.std.specs.Option.{option_map_or}
-use Rattle.op_dispatch.specs.Goes.{running_of}
+use Rattle.op_dispatch.specs.Continues.{running_of}
 use Rattle.state_calls.specs.declared.error.TaskError.{TaskError}
 use Rattle.task_calls.proofs.AskLemmas.{running_is}
 use Rattle.op_dispatch.proofs.LeavesLemmas.{host_leaves_in_place}
-use Rattle.task_calls.specs.Asks.{Does, row_of}
-use Rattle.task_calls.specs.Calls.{Returned, Returns}
+use Rattle.task_calls.specs.Asks.{Does, scripted_rule_of}
+use Rattle.task_calls.specs.MainCalls.{Returned, Returns}
 use Rattle.task_calls.specs.InPlace.{AsksLeaveInPlace, CallsItself, HostLeavesInPlace, IsInPlace, IsUnderWay, ReturnsLeaveInPlace, in_script, is_return}
 use Rattle.task_machine.specs.Core.{Core, Unscripted}
 use Rattle.task_machine.specs.Labels.{Choice, choice_of}
@@ -27,22 +27,22 @@ use Rattle.task_machine.specs.declared.records.Thread.{Thread}
 use Rattle.task_machine.specs.declared.records.Turn.TheVariants as turn
 use Rattle.task_machine.specs.declared.trap.Trap.{Trap}
 use Rattle.task_machine.specs.declared.trap.Trap.TheVariants as trap
-use Rattle.task_ops.specs.Came.{Meets}
+use Rattle.task_ops.specs.OpResult.{Implements}
 use Rattle.task_ops.specs.Steps.{label_of}
-use Rattle.task_ops.specs.declared.came.Came.{Came}
+use Rattle.task_ops.specs.declared.op_result.OpResult.{OpResult}
 use Rattle.task_rules.specs.Calls.{next_thread}
 use Rattle.task_rules.specs.Finish.{SomeHost}
 use Rattle.task_rules.specs.Places.{is_fresh}
-use Rattle.task_rules.specs.Progress.{Asks, Fails, Goes, Never, Ordered, Progress, Stops, Traps, trap_if}
+use Rattle.task_rules.specs.Progress.{Asks, Fails, Continues, Never, Ordered, Progress, Stops, Traps, trap_if}
 use Rattle.task_rules.specs.Step.{op_rule}
-use Rattle.task_rules.specs.Task.{ret_bad_row, ret_rule}
+use Rattle.task_rules.specs.Task.{ret_bad_rule, ret_rule}
 use Rattle.task_turns.proofs.OrderLemmas.{named_calls_there}
-use Rattle.task_turns.specs.Turn.{Sits}
+use Rattle.task_turns.specs.Turn.{CoreInOrder}
 use Rattle.task_words.specs.StateView.{StateView}
 
 -- ---- The thread that runs
 
-module _ (c : Component) (n : ℕ) (s : Core) (sits : Sits c (turn.Run n) s) where
+module _ (c : Component) (n : ℕ) (s : Core) (sits : CoreInOrder c (turn.Run n) s) where
   runs : place_of n s ≡ Some place.Running
   runs = (sits.order Unscripted).in_place.runs n refl
 
@@ -73,8 +73,8 @@ module _ (c : Component) (n : ℕ) (s : Core) (sits : Sits c (turn.Run n) s) whe
 
 -- ---- By what a call answers
 
-met_in_place : (n : ℕ) (p : Progress) (s t : Core) (r : Came) → IsInPlace n (in_script n s) p → Meets p s r t → in_script n t ≡ in_script n s
-met_in_place n (Goes l new m) s t r h e = ap (in_script n) e.1 ∙ h
+met_in_place : (n : ℕ) (p : Progress) (s t : Core) (r : OpResult) → IsInPlace n (in_script n s) p → Implements p s r t → in_script n t ≡ in_script n s
+met_in_place n (Continues l new m) s t r h e = ap (in_script n) e.1 ∙ h
 met_in_place n (Stops l new) s t r h e = ap (in_script n) e.1 ∙ h
 met_in_place n (Traps why) s t r h e = ap (in_script n) e.1
 met_in_place n (Fails i) s t r h e = ap (in_script n) e.1
@@ -85,12 +85,12 @@ met_in_place n (Asks next) s t r h e = met_in_place n (next e.0) s t r (h e.0) e
 pub asks_leave_in_place : AsksLeaveInPlace
 unfolding AsksLeaveInPlace HostLeavesInPlace
 asks_leave_in_place c o n r s t run sits finished apart plain d =
-    let does = running_is s n run (λ k. Does (row_of c o s.core k) k s r t) d in
+    let does = running_is s n run (λ k. Does (scripted_rule_of c o s.core k) k s r t) d in
     met_in_place n (op_rule SomeHost c n s.core (choice_of (label_of n r)) o) s.core t.core r
     (host_leaves_in_place c n s.core (choice_of (label_of n r)) o finished apart (is_under_way c n s.core sits) (λ is. absurd (let no = sym is ∙ plain in cc))) does.meets
 
 returned_in_place : (n : ℕ) (p : Progress) (s t : StateView) (r : Result (Unit {0}) TaskError) → IsInPlace n (in_script n s.core) p → Returned p s r t → in_script n t.core ≡ in_script n s.core
-returned_in_place n (Goes l new m) s t r h e = ap (λ (v : StateView). in_script n v.core) e.1 ∙ h
+returned_in_place n (Continues l new m) s t r h e = ap (λ (v : StateView). in_script n v.core) e.1 ∙ h
 returned_in_place n (Traps why) s t r h e = ap (λ (v : StateView). in_script n v.core) e.1
 returned_in_place n (Stops l new) s t r h e = absurd e
 returned_in_place n (Fails i) s t r h e = absurd e
@@ -103,7 +103,7 @@ unfolding ReturnsLeaveInPlace HostLeavesInPlace
 returns_leave_in_place c n v true s t r sits apart e =
     returned_in_place n (ret_rule SomeHost n v e.0 s.core) s t r
     (host_leaves_in_place c n s.core (record { woken = e.0; member = None }) (op.Task (task_op.Ret (operand.Number v))) refl refl (is_under_way c n s.core sits) (λ is. apart)) e.1
-returns_leave_in_place c n v false s t r sits apart e = returned_in_place n (ret_bad_row n s.core) s t r (refused (has_ended (task_of n s.core) s.core)) e
+returns_leave_in_place c n v false s t r sits apart e = returned_in_place n (ret_bad_rule n s.core) s t r (refused (has_ended (task_of n s.core) s.core)) e
   where
     refused : (b : Bool) → IsInPlace n (in_script n s.core) (trap_if b trap.TaskCancelOrReturnTwice (Traps trap.TaskReturnInvalid))
     refused true = tt

@@ -2,16 +2,16 @@
 use Rattle.std.proofs.Common.{ap}
 use Rattle.std.specs.Prelude.{false, not, ℕ, ◌≡◌}
 use Rattle.task_calls.proofs.AtOnceLemmas.{goes_on, two_traps}
-use Rattle.task_calls.specs.Answers.{has_stopped}
+use Rattle.task_calls.specs.OpAnswers.{has_stopped}
 use Rattle.task_machine.specs.Core.{Core}
 use Rattle.task_machine.specs.Read.{at_handle_limit, fits}
-use Rattle.task_ops.specs.Came.{Meets}
-use Rattle.task_ops.specs.declared.came.Came.{Came}
+use Rattle.task_ops.specs.OpResult.{Implements}
+use Rattle.task_ops.specs.declared.op_result.OpResult.{OpResult}
 use Rattle.task_rules.specs.Calls.{AtOnce, Failing, FirstPoll, Later, call_host_by}
 use Rattle.task_rules.specs.Finish.{SomeHost}
 
 -- a call that goes on never stops its strand
-pub host_goes_on : (n q : ℕ) (p : FirstPoll) (s : Core) (o : Came) (t : Core) → Meets (call_host_by SomeHost n q s p) s o t → has_stopped o ≡ false
+pub host_goes_on : (n q : ℕ) (p : FirstPoll) (s : Core) (o : OpResult) (t : Core) → Implements (call_host_by SomeHost n q s p) s o t → has_stopped o ≡ false
 host_goes_on n q (AtOnce v) s o t h = ap has_stopped h.0
 host_goes_on n q Failing s o t h = ap has_stopped h.0
 host_goes_on n q (Later host) s o t h = goes_on (call_host_by SomeHost n q s (Later host)) s o t (two_traps (not (fits 1 s)) (at_handle_limit s) _ _ _ tt) h

@@ -1,7 +1,7 @@
 -- What becomes of another thread that the running one resumes.
 use Rattle.std.proofs.Common.{ap, ap₂, refl, subst, sym, ◌∙◌}
 use Rattle.std.specs.Prelude.{Bool, IfSome, None, Option, Result, Some, false, true, ℕ, ◌==◌, ◌≡◌}
-use Rattle.op_dispatch.specs.Goes.{running_of}
+use Rattle.op_dispatch.specs.Continues.{running_of}
 use Rattle.state_calls.specs.declared.error.TaskError.{TaskError}
 use Rattle.task_calls.specs.Resumes.{Resumed, came_later, first_in, or_refused, resumed_by}
 use Rattle.task_calls.specs.declared.intrinsics.ResumeThread.{ResumeThread}
@@ -13,16 +13,16 @@ use Rattle.task_machine.specs.declared.label.ThreadLabel.TheVariants as thread_l
 use Rattle.task_machine.specs.declared.records.Why.{Why}
 use Rattle.task_machine.specs.declared.trap.Trap.{Trap}
 use Rattle.task_machine.specs.declared.trap.Trap.TheVariants as trap
-use Rattle.task_ops.specs.Came.{Meets}
+use Rattle.task_ops.specs.OpResult.{Implements}
 use Rattle.task_ops.specs.Halting.{ComesFirst, First, GoesFirst, Refused, StaysBehind}
-use Rattle.task_ops.specs.declared.came.Came.{Came}
-use Rattle.task_ops.specs.declared.came.Came.TheVariants as came
-use Rattle.task_rules.specs.Progress.{Goes, or_trap, trap_if}
+use Rattle.task_ops.specs.declared.op_result.OpResult.{OpResult}
+use Rattle.task_ops.specs.declared.op_result.OpResult.TheVariants as op_result
+use Rattle.task_rules.specs.Progress.{Continues, or_trap, trap_if}
 use Rattle.task_rules.specs.Threads.{resume_later_by, resume_later_rule, resume_why}
 use Rattle.task_rules.specs.Finish.{SomeHost}
 use Rattle.task_machine.specs.Moves.{put_low}
-use Rattle.task_machine.specs.Write.{set_how_far}
-use Rattle.task_machine.specs.declared.records.HowFar.TheVariants as how_far
+use Rattle.task_machine.specs.Write.{set_op_progress}
+use Rattle.task_machine.specs.declared.records.OpProgress.TheVariants as op_progress
 use Rattle.task_words.specs.StateView.{StateView, Tags, with_core}
 
 -- why it was refused is answered
@@ -32,31 +32,31 @@ answered_first StaysBehind s t r h = (ap or_refused h.0, h.1)
 answered_first (Refused why) s t r h = (ap or_refused h.0, h.1)
 
 -- `resume_later` changes the core alone
-module _ (n h : ℕ) (s t : StateView) (r : Came) (tags : t.tags ≡ s.tags) (current : t.current ≡ s.current) where
+module _ (n h : ℕ) (s t : StateView) (r : OpResult) (tags : t.tags ≡ s.tags) (current : t.current ≡ s.current) where
   become : (new : Core) → t.core ≡ new → t ≡ with_core new s
   become new is = ap₂ (λ (c : Core) (ts : Tags). record { core = c; tags = ts; current = t.current }) is tags ∙ ap (λ o. record { core = new; tags = s.tags; current = o }) current
 
-  traps : (why : Trap) → (r ≡ came.Traps why) × (t.core ≡ s.core) → ComesFirst (Refused why) s (came_later r) t
+  traps : (why : Trap) → (r ≡ op_result.Traps why) × (t.core ≡ s.core) → ComesFirst (Refused why) s (came_later r) t
   traps why e = (ap came_later e.0, become s.core e.1)
 
-  by_why : (m : ℕ) (o : Option Why) → Meets (or_trap o trap.CannotResumeThread (λ w. Goes (label.Thread (thread_label.ResumeLater n)) (set_how_far n how_far.Fresh (put_low m w s.core)) n)) s.core r t.core →
-      ComesFirst (first_in (or_trap o trap.CannotResumeThread (λ w. Goes (label.Thread (thread_label.ResumeLater n)) (set_how_far n how_far.Fresh (put_low m w s.core)) n))) s (came_later r) t
+  by_why : (m : ℕ) (o : Option Why) → Implements (or_trap o trap.CannotResumeThread (λ w. Continues (label.Thread (thread_label.ResumeLater n)) (set_op_progress n op_progress.Fresh (put_low m w s.core)) n)) s.core r t.core →
+      ComesFirst (first_in (or_trap o trap.CannotResumeThread (λ w. Continues (label.Thread (thread_label.ResumeLater n)) (set_op_progress n op_progress.Fresh (put_low m w s.core)) n))) s (came_later r) t
   by_why m None e = traps trap.CannotResumeThread e
-  by_why m (Some w) e = (ap came_later e.0, become (set_how_far n how_far.Fresh (put_low m w s.core)) e.1)
+  by_why m (Some w) e = (ap came_later e.0, become (set_op_progress n op_progress.Fresh (put_low m w s.core)) e.1)
 
-  by_own : (m : ℕ) (b : Bool) → Meets (trap_if b trap.CannotResumeThread (or_trap (resume_why m s.core) trap.CannotResumeThread (λ w. Goes (label.Thread (thread_label.ResumeLater n)) (set_how_far n how_far.Fresh (put_low m w s.core)) n))) s.core r t.core →
-      ComesFirst (first_in (trap_if b trap.CannotResumeThread (or_trap (resume_why m s.core) trap.CannotResumeThread (λ w. Goes (label.Thread (thread_label.ResumeLater n)) (set_how_far n how_far.Fresh (put_low m w s.core)) n)))) s (came_later r) t
+  by_own : (m : ℕ) (b : Bool) → Implements (trap_if b trap.CannotResumeThread (or_trap (resume_why m s.core) trap.CannotResumeThread (λ w. Continues (label.Thread (thread_label.ResumeLater n)) (set_op_progress n op_progress.Fresh (put_low m w s.core)) n))) s.core r t.core →
+      ComesFirst (first_in (trap_if b trap.CannotResumeThread (or_trap (resume_why m s.core) trap.CannotResumeThread (λ w. Continues (label.Thread (thread_label.ResumeLater n)) (set_op_progress n op_progress.Fresh (put_low m w s.core)) n)))) s (came_later r) t
   by_own m true e = traps trap.CannotResumeThread e
   by_own m false e = by_why m (resume_why m s.core) e
 
-  by_handle : (o : Option ℕ) → Meets (or_trap o trap.BadHandle (resume_later_by SomeHost n s.core)) s.core r t.core → ComesFirst (first_in (or_trap o trap.BadHandle (resume_later_by SomeHost n s.core))) s (came_later r) t
+  by_handle : (o : Option ℕ) → Implements (or_trap o trap.BadHandle (resume_later_by SomeHost n s.core)) s.core r t.core → ComesFirst (first_in (or_trap o trap.BadHandle (resume_later_by SomeHost n s.core))) s (came_later r) t
   by_handle None e = traps trap.BadHandle e
   by_handle (Some m) e = by_own m (m == n) e
 
-  pub later_first : Meets (resume_later_rule SomeHost n h s.core) s.core r t.core → ComesFirst (first_in (resume_later_rule SomeHost n h s.core)) s (came_later r) t
+  pub later_first : Implements (resume_later_rule SomeHost n h s.core) s.core r t.core → ComesFirst (first_in (resume_later_rule SomeHost n h s.core)) s (came_later r) t
   later_first e = by_handle (thread_at (instance_of n s.core) h s.core) e
 
-pub later_resumed : (n h : ℕ) (how : ResumeThread) (s t : StateView) (r : Came) (x : Result Bool TaskError) → running_of s ≡ Some n → how ≡ resume.ResumeLater → t.tags ≡ s.tags → t.current ≡ s.current → Meets (resume_later_rule SomeHost n h s.core) s.core r t.core → x ≡ or_refused (came_later r) → IfSome (running_of s) (λ k. Resumed (resumed_by how k h s.core) s x t)
+pub later_resumed : (n h : ℕ) (how : ResumeThread) (s t : StateView) (r : OpResult) (x : Result Bool TaskError) → running_of s ≡ Some n → how ≡ resume.ResumeLater → t.tags ≡ s.tags → t.current ≡ s.current → Implements (resume_later_rule SomeHost n h s.core) s.core r t.core → x ≡ or_refused (came_later r) → IfSome (running_of s) (λ k. Resumed (resumed_by how k h s.core) s x t)
 later_resumed n h how s t r x runs later tags current meets is =
     let first = answered_first (first_in (resume_later_rule SomeHost n h s.core)) s t (came_later r) (later_first n h s t r tags current meets) in
     subst (λ (o : Option ℕ). IfSome o (λ k. Resumed (resumed_by how k h s.core) s x t)) (sym runs)

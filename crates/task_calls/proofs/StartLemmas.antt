@@ -2,7 +2,7 @@
 use Rattle.std.proofs.Common.{ap₂, arith, refl, subst, sym, ◌∙◌}
 use Rattle.std.proofs.lemmas.Bool.Decides.{nat_tests}
 use Rattle.std.specs.Prelude.{IfSome, List, Option, Some, ℕ, ◌≡◌, ◌≤◌}
-use Rattle.state_calls.specs.declared.names.QualifiedThreadId.{QualifiedThreadId}
+use Rattle.state_calls.specs.declared.name_calls.QualifiedThreadId.{QualifiedThreadId}
 use Rattle.subtask_ops.proofs.CallLemmas.{made_new, made_stand}
 use Rattle.subtask_ops.specs.Starts.{call_starts}
 use Rattle.task_calls.specs.Prepared.{Prepared, starts_in}

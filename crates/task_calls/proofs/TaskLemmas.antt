@@ -11,10 +11,10 @@ use Rattle.task_machine.specs.declared.records.Caller.{Caller}
 use Rattle.task_machine.specs.declared.records.Goal.{Goal}
 use Rattle.task_machine.specs.declared.records.Turn.{Turn}
 use Rattle.task_rules.specs.Scripts.{export_kind}
-use Rattle.task_turns.specs.Turn.{Sits}
+use Rattle.task_turns.specs.Turn.{CoreInOrder}
 use Rattle.state_calls.specs.Named.{IsLive}
 use Rattle.task_calls.specs.Tasks.{Begins, KeepsFor, first_export, task_begun, task_made}
-use Rattle.state_calls.specs.declared.names.QualifiedThreadId.{QualifiedThreadId}
+use Rattle.state_calls.specs.declared.name_calls.QualifiedThreadId.{QualifiedThreadId}
 use Rattle.task_machine.specs.Core.{Core}
 use Rattle.task_machine.specs.Maps.{get-insert}
 use Rattle.task_machine.specs.Read.{task_of, thread_group}
@@ -69,31 +69,31 @@ module _ (x : ExportKind) (i : ℕ) (f : Option QualifiedThreadId) (s : StateVie
 
 -- ---- Order
 
-module _ (c : Component) (p : Turn) (i : ℕ) (s : StateView) (sits : Sits c p s.core) where
+module _ (c : Component) (p : Turn) (i : ℕ) (s : StateView) (sits : CoreInOrder c p s.core) where
   abbrev made_for : Option QualifiedThreadId → Core
   made_for f = task_made (export_kind c (first_export i)) i f s
 
-  called_in_order : (u : Core) (from : Caller) (group : ℕ) → Sits c p u →
-      Sits c p (call_made from (first_export i) (export_kind c (first_export i)) Goal.Nowhere group [] u)
+  called_in_order : (u : Core) (from : Caller) (group : ℕ) → CoreInOrder c p u →
+      CoreInOrder c p (call_made from (first_export i) (export_kind c (first_export i)) Goal.Nowhere group [] u)
   unfolding PrepareKeeps
   called_in_order u from group sits =
       let r = prepare_keeps c p from (first_export i) Goal.Nowhere group [] u refl sits.order in
       record { order = r.0; there = λ j low. r.1.instances j ∙ sits.there j low; handles = λ j low. r.1.handles j ∙ sits.handles j low }
 
-  made_in_order : (f : Option QualifiedThreadId) → Sits c p (made_for f)
+  made_in_order : (f : Option QualifiedThreadId) → CoreInOrder c p (made_for f)
   made_in_order (Some id) = called_in_order s.core (Caller.Thread (thread_of s id.thread)) (thread_group (thread_of s id.thread) s.core) sits
   made_in_order None = called_in_order (add_group s.core) Caller.Main (s.core.made.groups + 1) (group_in_order c p s.core sits)
 
   -- so it is of the call of an export of this kind
-  pub begun_in_order : (x : ExportKind) (f : Option QualifiedThreadId) → x ≡ export_kind c (first_export i) → Sits c p (task_begun x i f s)
-  begun_in_order x f kind = subst (λ (y : ExportKind). Sits c p (task_begun y i f s)) (sym kind) (by s.core.trapped)
+  pub begun_in_order : (x : ExportKind) (f : Option QualifiedThreadId) → x ≡ export_kind c (first_export i) → CoreInOrder c p (task_begun x i f s)
+  begun_in_order x f kind = subst (λ (y : ExportKind). CoreInOrder c p (task_begun y i f s)) (sym kind) (by s.core.trapped)
     where
-      by : (b : Bool) → Sits c p (if b then set_trapped (made_for f) else made_for f)
+      by : (b : Bool) → CoreInOrder c p (if b then set_trapped (made_for f) else made_for f)
       by true = trap_in_order c p (made_for f) (made_in_order f)
       by false = made_in_order f
 
   pub begins_in_order : (x : ExportKind) (f : Option QualifiedThreadId) (room : Bool) (r : Result QualifiedThreadId TaskError) (t : StateView) →
-      Begins x i f s room r t → x ≡ export_kind c (first_export i) → Sits c p t.core
-  begins_in_order x f false r t b kind = subst (λ (v : StateView). Sits c p v.core) (sym b.1) sits
-  begins_in_order x f true (Ok id) t b kind = subst (Sits c p) (sym b.becomes.core) (begun_in_order x f kind)
-  begins_in_order x f true (Err why) t b kind = subst (λ (v : StateView). Sits c p v.core) (sym b.1) sits
+      Begins x i f s room r t → x ≡ export_kind c (first_export i) → CoreInOrder c p t.core
+  begins_in_order x f false r t b kind = subst (λ (v : StateView). CoreInOrder c p v.core) (sym b.1) sits
+  begins_in_order x f true (Ok id) t b kind = subst (CoreInOrder c p) (sym b.becomes.core) (begun_in_order x f kind)
+  begins_in_order x f true (Err why) t b kind = subst (λ (v : StateView). CoreInOrder c p v.core) (sym b.1) sits

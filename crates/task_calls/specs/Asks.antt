@@ -1,17 +1,17 @@
 -- What comes of an op that a host has the running thread do in place of the one at its place.
 use Rattle.std.specs.Prelude.{Bool, Err, IfSome, None, Option, Result, Some, false, length, true, ℕ, ◌<◌, ◌≡◌, ◌≢◌}
 use Rattle.std.specs.Option.{option_map_or}
-use Rattle.op_dispatch.specs.Goes.{running_of}
+use Rattle.op_dispatch.specs.Continues.{running_of}
 use Rattle.op_dispatch.specs.Makes.{takes_memory}
 use Rattle.state_calls.specs.declared.error.TaskError.{TaskError}
 use Rattle.state_calls.specs.declared.error.TaskError.TheVariants as task_error
-use Rattle.task_calls.specs.Answers.{answered}
-use Rattle.task_calls.specs.declared.answers.Step.{Step}
+use Rattle.task_calls.specs.OpAnswers.{answered}
+use Rattle.task_calls.specs.declared.answer_calls.Step.{Step}
 use Rattle.op_dispatch.specs.Fits.{HasHandles, HasInstances}
 use Rattle.task_laws.specs.Order.{InOrderAs}
 use Rattle.task_machine.specs.Core.{Core, Main}
 use Rattle.task_machine.specs.Labels.{Choice, choice_of}
-use Rattle.task_machine.specs.Read.{how_far_of, instance_of}
+use Rattle.task_machine.specs.Read.{op_progress_of, instance_of}
 use Rattle.task_machine.specs.declared.component.Component.{Component}
 use Rattle.task_machine.specs.declared.op.CallOp.TheVariants as call_op
 use Rattle.task_machine.specs.declared.op.Op.{Op}
@@ -19,22 +19,22 @@ use Rattle.task_machine.specs.declared.op.Op.TheVariants as op
 use Rattle.task_machine.specs.declared.op.SetOp.TheVariants as set_op
 use Rattle.task_machine.specs.declared.op.TaskOp.TheVariants as task_op
 use Rattle.task_machine.specs.declared.op.ThreadOp.TheVariants as thread_op
-use Rattle.task_machine.specs.declared.records.HowFar.TheVariants as how_far
+use Rattle.task_machine.specs.declared.records.OpProgress.TheVariants as op_progress
 use Rattle.task_machine.specs.declared.records.Turn.{Turn}
 use Rattle.task_machine.specs.declared.records.Turn.TheVariants as turn
-use Rattle.task_ops.specs.Came.{Meets}
+use Rattle.task_ops.specs.OpResult.{Implements}
 use Rattle.task_ops.specs.Ended.{ended}
 use Rattle.task_ops.specs.Stays.{StaysAfter}
 use Rattle.task_ops.specs.Steps.{label_of}
 use Rattle.task_ops.specs.Works.{NamesTold}
-use Rattle.task_ops.specs.declared.came.Came.{Came}
-use Rattle.task_ops.specs.declared.came.Came.TheVariants as came
-use Rattle.task_ops.specs.declared.came.OpAnswer.{OpAnswer}
+use Rattle.task_ops.specs.declared.op_result.OpResult.{OpResult}
+use Rattle.task_ops.specs.declared.op_result.OpResult.TheVariants as op_result
+use Rattle.task_ops.specs.declared.op_result.OpAnswer.{OpAnswer}
 use Rattle.task_rules.specs.Progress.{Progress}
 use Rattle.task_rules.specs.Scripts.{op_of}
 use Rattle.task_rules.specs.Finish.{SomeHost}
 use Rattle.task_rules.specs.Step.{op_rule}
-use Rattle.task_turns.specs.Turn.{Sits, state_at}
+use Rattle.task_turns.specs.Turn.{CoreInOrder, state_at}
 use Rattle.task_turns.specs.WellFormed.{IsWellFormed}
 use Rattle.task_words.specs.StateView.{StateView, on_core, with_current}
 
@@ -43,61 +43,61 @@ pub record IsRunningIn (c : Component) (s : StateView) : Type 0 where
   pub well_formed : IsWellFormed c
   pub number : ℕ
   pub runs : running_of s ≡ Some number
-  pub order : Sits c (turn.Run number) s.core
+  pub order : CoreInOrder c (turn.Run number) s.core
   pub home : instance_of number s.core < length c.instances
 
 -- The thread is of this instance, and no op of it is under way.
 abbrev pub CanAsk : ℕ → StateView → Type 0
-CanAsk i s = IfSome (running_of s) (λ n. (instance_of n s.core ≡ i) × (how_far_of n s.core ≡ how_far.Fresh))
+CanAsk i s = IfSome (running_of s) (λ n. (instance_of n s.core ≡ i) × (op_progress_of n s.core ≡ op_progress.Fresh))
 
 -- The thread is of this instance, and an op of it is under way.
 abbrev pub HasPaused : ℕ → StateView → Type 0
-HasPaused i s = IfSome (running_of s) (λ n. (instance_of n s.core ≡ i) × (how_far_of n s.core ≢ how_far.Fresh))
+HasPaused i s = IfSome (running_of s) (λ n. (instance_of n s.core ≡ i) × (op_progress_of n s.core ≢ op_progress.Fresh))
 
 -- ---- What comes of an op
 
 -- who runs then
-abbrev pub runs_after : ℕ → Came → Option ℕ
-runs_after n (came.Goes l m said) = Some m
-runs_after n (came.Stops l) = None
+abbrev pub runs_after : ℕ → OpResult → Option ℕ
+runs_after n (op_result.Continues l m said) = Some m
+runs_after n (op_result.Stops l) = None
 runs_after n _ = Some n
 
 -- none runs where the strand has stopped
-abbrev pub after : Came → StateView → StateView
-after (came.Stops l) s = with_current None s
+abbrev pub after : OpResult → StateView → StateView
+after (op_result.Stops l) s = with_current None s
 after _ s = s
 
 -- the op that came to this is ended, as a host has the thread n do it; no thread runs where the strand has stopped
-abbrev pub left_by : ℕ → Came → StateView → StateView
+abbrev pub left_by : ℕ → OpResult → StateView → StateView
 left_by n r s = after r (on_core (ended SomeHost n r) s)
 
 -- The thread n did a row: t is what the row says, and the thread that goes on runs. Where it was refused, nothing is changed.
-pub record Does (row : Choice → Progress) (n : ℕ) (s : StateView) (r : Came) (t : StateView) : Type 0 where
-  pub meets : Meets (row (choice_of (label_of n r))) s.core r t.core
+pub record Does (row : Choice → Progress) (n : ℕ) (s : StateView) (r : OpResult) (t : StateView) : Type 0 where
+  pub meets : Implements (row (choice_of (label_of n r))) s.core r t.core
   pub running : running_of t ≡ runs_after n r
   pub stays : StaysAfter r s t
   pub works : NamesTold s t
 
 -- the rule of an op as a host has it done, and that of the op at the thread's place
-abbrev pub row_of : Component → Op → Core → ℕ → Choice → Progress
-row_of c o s n ch = op_rule SomeHost c n s ch o
+abbrev pub scripted_rule_of : Component → Op → Core → ℕ → Choice → Progress
+scripted_rule_of c o s n ch = op_rule SomeHost c n s ch o
 
 abbrev pub row_at : Component → Core → ℕ → Choice → Progress
-row_at c s n ch = row_of c (op_of c n s) s n ch
+row_at c s n ch = scripted_rule_of c (op_of c n s) s n ch
 
 -- the running thread did its row
-abbrev pub Did : (ℕ → Choice → Progress) → StateView → Came → StateView → Type 0
+abbrev pub Did : (ℕ → Choice → Progress) → StateView → OpResult → StateView → Type 0
 Did row s r t = IfSome (running_of s) (λ n. Does (row n) n s r t)
 
 -- It did its row, and what that came to is answered. Only one that takes memory answers that it is wanting, and then nothing is changed.
 abbrev pub Answers : {A : Type 0} → (takes : Bool) → (ℕ → Choice → Progress) → (OpAnswer → A) → StateView → Result (Step A) TaskError →
     StateView → Type 0
 Answers takes row f s (Err task_error.NoMemory) t = (takes ≡ true) × (t ≡ s)
-Answers takes row f s a t = (r : Came) × (Did row s r t × (a ≡ answered f r))
+Answers takes row f s a t = (r : OpResult) × (Did row s r t × (a ≡ answered f r))
 
 -- the op was done in place of the one at the thread's place
 abbrev pub AnswersOp : {A : Type 0} → Component → Op → (OpAnswer → A) → StateView → Result (Step A) TaskError → StateView → Type 0
-AnswersOp c o f s a t = Answers (takes_memory o) (row_of c o s.core) f s a t
+AnswersOp c o f s a t = Answers (takes_memory o) (scripted_rule_of c o s.core) f s a t
 
 -- the op at the running thread's place may take memory
 abbrev pub takes_here : Component → StateView → Bool
@@ -118,7 +118,7 @@ abbrev pub turn_in : StateView → Turn
 turn_in s = turn_for (running_of s)
 
 -- order in which each thread has this op, whatever main's part is; and the component's instances are there, with their tables of handles
-pub record SitsAs (ops : ℕ → Op) (c : Component) (p : Turn) (s : Core) : Type 0 where
+pub record CoreInOrderAs (ops : ℕ → Op) (c : Component) (p : Turn) (s : Core) : Type 0 where
   pub order : (m : Main) → InOrderAs ops c (state_at s m p)
   pub there : HasInstances c s
   pub handles : HasHandles c s

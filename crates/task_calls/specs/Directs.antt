@@ -1,23 +1,23 @@
 -- The two halves of a direct call.
 use Rattle.std.specs.Prelude.{Err, List, Ok, Result, false, true, ℕ, ◌≡◌}
 use Rattle.state_calls.specs.declared.error.TaskError.{TaskError}
-use Rattle.state_calls.specs.declared.names.QualifiedThreadId.{QualifiedThreadId}
+use Rattle.state_calls.specs.declared.name_calls.QualifiedThreadId.{QualifiedThreadId}
 use Rattle.task_machine.specs.Core.{Core}
 use Rattle.task_machine.specs.Labels.{Choice}
 use Rattle.task_machine.specs.Read.{goal_of, is_direct, is_explicit, task_of}
 use Rattle.task_machine.specs.Write.{set_register}
 use Rattle.task_machine.specs.declared.component.Callee.{Callee}
 use Rattle.task_machine.specs.declared.component.Component.{Component}
-use Rattle.task_ops.specs.declared.came.OpAnswer.{OpAnswer}
-use Rattle.task_ops.specs.declared.came.OpAnswer.TheVariants as op_answer
-use Rattle.task_rules.specs.Calls.{enter_row}
-use Rattle.task_rules.specs.Ends.{direct_exit_row}
+use Rattle.task_ops.specs.declared.op_result.OpAnswer.{OpAnswer}
+use Rattle.task_ops.specs.declared.op_result.OpAnswer.TheVariants as op_answer
+use Rattle.task_rules.specs.Calls.{enter_rule}
+use Rattle.task_rules.specs.Ends.{direct_exit_rule}
 use Rattle.task_rules.specs.Progress.{Progress}
 use Rattle.task_rules.specs.Scripts.{export_kind}
 use Rattle.task_words.specs.StateView.{StateView, thread_of}
 
-abbrev pub enters_row : Component → Callee → List ℕ → Core → ℕ → Choice → Progress
-enters_row c e words s n ch = enter_row n e (export_kind c e) words s
+abbrev pub enters_rule : Component → Callee → List ℕ → Core → ℕ → Choice → Progress
+enters_rule c e words s n ch = enter_rule n e (export_kind c e) words s
 
 -- the thread that is entered; default: none
 abbrev pub thread_entered : OpAnswer → ℕ
@@ -35,5 +35,5 @@ pub record IsDirect (n : ℕ) (s : Core) : Type 0 where
   pub direct : is_direct (goal_of (task_of n s) s) ≡ true
 
 -- its exit, once its first register has the value
-abbrev pub exits_row : ℕ → Core → ℕ → Choice → Progress
-exits_row v s n ch = direct_exit_row n (set_register n 0 v s)
+abbrev pub exits_rule : ℕ → Core → ℕ → Choice → Progress
+exits_rule v s n ch = direct_exit_rule n (set_register n 0 v s)

@@ -1,11 +1,11 @@
 -- What an op leaves of the thread that a host has do it: its place in its script, and its registers.
 use Rattle.std.specs.Prelude.{Bool, Result, Some, false, true, ℕ, ◌==◌, ◌≡◌}
-use Rattle.op_dispatch.specs.Goes.{running_of}
+use Rattle.op_dispatch.specs.Continues.{running_of}
 pub use Rattle.op_dispatch.specs.InPlace.{CallsItself, IsInPlace, IsUnderWay, in_script, is_return}
 unfoldable pub use Rattle.op_dispatch.specs.InPlace.{HostLeavesInPlace}
 use Rattle.state_calls.specs.declared.error.TaskError.{TaskError}
-use Rattle.task_calls.specs.Asks.{Did, HasPaused, IsRunningIn, row_at, row_of}
-use Rattle.task_calls.specs.Calls.{Returns}
+use Rattle.task_calls.specs.Asks.{Did, HasPaused, IsRunningIn, row_at, scripted_rule_of}
+use Rattle.task_calls.specs.MainCalls.{Returns}
 use Rattle.task_calls.specs.Shown.{is_finished}
 use Rattle.task_machine.specs.declared.component.Component.{Component}
 use Rattle.task_machine.specs.declared.op.Op.{Op}
@@ -14,24 +14,24 @@ use Rattle.task_machine.specs.declared.op.TaskOp.TheVariants as task_op
 use Rattle.task_machine.specs.declared.records.Caller.TheVariants as caller
 use Rattle.task_machine.specs.declared.records.Subtask.TheVariants as subtask
 use Rattle.task_machine.specs.declared.records.Turn.TheVariants as turn
-use Rattle.task_ops.specs.declared.came.Came.{Came}
+use Rattle.task_ops.specs.declared.op_result.OpResult.{OpResult}
 use Rattle.task_rules.specs.OpParts.{calls_host}
-use Rattle.task_turns.specs.Turn.{Sits}
+use Rattle.task_turns.specs.Turn.{CoreInOrder}
 use Rattle.task_words.specs.StateView.{StateView}
 
 -- Where the running thread did such an op, but a return, it is in its place then, with its registers, whatever the op came to. Where memory
 -- was wanting nothing is changed.
 unfoldable pub AsksLeaveInPlace : Type 0
-AsksLeaveInPlace = (c : Component) (o : Op) (n : ℕ) (r : Came) (s t : StateView) → running_of s ≡ Some n → Sits c (turn.Run n) s.core →
-    is_finished o ≡ true → calls_host o ≡ false → is_return o ≡ false → Did (row_of c o s.core) s r t →
+AsksLeaveInPlace = (c : Component) (o : Op) (n : ℕ) (r : OpResult) (s t : StateView) → running_of s ≡ Some n → CoreInOrder c (turn.Run n) s.core →
+    is_finished o ≡ true → calls_host o ≡ false → is_return o ≡ false → Did (scripted_rule_of c o s.core) s r t →
     in_script n t.core ≡ in_script n s.core
 
 -- Where it returned so it is, too.
 unfoldable pub ReturnsLeaveInPlace : Type 0
 ReturnsLeaveInPlace = (c : Component) (n v : ℕ) (own_type : Bool) (s t : StateView) (r : Result (Unit {0}) TaskError) →
-    Sits c (turn.Run n) s.core → (CallsItself n s.core → ⊥) → Returns n v own_type s r t → in_script n t.core ≡ in_script n s.core
+    CoreInOrder c (turn.Run n) s.core → (CallsItself n s.core → ⊥) → Returns n v own_type s r t → in_script n t.core ≡ in_script n s.core
 
 -- Where the op at its place had paused and was taken on, it is in its place, with its registers, whatever that came to.
 unfoldable pub PausedLeaveInPlace : Type 0
-PausedLeaveInPlace = (c : Component) (i : ℕ) (r : Came) (s t : StateView) (q : IsRunningIn c s) → HasPaused i s → Did (row_at c s.core) s r t →
+PausedLeaveInPlace = (c : Component) (i : ℕ) (r : OpResult) (s t : StateView) (q : IsRunningIn c s) → HasPaused i s → Did (row_at c s.core) s r t →
     in_script q.number t.core ≡ in_script q.number s.core

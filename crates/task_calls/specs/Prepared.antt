@@ -3,9 +3,9 @@ use Rattle.std.specs.Prelude.{Bool, Err, List, Ok, Result, Some, false, true, �
 use Rattle.state_calls.specs.Named.{IsLive}
 use Rattle.state_calls.specs.declared.error.TaskError.{TaskError}
 use Rattle.state_calls.specs.declared.error.TaskError.TheVariants as task_error
-use Rattle.state_calls.specs.declared.names.QualifiedThreadId.{QualifiedThreadId}
+use Rattle.state_calls.specs.declared.name_calls.QualifiedThreadId.{QualifiedThreadId}
 use Rattle.subtask_ops.specs.Starts.{call_starts}
-use Rattle.task_words.specs.Becomes.{Becomes}
+use Rattle.task_words.specs.BecomesRecord.{BecomesRecord}
 use Rattle.task_machine.specs.Core.{Core}
 use Rattle.task_machine.specs.Read.{callee_of, kind_of, place_of, task_of, thread_group}
 use Rattle.task_machine.specs.declared.component.Callee.{Callee}
@@ -34,7 +34,7 @@ pub record CanStart (n : ℕ) (id : QualifiedThreadId) (s : StateView) : Type 0 
 -- The call was made by n, whose result goes to g, and the id names its thread, which has the next number.
 pub record Prepared (c : Component) (n : ℕ) (e : Callee) (words : List ℕ) (g : Goal) (s t : StateView)
     (id : QualifiedThreadId) : Type 0 where
-  pub becomes : Becomes (call_made (caller.Thread n) e (export_kind c e) g (thread_group n s.core) words s.core) s t
+  pub becomes : BecomesRecord (call_made (caller.Thread n) e (export_kind c e) g (thread_group n s.core) words s.core) s t
   pub can : CanStart n id t
   pub number : thread_of t id.thread ≡ next_thread s.core
 

@@ -6,17 +6,17 @@ use Rattle.task_calls.specs.declared.intrinsics.ResumeThread.{ResumeThread}
 use Rattle.task_calls.specs.declared.intrinsics.ResumeThread.TheVariants as resume
 use Rattle.task_machine.specs.Core.{Core}
 use Rattle.task_machine.specs.declared.trap.Trap.{Trap}
-use Rattle.task_ops.specs.declared.came.Came.{Came}
-use Rattle.task_ops.specs.declared.came.Came.TheVariants as came
+use Rattle.task_ops.specs.declared.op_result.OpResult.{OpResult}
+use Rattle.task_ops.specs.declared.op_result.OpResult.TheVariants as op_result
 use Rattle.task_ops.specs.Halting.{First, GoesFirst, Refused, StaysBehind, promoted_first, resumed_first}
 use Rattle.task_rules.specs.Finish.{SomeHost}
-use Rattle.task_rules.specs.Progress.{Goes, Progress, Traps}
+use Rattle.task_rules.specs.Progress.{Continues, Progress, Traps}
 use Rattle.task_rules.specs.Threads.{resume_later_rule}
 use Rattle.task_words.specs.StateView.{StateView, with_core}
 
 -- a row that goes on or is refused
 abbrev pub first_in : Progress → First
-first_in (Goes l new m) = GoesFirst new
+first_in (Continues l new m) = GoesFirst new
 first_in (Traps why) = Refused why
 first_in _ = StaysBehind
 
@@ -34,8 +34,8 @@ Resumed (Refused why) s r t = (r ≡ Err (task_error.Trap why)) × (t ≡ s)
 
 -- ---- As the code says it
 
-abbrev pub came_later : Came → Result Bool Trap
-came_later (came.Traps why) = Err why
+abbrev pub came_later : OpResult → Result Bool Trap
+came_later (op_result.Traps why) = Err why
 came_later _ = Ok true
 
 abbrev pub or_refused : Result Bool Trap → Result Bool TaskError

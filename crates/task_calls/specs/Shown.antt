@@ -10,11 +10,11 @@ use Rattle.task_machine.specs.declared.label.Label.TheVariants as label
 use Rattle.task_machine.specs.declared.op.Op.{Op}
 use Rattle.task_machine.specs.declared.words.HostPoll.{HostPoll}
 use Rattle.task_ops.specs.Shown.{shown}
-use Rattle.task_ops.specs.declared.came.OpAnswer.{OpAnswer}
-use Rattle.task_ops.specs.declared.came.OpAnswer.TheVariants as op_answer
+use Rattle.task_ops.specs.declared.op_result.OpAnswer.{OpAnswer}
+use Rattle.task_ops.specs.declared.op_result.OpAnswer.TheVariants as op_answer
 use Rattle.task_rules.specs.Finish as rules
 use Rattle.task_rules.specs.Finish.{Doer, NoAnswer, OneEvent, OneNumber, finish}
-use Rattle.task_rules.specs.Progress.{Asks, Fails, Goes, Never, Ordered, Progress, Stops, Traps}
+use Rattle.task_rules.specs.Progress.{Asks, Fails, Continues, Never, Ordered, Progress, Stops, Traps}
 use Rattle.task_rules.specs.Step.{op_rule}
 
 -- ---- What an op is finished with
@@ -42,7 +42,7 @@ FinishedAs false d e n m l a b = (m ≡ n) × ((core : Core) × ((a ≡ finish d
 
 -- Two results are one but for how the op is finished.
 abbrev pub IsAlike : Doer → Doer → ℕ → Progress → Progress → Type 0
-IsAlike d e n (Goes l a m) (Goes k b j) = (l ≡ k) × ((m ≡ j) × FinishedAs (is_entered l) d e n m l a b)
+IsAlike d e n (Continues l a m) (Continues k b j) = (l ≡ k) × ((m ≡ j) × FinishedAs (is_entered l) d e n m l a b)
 IsAlike d e n (Stops l a) (Stops k b) = (l ≡ k) × (a ≡ b)
 IsAlike d e n (Traps why) (Traps other) = why ≡ other
 IsAlike d e n (Fails i) (Fails j) = i ≡ j

@@ -1,10 +1,10 @@
 -- What a call whose thread is New comes to.
 use Rattle.std.specs.Prelude.{◌+◌, ◌≡◌, Bool, Err, None, Ok, Option, Result, Some, [], false, if◌then◌else◌, true, ℕ}
 use Rattle.state_calls.specs.Named.{IsLive}
-use Rattle.task_words.specs.Becomes.{BecomesWith}
+use Rattle.task_words.specs.BecomesRecord.{BecomesWith}
 use Rattle.state_calls.specs.declared.error.TaskError.{TaskError}
 use Rattle.state_calls.specs.declared.error.TaskError.TheVariants as task_error
-use Rattle.state_calls.specs.declared.names.QualifiedThreadId.{QualifiedThreadId}
+use Rattle.state_calls.specs.declared.name_calls.QualifiedThreadId.{QualifiedThreadId}
 use Rattle.task_machine.specs.Core.{Core}
 use Rattle.task_machine.specs.Read.{thread_group}
 use Rattle.task_machine.specs.Write.{add_group, set_trapped}

@@ -1,45 +1,45 @@
 //! An op that a host has the running thread do, in place of the one at its place.
 ghost use Rattle.op_dispatch.specs.Fits.{calls_host, is_data_op, op_fits};
-ghost use Rattle.op_dispatch.specs.Goes.{given};
+ghost use Rattle.op_dispatch.specs.Continues.{given};
 ghost use Rattle.op_dispatch.specs.Makes.{takes_memory};
 ghost use Rattle.std.specs.Prelude.{◌≡◌, ◌<◌, ◌^◌, ℕ, IfErr, IfOk, OnErr, false, true};
-ghost use Rattle.task_calls.specs.Answers.{at_once, event_answered, nothing_answered, number_answered, whole_answer};
-ghost use Rattle.task_calls.specs.Asks.{AnswersHere, AnswersOp, Did, HasPaused, IsRunningIn, is_at_once, left_by, row_at, row_of, takes_here, turn_in};
-ghost use Rattle.task_turns.specs.Turn.{Sits};
+ghost use Rattle.task_calls.specs.OpAnswers.{at_once, event_answered, nothing_answered, number_answered, whole_answer};
+ghost use Rattle.task_calls.specs.Asks.{AnswersHere, AnswersOp, Did, HasPaused, IsRunningIn, is_at_once, left_by, row_at, scripted_rule_of, takes_here, turn_in};
+ghost use Rattle.task_turns.specs.Turn.{CoreInOrder};
 ghost use Rattle.task_words.specs.StateView.{thread_of};
 
-use crate::answers::{
+use crate::answer_calls::{
     Answer, Step, at_once, event_answered, number_answered, stepped, whole_answer,
 };
 use op_dispatch::{do_other_op, do_plain_op, op_at, script_ops};
 use state_calls::TaskError;
 use task_machine::{Component, HostPoll, Op};
-use task_ops::{Came, OpAnswer};
-use task_words::{HowFarId, ThreadId, Words};
+use task_ops::{OpResult, OpAnswer};
+use task_words::{OpProgressId, ThreadId, Primitives};
 
 // The op that a host had the thread do came to this: the host gets its answer, and none is under way any more; or the strand has stopped,
 // and no thread runs.
-pub(crate) fn leave<W: Words>(w: &mut W, thread: ThreadId, came: Came)
-    ensures { W.view w.new ≡ left_by (thread_of (W.view w.old) thread) came (W.view w.old) }
+pub(crate) fn leave<W: Primitives>(w: &mut W, thread: ThreadId, op_result: OpResult)
+    ensures { W.view w.new ≡ left_by (thread_of (W.view w.old) thread) op_result (W.view w.old) }
 {
-    match came {
-        Came::Goes(_, _, OpAnswer::Entered(_)) => {}
-        Came::Goes(_, _, OpAnswer::NoneDue) => {}
-        Came::Goes(_, _, _) => w.set_how_far(thread, HowFarId::Fresh),
-        Came::Stops(_) => w.set_current(None),
+    match op_result {
+        OpResult::Continues(_, _, OpAnswer::Entered(_)) => {}
+        OpResult::Continues(_, _, OpAnswer::NoneDue) => {}
+        OpResult::Continues(_, _, _) => w.set_op_progress(thread, OpProgressId::Fresh),
+        OpResult::Stops(_) => w.set_current(None),
         _ => {}
     }
 }
 
 // The running thread does the op, which isn't on registers and words and calls no host, whatever the op at its place is: its
 // registers and its place in its script stay. Where memory is wanting, nothing is changed.
-fn ask<W: Words>(component: &Component, w: &mut W, op: Op) -> Result<Came, TaskError>
+fn ask<W: Primitives>(component: &Component, w: &mut W, op: Op) -> Result<OpResult, TaskError>
     requires running { IsRunningIn component.now (W.view w.old) }
     requires other { is_data_op op ≡ false }
     requires plain { calls_host op ≡ false }
     requires fits { op_fits component.now op ≡ true }
     requires few { takes_memory op ≡ true → given (W.view w.old).core < 2 ^ 61 }
-    ensures did { IfOk result (λ came. Did (row_of component.now op (W.view w.old).core) (W.view w.old) came (W.view w.new)) }
+    ensures did { IfOk result (λ op_result. Did (scripted_rule_of component.now op (W.view w.old).core) (W.view w.old) op_result (W.view w.new)) }
     ensures err { OnErr result ((takes_memory op ≡ true) × (W.view w.new ≡ W.view w.old)) }
     ensures why { IfErr result (λ e. e ≡ TaskError.NoMemory) }
 {
@@ -47,44 +47,44 @@ fn ask<W: Words>(component: &Component, w: &mut W, op: Op) -> Result<Came, TaskE
     let Some(thread) = w.current() else {
         unreachable!()
     };
-    let Ok(came) = do_plain_op(component, w, thread, &op) else {
+    let Ok(op_result) = do_plain_op(component, w, thread, &op) else {
         return Err(TaskError::NoMemory);
     };
-    leave(w, thread, came);
-    Ok(came)
+    leave(w, thread, op_result);
+    Ok(op_result)
 }
 
 /// An op that answers nothing, done at once by the running thread, whatever the op at its place is, or refused as its rule
 /// says; then nothing is changed.
-pub fn ask_nothing<W: Words>(component: &Component, w: &mut W, op: Op) -> Result<(), TaskError>
+pub fn ask_nothing<W: Primitives>(component: &Component, w: &mut W, op: Op) -> Result<(), TaskError>
     requires running { IsRunningIn component.now (W.view w.old) }
     requires at_once { is_at_once op ≡ true }
     requires fits { op_fits component.now op ≡ true }
     requires few { takes_memory op ≡ true → given (W.view w.old).core < 2 ^ 61 }
     ensures answers { AnswersOp component.now op nothing_answered (W.view w.old) (at_once result) (W.view w.new) }
 {
-    let came = ask(component, w, op)?;
-    let _answer = at_once(came)?;
+    let op_result = ask(component, w, op)?;
+    let _answer = at_once(op_result)?;
     Ok(())
 }
 
 /// An op that answers a handle, a packed status or an end, done at once by the running thread, whatever the op at its
 /// place is, or refused as its rule says; then nothing is changed. No register is written.
-pub fn ask_number<W: Words>(component: &Component, w: &mut W, op: Op) -> Result<u32, TaskError>
+pub fn ask_number<W: Primitives>(component: &Component, w: &mut W, op: Op) -> Result<u32, TaskError>
     requires running { IsRunningIn component.now (W.view w.old) }
     requires at_once { is_at_once op ≡ true }
     requires fits { op_fits component.now op ≡ true }
     requires few { takes_memory op ≡ true → given (W.view w.old).core < 2 ^ 61 }
     ensures answers { AnswersOp component.now op number_answered (W.view w.old) (at_once result) (W.view w.new) }
 {
-    let came = ask(component, w, op)?;
-    let answer = at_once(came)?;
+    let op_result = ask(component, w, op)?;
+    let answer = at_once(op_result)?;
     Ok(number_answered(answer))
 }
 
 /// An op that answers an event: its code, handle and result, done at once by the running thread, whatever the op at its
 /// place is, or refused as its rule says; then nothing is changed. No register is written.
-pub fn ask_event<W: Words>(
+pub fn ask_event<W: Primitives>(
     component: &Component,
     w: &mut W,
     op: Op,
@@ -95,13 +95,13 @@ pub fn ask_event<W: Words>(
     requires few { takes_memory op ≡ true → given (W.view w.old).core < 2 ^ 61 }
     ensures answers { AnswersOp component.now op event_answered (W.view w.old) (at_once result) (W.view w.new) }
 {
-    let came = ask(component, w, op)?;
-    let answer = at_once(came)?;
+    let op_result = ask(component, w, op)?;
+    let answer = at_once(op_result)?;
     Ok(event_answered(answer))
 }
 
 /// The same for an op that may pause: then its strand has stopped, and no thread runs.
-pub fn begin_nothing<W: Words>(
+pub fn begin_nothing<W: Primitives>(
     component: &Component,
     w: &mut W,
     op: Op,
@@ -113,15 +113,15 @@ pub fn begin_nothing<W: Words>(
     requires few { takes_memory op ≡ true → given (W.view w.old).core < 2 ^ 61 }
     ensures answers { AnswersOp component.now op nothing_answered (W.view w.old) result (W.view w.new) }
 {
-    let came = ask(component, w, op)?;
-    match stepped(came)? {
+    let op_result = ask(component, w, op)?;
+    match stepped(op_result)? {
         Step::Done(_) => Ok(Step::Done(())),
         Step::Pause => Ok(Step::Pause),
     }
 }
 
 /// The same for an op that may pause: then its strand has stopped, and no thread runs.
-pub fn begin_number<W: Words>(
+pub fn begin_number<W: Primitives>(
     component: &Component,
     w: &mut W,
     op: Op,
@@ -133,15 +133,15 @@ pub fn begin_number<W: Words>(
     requires few { takes_memory op ≡ true → given (W.view w.old).core < 2 ^ 61 }
     ensures answers { AnswersOp component.now op number_answered (W.view w.old) result (W.view w.new) }
 {
-    let came = ask(component, w, op)?;
-    match stepped(came)? {
+    let op_result = ask(component, w, op)?;
+    match stepped(op_result)? {
         Step::Done(answer) => Ok(Step::Done(number_answered(answer))),
         Step::Pause => Ok(Step::Pause),
     }
 }
 
 /// The same for an op that may pause: then its strand has stopped, and no thread runs.
-pub fn begin_event<W: Words>(
+pub fn begin_event<W: Primitives>(
     component: &Component,
     w: &mut W,
     op: Op,
@@ -153,8 +153,8 @@ pub fn begin_event<W: Words>(
     requires few { takes_memory op ≡ true → given (W.view w.old).core < 2 ^ 61 }
     ensures answers { AnswersOp component.now op event_answered (W.view w.old) result (W.view w.new) }
 {
-    let came = ask(component, w, op)?;
-    match stepped(came)? {
+    let op_result = ask(component, w, op)?;
+    match stepped(op_result)? {
         Step::Done(answer) => Ok(Step::Done(event_answered(answer))),
         Step::Pause => Ok(Step::Pause),
     }
@@ -162,11 +162,11 @@ pub fn begin_event<W: Words>(
 
 // The running thread takes the op at its place further, which has paused, as a host has it done: its registers and its place
 // in its script stay. Where memory is wanting, nothing is changed.
-fn take_on<W: Words>(component: &Component, w: &mut W) -> Result<Came, TaskError>
+fn take_on<W: Primitives>(component: &Component, w: &mut W) -> Result<OpResult, TaskError>
     requires running { IsRunningIn component.now (W.view w.old) }
     requires paused { (i : ℕ) × HasPaused i (W.view w.old) }
-    ensures did { IfOk result (λ came. Did (row_at component.now (W.view w.old).core) (W.view w.old) came (W.view w.new)) }
-    ensures order { Sits component.now (turn_in (W.view w.new)) (W.view w.new).core }
+    ensures did { IfOk result (λ op_result. Did (row_at component.now (W.view w.old).core) (W.view w.old) op_result (W.view w.new)) }
+    ensures order { CoreInOrder component.now (turn_in (W.view w.new)) (W.view w.new).core }
     ensures err { OnErr result ((takes_here component.now (W.view w.old) ≡ true) × (W.view w.new ≡ W.view w.old)) }
     ensures why { IfErr result (λ e. e ≡ TaskError.NoMemory) }
 {
@@ -184,21 +184,21 @@ fn take_on<W: Words>(component: &Component, w: &mut W) -> Result<Came, TaskError
     let Ok(done) = do_other_op(component, w, thread, op, answer) else {
         return Err(TaskError::NoMemory);
     };
-    leave(w, thread, done.came);
-    Ok(done.came)
+    leave(w, thread, done.op_result);
+    Ok(done.op_result)
 }
 
 /// Takes the op at the running thread's place further: it has paused, goes on, and may pause again. Its answer goes to the
 /// host, and the thread's registers and its place in its script stay. It polls no host: one that it calls was polled when it
 /// began. Where memory is wanting, nothing is changed.
-pub fn go_on<W: Words>(component: &Component, w: &mut W) -> Result<Step<Answer>, TaskError>
+pub fn go_on<W: Primitives>(component: &Component, w: &mut W) -> Result<Step<Answer>, TaskError>
     requires running { IsRunningIn component.now (W.view w.old) }
     requires paused { (i : ℕ) × HasPaused i (W.view w.old) }
     ensures answers { AnswersHere component.now whole_answer (W.view w.old) result (W.view w.new) }
-    ensures order { Sits component.now (turn_in (W.view w.new)) (W.view w.new).core }
+    ensures order { CoreInOrder component.now (turn_in (W.view w.new)) (W.view w.new).core }
 {
-    let came = take_on(component, w)?;
-    match stepped(came)? {
+    let op_result = take_on(component, w)?;
+    match stepped(op_result)? {
         Step::Done(answer) => Ok(Step::Done(whole_answer(answer))),
         Step::Pause => Ok(Step::Pause),
     }

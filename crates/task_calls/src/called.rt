@@ -1,22 +1,22 @@
 //! The host that the running thread's op is about to call.
 ghost use Rattle.op_dispatch.specs.Polls.{polled_host};
 ghost use Rattle.std.specs.Prelude.{◌≡◌, Some, option_map};
-ghost use Rattle.task_machine.specs.Read.{how_far_of};
+ghost use Rattle.task_machine.specs.Read.{op_progress_of};
 ghost use Rattle.task_machine.specs.declared.records.Turn.TheVariants as turns;
 ghost use Rattle.task_rules.specs.Scripts.{op_of};
-ghost use Rattle.task_turns.specs.Turn.{Sits, running_of};
+ghost use Rattle.task_turns.specs.Turn.{CoreInOrder, running_of};
 
 use op_dispatch::{called_host, op_at, script_ops};
 use task_machine::{Component, HostDef};
-use task_words::Words;
+use task_words::Primitives;
 
 /// The host that the op of the running thread, which has this number, polls first, with its place in the component. None where
 /// the op calls no host, and where its call is under way.
 #[inline(never)]
-pub fn host_called<W: Words>(component: &Component, w: &W, number: u64) -> Option<(u32, HostDef)>
-    requires order { Sits component.now (turns.Run number) (W.view w.now).core }
+pub fn host_called<W: Primitives>(component: &Component, w: &W, number: u64) -> Option<(u32, HostDef)>
+    requires order { CoreInOrder component.now (turns.Run number) (W.view w.now).core }
     requires runs { running_of (W.view w.now) ≡ Some number }
-    ensures { option_map (λ h. h.1) result ≡ polled_host component.now (how_far_of number (W.view w.now).core) (op_of component.now number (W.view w.now).core) }
+    ensures { option_map (λ h. h.1) result ≡ polled_host component.now (op_progress_of number (W.view w.now).core) (op_of component.now number (W.view w.now).core) }
 {
     let _number = number;
     w.none_is_zero();

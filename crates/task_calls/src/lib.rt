@@ -1,33 +1,33 @@
 //! The calls by which a host and a guest's task change a store, over the words of a core.
 #![tactic(auto)]
 
-mod answers;
+mod answer_calls;
 mod asks;
 mod called;
-mod directs;
-mod hosts;
+mod direct_calls;
+mod host_calls;
 mod intrinsics;
-mod polls;
-mod resumes;
-mod returns;
+mod poll_calls;
+mod resume_calls;
+mod return_calls;
 mod shown;
-mod starts;
-mod tasks;
+mod start_calls;
+mod new_task_calls;
 mod untrapped;
 
-pub use answers::{Answer, Step};
+pub use answer_calls::{Answer, Step};
 pub use asks::{
     ask_event, ask_nothing, ask_number, begin_event, begin_nothing, begin_number, go_on,
 };
 pub use called::host_called;
-pub use directs::{enter_call, exit_call};
-pub use hosts::{finish_call, start_call};
+pub use direct_calls::{enter_call, exit_call};
+pub use host_calls::{finish_call, start_call};
 pub use intrinsics::{ResumeThread, SuspensionTarget, cancel_op, pressure_op, suspension_op};
-pub use polls::{block_on_host, poll_host};
-pub use resumes::resume_thread;
-pub use returns::{is_own_type, task_return};
+pub use poll_calls::{block_on_host, poll_host};
+pub use resume_calls::resume_thread;
+pub use return_calls::{is_own_type, task_return};
 pub use shown::{answers_are_shown, hosts_leave_in_place};
-pub use starts::{prepare_call, start_prepared};
+pub use start_calls::{prepare_call, start_prepared};
 pub use state_calls::{QualifiedThreadId, TaskError, is_live};
-pub use tasks::new_guest_task;
+pub use new_task_calls::new_guest_task;
 pub use untrapped::{start_refusal, start_untrapped};

@@ -4,18 +4,18 @@ ghost use Rattle.task_calls.specs.Untrapped.{StartsUntrapped};
 ghost use Rattle.task_machine.specs.declared.records.Turn.{Turn};
 ghost use Rattle.task_rules.specs.MainOps.{start_refusal};
 ghost use Rattle.task_rules.specs.Scripts.{export_at};
-ghost use Rattle.task_turns.specs.Turn.{Sits, given};
+ghost use Rattle.task_turns.specs.Turn.{CoreInOrder, given};
 
 use state_calls::TaskError;
 use task_machine::{Callee, Component, MainLabel, Trap};
 use task_ops::{Acted, start};
 use task_turns::export_def;
-use task_words::Words;
+use task_words::Primitives;
 
 /// Why a start by the host is refused: with trap 20 where the store is trapped, and else with trap 18 where its four
 /// entries don't fit into the table.
 #[tactic(auto, unfolding(task_rules::specs::MainOps::start_refusal))]
-pub fn start_refusal<W: Words>(w: &W) -> Option<Trap>
+pub fn start_refusal<W: Primitives>(w: &W) -> Option<Trap>
     ensures { result ≡ start_refusal (W.view w.now).core }
 {
     if w.trapped() {
@@ -31,7 +31,7 @@ pub fn start_refusal<W: Words>(w: &W) -> Option<Trap>
 /// its thread. Refused with trap 20 exactly where the store is trapped, and else with trap 18 exactly
 /// where its four entries don't fit into the table. Where it is refused, or memory is wanting, all is as
 /// before: the store isn't trapped by that.
-pub fn start_untrapped<W: Words>(
+pub fn start_untrapped<W: Primitives>(
     w: &mut W,
     component: &Component,
     callee: Callee,
@@ -40,10 +40,10 @@ pub fn start_untrapped<W: Words>(
     requires there { IsSome (export_at component.now callee) }
     requires words { IfSome (export_at component.now callee) (λ e. length words.now ≡ e.params) }
     requires few_words { length words.now ≤ 16 }
-    requires order { (p : Turn) × Sits component.now p (W.view w.old).core }
+    requires order { (p : Turn) × CoreInOrder component.now p (W.view w.old).core }
     requires given { given (W.view w.old).core < 2 ^ 61 }
     ensures starts { StartsUntrapped component.now callee words.now (W.view w.old) (start_refusal (W.view w.old).core) result (W.view w.new) }
-    ensures order { (p : Turn) → Sits component.now p (W.view w.old).core → Sits component.now p (W.view w.new).core }
+    ensures order { (p : Turn) → CoreInOrder component.now p (W.view w.old).core → CoreInOrder component.now p (W.view w.new).core }
 {
     let Some(def) = export_def(component, callee) else {
         unreachable!()

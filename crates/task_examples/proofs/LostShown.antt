@@ -1,7 +1,7 @@
 -- The cores of these wrong machines don't have the facts, by computation.
 use Rattle.std.proofs.Common.{arith, refl}
 use Rattle.std.specs.Prelude.{ℕ, suc, true, zero, ◌≡◌}
-use Rattle.task_laws.specs.Wakes.{CallersGoOn, WakesCounted, goes_on_within, ready_members}
+use Rattle.task_laws.specs.WakeLaw.{CallersGoOn, WakesCounted, goes_on_within, ready_members}
 use Rattle.task_examples.specs.Lost.{forgotten_caller, swallowed_wake}
 use Rattle.task_examples.specs.Words.{the_words}
 

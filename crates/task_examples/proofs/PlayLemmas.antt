@@ -15,13 +15,13 @@ use Rattle.task_machine.specs.Core.{Core, Main, MainPlace, Scripted, State, Unsc
 use Rattle.task_machine.specs.Labels.{Choice, choice_of}
 use Rattle.task_machine.specs.Moves.{ended}
 use Rattle.task_machine.specs.Read.{next_entry}
-use Rattle.task_rules.specs.MainOps.{Answers, Does, MainProgress, Pends, act_of, line_of, main_row, op_at}
+use Rattle.task_rules.specs.MainOps.{Answers, Does, MainProgress, Pends, act_of, line_of, main_rule, op_at}
 use Rattle.task_rules.specs.Outcome.{outcome_of}
-use Rattle.task_rules.specs.Progress.{Asks, Fails, Goes, Never, Ordered, Progress, Stops, Traps}
+use Rattle.task_rules.specs.Progress.{Asks, Fails, Continues, Never, Ordered, Progress, Stops, Traps}
 use Rattle.task_rules.specs.Run.{Run, opens}
 use Rattle.task_rules.specs.Stalled.{Setting, is_unended_take, may_deadlock, setting_of}
 use Rattle.task_rules.specs.Step.{DeadlockStep, EmptyFor, FuturesStep, MainProgresses, MainStep, Polled, Progresses, RestStep, RunStep, ScriptStep, Step, TakeStep, TurnStep, did, entry_number}
-use Rattle.task_rules.specs.Takes.{popped, take_row}
+use Rattle.task_rules.specs.Takes.{popped, take_rule}
 use Rattle.task_rules.specs.Works.{Asked, Ends, FailsNow, Poll, StillPends, has_moving_work, next_polled, poll_of}
 
 abbrev Makes : Setting → State → Next → Type 0
@@ -67,7 +67,7 @@ ordered_ran s base n ns next ps true e (Some x) h = (apply_swaps ns ps, (record 
 ordered_ran s base n ns next ps false e y h = tt
 
 ran_is : (s : State) (base : Core) (n : ℕ) (ps : Swaps) (p : Progress) → Ran s base n p (ran s base n ps p)
-ran_is s base n ps (Goes l new m) = (refl, refl)
+ran_is s base n ps (Continues l new m) = (refl, refl)
 ran_is s base n ps (Stops l new) = (refl, refl)
 ran_is s base n ps (Traps t) = (refl, refl)
 ran_is s base n ps (Fails i) = (refl, refl)
@@ -101,7 +101,7 @@ main_is s p o (Answers v) = (refl, refl)
 
 script_is : (x : Setting) (s : State) (p : MainPlace) (o : Option MainOpDef) → Meets (ScriptStep x s p o) (script_did x s p o)
 script_is x s p None = (refl, refl)
-script_is x s p (Some o) = main_is s p o (main_row x.component (line_of p o) s.core (act_of p o))
+script_is x s p (Some o) = main_is s p o (main_rule x.component (line_of p o) s.core (act_of p o))
 
 moved_is : (x : Setting) (s : State) (m : Main) → Meets (MainStep x s m) (moved x s m)
 moved_is x s (Scripted p) = script_is x s p (op_at x.script p)
@@ -138,7 +138,7 @@ took_is x s ch ps None = empty_is x s (has_moving_work s.core)
 took_is x s ch ps (Some e) =
     let base = popped e.0 s.core in
     let n = entry_number e.1 in
-    to_meets s base n (λ c. take_row e.0 c base e.1) (if_shows ch (ran s base n ps (take_row e.0 ch base e.1))) (chosen_is s base n (λ c. take_row e.0 c base e.1) ch (ran s base n ps (take_row e.0 ch base e.1)) (ran_is s base n ps (take_row e.0 ch base e.1)))
+    to_meets s base n (λ c. take_rule e.0 c base e.1) (if_shows ch (ran s base n ps (take_rule e.0 ch base e.1))) (chosen_is s base n (λ c. take_rule e.0 c base e.1) ch (ran s base n ps (take_rule e.0 ch base e.1)) (ran_is s base n ps (take_rule e.0 ch base e.1)))
 
 ran_by : (x : Setting) (s : State) (ch : Choice) (ps : Swaps) (n : ℕ) → Meets (RunStep x.component s n) (if_shows ch (ran s s.core n ps (did x.component n s.core ch)))
 ran_by x s ch ps n =

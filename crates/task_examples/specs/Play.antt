@@ -18,13 +18,13 @@ use Rattle.task_machine.specs.Labels.{Choice, choice_of}
 use Rattle.task_machine.specs.Moves.{ended}
 use Rattle.task_machine.specs.Read.{next_entry}
 use Rattle.task_machine.specs.Write.{set_trapped}
-use Rattle.task_rules.specs.MainOps.{Answers, Does, MainProgress, Pends, act_of, advanced_main, line_of, main_row, op_at}
+use Rattle.task_rules.specs.MainOps.{Answers, Does, MainProgress, Pends, act_of, advanced_main, line_of, main_rule, op_at}
 use Rattle.task_rules.specs.Outcome.{IsOutcome}
-use Rattle.task_rules.specs.Progress.{Asks, Fails, Goes, Never, Ordered, Progress, Stops, Traps}
+use Rattle.task_rules.specs.Progress.{Asks, Fails, Continues, Never, Ordered, Progress, Stops, Traps}
 use Rattle.task_rules.specs.Run.{Run, opens}
 use Rattle.task_rules.specs.Stalled.{Setting, deadlock_trap, is_unended_take, may_deadlock, setting_of}
-use Rattle.task_rules.specs.Step.{did, entry_number, struck, trap_label}
-use Rattle.task_rules.specs.Takes.{popped, take_row}
+use Rattle.task_rules.specs.Step.{did, entry_number, unwound, trap_label}
+use Rattle.task_rules.specs.Takes.{popped, take_rule}
 use Rattle.task_rules.specs.Turns.{at_turn, goes_to}
 use Rattle.task_rules.specs.Works.{Asked, Ends, FailsNow, Poll, StillPends, has_moving_work, next_polled, poll_pends, poll_of, poll_ends}
 
@@ -57,10 +57,10 @@ if_shows ch None = None
 if_shows ch (Some x) = if_fits (same_choice (choice_of x.0) ch) (Some x)
 
 abbrev pub ran : State → Core → ℕ → Swaps → Progress → Next
-ran s base n ps (Goes l new m) = Some (l, goes_to s new (turn.Run m))
+ran s base n ps (Continues l new m) = Some (l, goes_to s new (turn.Run m))
 ran s base n ps (Stops l new) = Some (l, goes_to s new turn.Main)
-ran s base n ps (Traps t) = Some (trap_label n t, goes_to s (struck n base) turn.Over)
-ran s base n ps (Fails i) = Some (label.Call (call_label.Fails n i), goes_to s (struck n base) turn.Over)
+ran s base n ps (Traps t) = Some (trap_label n t, goes_to s (unwound n base) turn.Over)
+ran s base n ps (Fails i) = Some (label.Call (call_label.Fails n i), goes_to s (unwound n base) turn.Over)
 ran s base n ps Never = None
 ran s base n ps (Asks next) = None
 ran s base n ps (Ordered ns next) = if_fits (in_range (length ns) ps) (ran s base n ps (next (apply_swaps ns ps)))
@@ -72,7 +72,7 @@ main_did s p o (Answers v) = Some (label.Main (main_label.Answer v), goes_to s s
 
 abbrev pub script_did : Setting → State → MainPlace → Option MainOpDef → Next
 script_did x s p None = Some (label.Loop loop_label.MainPends, goes_to s s.core (turn.Futures 0))
-script_did x s p (Some o) = main_did s p o (main_row x.component (line_of p o) s.core (act_of p o))
+script_did x s p (Some o) = main_did s p o (main_rule x.component (line_of p o) s.core (act_of p o))
 
 abbrev pub moved : Setting → State → Main → Next
 moved x s (Scripted p) = script_did x s p (op_at x.script p)
@@ -100,7 +100,7 @@ empty_did x s false = if_fits (may_deadlock x s) (deadlocked s)
 
 abbrev pub took : Setting → State → Choice → Swaps → Option (Mark × Entry) → Next
 took x s ch ps None = empty_did x s (has_moving_work s.core)
-took x s ch ps (Some e) = let base = popped e.0 s.core in if_shows ch (ran s base (entry_number e.1) ps (take_row e.0 ch base e.1))
+took x s ch ps (Some e) = let base = popped e.0 s.core in if_shows ch (ran s base (entry_number e.1) ps (take_rule e.0 ch base e.1))
 
 abbrev pub turned : Setting → State → Choice → Swaps → Turn → Next
 turned x s ch ps turn.Main = moved x s s.main

@@ -14,7 +14,7 @@ use Rattle.task_machine.specs.declared.scenario.MainOpDef.TheVariants as main_op
 use Rattle.task_machine.specs.declared.words.Mark.TheVariants as mark
 use Rattle.task_machine.specs.declared.op.Op.TheVariants as op
 use Rattle.task_machine.specs.declared.op.Operand.TheVariants as operand
-use Rattle.task_machine.specs.declared.words.OwnEvent.TheVariants as own
+use Rattle.task_machine.specs.declared.words.TaskEvent.TheVariants as own
 use Rattle.task_machine.specs.declared.label.SetLabel.TheVariants as set_label
 use Rattle.task_machine.specs.declared.op.SetOp.TheVariants as set_op
 use Rattle.task_machine.specs.declared.component.Slot.TheVariants as slot
@@ -317,8 +317,8 @@ woken_callback_whose_event_was_taken_waits_again_labels = label.Main (main_label
     label.Main (main_label.Answer 2) ∷ []
 
 -- a: f
-abbrev pub own_event_taken_by_a_woken_thread_hands_the_wake_on : ScenarioDef
-own_event_taken_by_a_woken_thread_hands_the_wake_on = record {
+abbrev pub task_event_taken_by_a_woken_thread_hands_the_wake_on : ScenarioDef
+task_event_taken_by_a_woken_thread_hands_the_wake_on = record {
   handles = 9;
   table = 90;
   idle = idle_line.Trap;
@@ -347,8 +347,8 @@ own_event_taken_by_a_woken_thread_hands_the_wake_on = record {
       [];
 }
 
-abbrev pub own_event_taken_by_a_woken_thread_hands_the_wake_on_labels : List Label
-own_event_taken_by_a_woken_thread_hands_the_wake_on_labels = label.Main (main_label.Start 1 1) ∷ label.Loop loop_label.MainPends ∷ label.Take (take.Thread mark.High 1) ∷
+abbrev pub task_event_taken_by_a_woken_thread_hands_the_wake_on_labels : List Label
+task_event_taken_by_a_woken_thread_hands_the_wake_on_labels = label.Main (main_label.Start 1 1) ∷ label.Loop loop_label.MainPends ∷ label.Take (take.Thread mark.High 1) ∷
     label.Set (set_label.New 1 1) ∷ label.Call (call_label.CallPolls 33 1 1) ∷ label.Data (data_label.Handle 1 2) ∷ label.Set (set_label.Join 1) ∷
     label.Thread (thread_label.New 2 1 2) ∷ label.Thread (thread_label.ResumeLater 1) ∷ label.Thread (thread_label.New 3 1 3) ∷ label.Thread (thread_label.ResumeLater 1) ∷
     label.Thread (thread_label.Pauses 1) ∷ label.Loop loop_label.MainPends ∷ label.Take (take.Push mark.High 1) ∷ label.Loop loop_label.MainPends ∷

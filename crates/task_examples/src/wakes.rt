@@ -35,7 +35,7 @@ pub fn woken_callback_whose_event_was_taken_waits_again()
     ensures { Example the.woken_callback_whose_event_was_taken_waits_again 300 the.woken_callback_whose_event_was_taken_waits_again_labels (Outcome.Done 2) }
 {}
 
-#[tactic(auto, using(crate::proofs::WakesShown::own_event_taken_by_a_woken_thread_hands_the_wake_on_shown))]
-pub fn own_event_taken_by_a_woken_thread_hands_the_wake_on()
-    ensures { Example the.own_event_taken_by_a_woken_thread_hands_the_wake_on 300 the.own_event_taken_by_a_woken_thread_hands_the_wake_on_labels (Outcome.Done 9) }
+#[tactic(auto, using(crate::proofs::WakesShown::task_event_taken_by_a_woken_thread_hands_the_wake_on_shown))]
+pub fn task_event_taken_by_a_woken_thread_hands_the_wake_on()
+    ensures { Example the.task_event_taken_by_a_woken_thread_hands_the_wake_on 300 the.task_event_taken_by_a_woken_thread_hands_the_wake_on_labels (Outcome.Done 9) }
 {}

@@ -2,7 +2,7 @@
 
 ghost use Rattle.task_examples.specs.Lost.{forgotten_caller, swallowed_wake};
 ghost use Rattle.task_examples.specs.Wrong.{cancelled_after_return, cancelling_late, returned_twice, returning_twice};
-ghost use Rattle.task_laws.specs.Wakes.{CallersGoOn, WakesCounted};
+ghost use Rattle.task_laws.specs.WakeLaw.{CallersGoOn, WakesCounted};
 ghost use Rattle.task_rules.specs.Once.{EndsOnce};
 
 /// A `ret` without its first trap writes an end twice. A cancel that puts ReturnCancelled in the

@@ -12,7 +12,7 @@ use Rattle.std.proofs.lemmas.List.Folds.{list_all-append}
 use Rattle.std.proofs.lemmas.List.{length-take, map-append}
 use Rattle.task_machine.specs.declared.records.Notice.{Notice}
 use Rattle.task_group.specs.Heard.{Heard, Tells}
-use Rattle.task_group.specs.Listeners.{AnsweredErr, Listeners, all_ok, answers_of, told_of, Told, errors_of}
+use Rattle.task_group.specs.Listeners.{AnsweredErr, Listeners, all_ok, answers_of, told_of, ToldListeners, errors_of}
 use Rattle.task_group.specs.Counts.{Counts}
 use Rattle.task_group.specs.Groups.{Groups, IsKnown, finish_number, numbered}
 
@@ -100,7 +100,7 @@ mapped_none : {X : Type 0} (o : Option (List X)) → o ≡ option_map (λ n. n +
 mapped_none None = refl
 mapped_none (Some xs) = ap Some (sym (append-nil xs))
 
-pub told-none : (l : Listeners) → Told [] l l
+pub told-none : (l : Listeners) → ToldListeners [] l l
 told-none l = record {
   same_hook = refl;
   told = mapped_none (told_of l);
@@ -110,7 +110,7 @@ told-none l = record {
   answers = [];
   each = refl;
   answered = mapped_none (answers_of l);
-  calm = (λ same. refl, λ ok. refl);
+  hook_is_ok = (λ same. refl, λ ok. refl);
 }
 
 take-nil : (k : ℕ) → ◌≡◌ {A = List Notice} (take k []) []
@@ -128,12 +128,12 @@ kept_more xs ns ms room =
     let left : room - length (xs ++ take (room - length xs) ns) ≡ (room - length xs) - length ns = omega (arith, long, length-take (room - length xs) ns) in
     append_assoc xs _ _ ∙ ap (λ t. xs ++ t) (ap (λ k. take (room - length xs) ns ++ take k ms) left ∙ sym (take-append (room - length xs) ns ms))
 
-both_calm : {x y z : ℕ} → x ≤ y → y ≤ z → (p q both : Bool) → (y ≡ x) ↔ (p ≡ true) → (z ≡ y) ↔ (q ≡ true) → both ≡ (p && q) → (z ≡ x) ↔ (both ≡ true)
-both_calm {x} {y} {z} le more true q both first second is = (
+both_hook_is_ok : {x y z : ℕ} → x ≤ y → y ≤ z → (p q both : Bool) → (y ≡ x) ↔ (p ≡ true) → (z ≡ y) ↔ (q ≡ true) → both ≡ (p && q) → (z ≡ x) ↔ (both ≡ true)
+both_hook_is_ok {x} {y} {z} le more true q both first second is = (
   λ same. is ∙ second.0 (omega (arith, same, le, more)),
   λ ok. second.1 (sym is ∙ ok) ∙ first.1 refl,
 )
-both_calm {x} {y} {z} le more false q both first second is = (
+both_hook_is_ok {x} {y} {z} le more false q both first second is = (
   λ same. absurd (let no = first.0 (omega (arith, same, le, more)) in none_some no),
   λ ok. absurd (none_some (sym is ∙ ok)),
 )
@@ -143,7 +143,7 @@ nil_of [] e = refl
 nil_of (x ∷ xs) e = absurd (omega (arith, e))
 
 -- notices that are told one after another
-pub told-append : (ns ms : List Notice) (a b c : Listeners) → Told ns a b → Told ms b c → Told (ns ++ ms) a c
+pub told-append : (ns ms : List Notice) (a b c : Listeners) → ToldListeners ns a b → ToldListeners ms b c → ToldListeners (ns ++ ms) a c
 told-append ns ms a b c first second = record {
   same_hook = second.same_hook ∙ first.same_hook;
   told = second.told ∙ ap (option_map (λ n. n ++ ms)) first.told ∙ mapped (told_of a) ns ms;
@@ -156,12 +156,12 @@ told-append ns ms a b c first second = record {
   answers = first.answers ++ second.answers;
   each = length-append first.answers second.answers ∙ (ap₂ (λ x y. x + y) first.each second.each ∙ sym (length-append ns ms));
   answered = second.answered ∙ ap (option_map (λ n. n ++ second.answers)) first.answered ∙ mapped (answers_of a) first.answers second.answers;
-  calm = both_calm first.errors second.errors (all_ok first.answers) (all_ok second.answers) _ first.calm second.calm (list_all-append (λ ok. ok) first.answers second.answers);
+  hook_is_ok = both_hook_is_ok first.errors second.errors (all_ok first.answers) (all_ok second.answers) _ first.hook_is_ok second.hook_is_ok (list_all-append (λ ok. ok) first.answers second.answers);
 }
 
 -- of no notice there is no error
-pub none_calm : (a b : Listeners) → Told [] a b → errors_of b ≡ errors_of a
-none_calm a b told = told.calm.1 (ap all_ok (nil_of told.answers told.each))
+pub none_hook_is_ok : (a b : Listeners) → ToldListeners [] a b → errors_of b ≡ errors_of a
+none_hook_is_ok a b told = told.hook_is_ok.1 (ap all_ok (nil_of told.answers told.each))
 
 -- ---- One notice
 
@@ -174,7 +174,7 @@ raised_alone false same more = (λ e. absurd (let lt = more refl in omega (arith
 
 module _ (n : Notice) (l m : Listeners) (kept : m.notices ≡ one_kept n l) (room : m.room ≡ l.room) where
   -- nobody else is told
-  pub told_nobody : l.hook ≡ None → m.hook ≡ None → Told (n ∷ []) l m
+  pub told_nobody : l.hook ≡ None → m.hook ≡ None → ToldListeners (n ∷ []) l m
   told_nobody none still =
       let same : m.hook ≡ l.hook = still ∙ sym none in
       record {
@@ -186,11 +186,11 @@ module _ (n : Notice) (l m : Listeners) (kept : m.notices ≡ one_kept n l) (roo
         answers = true ∷ [];
         each = refl;
         answered = ap (option_and_then (λ (h : Heard). h.answers)) still ∙ sym (ap (λ o. option_map (λ xs. xs ++ true ∷ []) (option_and_then (λ (h : Heard). h.answers) o)) none);
-        calm = (λ e. refl, λ e. ap (λ o. option_map_or (λ (h : Heard). h.errors) o 0) same);
+        hook_is_ok = (λ e. refl, λ e. ap (λ o. option_map_or (λ (h : Heard). h.errors) o 0) same);
       }
 
   -- the hook is told
-  pub told_hook : (a b : Heard) (ok : Bool) → l.hook ≡ Some a → m.hook ≡ Some b → Tells n a b ok → Told (n ∷ []) l m
+  pub told_hook : (a b : Heard) (ok : Bool) → l.hook ≡ Some a → m.hook ≡ Some b → Tells n a b ok → ToldListeners (n ∷ []) l m
   told_hook a b ok was is tells =
       let before : errors_of l ≡ a.errors = ap (λ o. option_map_or (λ (h : Heard). h.errors) o 0) was in
       let after : errors_of m ≡ b.errors = ap (λ o. option_map_or (λ (h : Heard). h.errors) o 0) is in
@@ -203,7 +203,7 @@ module _ (n : Notice) (l m : Listeners) (kept : m.notices ≡ one_kept n l) (roo
         answers = ok ∷ [];
         each = refl;
         answered = ap (option_and_then (λ (h : Heard). h.answers)) is ∙ (tells.answered ∙ sym (ap (λ o. option_map (λ xs. xs ++ ok ∷ []) (option_and_then (λ (h : Heard). h.answers) o)) was));
-        calm = raised_alone ok (λ e. after ∙ (tells.kept e ∙ sym before)) (λ e. let lt = tells.raised e in omega (arith, before, after, lt));
+        hook_is_ok = raised_alone ok (λ e. after ∙ (tells.kept e ∙ sym before)) (λ e. let lt = tells.raised e in omega (arith, before, after, lt));
       }
     where
       no_fewer : {x y : ℕ} (ok : Bool) → (ok ≡ true → y ≡ x) → (ok ≡ false → x < y) → x ≤ y
@@ -211,8 +211,8 @@ module _ (n : Notice) (l m : Listeners) (kept : m.notices ≡ one_kept n l) (roo
       no_fewer false same more = let lt = more refl in omega (arith, lt)
 
 -- where the hook answered no error, it has answered as many as before
-pub still_calm : {ns : List Notice} (a b : Listeners) → Told ns a b → (AnsweredErr a b → ⊥) → errors_of b ≡ errors_of a
-still_calm a b told none = elim (eq-or-lt_of_le told.errors) [
+pub still_hook_is_ok : {ns : List Notice} (a b : Listeners) → ToldListeners ns a b → (AnsweredErr a b → ⊥) → errors_of b ≡ errors_of a
+still_hook_is_ok a b told none = elim (eq-or-lt_of_le told.errors) [
   | inl e ↦ sym e
   | inr lt ↦ absurd (none lt)
 ]
@@ -222,19 +222,19 @@ pub failed_is : (b : Bool) (x y : Listeners) → (b ≡ true → errors_of y ≡
 failed_is true x y same err = (λ e. absurd (cc), λ lt. let e = same refl in absurd (omega (arith, e, lt)))
 failed_is false x y same err = (err, λ lt. refl)
 
-module _ (keys₀ keys₁ done : List ℕ) (a b : Listeners) (split : keys₀ ≡ done ++ keys₁) (told : Told (map finish_number done) a b) where
+module _ (keys₀ keys₁ done : List ℕ) (a b : Listeners) (split : keys₀ ≡ done ++ keys₁) (told : ToldListeners (map finish_number done) a b) where
   -- one more group is finished
-  pub finish_more : (number : ℕ) (keys₂ : List ℕ) (c : Listeners) → keys₁ ≡ number ∷ keys₂ → Told (finish_number number ∷ []) b c → (x : List ℕ) × (keys₀ ≡ x ++ keys₂) × Told (map finish_number x) a c
+  pub finish_more : (number : ℕ) (keys₂ : List ℕ) (c : Listeners) → keys₁ ≡ number ∷ keys₂ → ToldListeners (finish_number number ∷ []) b c → (x : List ℕ) × (keys₀ ≡ x ++ keys₂) × ToldListeners (map finish_number x) a c
   finish_more number keys₂ c next more =
-      let P : List Notice → Type 0 = λ ns. Told ns a c in (
+      let P : List Notice → Type 0 = λ ns. ToldListeners ns a c in (
         done ++ number ∷ [],
         split ∙ ap (λ ks. done ++ ks) next ∙ sym (append_assoc done (number ∷ []) keys₂),
         subst P (sym (map-append finish_number done (number ∷ []))) (told-append (map finish_number done) (finish_number number ∷ []) a b c told more),
       )
 
   -- all are finished
-  pub finish_done : keys₁ ≡ [] → Told (map finish_number keys₀) a b
+  pub finish_done : keys₁ ≡ [] → ToldListeners (map finish_number keys₀) a b
   finish_done none =
-      let P : List ℕ → Type 0 = λ ks. Told (map finish_number ks) a b in
+      let P : List ℕ → Type 0 = λ ks. ToldListeners (map finish_number ks) a b in
       let all : keys₀ ≡ done = split ∙ ap (λ ks. done ++ ks) none ∙ append-nil done in
       subst P (sym all) told

@@ -7,7 +7,7 @@ use Rattle.task_machine.specs.declared.records.NoticeKind.{NoticeKind}
 use Rattle.task_machine.specs.declared.records.NoticeKind.TheVariants.{Finish}
 use Rattle.task_group.specs.declared.notice.TaskGroupId.{TaskGroupId}
 use Rattle.task_group.specs.Heard.{notice_of, finish_of}
-use Rattle.task_group.specs.Listeners.{Listeners, listeners_code, errors_of, AnsweredErr, Told}
+use Rattle.task_group.specs.Listeners.{Listeners, listeners_code, errors_of, AnsweredErr, ToldListeners}
 use Rattle.task_group.specs.Counts.{Counts, count_in}
 
 -- the live groups with their counts, how many groups were made, and who is told
@@ -59,6 +59,6 @@ same_group (Some a) (Some b) = a.number == b.number
 -- the hook is told of the exit, and then of the enter unless it answered the exit with an error
 pub record Switches (exits enters : List Notice) (old new : Listeners) : Type 0 where
   pub between : Listeners
-  pub exited : Told exits old between
-  pub entered : errors_of between ≡ errors_of old → Told enters between new
+  pub exited : ToldListeners exits old between
+  pub entered : errors_of between ≡ errors_of old → ToldListeners enters between new
   pub stopped : AnsweredErr old between → new ≡ between

@@ -1,4 +1,4 @@
-pub mod Kept
+pub mod KeptNotices
 pub mod Packed
 pub mod Heard
 pub mod Listeners

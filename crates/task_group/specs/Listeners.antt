@@ -47,7 +47,7 @@ all_ok answers = list_all (λ ok. ok) answers
 
 -- the hook was told these notices, in this order and no others, and the same are kept as far as the room reaches; it answered to each,
 -- and its count of errors is as before exactly where it answered `Ok` to all
-pub record Told (ns : List Notice) (old new : Listeners) : Type 0 where
+pub record ToldListeners (ns : List Notice) (old new : Listeners) : Type 0 where
   pub same_hook : is_some new.hook ≡ is_some old.hook
   pub told : told_of new ≡ option_map (λ notices. notices ++ ns) (told_of old)
   pub kept : new.notices ≡ old.notices ++ take (old.room - length old.notices) ns
@@ -56,9 +56,9 @@ pub record Told (ns : List Notice) (old new : Listeners) : Type 0 where
   pub answers : List Bool
   pub each : length answers ≡ length ns
   pub answered : answers_of new ≡ option_map (λ before. before ++ answers) (answers_of old)
-  pub calm : (errors_of new ≡ errors_of old) ↔ (all_ok answers ≡ true)
+  pub hook_is_ok : (errors_of new ≡ errors_of old) ↔ (all_ok answers ≡ true)
 
 -- they were told, and the hook answered `Ok` to each
-pub record ToldCalmly (ns : List Notice) (old new : Listeners) : Type 0 where
-  pub told : Told ns old new
-  pub calm : errors_of new ≡ errors_of old
+pub record ToldWithHookOk (ns : List Notice) (old new : Listeners) : Type 0 where
+  pub told : ToldListeners ns old new
+  pub hook_is_ok : errors_of new ≡ errors_of old

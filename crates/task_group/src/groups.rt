@@ -1,7 +1,7 @@
 ghost use Rattle.std.specs.Prelude.{◌≡◌, ◌≢◌, ℕ, ◌≤◌, ◌<◌, ◌+◌, ◌-◌, ◌^◌, ◌↔◌, ◌∷◌, [], ◌++◌, Some, None, Err, IsTrue, IsSome, IfOk, OnOk, OnErr, false, is_some, true};
 ghost use Rattle.std.specs.FinMap as finite;
 ghost use Rattle.task_group.specs.Counts.{count_in, raised, lowered};
-ghost use Rattle.task_group.specs.Listeners.{nobody, Told, AnsweredErr, errors_of};
+ghost use Rattle.task_group.specs.Listeners.{nobody, ToldListeners, AnsweredErr, errors_of};
 ghost use Rattle.task_group.specs.Heard.{start_of};
 ghost use Rattle.task_group.specs.Groups.{notice_at, finish_at, finish_all, numbered, same_group, IsKnown, Switches};
 
@@ -82,7 +82,7 @@ impl<H: TaskGroupHook> Groups<H> {
         ensures refused { OnErr result ((self.new.live ≡ self.old.live) × (self.new.made ≡ self.old.made)) }
 
         // The hook and the list are told of the start, unless memory is wanting.
-        ensures told { result ≢ Err GroupError.NoMemory → Told (start_of (record { number = self.old.made + 1 }) ∷ []) self.old.listeners self.new.listeners }
+        ensures told { result ≢ Err GroupError.NoMemory → ToldListeners (start_of (record { number = self.old.made + 1 }) ∷ []) self.old.listeners self.new.listeners }
         ensures failed { (result ≡ Err GroupError.HookFailed) ↔ AnsweredErr self.old.listeners self.new.listeners }
         ensures no_memory { result ≡ Err GroupError.NoMemory → self.new ≡ self.old }
     {
@@ -135,7 +135,7 @@ impl<H: TaskGroupHook> Groups<H> {
     pub fn announce(&mut self) -> Result<TaskGroupId, GroupError>
         ensures id { IfOk result (λ id. id.number ≡ self.old.made) }
         ensures groups { (self.new.live ≡ self.old.live) × (self.new.made ≡ self.old.made) }
-        ensures told { Told (start_of (record { number = self.old.made }) ∷ []) self.old.listeners self.new.listeners }
+        ensures told { ToldListeners (start_of (record { number = self.old.made }) ∷ []) self.old.listeners self.new.listeners }
         ensures failed { (result ≡ Err GroupError.HookFailed) ↔ AnsweredErr self.old.listeners self.new.listeners }
         ensures no_other { result ≢ Err GroupError.NoMemory }
     {
@@ -174,7 +174,7 @@ impl<H: TaskGroupHook> Groups<H> {
         ensures live { self.new.live ≡ lowered self.old.live id.number }
         ensures made { self.new.made ≡ self.old.made }
         ensures answer { IfOk result (λ finished. IsTrue finished ↔ (count_in self.old.live id.number ≡ 1)) }
-        ensures told { Told (finish_at self.old.live id) self.old.listeners self.new.listeners }
+        ensures told { ToldListeners (finish_at self.old.live id) self.old.listeners self.new.listeners }
         ensures failed { (result ≡ Err GroupError.HookFailed) ↔ AnsweredErr self.old.listeners self.new.listeners }
         ensures no_other { result ≢ Err GroupError.NoMemory }
     {
@@ -222,7 +222,7 @@ impl<H: TaskGroupHook> Groups<H> {
         ensures groups { (self.new.live ≡ self.old.live) × (self.new.made ≡ self.old.made) }
         ensures same { IsTrue (same_group old new) → self.new ≡ self.old }
         ensures told { result ≡ true → same_group old new ≡ false → Switches (notice_at self.old.live NoticeKind.Exit old) (notice_at self.old.live NoticeKind.Enter new) self.old.listeners self.new.listeners }
-        ensures calm { result ≡ true → errors_of self.new.listeners ≡ errors_of self.old.listeners }
+        ensures hook_is_ok { result ≡ true → errors_of self.new.listeners ≡ errors_of self.old.listeners }
         ensures nothing { IsTrue (same_group old new) → result ≡ true }
         ensures none { result ≡ false → self.new ≡ self.old }
     {
@@ -238,7 +238,7 @@ impl<H: TaskGroupHook> Groups<H> {
     #[inline(always)]
     pub fn visit_at_once(&mut self, id: TaskGroupId) -> bool
         ensures groups { (self.new.live ≡ self.old.live) × (self.new.made ≡ self.old.made) }
-        ensures told { result ≡ true → Told (notice_at self.old.live NoticeKind.Enter (Some id) ++ notice_at self.old.live NoticeKind.Exit (Some id)) self.old.listeners self.new.listeners }
+        ensures told { result ≡ true → ToldListeners (notice_at self.old.live NoticeKind.Enter (Some id) ++ notice_at self.old.live NoticeKind.Exit (Some id)) self.old.listeners self.new.listeners }
         ensures none { result ≡ false → self.new ≡ self.old }
     {
         if !self.tell_at_once(NoticeKind::Enter, id) {
@@ -252,19 +252,19 @@ impl<H: TaskGroupHook> Groups<H> {
     #[inline(always)]
     fn leave(&mut self, id: TaskGroupId)
         ensures groups { (self.new.live ≡ self.old.live) × (self.new.made ≡ self.old.made) }
-        ensures told { Told (notice_at self.old.live NoticeKind.Exit (Some id)) self.old.listeners self.new.listeners }
+        ensures told { ToldListeners (notice_at self.old.live NoticeKind.Exit (Some id)) self.old.listeners self.new.listeners }
     {
         if !self.tell_at_once(NoticeKind::Exit, id) {
-            self.leave_apart(id);
+            self.leave_outlined(id);
         }
     }
 
     // Tells of the exit if it can't be told at once. It is out of line: a group that was entered at once is mostly left so.
     #[cold]
     #[inline(never)]
-    fn leave_apart(&mut self, id: TaskGroupId)
+    fn leave_outlined(&mut self, id: TaskGroupId)
         ensures groups { (self.new.live ≡ self.old.live) × (self.new.made ≡ self.old.made) }
-        ensures told { Told (notice_at self.old.live NoticeKind.Exit (Some id)) self.old.listeners self.new.listeners }
+        ensures told { ToldListeners (notice_at self.old.live NoticeKind.Exit (Some id)) self.old.listeners self.new.listeners }
     {
         let _ = self.tell_if_live(NoticeKind::Exit, Some(id));
     }
@@ -273,8 +273,8 @@ impl<H: TaskGroupHook> Groups<H> {
     #[inline(always)]
     fn tell_at_once(&mut self, kind: NoticeKind, id: TaskGroupId) -> bool
         ensures groups { (self.new.live ≡ self.old.live) × (self.new.made ≡ self.old.made) }
-        ensures told { result ≡ true → Told (notice_at self.old.live kind (Some id)) self.old.listeners self.new.listeners }
-        ensures calm { result ≡ true → errors_of self.new.listeners ≡ errors_of self.old.listeners }
+        ensures told { result ≡ true → ToldListeners (notice_at self.old.live kind (Some id)) self.old.listeners self.new.listeners }
+        ensures hook_is_ok { result ≡ true → errors_of self.new.listeners ≡ errors_of self.old.listeners }
         ensures none { result ≡ false → self.new ≡ self.old }
     {
         if !self.counts.is_known(id.number) {
@@ -291,7 +291,7 @@ impl<H: TaskGroupHook> Groups<H> {
         group: Option<TaskGroupId>,
     ) -> Result<(), GroupError>
         ensures groups { (self.new.live ≡ self.old.live) × (self.new.made ≡ self.old.made) }
-        ensures told { Told (notice_at self.old.live kind group) self.old.listeners self.new.listeners }
+        ensures told { ToldListeners (notice_at self.old.live kind group) self.old.listeners self.new.listeners }
         ensures failed { (result ≡ Err GroupError.HookFailed) ↔ AnsweredErr self.old.listeners self.new.listeners }
         ensures no_other { result ≢ Err GroupError.NoMemory }
     {
@@ -311,7 +311,7 @@ impl<H: TaskGroupHook> Groups<H> {
     pub fn clean_up(&mut self, current: Option<TaskGroupId>)
         ensures live { self.new.live ≡ finite.empty }
         ensures made { self.new.made ≡ self.old.made }
-        ensures told { Told (notice_at self.old.live NoticeKind.Exit current ++ finish_all self.old.live) self.old.listeners self.new.listeners }
+        ensures told { ToldListeners (notice_at self.old.live NoticeKind.Exit current ++ finish_all self.old.live) self.old.listeners self.new.listeners }
     {
         let _ = self.tell_if_live(NoticeKind::Exit, current);
         let _ = finish_each(&mut self.counts, &mut self.listeners);
@@ -323,7 +323,7 @@ impl<H: TaskGroupHook> Groups<H> {
     pub fn finish_all(&mut self) -> Result<(), GroupError>
         ensures live { self.new.live ≡ finite.empty }
         ensures made { self.new.made ≡ self.old.made }
-        ensures told { Told (finish_all self.old.live) self.old.listeners self.new.listeners }
+        ensures told { ToldListeners (finish_all self.old.live) self.old.listeners self.new.listeners }
         ensures failed { (result ≡ Err GroupError.HookFailed) ↔ AnsweredErr self.old.listeners self.new.listeners }
         ensures no_other { result ≢ Err GroupError.NoMemory }
     {
@@ -401,17 +401,17 @@ fn is_same(old: Option<TaskGroupId>, new: Option<TaskGroupId>) -> bool
 // Each live group is finished, in order of number. Answers whether the hook answered no error.
 fn finish_each<H: TaskGroupHook>(counts: &mut Live, listeners: &mut Listeners<H>) -> bool
     ensures live { counts.new ≡ finite.empty }
-    ensures told { Told (finish_all counts.old) listeners.old listeners.new }
+    ensures told { ToldListeners (finish_all counts.old) listeners.old listeners.new }
     ensures failed { (result ≡ false) ↔ AnsweredErr listeners.old listeners.new }
 {
-    let mut calm = true;
+    let mut hook_is_ok = true;
     while let Some(number) = counts.pop_first() {
         if listeners
             .tell(NoticeKind::Finish, TaskGroupId { number })
             .is_err()
         {
-            calm = false;
+            hook_is_ok = false;
         }
     }
-    calm
+    hook_is_ok
 }

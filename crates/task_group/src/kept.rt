@@ -1,6 +1,6 @@
 //! The notices that are kept.
 ghost use Rattle.std.specs.Prelude.{◌≡◌, ◌≤◌, ◌-◌, [], ◌∷◌, ◌++◌, IfOk, OnOk, OnErr, false, length, take, true, vec_capacity};
-ghost use Rattle.task_group.specs.Kept.{nothing};
+ghost use Rattle.task_group.specs.KeptNotices.{nothing};
 
 use crate::notices::{NoticeList, Notices, Written};
 use crate::packed::{LARGE, packed};
@@ -25,7 +25,7 @@ pub struct Kept {
 
 impl Model for Kept {
     ghost use Rattle.std.specs.Prelude.{◌≡◌, ◌++◌, ◌-◌, length, vec_capacity};
-    ghost use Rattle.task_group.specs.Kept.{Kept as Shown, IsSound};
+    ghost use Rattle.task_group.specs.KeptNotices.{Kept as Shown, IsSound};
     ghost use Rattle.task_group.specs.Packed.{listed};
 
     ghost Value = { Shown };

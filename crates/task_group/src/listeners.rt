@@ -1,6 +1,6 @@
 ghost use Rattle.std.specs.Prelude.{◌≡◌, ◌↔◌, ◌∷◌, [], IfOk, OnOk, OnErr, IsErr, Some, false, is_some, true};
 ghost use Rattle.task_group.specs.Heard.{notice_of};
-ghost use Rattle.task_group.specs.Listeners.{nobody, Told, AnsweredErr, errors_of};
+ghost use Rattle.task_group.specs.Listeners.{nobody, ToldListeners, AnsweredErr, errors_of};
 
 use crate::hook::{TaskGroupHook, tell};
 use crate::kept::Kept;
@@ -90,8 +90,8 @@ impl<H: TaskGroupHook> Listeners<H> {
     /// Tells one notice to the list, where there is no hook, and it is kept as a word. Answers whether it was told; else nothing is.
     #[inline(always)]
     pub fn tell_word(&mut self, kind: NoticeKind, id: TaskGroupId) -> bool
-        ensures told { result ≡ true → Told (notice_of kind id ∷ []) self.old self.new }
-        ensures calm { result ≡ true → errors_of self.new ≡ errors_of self.old }
+        ensures told { result ≡ true → ToldListeners (notice_of kind id ∷ []) self.old self.new }
+        ensures hook_is_ok { result ≡ true → errors_of self.new ≡ errors_of self.old }
         ensures none { result ≡ false → self.new ≡ self.old }
     {
         if self.is_hooked() {
@@ -106,7 +106,7 @@ impl<H: TaskGroupHook> Listeners<H> {
     /// Tells one notice to the hook and to the list. An error is the hook's.
     #[inline(always)]
     pub fn tell(&mut self, kind: NoticeKind, id: TaskGroupId) -> Result<(), HookError>
-        ensures told { Told (notice_of kind id ∷ []) self.old self.new }
+        ensures told { ToldListeners (notice_of kind id ∷ []) self.old self.new }
         ensures answer { IsErr result ↔ AnsweredErr self.old self.new }
     {
         self.kept.push(Notice {

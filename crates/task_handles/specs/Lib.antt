@@ -1,5 +1,5 @@
 pub mod Handles
 pub mod Counter
 pub mod Counted
-pub mod Held
+pub mod HeldItem
 pub mod Slots

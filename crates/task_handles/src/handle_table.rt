@@ -1,10 +1,10 @@
 ghost use Rattle.std.specs.Prelude.{◌≡◌, ◌≢◌, ◌≤◌, ◌↔◌, IsTrue, IfOk, OnOk, OnErr, Err};
 ghost use Rattle.task_handles.specs.Handles.{IsWhole, no_handles, held_by, live_count, next_handle};
 ghost use Rattle.task_handles.specs.Counted.{Counts, CountsHandle, Inserts, Removes, Unchanged};
-ghost use Rattle.task_handles.specs.Held.{guest_subtask, host_subtask, waitable_set, subtask_of, waitable_of, set_of};
+ghost use Rattle.task_handles.specs.HeldItem.{guest_subtask, host_subtask, waitable_set, subtask_of, waitable_of, set_of};
 
 use crate::counter::HandleCounter;
-use crate::kinds::{HandleError, HandleKind, Held, Rep, WaitableKind};
+use crate::kinds::{HandleError, HandleKind, HeldItem, Rep, WaitableKind};
 use crate::slots::Slots;
 use std::alloc::Global;
 use std::marker::Model;
@@ -16,16 +16,16 @@ use std::marker::Model;
 /// The table doesn't know its counter: each call that makes or removes a handle is given the one that counts the table's live handles, as the handle tables of a store's instances share one limit.
 #[derive(Drop)]
 pub struct HandleTable {
-    slots: Slots<Held>,
+    slots: Slots<HeldItem>,
 }
 
 impl Model for HandleTable {
     ghost use Rattle.task_handles.specs.Handles.{Handles, handles_code};
-    ghost use Rattle.task_handles.specs.declared.kinds.Held.{Held};
+    ghost use Rattle.task_handles.specs.declared.kinds.HeldItem.{HeldItem};
 
-    ghost Value = { Handles Held };
+    ghost Value = { Handles HeldItem };
 
-    ghost use Rattle.task_handles.specs.contracts.kinds.Held as held;
+    ghost use Rattle.task_handles.specs.contracts.kinds.HeldItem as held;
 
     ghost coded = { handles_code held.the_row.coded };
 
@@ -57,7 +57,7 @@ impl HandleTable {
         ensures err { OnErr result (Unchanged self.old self.new counter.old counter.new) }
     {
         let kind = HandleKind::Waitable(WaitableKind::GuestSubtask);
-        self.slots.insert_counted(counter, Held { kind, rep })
+        self.slots.insert_counted(counter, HeldItem { kind, rep })
     }
 
     /// Gives a handle to a host subtask, which `rep` names in the table of entries, and counts it.
@@ -75,7 +75,7 @@ impl HandleTable {
         ensures err { OnErr result (Unchanged self.old self.new counter.old counter.new) }
     {
         let kind = HandleKind::Waitable(WaitableKind::HostSubtask);
-        self.slots.insert_counted(counter, Held { kind, rep })
+        self.slots.insert_counted(counter, HeldItem { kind, rep })
     }
 
     /// Gives a handle to a waitable set, which `rep` names in the table of entries, and counts it.
@@ -93,11 +93,11 @@ impl HandleTable {
         ensures err { OnErr result (Unchanged self.old self.new counter.old counter.new) }
     {
         let kind = HandleKind::Set;
-        self.slots.insert_counted(counter, Held { kind, rep })
+        self.slots.insert_counted(counter, HeldItem { kind, rep })
     }
 
     /// What a handle names, if it is live.
-    pub fn get(&self, handle: u32) -> Option<Held>
+    pub fn get(&self, handle: u32) -> Option<HeldItem>
         ensures { result ≡ held_by self.now handle }
     {
         self.slots.get(handle)
@@ -119,13 +119,13 @@ impl HandleTable {
     {
         match self.slots.get(handle) {
             Some(
-                Held {
+                HeldItem {
                     kind: HandleKind::Waitable(WaitableKind::GuestSubtask),
                     rep,
                 },
             ) => Ok((rep, false)),
             Some(
-                Held {
+                HeldItem {
                     kind: HandleKind::Waitable(WaitableKind::HostSubtask),
                     rep,
                 },
@@ -142,7 +142,7 @@ impl HandleTable {
     {
         match self.slots.get(handle) {
             Some(
-                Held {
+                HeldItem {
                     kind: HandleKind::Set,
                     rep,
                 },
@@ -159,7 +159,7 @@ impl HandleTable {
     {
         match self.slots.get(handle) {
             Some(
-                Held {
+                HeldItem {
                     kind: HandleKind::Waitable(kind),
                     rep,
                 },

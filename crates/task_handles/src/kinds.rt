@@ -23,7 +23,7 @@ pub enum HandleKind {
 
 /// What a live handle of a `HandleTable` stands for.
 #[derive(Clone, Copy)]
-pub struct Held {
+pub struct HeldItem {
     pub kind: HandleKind,
     pub rep: Rep,
 }

@@ -12,7 +12,7 @@ mod thread_handle_table;
 
 pub use counter::HandleCounter;
 pub use handle_table::HandleTable;
-pub use kinds::{HandleError, HandleKind, Held, Rep, WaitableKind};
+pub use kinds::{HandleError, HandleKind, HeldItem, Rep, WaitableKind};
 pub use thread_handle_table::ThreadHandleTable;
 
 /// The greatest handle, and the greatest limit on live handles: a handle fits the upper 28 bits of a packed status.

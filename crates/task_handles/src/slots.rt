@@ -12,7 +12,7 @@ use std::marker::Model;
 /// A table of handles to values of one type. The slot of handle n stands at place n - 1, and each freed slot names the handle that was freed before it, so no call needs more memory than the list.
 #[derive(Drop)]
 pub struct Slots<T> {
-    slots: Vec<Slot<T>>,
+    slots: Vec<HandleSlot<T>>,
     // How many handles are freed.
     freed: u32,
     // The handle freed last, or 0.
@@ -20,7 +20,7 @@ pub struct Slots<T> {
 }
 
 #[derive(Clone, Copy)]
-pub enum Slot<T> {
+pub enum HandleSlot<T> {
     Live(T),
     Freed(u32),
 }
@@ -32,11 +32,11 @@ impl<T> Model for Slots<T> {
 
     ghost coded = { handles_code T.code };
 
-    ghost use Rattle.task_handles.specs.Slots.{shown, IsSound};
+    ghost use Rattle.task_handles.specs.Slots.{shown, AreSoundHandles};
 
     ghost view = { λ s. shown s.slots.items s.freed s.last_freed };
 
-    ghost invariant = { λ s. IsSound s.slots.items s.freed s.last_freed };
+    ghost invariant = { λ s. AreSoundHandles s.slots.items s.freed s.last_freed };
 }
 
 impl<T: Copy> Slots<T> {
@@ -85,7 +85,7 @@ impl<T: Copy> Slots<T> {
         ensures err { OnErr result (self.new ≡ self.old) }
     {
         if self.freed == 0 {
-            self.slots.push(Slot::Live(value))?;
+            self.slots.push(HandleSlot::Live(value))?;
             return Ok(self.slots.len() as u32);
         }
         let handle = self.last_freed;
@@ -131,36 +131,36 @@ impl<T: Copy> Slots<T> {
         requires { IsSome (held_by self.old handle) }
         ensures { self.new ≡ without handle self.old }
     {
-        self.slots[handle as usize - 1] = Slot::Freed(self.last_freed);
+        self.slots[handle as usize - 1] = HandleSlot::Freed(self.last_freed);
         self.last_freed = handle;
         self.freed += 1;
     }
 }
 
 // The value of a live handle.
-fn value_at<T: Copy>(slots: &Vec<Slot<T>>, handle: u32) -> Option<T>
+fn value_at<T: Copy>(slots: &Vec<HandleSlot<T>>, handle: u32) -> Option<T>
     ensures { result ≡ value_at_handle slots.now.items handle }
 {
     if handle == 0 {
         return None;
     }
     match slots.get(handle as usize - 1) {
-        Some(Slot::Live(value)) => Some(*value),
+        Some(HandleSlot::Live(value)) => Some(*value),
         _ => None,
     }
 }
 
 // Makes a freed handle live, and gives the handle that was freed before it.
-fn fill<T: Copy>(slots: &mut Vec<Slot<T>>, handle: u32, value: T) -> u32
+fn fill<T: Copy>(slots: &mut Vec<HandleSlot<T>>, handle: u32, value: T) -> u32
     requires { IsSome (slot_at slots.old.items handle) }
     ensures link { result ≡ link slots.old.items handle }
-    ensures filled { slots.new.items ≡ slice_set slots.old.items (handle - 1) (Slot.Live value) }
+    ensures filled { slots.new.items ≡ slice_set slots.old.items (handle - 1) (HandleSlot.Live value) }
 {
     let place = handle as usize - 1;
     let before = match slots[place] {
-        Slot::Freed(before) => before,
-        Slot::Live(_) => 0,
+        HandleSlot::Freed(before) => before,
+        HandleSlot::Live(_) => 0,
     };
-    slots[place] = Slot::Live(value);
+    slots[place] = HandleSlot::Live(value);
     before
 }

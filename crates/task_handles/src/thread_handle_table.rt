@@ -1,7 +1,7 @@
 ghost use Rattle.std.specs.Prelude.{◌≡◌, ◌≢◌, ◌≤◌, ◌↔◌, IfOk, OnOk, OnErr, Err};
 ghost use Rattle.task_handles.specs.Handles.{IsWhole, no_handles, held_by, next_handle};
 ghost use Rattle.task_handles.specs.Counted.{Counts, CountsHandle, Inserts, Removes, Unchanged};
-ghost use Rattle.task_handles.specs.Held.{thread_of};
+ghost use Rattle.task_handles.specs.HeldItem.{thread_of};
 
 use crate::counter::HandleCounter;
 use crate::kinds::{HandleError, Rep};

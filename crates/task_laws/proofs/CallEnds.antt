@@ -1,5 +1,5 @@
 -- What calls tell of their ends along the words of a step, and the results that are there for main.
-use Rattle.task_laws.proofs.Words.{add_call, add_group, add_set, add_thread, add_work, after_change, after_insert, after_remove, after_word, Allowed, along, ap, arith, Bool, by_number, Call, call_made, CallEnd, Caller, calls_begin, CallsGo, CallsHold, change, codes_at, codes_in, CodesAt, Core, count_work, end_of, EndCall, ended_as, EndsToldAsRecorded, event_of, false, free_handle, free_thread_handle, fresh, get, get-change, get-empty, get-insert, get-remove, give_handle, give_result, give_thread_handle, GiveResult, Goal, goal_of, has_ended, if◌then◌else◌, inl, inr, is_direct, is_for_main, is_guest_call, is_some, Label, le_trans, made_threads_word, MakeCall, MayEnd, MayRemoveCall, MayTell, nat_tests, next_thread, None, not, of_base, on_call, on_instance, on_thread, on_work, Op, opening_holds, Option, option_map, poll_pends, push_high, Reached, reached_keeps, refl, remove_call, remove_group, remove_set, remove_thread, remove_work, RemoveCall, SaysEnd, Scene, scene_as, set_backpressure, set_cancel_delivered, set_cancelled, set_course, set_do_not_enter, set_do_not_suspend, set_end, set_event, set_exited, set_how_far, set_join, set_own_event, set_phase, set_position, set_register, set_result, set_saved_callee, set_saved_own, set_script, set_stage, set_started, set_starting_published, set_subtask_handle, set_thread_handle, set_trapped, set_uninteresting, set_word, SetCallEvent, Setting, Some, some_none, State, Status, status_of_end, step_goes, step_walks, Subtask, sym, take_result, TakeResult, true, undelivered_end, WalkedAs, with_handle, with_thread_handle, Word, word_goes, work_queued, ℕ, ⊎_elim, ◌&&◌, ◌∙◌, ◌≡◌, ◌≤◌, ◌⊎◌}
+use Rattle.task_laws.proofs.Words.{add_call, add_group, add_set, add_thread, add_work, after_change, after_insert, after_remove, after_primitive, Allowed, along, ap, arith, Bool, by_number, Call, call_made, CallEnd, Caller, calls_begin, CallsGo, CallsHold, change, codes_at, codes_in, CodesAt, Core, count_work, end_of, EndCall, ended_as, EndsToldAsRecorded, event_of, false, free_handle, free_thread_handle, fresh, get, get-change, get-empty, get-insert, get-remove, give_handle, give_result, give_thread_handle, GiveResult, Goal, goal_of, has_ended, if◌then◌else◌, inl, inr, is_direct, is_for_main, is_guest_call, is_some, Label, le_trans, made_threads_word, MakeCall, MayEnd, MayRemoveCall, MayTell, nat_tests, next_thread, None, not, of_base, on_call, on_instance, on_thread, on_work, Op, opening_holds, Option, option_map, poll_pends, push_high, Reached, reached_keeps, refl, remove_call, remove_group, remove_set, remove_thread, remove_work, RemoveCall, SaysEnd, Scene, scene_as, set_backpressure, set_cancel_delivered, set_cancelled, set_course, set_do_not_enter, set_do_not_suspend, set_end, set_event, set_exited, set_op_progress, set_join, set_task_event, set_phase, set_position, set_register, set_result, set_saved_callee, set_saved_own, set_script, set_stage, set_started, set_starting_published, set_subtask_handle, set_thread_handle, set_trapped, set_uninteresting, set_word, SetCallEvent, Setting, Some, some_none, State, Status, status_of_end, step_goes, step_walks, Subtask, sym, take_result, TakeResult, true, undelivered_end, WalkedAs, with_handle, with_thread_handle, Primitive, word_goes, work_queued, ℕ, ⊎_elim, ◌&&◌, ◌∙◌, ◌≡◌, ◌≤◌, ◌⊎◌}
 
 -- ---- What a call tells
 
@@ -57,8 +57,8 @@ module _ (a : Scene) where
       CallTells s k (get s.calls k) (get (change j f s.calls) k)
   telling_changed j f s k own = after_change (CallTells s k) s.calls j k (λ o. Same refl) f (λ c is e. rw e (own c))
 
-  pub telling_came : (w : Word) (s : Core) → Allowed a w s → (k : ℕ) → TellingCame a s k (telling_of k s) (telling_of k (after_word w s))
-  unfolding add_call add_group add_set add_thread add_work count_work free_handle free_thread_handle give_handle give_result give_thread_handle on_call on_instance on_thread on_work push_high remove_call remove_group remove_set remove_thread remove_work set_backpressure set_cancel_delivered set_cancelled set_course set_do_not_enter set_do_not_suspend set_end set_event set_exited set_how_far set_join set_own_event set_phase set_position set_register set_result set_saved_callee set_saved_own set_script set_stage set_started set_starting_published set_subtask_handle set_thread_handle set_trapped set_uninteresting set_word take_result call_made with_handle with_thread_handle work_queued poll_pends
+  pub telling_came : (w : Primitive) (s : Core) → Allowed a w s → (k : ℕ) → TellingCame a s k (telling_of k s) (telling_of k (after_primitive w s))
+  unfolding add_call add_group add_set add_thread add_work count_work free_handle free_thread_handle give_handle give_result give_thread_handle on_call on_instance on_thread on_work push_high remove_call remove_group remove_set remove_thread remove_work set_backpressure set_cancel_delivered set_cancelled set_course set_do_not_enter set_do_not_suspend set_end set_event set_exited set_op_progress set_join set_task_event set_phase set_position set_register set_result set_saved_callee set_saved_own set_script set_stage set_started set_starting_published set_subtask_handle set_thread_handle set_trapped set_uninteresting set_word take_result call_made with_handle with_thread_handle work_queued poll_pends
   telling_came (MakeCall f e x g group words) s ok k =
       after_insert (CallTells s k) s.calls _ k (λ o. Same refl) _ (λ at. Made f g at ok.1.1.1.1.0 refl)
   telling_came (RemoveCall j) s ok k = after_remove (CallTells s k) s.calls j k (λ o. Same refl) (λ at. Gone refl (rw at ok))
@@ -68,9 +68,9 @@ module _ (a : Scene) where
 
 -- ---- Results
 
-result_came : (a : Scene) (w : Word) (s : Core) → Allowed a w s → (k : ℕ) → is_some (get (after_word w s).results k) ≡ true →
+result_came : (a : Scene) (w : Primitive) (s : Core) → Allowed a w s → (k : ℕ) → is_some (get (after_primitive w s).results k) ≡ true →
     (is_some (get s.results k) ≡ true) ⊎ (SaysEnd a k Status.Returned × (goal_of k s ≡ Goal.Main))
-unfolding add_call add_group add_set add_thread add_work count_work free_handle free_thread_handle give_handle give_result give_thread_handle on_call on_instance on_thread on_work push_high remove_call remove_group remove_set remove_thread remove_work set_backpressure set_cancel_delivered set_cancelled set_course set_do_not_enter set_do_not_suspend set_end set_event set_exited set_how_far set_join set_own_event set_phase set_position set_register set_result set_saved_callee set_saved_own set_script set_stage set_started set_starting_published set_subtask_handle set_thread_handle set_trapped set_uninteresting set_word take_result call_made with_handle with_thread_handle work_queued poll_pends
+unfolding add_call add_group add_set add_thread add_work count_work free_handle free_thread_handle give_handle give_result give_thread_handle on_call on_instance on_thread on_work push_high remove_call remove_group remove_set remove_thread remove_work set_backpressure set_cancel_delivered set_cancelled set_course set_do_not_enter set_do_not_suspend set_end set_event set_exited set_op_progress set_join set_task_event set_phase set_position set_register set_result set_saved_callee set_saved_own set_script set_stage set_started set_starting_published set_subtask_handle set_thread_handle set_trapped set_uninteresting set_word take_result call_made with_handle with_thread_handle work_queued poll_pends
 result_came a (GiveResult j v) s ok k h =
     by_number j k _ (λ e. inr (rw (← e) ok)) (λ e. inl (grind (arith, nat_tests, get-insert, e)))
 result_came a (TakeResult j) s ok k h = inl (grind (arith, nat_tests, get-remove))
@@ -160,9 +160,9 @@ module _ {a : Scene} {s : Core} {k : ℕ} {o p : Option Telling} (came : Telling
       go (EndsNow u x was m is) = let same : r ≡ ending x u = cc in
           let h = ends u x was m _ refl (sym (ap (λ y. undelivered_end y.event) same) ∙ tells) in (rw same h.0, inr h.1)
 
-module _ (a : Scene) (w : Word) (s : Core) (ok : Allowed a w s) (q : EndsGo a s)
+module _ (a : Scene) (w : Primitive) (s : Core) (ok : Allowed a w s) (q : EndsGo a s)
     (numbered : (k : ℕ) → is_some (get s.calls k) ≡ true → k ≤ s.made.threads) where
-  results_after : (k : ℕ) → is_some (get (after_word w s).results k) ≡ true → (k ≤ s.made.threads) ×
+  results_after : (k : ℕ) → is_some (get (after_primitive w s).results k) ≡ true → (k ≤ s.made.threads) ×
       (((r : Telling) → telling_of k s ≡ Some r → r.goal ≡ Goal.Main) × ResultCame a k)
   results_after k there = by (result_came a w s ok k there)
     where
@@ -177,10 +177,10 @@ module _ (a : Scene) (w : Word) (s : Core) (ok : Allowed a w s) (q : EndsGo a s)
         ),
       )
 
-  came : (k : ℕ) → TellingCame a s k (telling_of k s) (telling_of k (after_word w s))
+  came : (k : ℕ) → TellingCame a s k (telling_of k s) (telling_of k (after_primitive w s))
   came = telling_came a w s ok
 
-  pub word_ends : a.base.made.threads ≤ s.made.threads → EndsGo a (after_word w s)
+  pub word_ends : a.base.made.threads ≤ s.made.threads → EndsGo a (after_primitive w s)
   word_ends counted = record {
     told = record {
       goals = λ k r at. goals_kept (came k) r at (q.told.goals k);

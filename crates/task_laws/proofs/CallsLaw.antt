@@ -1,5 +1,5 @@
 -- Calls along the words of a step: a status only rises, an end stays, numbers name what they named, deliveries are for callbacks.
-use Rattle.task_laws.proofs.Rules.{arith, Bool, Call, Callee, CallEnd, CallKinds, CodesInCallbacks, Component, component_of, Core, DeliveredByCallback, ends_activation, EndsActivation, export_kind, false, get, goal_of, has_ended, is_async_lifted, is_callback, is_delivered, is_delivery, is_direct, is_exit, is_explicit, is_none, is_some, IsRunner, Join, kind_of, LaterBy, MayEnd, MayMove, None, Numbered, op_at_place, op_in, op_of, Option, option_map_or, OwnEvent, Place, place_of, Rises, SameThread, Scene, Script, script_in, script_of, Some, task_of, true, WasReady, Why, Word, ℕ, ⊎_elim, ◌≡◌, ◌≤◌, ◌⊎◌}
+use Rattle.task_laws.proofs.Rules.{arith, Bool, Call, Callee, CallEnd, CallKinds, CodesInCallbacks, Component, component_of, Core, DeliveredByCallback, ends_activation, EndsActivation, export_kind, false, get, goal_of, has_ended, is_async_lifted, is_callback, is_delivered, is_delivery, is_direct, is_exit, is_explicit, is_none, is_some, IsRunner, Join, kind_of, LaterBy, MayEnd, MayMove, None, Numbered, op_at_place, op_in, op_of, Option, option_map_or, TaskEvent, Place, place_of, Rises, SameThread, Scene, Script, script_in, script_of, Some, task_of, true, WasReady, Why, Primitive, ℕ, ⊎_elim, ◌≡◌, ◌≤◌, ◌⊎◌}
 use Rattle.task_laws.proofs.{CallsCame.Grew, CallsCame.Grows, CameLemmas.Came, CameLemmas.Comes, CameLemmas.MayStand, CameLemmas.Moved, CameLemmas.Shifts, CameLemmas.Turned, CameLemmas.Turns}
 
 -- ---- Statuses
@@ -85,7 +85,7 @@ shifted_delivers may o p came d = grind arith
 pub turned_silent : {a : Scene} {s t : Core} {n : ℕ} {o p : Option Place} → Turned a s t n o p → delivered_in p ≡ true → ⊥
 turned_silent x d = grind arith
 
-module _ {starts delivers : Type 0} {ends : CallEnd → Type 0} {joins : Join → Type 0} {owes : Option OwnEvent → Type 0} {names : Type 0} {c d : Call}
+module _ {starts delivers : Type 0} {ends : CallEnd → Type 0} {joins : Join → Type 0} {owes : Option TaskEvent → Type 0} {names : Type 0} {c d : Call}
     (g : Grew starts delivers ends joins owes names c d) where
   grew_goes : ((e : CallEnd) → ends e → (is_some c.«end» ≡ false) × (e ≡ CallEnd.StartCancelled → c.started ≡ false)) → Goes c d
   grew_goes first = grind arith
@@ -139,7 +139,7 @@ module _ (a : Scene) (codes : Codes a) (h : CallsHold (component_of a) a.base) w
         (is_some c.«end» ≡ false) × (e ≡ CallEnd.StartCancelled → c.started ≡ false)
     ends_first k e c at m = grind (arith, exits_explicit)
 
-    pub goes_of : (w : Word) (k : ℕ) (c d : Call) → get s.calls k ≡ Some c → Grows a w s k c d → Goes c d
+    pub goes_of : (w : Primitive) (k : ℕ) (c d : Call) → get s.calls k ≡ Some c → Grows a w s k c d → Goes c d
     goes_of w k c d at g = grew_goes g (λ e m. ends_first k e c at m)
 
     -- ---- Deliveries

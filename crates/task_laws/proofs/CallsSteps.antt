@@ -1,36 +1,36 @@
 -- Calls along the words of a step, along steps and along runs.
-use Rattle.task_laws.proofs.Rules.{[], after_word, Allowed, along, arith, base_at, Call, CallEnd, CallsRise, CodesInCallbacks, Component, component_of, Core, DeliveredByCallback, ends_activation, ExplicitNamesNoCall, false, fresh, get, get-empty, is_async_lifted, is_callback, kind_of, Label, LastWords, LaterBy, le_refl, le_trans, List, MayDeliver, MayEnd, never_fewer, Op, op_of, opening, ops_of, Option, place_of, Queues, Reached, refl, Rises, Run, runner_at, RunsRise, SameThread, Scene, scene_as, script_of, Setting, Some, State, Step, step_walks, StepsRise, subst, sym, SyncEndsLast, SyncNeverCancelled, task_of, Thread, ThreadNumbered, true, Turn, WalkedAs, Word, ℕ, ◌∙◌, ◌∷◌, ◌≡◌, ◌≤◌}
+use Rattle.task_laws.proofs.Rules.{[], after_primitive, Allowed, along, arith, base_at, Call, CallEnd, CallsRise, CodesInCallbacks, Component, component_of, Core, DeliveredByCallback, ends_activation, ExplicitNamesNoCall, false, fresh, get, get-empty, is_async_lifted, is_callback, kind_of, Label, LastPrimitives, LaterBy, le_refl, le_trans, List, MayDeliver, MayEnd, never_fewer, Op, op_of, opening, ops_of, Option, place_of, Queues, Reached, refl, Rises, Run, runner_at, RunsRise, SameThread, Scene, scene_as, script_of, Setting, Some, State, Step, step_walks, StepsRise, subst, sym, SyncEndsLast, SyncNeverCancelled, task_of, Thread, ThreadNumbered, true, Turn, WalkedAs, Primitive, ℕ, ◌∙◌, ◌∷◌, ◌≡◌, ◌≤◌}
 use Rattle.task_laws.proofs.{Basics.some_none, Basics.too_high, CallsCame.CallAfter, CallsCame.Grown, CallsCame.NewCall, CallsCame.NoCall, CallsCame.ThreadAfter, CallsCame.call_came, CallsCame.thread_came, CallsLaw.CallsGo, CallsLaw.CallsHold, CallsLaw.Codes, CallsLaw.Goes, CallsLaw.GoneOr, CallsLaw.KindHolds, CallsLaw.base_task, CallsLaw.delivered_in, CallsLaw.goes_after, CallsLaw.goes_of, CallsLaw.goes_same, CallsLaw.kept_callback, CallsLaw.kind_kept, CallsLaw.later_after, CallsLaw.later_none, CallsLaw.later_same, CallsLaw.place_delivers, CallsLaw.ready_delivered, CallsLaw.rises_after, CallsLaw.rises_same, CameLemmas.came_word, CountLemmas.made_threads_word, SceneLemmas.base_is}
 
 module _ (a : Scene) (codes : Codes a) (h : CallsHold (component_of a) a.base) where
   -- ---- One word
 
-  module _ (w : Word) (s : Core) (ok : Allowed a w s) (q : CallsGo a s) where
-    thread_since : (n : ℕ) → n ≤ a.base.made.threads → LaterBy SameThread (get a.base.threads n) (get (after_word w s).threads n)
+  module _ (w : Primitive) (s : Core) (ok : Allowed a w s) (q : CallsGo a s) where
+    thread_since : (n : ℕ) → n ≤ a.base.made.threads → LaterBy SameThread (get a.base.threads n) (get (after_primitive w s).threads n)
     thread_since n below = let i : ThreadAfter a w s n = thread_came w s ok n in let b = q.counted in grind (arith, q.threads n)
 
-    call_later : (k : ℕ) → k ≤ s.made.threads → LaterBy Goes (get s.calls k) (get (after_word w s).calls k)
+    call_later : (k : ℕ) → k ≤ s.made.threads → LaterBy Goes (get s.calls k) (get (after_primitive w s).calls k)
     call_later k below = go (call_came w s ok k)
       where
-        go : CallAfter a w s k → LaterBy Goes (get s.calls k) (get (after_word w s).calls k)
+        go : CallAfter a w s k → LaterBy Goes (get s.calls k) (get (after_primitive w s).calls k)
         go (Grown c d e f g) = rw (e, f) (goes_of a codes h q w k c d e g)
         go (NoCall e r) = rw e (later_none Goes (get s.calls k))
         go (NewCall f e x g group is l m new) = absurd (too_high is below)
 
-    thread_numbered : (n : ℕ) (t : Thread) → get (after_word w s).threads n ≡ Some t → ThreadNumbered (after_word w s) n t
+    thread_numbered : (n : ℕ) (t : Thread) → get (after_primitive w s).threads n ≡ Some t → ThreadNumbered (after_primitive w s) n t
     thread_numbered n t at =
         let i : ThreadAfter a w s n = thread_came w s ok n in
         let j : CallAfter a w s n = call_came w s ok n in
         let m = made_threads_word a w s in
         grind (arith, q.numbered.threads n, q.numbered.calls n, base_task a codes h)
 
-    call_numbered : (k : ℕ) (c : Call) → get (after_word w s).calls k ≡ Some c → (1 ≤ k) × (k ≤ (after_word w s).made.threads)
+    call_numbered : (k : ℕ) (c : Call) → get (after_primitive w s).calls k ≡ Some c → (1 ≤ k) × (k ≤ (after_primitive w s).made.threads)
     call_numbered k c at =
         let i : CallAfter a w s k = call_came w s ok k in
         let m = made_threads_word a w s in
         grind (arith, q.numbered.calls k)
 
-    gone_kept : (k : ℕ) → k ≤ s.made.threads → GoneOr a s k → GoneOr a (after_word w s) k
+    gone_kept : (k : ℕ) → k ≤ s.made.threads → GoneOr a s k → GoneOr a (after_primitive w s) k
     gone_kept k below gone = let i : ThreadAfter a w s k = thread_came w s ok k in grind arith
 
     delivered_lifted : (k : ℕ) (c : Call) → get s.calls k ≡ Some c → MayDeliver a k → is_async_lifted c.kind ≡ true
@@ -43,24 +43,24 @@ module _ (a : Scene) (codes : Codes a) (h : CallsHold (component_of a) a.base) w
     end_gone : (k : ℕ) (c : Call) (e : CallEnd) → get s.calls k ≡ Some c → MayEnd a k e s → is_async_lifted c.kind ≡ false → GoneOr a s k
     end_gone k c e at m sync = grind (arith, q.kinds k)
 
-    kind_after : (k : ℕ) (x : Call) → get (after_word w s).calls k ≡ Some x → KindHolds a (after_word w s) k x
+    kind_after : (k : ℕ) (x : Call) → get (after_primitive w s).calls k ≡ Some x → KindHolds a (after_primitive w s) k x
     kind_after k x at = go (call_came w s ok k)
       where
-        go : CallAfter a w s k → KindHolds a (after_word w s) k x
-        go (Grown c d e f g) = let same : x ≡ d = cc in rw same (kind_kept g a s (after_word w s) k (q.kinds k c e)
+        go : CallAfter a w s k → KindHolds a (after_primitive w s) k x
+        go (Grown c d e f g) = let same : x ≡ d = cc in rw same (kind_kept g a s (after_primitive w s) k (q.kinds k c e)
             (gone_kept k (q.numbered.calls k c e).1) (delivered_lifted k c e) (λ v. end_gone k c v e))
         go (NoCall e r) = some_none (sym at ∙ e)
         go (NewCall f e y g group is l m new) = grind arith
 
-    delivery_after : DeliveredByCallback (after_word w s)
+    delivery_after : DeliveredByCallback (after_primitive w s)
     delivery_after n t at d =
         let i : ThreadAfter a w s n = thread_came w s ok n in
-        let now : delivered_in (place_of n (after_word w s)) ≡ true = cc in
-        let before = place_delivers a codes h q (after_word w s) n (place_of n s) _ refl (came_word w s ok n) now in
+        let now : delivered_in (place_of n (after_primitive w s)) ≡ true = cc in
+        let before = place_delivers a codes h q (after_primitive w s) n (place_of n s) _ refl (came_word w s ok n) now in
         let l = call_later (task_of n s) in
         grind (arith, q.numbered.threads n)
 
-  pub word_goes : (w : Word) (s : Core) → Allowed a w s → CallsGo a s → CallsGo a (after_word w s)
+  pub word_goes : (w : Primitive) (s : Core) → Allowed a w s → CallsGo a s → CallsGo a (after_primitive w s)
   word_goes w s ok q = record {
     counted = le_trans q.counted (made_threads_word a w s);
     numbered = record { threads = thread_numbered w s ok q; calls = call_numbered w s ok q };
@@ -72,7 +72,7 @@ module _ (a : Scene) (codes : Codes a) (h : CallsHold (component_of a) a.base) w
 
   -- ---- The end of a step
 
-  ended_holds : (t : Core) → CallsGo a t → LastWords a t → CallsHold (component_of a) t
+  ended_holds : (t : Core) → CallsGo a t → LastPrimitives a t → CallsHold (component_of a) t
   ended_holds t q l = record { numbered = q.numbered; kinds = λ k x at. grind (arith, q.kinds k x at, l.gone k); deliveries = q.deliveries }
 
 -- ---- The beginning of a step

@@ -1,5 +1,5 @@
 -- What one word does to the place of a thread.
-use Rattle.task_laws.proofs.Rules.{[], after_word, Allowed, allowed_put, ap, arith, AtOp, behind, behind_one, callers_of, change-field, Core, displaced, Enter, foot_of, GoBehind, inl, inr, insert, is_some, is_sync_call, IsRunner, List, Mark, MayMove, MayPut, MayYield, Move, nat_tests, newest, next_thread, None, older, on_thread, op_in, Option, option_map, passed_on, Place, place_of, Places, Placing, Pop, Promote, promoted, push_high, push_high_first, push_low, Put, put_at, put_high, put_low, put_switch, refl, resumed_all, Scene, set_callers, set_high, set_low, set_place, set_place_is, set_place_there, set_switch, Some, stand, Stop, stopped, sym, Thread, true, Turn, unqueued, Why, why_of, Word, ℕ, ◌∙◌, ◌∷◌, ◌≡◌, ◌≤◌, ◌⊎◌}
+use Rattle.task_laws.proofs.Rules.{[], after_primitive, Allowed, allowed_put, ap, arith, AtOp, behind, behind_one, callers_of, change-field, Core, displaced, Enter, foot_of, GoBehind, inl, inr, insert, is_some, is_sync_call, IsRunner, List, Mark, MayMove, MayPut, MayYield, Move, nat_tests, newest, next_thread, None, older, on_thread, op_in, Option, option_map, passed_on, Place, place_of, Places, Placing, Pop, Promote, promoted, push_high, push_high_first, push_low, Put, put_at, put_high, put_low, put_switch, refl, resumed_all, Scene, set_callers, set_high, set_low, set_place, set_place_is, set_place_there, set_switch, Some, stand, Stop, stopped, sym, Thread, true, Turn, unqueued, Why, why_of, Primitive, ℕ, ◌∙◌, ◌∷◌, ◌≡◌, ◌≤◌, ◌⊎◌}
 use Rattle.task_laws.proofs.{CallsCame.IsBeside, CallsCame.IsFirst, CallsCame.IsGone, CallsCame.IsSame, CallsCame.ThreadAfter, CallsCame.thread_came, EachLemmas.after_change, SceneLemmas.popped_threads}
 
 -- ---- Moves of other threads
@@ -113,8 +113,8 @@ pub data Came (a : Scene) (s t : Core) (k : ℕ) (o p : Option Place) : Type 0 w
   Comes : (q : Place) → MayMove a k q s → p ≡ Some q → is_some o ≡ true → Came a s t k o p
   Turns : Turned a s t k o p → Came a s t k o p
 
-abbrev pub PlaceAfter : Scene → Word → Core → ℕ → Type 0
-PlaceAfter a w s k = Came a s (after_word w s) k (place_of k s) (place_of k (after_word w s))
+abbrev pub PlaceAfter : Scene → Primitive → Core → ℕ → Type 0
+PlaceAfter a w s k = Came a s (after_primitive w s) k (place_of k s) (place_of k (after_primitive w s))
 
 abbrev place_in : Option Thread → Option Place
 place_in o = option_map (λ (t : Thread). t.place) o
@@ -138,15 +138,15 @@ module _ {a : Scene} where
   came_by (Move n p) s (inl ok) k = absurd ok
   came_by (Move n p) s (inr ok) k = after_set k n p s (Came a s _ k (place_of k s)) (stays _) (λ e t. Comes p (rw e ok) refl t)
   came_by (Enter n m) s (inl ok) k = absurd ok
-  came_by (Enter n m) s (inr ok) k = let Q = Came a s (after_word (Places (Enter n m)) s) k (place_of k s) in
+  came_by (Enter n m) s (inr ok) k = let Q = Came a s (after_primitive (Places (Enter n m)) s) k (place_of k s) in
       after_set k n (Place.Under m) (set_place m Place.Running s) Q
       (after_set k m Place.Running s Q (stays _) (λ e t. Turns (Entered refl t)))
       (λ e t. Turns (Enters m (rw e ok.0) ok.1.1.0 ok.1.1.1.0 refl (sym (set_place_there k m Place.Running s) ∙ t) (ok.1.0, rw e ok.1.1.1.1.1.1.1)))
 
-  placed_came : (x : Placing) (w : Word) (s : Core) → w ≡ Places x → Allowed a w s → (k : ℕ) → PlaceAfter a w s k
+  placed_came : (x : Placing) (w : Primitive) (s : Core) → w ≡ Places x → Allowed a w s → (k : ℕ) → PlaceAfter a w s k
   placed_came x w s is ok k = rw is (came_by x s (rw is at ok) k)
 
-  pub came_word : (w : Word) (s : Core) → Allowed a w s → (k : ℕ) → PlaceAfter a w s k
+  pub came_word : (w : Primitive) (s : Core) → Allowed a w s → (k : ℕ) → PlaceAfter a w s k
   came_word w s ok k = go (thread_came w s ok k)
     where
       go : ThreadAfter a w s k → PlaceAfter a w s k

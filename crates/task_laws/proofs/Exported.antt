@@ -1,5 +1,5 @@
 -- Calls name exports, and instances stay, along the words of a step.
-use Rattle.task_laws.proofs.Words.{after_word, Allowed, along, arith, call_came, CallAfter, Callee, callee_of_op, Caller, CallsExported, component_of, Core, ExportsExist, get, Grown, HandleTablesStay, InstancesStay, is_some, IsExported, MayCall, NewCall, NoCall, Op, op_in, op_of, ops_at, refl, Scene, scene_of, Some, some_none, step_walks, StepsKeepExports, subst, sym, Word, ℕ, ◌∙◌, ◌≡◌}
+use Rattle.task_laws.proofs.Words.{after_primitive, Allowed, along, arith, call_came, CallAfter, Callee, callee_of_op, Caller, CallsExported, component_of, Core, ExportsExist, get, Grown, HandleTablesStay, InstancesStay, is_some, IsExported, MayCall, NewCall, NoCall, Op, op_in, op_of, ops_at, refl, Scene, scene_of, Some, some_none, step_walks, StepsKeepExports, subst, sym, Primitive, ℕ, ◌∙◌, ◌≡◌}
 use Rattle.task_laws.proofs.OneHolder.{instance_stays, op_callee, table_stays}
 use Rattle.task_rules.specs.Allowed as may
 
@@ -9,7 +9,7 @@ module _ (a : Scene) (exist : ExportsExist a.setting) (here : (n : ℕ) → op_i
   callee_exported f e group s (may.ByProgram words m takes is same) = grind arith
   callee_exported f e group s (may.ByThread n r callee is same) = op_callee (component_of a) (IsExported (component_of a)) exist.calls n a.base e (subst (λ (o : Op). callee_of_op o ≡ Some e) (here n) callee)
 
-  exported_word : (w : Word) (s : Core) → Allowed a w s → CallsExported (component_of a) s → CallsExported (component_of a) (after_word w s)
+  exported_word : (w : Primitive) (s : Core) → Allowed a w s → CallsExported (component_of a) s → CallsExported (component_of a) (after_primitive w s)
   exported_word w s ok q k x at = by (call_came w s ok k)
     where
       by : CallAfter a w s k → IsExported (component_of a) x.callee

@@ -1,5 +1,5 @@
 -- What script each thread runs, and where in it, along the words of a step.
-use Rattle.task_laws.proofs.Words.{[], after_word, Allowed, ap, arith, AtOp, Bool, call_instance, Callee, callee_of, CallsGo, CallsHold, Came, came_word, can_come, code_callback, Codes, CodesInCallbacks, Comes, Component, component_of, Core, delivered_in, Ends, ends_activation, EndsActivation, Entered, Enters, false, FitsAs, get, has_one_on_top, HowFar, inl, InOp, inr, is_delivered, is_delivery, is_explicit, is_some, is_sync_call, IsBeside, IsFirst, IsGone, IsMade, IsSame, Leaves, length, MayMove, MayStand, Moved, names_script, new_thread, next_thread, None, one_runner, Op, op_at_place, op_in, op_of, op_of_thread, Option, option_map, option_map_or, Place, place_of, refl, registers_for, RunnerHoused, RunsOn, Scene, Script, script_in, script_of, script_of_thread, shifted_delivers, Shifts, Some, some_none, sym, task_of, Thread, thread_came, ThreadAfter, true, Turn, turned_silent, Turns, WasReady, WasUnder, Why, Word, ℕ, ⊎_elim, ◌∙◌, ◌∷◌, ◌≡◌, ◌≤◌, ◌⊎◌}
+use Rattle.task_laws.proofs.Words.{[], after_primitive, Allowed, ap, arith, AtOp, Bool, call_instance, Callee, callee_of, CallsGo, CallsHold, Came, came_word, can_come, code_callback, Codes, CodesInCallbacks, Comes, Component, component_of, Core, delivered_in, Ends, ends_activation, EndsActivation, Entered, Enters, false, FitsAs, get, has_one_on_top, OpProgress, inl, InOp, inr, is_delivered, is_delivery, is_explicit, is_some, is_sync_call, IsBeside, IsFirst, IsGone, IsMade, IsSame, Leaves, length, MayMove, MayStand, Moved, names_script, new_thread, next_thread, None, one_runner, Op, op_at_place, op_in, op_of, op_of_thread, Option, option_map, option_map_or, Place, place_of, refl, registers_for, RunnerHoused, RunsOn, Scene, Script, script_in, script_of, script_of_thread, shifted_delivers, Shifts, Some, some_none, sym, task_of, Thread, thread_came, ThreadAfter, true, Turn, turned_silent, Turns, WasReady, WasUnder, Why, Primitive, ℕ, ⊎_elim, ◌∙◌, ◌∷◌, ◌≡◌, ◌≤◌, ◌⊎◌}
 
 -- what brings a delivery for the thread: there was one, its activation ends, or it was taken with one
 abbrev pub Brings : Scene → ℕ → Option Place → Type 0
@@ -73,7 +73,7 @@ pub record FitsSo (a : Scene) (n : ℕ) (t : Thread) : Type 0 where
   pub position : (t.position ≡ 0) ⊎ Within a t
   -- while it runs, it runs one script
   pub same : a.turn ≡ Turn.Run n → (r : Thread) → get a.base.threads n ≡ Some r → (t.call ≡ r.call) × (t.script ≡ r.script)
-  pub op : (t.how_far ≡ HowFar.Fresh) ⊎ OfBase a n t (λ o. can_come o t.how_far)
+  pub op : (t.op_progress ≡ OpProgress.Fresh) ⊎ OfBase a n t (λ o. can_come o t.op_progress)
   pub under : has_one_on_top t.place ≡ true → OfBase a n t is_sync_call × Covered a n
   -- while a thread is on top of it, it stays at its op
   pub still : under_in (place_of n a.base) ≡ true → (r : Thread) → get a.base.threads n ≡ Some r → SameOp t r
@@ -105,7 +105,7 @@ module _ (a : Scene) (codes : Codes a) (h : CallsHold (component_of a) a.base) (
   not_taken : {n : ℕ} {v : Why} {A : Type 0} → WasReady a n v → a.turn ≡ Turn.Run n → A
   not_taken {n = n} was to = let r = runs n to in absurd (grind arith)
 
-  module _ (w : Word) (s : Core) (ok : Allowed a w s) (go : CallsGo a s) (q : AllFit a s) (n : ℕ) (r : Thread)
+  module _ (w : Primitive) (s : Core) (ok : Allowed a w s) (go : CallsGo a s) (q : AllFit a s) (n : ℕ) (r : Thread)
       (at : get s.threads n ≡ Some r) where
     -- a first thread that was there is one
     since : n ≤ a.base.made.threads → is_explicit n a.base ≡ false → r.explicit ≡ false
@@ -170,12 +170,12 @@ module _ (a : Scene) (codes : Codes a) (h : CallsHold (component_of a) a.base) (
           let is : n ≡ next_thread a.base = one_runner n (next_thread a.base) (sym may.1.1.0 ∙ next) in absurd (omega (arith, low, is))
       ends_uncovered (inr (to, next)) (inr e) = not_taken e.0.1.1 to
 
-      op_after : RunsOn a s n r u → (u.how_far ≡ HowFar.Fresh) ⊎ OfBase a n u (λ o. can_come o u.how_far)
+      op_after : RunsOn a s n r u → (u.op_progress ≡ OpProgress.Fresh) ⊎ OfBase a n u (λ o. can_come o u.op_progress)
       op_after (inr (far, e)) = inl far
       op_after (inl (script, (position, inl far))) = rw far
-          (⊎_elim inl (λ e. inr (of_same u (λ o. can_come o r.how_far) (call, (script, position)) e)) (q n r at).op)
+          (⊎_elim inl (λ e. inr (of_same u (λ o. can_come o r.op_progress) (call, (script, position)) e)) (q n r at).op)
       op_after (inl (script, (position, inr (InOp at_it can)))) =
-          inr (at_op u (λ o. can_come o u.how_far) (call, (script, position)) at_it can)
+          inr (at_op u (λ o. can_come o u.op_progress) (call, (script, position)) at_it can)
       op_after (inl (script, (position, inr (WasUnder m v under far)))) =
           let b = base_thread n (Place.Under m) under in let is = (q n r at).still (ap under_in under) b.0 b.1.0 in
           let sync = ((fits n b.0 b.1.0).under (ap has_one_on_top b.1.1)) in
@@ -189,13 +189,13 @@ module _ (a : Scene) (codes : Codes a) (h : CallsHold (component_of a) a.base) (
       still_after (inl on) under b is = let f = (q n r at).still under b is in grind arith
       still_after (inr (far, e)) under b is = ends_uncovered (inl under) e
 
-  module _ (w : Word) (s : Core) (ok : Allowed a w s) (go : CallsGo a s) (q : AllFit a s) (n : ℕ) where
+  module _ (w : Primitive) (s : Core) (ok : Allowed a w s) (go : CallsGo a s) (q : AllFit a s) (n : ℕ) where
     -- a thread that is made now wasn't there
     made_new : {A : Type 0} → n ≡ next_thread s → (b : Thread) → get a.base.threads n ≡ Some b → A
     made_new new b is = let c = go.counted in let d = (h.numbered.threads n b is).number in absurd (omega (arith, new, c, d))
 
     new_fits : (t : Thread) → n ≡ next_thread s → names_script c (call_instance t.call a.base) t.explicit t.script ≡ true →
-        (t.explicit ≡ true → is_some (get a.base.calls t.call) ≡ true) → t.place ≡ Place.New → t.how_far ≡ HowFar.Fresh → t.position ≡ 0 →
+        (t.explicit ≡ true → is_some (get a.base.calls t.call) ≡ true) → t.place ≡ Place.New → t.op_progress ≡ OpProgress.Fresh → t.position ≡ 0 →
         FitsSo a n t
     new_fits t new script call place far zero = record {
       script = script;
@@ -208,16 +208,16 @@ module _ (a : Scene) (codes : Codes a) (h : CallsHold (component_of a) a.base) (
       still = λ d b at. made_new new b at;
     }
 
-    fits_after : (t : Thread) → get (after_word w s).threads n ≡ Some t → ThreadAfter a w s n → FitsSo a n t
+    fits_after : (t : Thread) → get (after_primitive w s).threads n ≡ Some t → ThreadAfter a w s n → FitsSo a n t
     fits_after t at (IsSame r u e f call x h m z) = let same : t ≡ u = cc in let came = came_word w s ok n in rw same (record {
       script = script_after w s ok go q n r e u call x z;
       call = λ y. let g = (q n r e).call in grind arith;
-      first = λ d. x ∙ brings_first w s ok go q n r e (brings a s n (after_word w s) _ _ refl came (rw at (rw same d)));
+      first = λ d. x ∙ brings_first w s ok go q n r e (brings a s n (after_primitive w s) _ _ refl came (rw at (rw same d)));
       position = position_after w s ok go q n r e u call z;
       same = same_after w s ok go q n r e u call z;
       op = op_after w s ok go q n r e u call z;
       under = λ d. under_after w s ok go q n r e u call z
-          (covered w s ok go q n r e (after_word w s) _ _ (ap (option_map (λ (y : Thread). y.place)) e) came (rw at (rw same d)));
+          (covered w s ok go q n r e (after_primitive w s) _ _ (ap (option_map (λ (y : Thread). y.place)) e) came (rw at (rw same d)));
       still = still_after w s ok go q n r e u call z;
     })
     fits_after t at (IsGone e) = some_none (sym at ∙ e)
@@ -227,5 +227,5 @@ module _ (a : Scene) (codes : Codes a) (h : CallsHold (component_of a) a.base) (
     fits_after t at (IsFirst u is l there x y far new e z) = let same : t ≡ u = cc in
         rw same (new_fits u is (grind arith) (λ d. grind arith) new far z.1)
 
-  pub fits_word : (w : Word) (s : Core) → Allowed a w s → CallsGo a s → AllFit a s → AllFit a (after_word w s)
+  pub fits_word : (w : Primitive) (s : Core) → Allowed a w s → CallsGo a s → AllFit a s → AllFit a (after_primitive w s)
   fits_word w s ok go q n t at = fits_after w s ok go q n t at (thread_came w s ok n)

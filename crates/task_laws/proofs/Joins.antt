@@ -1,16 +1,16 @@
 -- A subtask that is joined to a set is named in the set's instance: along the words of a step.
-use Rattle.task_laws.proofs.Words.{[], add_call, add_group, add_set, add_thread, add_work, after_change, after_word, Allowed, arith, Bool, by_number, Call, call_made, change, CloseSet, Core, count_work, false, filled_with, free_handle, free_thread_handle, fresh, get, get-change, get-empty, get-insert, get-remove, give_handle, give_result, give_thread_handle, giving, giving_kept, has_member, home_in, inl, inr, instance_of, is_joined, is_member, is_some, Join, join_of, JoinNamed, JoinsNamed, List, list_any, list_any-append, map, MayJoin, NameCall, Named, named_by, NameWork, nat_cmp, nat_tests, next_dead, next_handle, no_handles, None, numbers, on_call, on_instance, on_thread, on_work, OpenSet, poll_pends, push_high, Records, refl, remove_call, remove_group, remove_set, remove_thread, remove_work, Scene, Set, set_backpressure, set_cancel_delivered, set_cancelled, set_course, set_do_not_enter, set_do_not_suspend, set_end, set_event, set_exited, set_how_far, set_join, set_own_event, set_phase, set_position, set_register, set_result, set_saved_callee, set_saved_own, set_script, set_stage, set_started, set_starting_published, set_subtask_handle, set_thread_handle, set_trapped, set_uninteresting, set_word, SetCallJoin, SetsNamed, SetWorkJoin, Some, subst, Subtask, subtask_at, subtask_in, Table, TableKept, take_result, taking, taking_kept, true, UnnameCall, UnnameWork, unsigned_tied, with_handle, with_thread_handle, Word, Work, work_queued, ℕ, ⊎_elim, ◌∷◌, ◌≡◌, ◌≤◌, ◌⊎◌}
+use Rattle.task_laws.proofs.Words.{[], add_call, add_group, add_set, add_thread, add_work, after_change, after_primitive, Allowed, arith, Bool, by_number, Call, call_made, change, CloseSet, Core, count_work, false, filled_with, free_handle, free_thread_handle, fresh, get, get-change, get-empty, get-insert, get-remove, give_handle, give_result, give_thread_handle, giving, giving_kept, has_member, home_in, inl, inr, instance_of, is_joined, is_member, is_some, Join, join_of, JoinNamed, JoinsNamed, List, list_any, list_any-append, map, MayJoin, NameCall, Named, named_by, NameWork, nat_cmp, nat_tests, next_dead, next_handle, no_handles, None, numbers, on_call, on_instance, on_thread, on_work, OpenSet, poll_pends, push_high, Records, refl, remove_call, remove_group, remove_set, remove_thread, remove_work, Scene, Set, set_backpressure, set_cancel_delivered, set_cancelled, set_course, set_do_not_enter, set_do_not_suspend, set_end, set_event, set_exited, set_op_progress, set_join, set_task_event, set_phase, set_position, set_register, set_result, set_saved_callee, set_saved_own, set_script, set_stage, set_started, set_starting_published, set_subtask_handle, set_thread_handle, set_trapped, set_uninteresting, set_word, SetCallJoin, SetsNamed, SetWorkJoin, Some, subst, Subtask, subtask_at, subtask_in, NameTable, TableKept, take_result, taking, taking_kept, true, UnnameCall, UnnameWork, unsigned_tied, with_handle, with_thread_handle, Primitive, Work, work_queued, ℕ, ⊎_elim, ◌∷◌, ◌≡◌, ◌≤◌, ◌⊎◌}
 use Rattle.std.specs.FinMap.Entries.{find}
 
 -- ---- Tables
 
 -- each table is kept where one is changed
-tables_changed : (tables : Records (Table Named)) (i : ℕ) (f : Table Named → Table Named) →
-    ((t : Table Named) → get tables i ≡ Some t → TableKept t → TableKept (f t)) →
-    ((j : ℕ) (t : Table Named) → get tables j ≡ Some t → TableKept t) →
-    (j : ℕ) (t : Table Named) → get (change i f tables) j ≡ Some t → TableKept t
+tables_changed : (tables : Records (NameTable Named)) (i : ℕ) (f : NameTable Named → NameTable Named) →
+    ((t : NameTable Named) → get tables i ≡ Some t → TableKept t → TableKept (f t)) →
+    ((j : ℕ) (t : NameTable Named) → get tables j ≡ Some t → TableKept t) →
+    (j : ℕ) (t : NameTable Named) → get (change i f tables) j ≡ Some t → TableKept t
 tables_changed tables i f own kept j = after_change
-    (λ o p. ((t : Table Named) → o ≡ Some t → TableKept t) → (t : Table Named) → p ≡ Some t → TableKept t) tables i j (λ o h. h) f
+    (λ o p. ((t : NameTable Named) → o ≡ Some t → TableKept t) → (t : NameTable Named) → p ≡ Some t → TableKept t) tables i j (λ o h. h) f
     (λ u is e h t at. let same : f u ≡ t = cc in subst TableKept same (own u (rw e at is) (h u refl))) (kept j)
 
 -- ---- Members
@@ -31,12 +31,12 @@ member_of (Subtask.Host i) x s h =
 -- ---- Joins, word by word
 
 -- the word joins the subtask to the set, and leaves handles and sets
-abbrev pub Joins : Scene → Word → Core → Subtask → ℕ → Type 0
-Joins a w s sub x = MayJoin a sub (Join.Set x) s × (((after_word w s).handles ≡ s.handles) × ((after_word w s).sets ≡ s.sets))
+abbrev pub Joins : Scene → Primitive → Core → Subtask → ℕ → Type 0
+Joins a w s sub x = MayJoin a sub (Join.Set x) s × (((after_primitive w s).handles ≡ s.handles) × ((after_primitive w s).sets ≡ s.sets))
 
-pub now_joined : (a : Scene) (w : Word) (s : Core) → Allowed a w s → (sub : Subtask) (x : ℕ) → join_of sub (after_word w s) ≡ Join.Set x →
+pub now_joined : (a : Scene) (w : Primitive) (s : Core) → Allowed a w s → (sub : Subtask) (x : ℕ) → join_of sub (after_primitive w s) ≡ Join.Set x →
     (join_of sub s ≡ Join.Set x) ⊎ Joins a w s sub x
-unfolding on_thread add_group add_set add_work count_work free_handle free_thread_handle give_handle give_result give_thread_handle on_call on_instance on_work push_high remove_call remove_group remove_set remove_work remove_thread set_backpressure set_cancel_delivered set_cancelled set_course set_do_not_enter set_do_not_suspend set_end set_event set_exited set_how_far set_join set_own_event set_phase set_position set_register set_result set_saved_callee set_saved_own set_script set_stage set_started set_starting_published set_subtask_handle set_thread_handle set_trapped set_uninteresting set_word take_result call_made add_call add_thread with_handle with_thread_handle work_queued poll_pends
+unfolding on_thread add_group add_set add_work count_work free_handle free_thread_handle give_handle give_result give_thread_handle on_call on_instance on_work push_high remove_call remove_group remove_set remove_work remove_thread set_backpressure set_cancel_delivered set_cancelled set_course set_do_not_enter set_do_not_suspend set_end set_event set_exited set_op_progress set_join set_task_event set_phase set_position set_register set_result set_saved_callee set_saved_own set_script set_stage set_started set_starting_published set_subtask_handle set_thread_handle set_trapped set_uninteresting set_word take_result call_made add_call add_thread with_handle with_thread_handle work_queued poll_pends
 now_joined a (SetCallJoin n j) s ok (Subtask.Guest k) x h = by_number n k _
     (λ e. let to : j ≡ Join.Set x = grind (arith, nat_tests, get-change) in inr (rw to at (rw e at ok), (refl, refl)))
     (λ e. inl (grind (arith, nat_tests, get-change, e)))
@@ -49,8 +49,8 @@ now_joined a w s ok (Subtask.Host k) x h = inl (first_of (assumption, grind (ari
 -- ---- The law
 
 -- Each table of these is kept, and who is joined to a set stays named.
-record HandlesKept (s : Core) (handles : Records (Table Named)) : Type 0 where
-  tables : (i : ℕ) (t : Table Named) → get handles i ≡ Some t → TableKept t
+record HandlesKept (s : Core) (handles : Records (NameTable Named)) : Type 0 where
+  tables : (i : ℕ) (t : NameTable Named) → get handles i ≡ Some t → TableKept t
   names : (sub : Subtask) (x i h : ℕ) → join_of sub s ≡ Join.Set x → subtask_at i h s ≡ Some sub → subtask_in handles i h ≡ Some sub
 
 -- These sets have numbers that were given, and the set to which a subtask is joined stays where it is.
@@ -63,7 +63,7 @@ module _ (a : Scene) (s : Core) (q : JoinsNamed s) where
   given_kept j nm = record {
     tables = tables_changed s.handles j (giving nm) (λ t e. giving_kept nm t) q.tables;
     names = λ sub x i h to e.
-        let dead : (t : Table Named) → get s.handles j ≡ Some t → get t.live (next_handle t t.freed) ≡ None = λ t at. next_dead t (q.tables j t at) in
+        let dead : (t : NameTable Named) → get s.handles j ≡ Some t → get t.live (next_handle t t.freed) ≡ None = λ t at. next_dead t (q.tables j t at) in
         grind (arith, nat_tests, get-change, get-insert);
   }
 
@@ -80,8 +80,8 @@ module _ (a : Scene) (s : Core) (q : JoinsNamed s) where
   unnamed_kept j g sub at unjoined =
       freed_kept j g (Named.Subtask sub) (grind arith) (λ other x to is. let same : sub ≡ other = cc in absurd (cc))
 
-  handles_word : (w : Word) → Allowed a w s → HandlesKept s (after_word w s).handles
-  unfolding on_thread add_group add_set add_work count_work free_handle free_thread_handle give_handle give_result give_thread_handle on_call on_instance on_work push_high remove_call remove_group remove_set remove_work remove_thread set_backpressure set_cancel_delivered set_cancelled set_course set_do_not_enter set_do_not_suspend set_end set_event set_exited set_how_far set_join set_own_event set_phase set_position set_register set_result set_saved_callee set_saved_own set_script set_stage set_started set_starting_published set_subtask_handle set_thread_handle set_trapped set_uninteresting set_word take_result call_made add_call add_thread with_handle with_thread_handle work_queued poll_pends
+  handles_word : (w : Primitive) → Allowed a w s → HandlesKept s (after_primitive w s).handles
+  unfolding on_thread add_group add_set add_work count_work free_handle free_thread_handle give_handle give_result give_thread_handle on_call on_instance on_work push_high remove_call remove_group remove_set remove_work remove_thread set_backpressure set_cancel_delivered set_cancelled set_course set_do_not_enter set_do_not_suspend set_end set_event set_exited set_op_progress set_join set_task_event set_phase set_position set_register set_result set_saved_callee set_saved_own set_script set_stage set_started set_starting_published set_subtask_handle set_thread_handle set_trapped set_uninteresting set_word take_result call_made add_call add_thread with_handle with_thread_handle work_queued poll_pends
   handles_word (NameCall j k) ok = given_kept j _
   handles_word (NameWork j k) ok = given_kept j _
   handles_word (OpenSet j) ok = given_kept j _
@@ -90,8 +90,8 @@ module _ (a : Scene) (s : Core) (q : JoinsNamed s) where
   handles_word (CloseSet j g y) ok = freed_kept j g (Named.Set y) (grind arith) (λ sub x to is. absurd (cc))
   handles_word w ok = record { tables = q.tables; names = λ sub x i h at e. e }
 
-  sets_word : (w : Word) → Allowed a w s → SetsKept s (after_word w s).sets (after_word w s).made.sets
-  unfolding on_thread add_group add_set add_work count_work free_handle free_thread_handle give_handle give_result give_thread_handle on_call on_instance on_work push_high remove_call remove_group remove_set remove_work remove_thread set_backpressure set_cancel_delivered set_cancelled set_course set_do_not_enter set_do_not_suspend set_end set_event set_exited set_how_far set_join set_own_event set_phase set_position set_register set_result set_saved_callee set_saved_own set_script set_stage set_started set_starting_published set_subtask_handle set_thread_handle set_trapped set_uninteresting set_word take_result call_made add_call add_thread with_handle with_thread_handle work_queued poll_pends
+  sets_word : (w : Primitive) → Allowed a w s → SetsKept s (after_primitive w s).sets (after_primitive w s).made.sets
+  unfolding on_thread add_group add_set add_work count_work free_handle free_thread_handle give_handle give_result give_thread_handle on_call on_instance on_work push_high remove_call remove_group remove_set remove_work remove_thread set_backpressure set_cancel_delivered set_cancelled set_course set_do_not_enter set_do_not_suspend set_end set_event set_exited set_op_progress set_join set_task_event set_phase set_position set_register set_result set_saved_callee set_saved_own set_script set_stage set_started set_starting_published set_subtask_handle set_thread_handle set_trapped set_uninteresting set_word take_result call_made add_call add_thread with_handle with_thread_handle work_queued poll_pends
   sets_word (OpenSet j) ok = record {
     numbers = λ x h. grind (arith, nat_tests, get-insert, q.sets x);
     homes = λ sub x i at home. grind (arith, nat_tests, get-insert, q.sets x);
@@ -102,8 +102,8 @@ module _ (a : Scene) (s : Core) (q : JoinsNamed s) where
   }
   sets_word w ok = record { numbers = q.sets; homes = λ sub x i at home. home }
 
-  module _ (tidy : SetsNamed s) (w : Word) (ok : Allowed a w s) where
-    joined_kept : (sub : Subtask) (x : ℕ) → join_of sub s ≡ Join.Set x → JoinNamed sub x (after_word w s)
+  module _ (tidy : SetsNamed s) (w : Primitive) (ok : Allowed a w s) where
+    joined_kept : (sub : Subtask) (x : ℕ) → join_of sub s ≡ Join.Set x → JoinNamed sub x (after_primitive w s)
     joined_kept sub x at = let n = q.joins sub x at in record {
       instance = n.instance;
       handle = n.handle;
@@ -112,7 +112,7 @@ module _ (a : Scene) (s : Core) (q : JoinsNamed s) where
     }
 
     -- a subtask that is joined now is named beside its set
-    joined_now : (sub : Subtask) (x : ℕ) → Joins a w s sub x → JoinNamed sub x (after_word w s)
+    joined_now : (sub : Subtask) (x : ℕ) → Joins a w s sub x → JoinNamed sub x (after_primitive w s)
     joined_now sub x (m, (handles, sets)) = record {
       instance = instance_of m.0 a.base;
       handle = m.1.0;
@@ -120,7 +120,7 @@ module _ (a : Scene) (s : Core) (q : JoinsNamed s) where
       named = rw handles m.1.1.1.1.0;
     }
 
-    pub joins_word : JoinsNamed (after_word w s)
+    pub joins_word : JoinsNamed (after_primitive w s)
     joins_word = record { tables = (handles_word w ok).tables; sets = (sets_word w ok).numbers; joins = λ sub x h. ⊎_elim (joined_kept sub x) (joined_now sub x) (now_joined a w s ok sub x h) }
 
 -- ---- The first state

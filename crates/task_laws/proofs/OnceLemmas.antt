@@ -1,5 +1,5 @@
 -- From facts of each step to all that is once in a run.
-use Rattle.task_laws.proofs.Words.{[], answering, answers_return, ap, arith, Bool, CallLabel, changes_end, Component, cond, Core, covers_end, direct_answered, direct_return, doing_of, end_code, end_for, EndsOnce, event_of, false, get, handed, handed_by, handed_in, hands_out_written, history, how_far_of, HowFar, inl, inr, is_answered, is_end_of, is_known, is_other, is_some, is_written, Label, last_return, List, Moment, nat_tests, no_way, None, not, Option, option_map_or, refl, Run, same_subtask, Setting, Some, State, Status, Step, subst, Subtask, SubtaskEnd, sum_by-cons, sym, sync_answered, true, undelivered_end, with_end, with_return, writes_end, written, ℕ, ⊎_elim, ◌&&◌, ◌+◌, ◌==◌, ◌||◌, ◌∙◌, ◌∷◌, ◌≡◌, ◌≤◌, ◌⊎◌}
+use Rattle.task_laws.proofs.Words.{[], answering, answers_return, ap, arith, Bool, CallLabel, changes_end, Component, cond, Core, covers_end, direct_answered, direct_return, doing_of, end_code, end_for, EndsOnce, event_of, false, get, handed, handed_by, handed_in, hands_out_written, history, op_progress_of, OpProgress, inl, inr, is_answered, is_end_of, is_known, is_other, is_some, is_written, Label, last_return, List, Moment, nat_tests, no_way, None, not, Option, option_map_or, refl, Run, same_subtask, Setting, Some, State, Status, Step, subst, Subtask, SubtaskEnd, sum_by-cons, sym, sync_answered, true, undelivered_end, with_end, with_return, writes_end, written, ℕ, ⊎_elim, ◌&&◌, ◌+◌, ◌==◌, ◌||◌, ◌∙◌, ◌∷◌, ◌≡◌, ◌≤◌, ◌⊎◌}
 use Rattle.std.specs.Prelude.{count_by}
 use Rattle.task_laws.proofs.Works.{due_in}
 
@@ -85,13 +85,13 @@ pub record EndStep (c : Component) (m : Moment) (sub : Subtask) : Type 0 where
 
 -- the thread has what its direct call returned
 abbrev pub HasValue : ℕ → Core → Type 0
-HasValue n s = is_answered (how_far_of n s) ≡ true
+HasValue n s = is_answered (op_progress_of n s) ≡ true
 
 -- What each step owes of direct calls: a thread has a value once its direct call has returned to it, and has none once it has answered.
 pub record ReturnStep (m : Moment) : Type 0 where
   pub comes : (n : ℕ) → HasValue n m.after.core →
       HasValue n m.before.core ⊎ ((k : ℕ) × (direct_return m.before.core m.label ≡ Some (n, k)))
-  pub done : (n : ℕ) → sync_answered m.label ≡ Some n → how_far_of n m.after.core ≡ HowFar.Fresh
+  pub done : (n : ℕ) → sync_answered m.label ≡ Some n → op_progress_of n m.after.core ≡ OpProgress.Fresh
 
 module _ {c : Component} {m : Moment} {sub : Subtask} (q : EndStep c m sub) where
   writes : writes_end c sub m ≡ true → (Over sub m.before.core → ⊥) × Over sub m.after.core
@@ -180,8 +180,8 @@ shown_answer : (l : Label) (n : ℕ) → sync_answered l ≡ Some n → (v : ℕ
 shown_answer (Label.Call (CallLabel.CallSync j v)) n is = (v, ap (λ (o : Option ℕ). Label.Call (CallLabel.CallSync (option_map_or (λ (i : ℕ). i) o j) v)) is)
 shown_answer l n is = absurd (cc)
 
-value_of : (f : HowFar) → is_answered f ≡ true → (v : ℕ) × (f ≡ HowFar.Answered v)
-value_of (HowFar.Answered v) is = (v, refl)
+value_of : (f : OpProgress) → is_answered f ≡ true → (v : ℕ) × (f ≡ OpProgress.Answered v)
+value_of (OpProgress.Answered v) is = (v, refl)
 value_of f is = absurd (cc)
 
 -- what the label hands out, where no direct call returns
@@ -193,7 +193,7 @@ label_hands c rs m none sub e says = grind (arith, none, says)
 answer_hands : (c : Component) (rs : List (ℕ × ℕ)) (m : Moment) (n k : ℕ) → sync_answered m.label ≡ Some n → HasValue n m.before.core →
     last_return n rs ≡ Some k → handed c rs m ≡ Some (end_for Status.Returned (Subtask.Guest k))
 answer_hands c rs m n k answers has last =
-    let shown = (shown_answer m.label n answers).1 in let value = (value_of (how_far_of n m.before.core) has).1 in
+    let shown = (shown_answer m.label n answers).1 in let value = (value_of (op_progress_of n m.before.core) has).1 in
     grind (arith, nat_tests, shown, value, last)
 
 -- with the direct call that returns

@@ -1,5 +1,5 @@
 -- What each word of a step keeps holds in each reached state.
-use Rattle.task_laws.proofs.Rules.{[], after_word, Allowed, along, arith, Core, filled, fresh, get, get-empty, get-insert, Label, List, nat_tests, opening, Reached, Run, run_goes_on, Scene, scene_of, Setting, Some, State, Step, step_walks, sym, Word, ℕ, ◌++◌, ◌∙◌, ◌∷◌, ◌≡◌}
+use Rattle.task_laws.proofs.Rules.{[], after_primitive, Allowed, along, arith, Core, filled, fresh, get, get-empty, get-insert, Label, List, nat_tests, opening, Reached, Run, run_goes_on, Scene, scene_of, Setting, Some, State, Step, step_walks, sym, Primitive, ℕ, ◌++◌, ◌∙◌, ◌∷◌, ◌≡◌}
 use Rattle.task_laws.proofs.Basics.{some_none}
 
 -- what each step keeps holds along a run
@@ -25,7 +25,7 @@ reached_step {x = x} s l t r step = record {
 
 -- so does what each word keeps
 pub reached_kept : (R : Core → Type 0) → ((instances handle_limit capacity : ℕ) → R (fresh instances handle_limit capacity)) →
-    ((a : Scene) (w : Word) (s : Core) → Allowed a w s → R s → R (after_word w s)) → {x : Setting} {s : State} → Reached x s → R s.core
+    ((a : Scene) (w : Primitive) (s : Core) → Allowed a w s → R s → R (after_primitive w s)) → {x : Setting} {s : State} → Reached x s → R s.core
 reached_kept R first kept {x = x} r = reached_keeps r (λ s. R s.core)
     (λ s l t step h. let c = step_walks x s l t step in along R (kept (scene_of x s l c.next)) h c.walk)
     (first r.instances r.handle_limit r.capacity)

@@ -1,5 +1,5 @@
 -- What a step owes of the end of a subtask: of a call, and of a host work.
-use Rattle.task_laws.proofs.Words.{after_word, Allowed, along, Answers, ap, arith, Call, call_came, CallAfter, CallEnd, calls_begin, CallsHold, codes_at, codes_plain, CodesInCallbacks, Core, course_of, course_value, covers_end, Doing, doing, doing_of, end_code, end_for, EndsByExit, EndsCall, EndsOwn, EndsSubtask, EndWords, event_of, exits_unended, false, get, goal_of, HandsAtOnce, HandsOut, has_end, has_ended, host_status, how_far_of, HowFar, inl, inr, is_async_work, is_direct, is_over, is_some, is_stage_ended, is_sync_work, IsNamed, IsPolled, IsReadyAtOnce, IsRunner, Label, LaterBy, le_trans, Moment, nat_tests, never_fewer, None, ops_of, Option, option_and_then, option_map, plain, plain_scene, polled_is_live, refl, Rises, SaysEnd, Scene, scene_of, Setting, Some, stage_of, State, Status, status_of_end, Step, step_goes, Subtask, sym, TakesEvent, TakesResult, task_of, too_high, true, Turn, undelivered_end, Walked, Word, work_caller_of, Writes, WritesAtOnce, WritesCall, WritesNever, WritesPolled, WritesToo, written, ℕ, ⊎_elim, ◌∙◌, ◌≡◌, ◌≤◌, ◌⊎◌}
+use Rattle.task_laws.proofs.Words.{after_primitive, Allowed, along, Answers, ap, arith, Call, call_came, CallAfter, CallEnd, calls_begin, CallsHold, codes_at, codes_plain, CodesInCallbacks, Core, course_of, course_value, covers_end, Doing, doing, doing_of, end_code, end_for, EndsByExit, EndsCall, EndsOwn, EndsSubtask, EndPrimitives, event_of, exits_unended, false, get, goal_of, HandsAtOnce, HandsOut, has_end, has_ended, host_status, op_progress_of, OpProgress, inl, inr, is_async_work, is_direct, is_over, is_some, is_stage_ended, is_sync_work, IsNamed, IsPolled, IsReadyAtOnce, IsRunner, Label, LaterBy, le_trans, Moment, nat_tests, never_fewer, None, ops_of, Option, option_and_then, option_map, plain, plain_scene, polled_is_live, refl, Rises, SaysEnd, Scene, scene_of, Setting, Some, stage_of, State, Status, status_of_end, Step, step_goes, Subtask, sym, TakesEvent, TakesResult, task_of, too_high, true, Turn, undelivered_end, Walked, Primitive, work_caller_of, Writes, WritesAtOnce, WritesCall, WritesNever, WritesPolled, WritesToo, written, ℕ, ⊎_elim, ◌∙◌, ◌≡◌, ◌≤◌, ◌⊎◌}
 use Rattle.task_laws.proofs.{CallEnds.EndsGo, CallEnds.EndsTold, CallEnds.IsOfEnd, CallEnds.ends_go, CallEnds.is_withdrawn, CallEnds.recorded, CallEnds.tells_there, OnceLemmas.Due, OnceLemmas.EndStep, OnceLemmas.Keeps, OnceLemmas.Over, OnceLemmas.covers_none, OnceLemmas.is_over_code, SaidEnds.hands_at, SaidEnds.said_at, SaidEnds.said_plain, SaidEnds.written_at, Works.Lasts, Works.WorksGo, Works.WorksHold, Works.doing_or, Works.doing_there, Works.due_in, Works.number_of, Works.stage_ended}
 
 -- the calls that come to an end are there: that of the running thread, and one that a handle names
@@ -16,8 +16,8 @@ work_code : (i : ℕ) (s : Core) → is_over_code (end_code (Subtask.Host i) s) 
 work_code i s = grind (arith, nat_tests)
 
 -- on the way too, of a call that was made before the step
-pub over_word : (a : Scene) (k : ℕ) → k ≤ a.base.made.threads → (w : Word) (s : Core) → Allowed a w s → is_over k s ≡ true →
-    is_over k (after_word w s) ≡ true
+pub over_word : (a : Scene) (k : ℕ) → k ≤ a.base.made.threads → (w : Primitive) (s : Core) → Allowed a w s → is_over k s ≡ true →
+    is_over k (after_primitive w s) ≡ true
 over_word a k below w s ok over = let i : CallAfter a w s k = call_came w s ok k in grind arith
 
 no_withdrawal : (y : CallEnd) → status_of_end y ≡ Status.StartCancelled → is_withdrawn y ≡ false → {A : Type 0} → A
@@ -52,7 +52,7 @@ none_due o p later v at ended async e gone due = grind arith
 
 -- who goes on after its sync call of a host finds the work ended
 abbrev pub Answered : Scene → Type 0
-Answered a = (n i : ℕ) → IsRunner a n → how_far_of n a.base ≡ HowFar.Calls (Subtask.Host i) →
+Answered a = (n i : ℕ) → IsRunner a n → op_progress_of n a.base ≡ OpProgress.Calls (Subtask.Host i) →
     (is_sync_work (work_caller_of i a.base) ≡ true) × (is_stage_ended (stage_of i a.base) ≡ true)
 
 pub host_keeps : {S : Type 0} (x : Setting) (s : State) (l : Label) (t : State) (next : Turn) → WorksHold S s.core →
@@ -76,8 +76,8 @@ module _ (x : Setting) (s : State) (l : Label) (t : State) (codes : CodesInCallb
   ends : EndsGo a t.core
   ends = plain x s l w.next (λ b. EndsGo b t.core) (ends_go (codes_at x s codes) h told w).1
 
-  words : EndWords a t.core
-  words = plain x s l w.next (λ b. EndWords b t.core) w.ends.says
+  words : EndPrimitives a t.core
+  words = plain x s l w.next (λ b. EndPrimitives b t.core) w.ends.says
 
   pub keeps_call : (k : ℕ) → Keeps s.core t.core (Subtask.Guest k)
   keeps_call k = record {

@@ -1,5 +1,5 @@
 -- Who is under whom, along the words of a step.
-use Rattle.task_laws.proofs.Words.{after_word, Allowed, arith, Came, came_word, Comes, Core, inl, inr, is_some, is_there, IsRunner, made_threads_word, MayMove, Moved, next_thread, Option, Place, place_of, Scene, Shifts, Some, true, Turned, Turns, Why, Word, ℕ, ◌+◌, ◌≡◌, ◌≤◌, ◌⊎◌}
+use Rattle.task_laws.proofs.Words.{after_primitive, Allowed, arith, Came, came_word, Comes, Core, inl, inr, is_some, is_there, IsRunner, made_threads_word, MayMove, Moved, next_thread, Option, Place, place_of, Scene, Shifts, Some, true, Turned, Turns, Why, Primitive, ℕ, ◌+◌, ◌≡◌, ◌≤◌, ◌⊎◌}
 
 -- On the way of a step: who is under a thread that was made now is the running one.
 pub record Layered (a : Scene) (s : Core) : Type 0 where
@@ -38,11 +38,11 @@ under_came a s t k m o p (Shifts c) h = inl (shifted_under _ m o p c h)
 under_came a s t k m o p (Comes q c e there) h = absurd (comes_not_under a k m q s c (cc))
 under_came a s t k m o p (Turns c) h = inr (turned_under a s t k m o p c h)
 
-module _ (a : Scene) (given : RunnerGiven a) (w : Word) (s : Core) (ok : Allowed a w s) (q : Layered a s) where
-  came : (n m : ℕ) → place_of n (after_word w s) ≡ Some (Place.Under m) → (place_of n s ≡ Some (Place.Under m)) ⊎ NowUnder a s n m
-  came n m e = under_came a s (after_word w s) n m (place_of n s) (place_of n (after_word w s)) (came_word w s ok n) e
+module _ (a : Scene) (given : RunnerGiven a) (w : Primitive) (s : Core) (ok : Allowed a w s) (q : Layered a s) where
+  came : (n m : ℕ) → place_of n (after_primitive w s) ≡ Some (Place.Under m) → (place_of n s ≡ Some (Place.Under m)) ⊎ NowUnder a s n m
+  came n m e = under_came a s (after_primitive w s) n m (place_of n s) (place_of n (after_primitive w s)) (came_word w s ok n) e
 
-  pub layered_word : Layered a (after_word w s)
+  pub layered_word : Layered a (after_primitive w s)
   layered_word = record {
     numbered = λ n h. let c = there_came a s _ n (place_of n s) _ (came_word w s ok n) h in let b = made_threads_word a w s in
         grind (arith, q.numbered n);

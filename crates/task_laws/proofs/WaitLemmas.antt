@@ -1,5 +1,5 @@
 -- Of which instance the sets are that threads wait on, along the words of a step.
-use Rattle.task_laws.proofs.Words.{add_call, add_group, add_set, add_thread, add_work, after_word, Allowed, any_found, ap, arith, AwaitsEvent, Blocks, by_number, ByDelivery, BySetHandle, ByWait, call_made, Came, came_word, CloseSet, Comes, ComesAgain, Core, count_work, false, FindsEvent, free_handle, free_thread_handle, get, get-insert, get-remove, give_handle, give_result, give_thread_handle, has_waiters, HasSet, Holds, how_far_of, HowFar, IfSome, inl, inr, instance_of, is_at_wait, is_some, is_there, is_wait, IsLaid, IsOf, IsRunner, JoinsNamed, keeps_set, Mark, MayClose, MayCome, MayMove, MayPut, MayStand, MayYield, Moved, nat_tests, None, on_call, on_instance, on_thread, on_work, op_came, op_in, OpenSet, Option, option_and_then, option_map, option_map_or, Place, place_of, poll_pends, push_high, refl, remove_call, remove_group, remove_set, remove_thread, remove_work, Runs, Scene, set_backpressure, set_cancel_delivered, set_cancelled, set_course, set_do_not_enter, set_do_not_suspend, set_end, set_event, set_exited, set_how_far, set_join, set_of_op, set_of_place, set_of_why, set_own_event, set_phase, set_position, set_register, set_result, set_saved_callee, set_saved_own, set_script, set_stage, set_started, set_starting_published, set_subtask_handle, set_thread_handle, set_trapped, set_uninteresting, set_word, SetsNamed, Shifts, Some, Suspends, take_result, Thread, true, Turn, Turned, Turns, Uncovers, Waits, WaitsAgain, WaitsAtHome, WaitsPlaced, Why, with_handle, with_thread_handle, Word, work_queued, Yields, ℕ, ⊎_elim, ◌≡◌, ◌≤◌, ◌⊎◌}
+use Rattle.task_laws.proofs.Words.{add_call, add_group, add_set, add_thread, add_work, after_primitive, Allowed, any_found, ap, arith, AwaitsEvent, Blocks, by_number, ByDelivery, BySetHandle, ByWait, call_made, Came, came_word, CloseSet, Comes, ComesAgain, Core, count_work, false, FindsEvent, free_handle, free_thread_handle, get, get-insert, get-remove, give_handle, give_result, give_thread_handle, has_waiters, HasSet, Holds, op_progress_of, OpProgress, IfSome, inl, inr, instance_of, is_at_wait, is_some, is_there, is_wait, IsLaid, IsOf, IsRunner, JoinsNamed, keeps_set, Mark, MayClose, MayCome, MayMove, MayPut, MayStand, MayYield, Moved, nat_tests, None, on_call, on_instance, on_thread, on_work, op_came, op_in, OpenSet, Option, option_and_then, option_map, option_map_or, Place, place_of, poll_pends, push_high, refl, remove_call, remove_group, remove_set, remove_thread, remove_work, Runs, Scene, set_backpressure, set_cancel_delivered, set_cancelled, set_course, set_do_not_enter, set_do_not_suspend, set_end, set_event, set_exited, set_op_progress, set_join, set_of_op, set_of_place, set_of_why, set_task_event, set_phase, set_position, set_register, set_result, set_saved_callee, set_saved_own, set_script, set_stage, set_started, set_starting_published, set_subtask_handle, set_thread_handle, set_trapped, set_uninteresting, set_word, SetsNamed, Shifts, Some, Suspends, take_result, Thread, true, Turn, Turned, Turns, Uncovers, Waits, WaitsAgain, WaitsAtHome, WaitsPlaced, Why, with_handle, with_thread_handle, Primitive, work_queued, Yields, ℕ, ⊎_elim, ◌≡◌, ◌≤◌, ◌⊎◌}
 
 abbrev pub set_at_place : Option Place → Option ℕ
 set_at_place o = option_and_then (λ p. set_of_place p) o
@@ -14,7 +14,7 @@ unkept x n s none t at = let found = any_found (λ (t : Thread). keeps_set x t t
 place_keeps : (x : ℕ) (t : Thread) (p : Place) → set_of_place p ≡ Some x → keeps_set x t p ≡ true
 place_keeps x t p e = grind (arith, nat_tests)
 
-unkept_runs : (x : ℕ) (t : Thread) (p : Place) → t.how_far ≡ HowFar.Waits x → is_at_wait x p ≡ true → keeps_set x t p ≡ false →
+unkept_runs : (x : ℕ) (t : Thread) (p : Place) → t.op_progress ≡ OpProgress.Waits x → is_at_wait x p ≡ true → keeps_set x t p ≡ false →
     p ≡ Place.Running
 unkept_runs x t p far at free = grind (arith, nat_tests)
 
@@ -25,18 +25,18 @@ unwaited x n s none at = go (get s.threads n) refl at
     go None is at = absurd (cc)
     go (Some t) is at = let free = unkept x n s none t is in let kept = place_keeps x t t.place at in absurd (grind arith)
 
-unwaited_runs : (x n : ℕ) (s : Core) → has_waiters x s ≡ false → how_far_of n s ≡ HowFar.Waits x →
+unwaited_runs : (x n : ℕ) (s : Core) → has_waiters x s ≡ false → op_progress_of n s ≡ OpProgress.Waits x →
     option_map_or (is_at_wait x) (place_of n s) false ≡ true → place_of n s ≡ Some Place.Running
 unwaited_runs x n s none far at = go (get s.threads n) refl far at
   where
-    go : (o : Option Thread) → get s.threads n ≡ o → option_map_or (λ (t : Thread). t.how_far) o HowFar.Fresh ≡ HowFar.Waits x →
+    go : (o : Option Thread) → get s.threads n ≡ o → option_map_or (λ (t : Thread). t.op_progress) o OpProgress.Fresh ≡ OpProgress.Waits x →
         option_map_or (is_at_wait x) (option_map (λ (t : Thread). t.place) o) false ≡ true → option_map (λ (t : Thread). t.place) o ≡ Some Place.Running
     go None is far at = absurd (cc)
     go (Some t) is far at = ap (λ (p : Place). Some p) (unkept_runs x t t.place far at (unkept x n s none t is))
 
-of_word : (i x : ℕ) (w : Word) (s : Core) → ((j h : ℕ) → w ≡ CloseSet j h x → ⊥) → (is_some (get s.sets x) ≡ true → x ≤ s.made.sets) →
-    IsOf i x s → IsOf i x (after_word w s)
-unfolding on_thread add_group add_set add_work count_work free_handle free_thread_handle give_handle give_result give_thread_handle on_call on_instance on_work push_high remove_call remove_group remove_set remove_work remove_thread set_backpressure set_cancel_delivered set_cancelled set_course set_do_not_enter set_do_not_suspend set_end set_event set_exited set_how_far set_join set_own_event set_phase set_position set_register set_result set_saved_callee set_saved_own set_script set_stage set_started set_starting_published set_subtask_handle set_thread_handle set_trapped set_uninteresting set_word take_result call_made add_call add_thread with_handle with_thread_handle work_queued poll_pends
+of_word : (i x : ℕ) (w : Primitive) (s : Core) → ((j h : ℕ) → w ≡ CloseSet j h x → ⊥) → (is_some (get s.sets x) ≡ true → x ≤ s.made.sets) →
+    IsOf i x s → IsOf i x (after_primitive w s)
+unfolding on_thread add_group add_set add_work count_work free_handle free_thread_handle give_handle give_result give_thread_handle on_call on_instance on_work push_high remove_call remove_group remove_set remove_work remove_thread set_backpressure set_cancel_delivered set_cancelled set_course set_do_not_enter set_do_not_suspend set_end set_event set_exited set_op_progress set_join set_task_event set_phase set_position set_register set_result set_saved_callee set_saved_own set_script set_stage set_started set_starting_published set_subtask_handle set_thread_handle set_trapped set_uninteresting set_word take_result call_made add_call add_thread with_handle with_thread_handle work_queued poll_pends
 of_word i x (OpenSet j) s other low h = grind (arith, nat_tests, get-insert)
 of_word i x (CloseSet j g y) s other low h =
     by_number x y _ (λ e. absurd (other j g (rw e refl))) (λ apart. grind (arith, nat_tests, get-remove))
@@ -79,8 +79,8 @@ move_set a s n p (Blocks sub l r o live e) = rw e tt
 move_set a s n p (Suspends l e) = rw e tt
 move_set a s n p (Uncovers m r l at gone e) = rw e tt
 
-come_set : (a : Scene) (s : Core) (n : ℕ) (g : HowFar) → MayCome a n g s → IfSome (set_of_op g) (Brings a n)
-come_set a s n (HowFar.Waits x) ok = ((ok.0.0, ok.0.1.0), inl ok.1.0)
+come_set : (a : Scene) (s : Core) (n : ℕ) (g : OpProgress) → MayCome a n g s → IfSome (set_of_op g) (Brings a n)
+come_set a s n (OpProgress.Waits x) ok = ((ok.0.0, ok.0.1.0), inl ok.1.0)
 come_set a s n g ok = tt
 
 shifted_set : (may : Why → Type 0) (x : ℕ) (o p : Option Place) → Moved may o p → set_at_place p ≡ Some x →
@@ -97,8 +97,8 @@ place_set a s t n x p (Shifts c) h =
 place_set a s t n x p (Comes r ok e there) h = let is : set_of_place r ≡ Some x = cc in inr (rw is at (move_set a s n r ok))
 place_set a s t n x p (Turns c) h = absurd (turned_set a s t n x (place_of n s) p c h)
 
-pub op_set : (a : Scene) (w : Word) (s : Core) → Allowed a w s → (n x : ℕ) → set_of_op (how_far_of n (after_word w s)) ≡ Some x →
-    (set_of_op (how_far_of n s) ≡ Some x) ⊎ Brings a n x
+pub op_set : (a : Scene) (w : Primitive) (s : Core) → Allowed a w s → (n x : ℕ) → set_of_op (op_progress_of n (after_primitive w s)) ≡ Some x →
+    (set_of_op (op_progress_of n s) ≡ Some x) ⊎ Brings a n x
 op_set a w s ok n x h =
     ⊎_elim (λ e. inl e) (λ g. inr (rw g.1.1 at (come_set a s n g.0 g.1.0))) (op_came (λ g. set_of_op g) x w s ok n refl h)
 
@@ -107,8 +107,8 @@ op_set a w s ok n x h =
 pub record Homed (a : Scene) (s : Core) : Type 0 where
   pub homes : a.next ≡ Turn.Main → (i x : ℕ) → IsOf i x a.base → IsOf i x s
   pub by_place : (n x : ℕ) → set_at_place (place_of n s) ≡ Some x → IsOf (instance_of n a.base) x s × (is_there n a.base ≡ true)
-  pub by_op : (n x : ℕ) → set_of_op (how_far_of n s) ≡ Some x → IsOf (instance_of n a.base) x s × (is_there n a.base ≡ true)
-  pub far : (n x : ℕ) → set_of_op (how_far_of n s) ≡ Some x → (a.next ≡ Turn.Main) ⊎ (how_far_of n a.base ≡ HowFar.Waits x)
+  pub by_op : (n x : ℕ) → set_of_op (op_progress_of n s) ≡ Some x → IsOf (instance_of n a.base) x s × (is_there n a.base ≡ true)
+  pub far : (n x : ℕ) → set_of_op (op_progress_of n s) ≡ Some x → (a.next ≡ Turn.Main) ⊎ (op_progress_of n a.base ≡ OpProgress.Waits x)
 
 -- What is known before it.
 pub record KnownHome (a : Scene) : Type 0 where
@@ -117,7 +117,7 @@ pub record KnownHome (a : Scene) : Type 0 where
   pub waits : WaitsAtHome a.base
   pub placed : WaitsPlaced a.base
   -- a thread that runs inside a wait is the one whose turn it is
-  pub runs : (n x m : ℕ) → how_far_of n a.base ≡ HowFar.Waits x → place_of n a.base ≡ Some Place.Running → a.turn ≡ Turn.Run m →
+  pub runs : (n x m : ℕ) → op_progress_of n a.base ≡ OpProgress.Waits x → place_of n a.base ≡ Some Place.Running → a.turn ≡ Turn.Run m →
       is_wait (op_in a m) ≡ true
 
 module _ (a : Scene) (known : KnownHome a) where
@@ -126,9 +126,9 @@ module _ (a : Scene) (known : KnownHome a) where
   set_home n x (ByWait e) = known.waits.by_op n x (ap set_of_op e)
   set_home n x (ByDelivery r) = known.waits.by_place n x (ap (λ o. option_and_then set_of_place o) r.1)
 
-  module _ (s : Core) (joins : JoinsNamed s) (q : Homed a s) (w : Word) (ok : Allowed a w s) where
+  module _ (s : Core) (joins : JoinsNamed s) (q : Homed a s) (w : Primitive) (ok : Allowed a w s) where
     abbrev Home : ℕ → ℕ → Type 0
-    Home n x = IsOf (instance_of n a.base) x (after_word w s) × (is_there n a.base ≡ true)
+    Home n x = IsOf (instance_of n a.base) x (after_primitive w s) × (is_there n a.base ≡ true)
 
     closes : (j h x : ℕ) → w ≡ CloseSet j h x → MayClose a j h x s
     closes j h x is = rw is at ok
@@ -139,19 +139,19 @@ module _ (a : Scene) (known : KnownHome a) where
     place_open : (n x : ℕ) → set_at_place (place_of n s) ≡ Some x → (j h : ℕ) → w ≡ CloseSet j h x → ⊥
     place_open n x at j h is = unwaited x n s (closes j h x is).1.0 at
 
-    op_open : (n x : ℕ) → set_of_op (how_far_of n s) ≡ Some x → (j h : ℕ) → w ≡ CloseSet j h x → ⊥
+    op_open : (n x : ℕ) → set_of_op (op_progress_of n s) ≡ Some x → (j h : ℕ) → w ≡ CloseSet j h x → ⊥
     op_open n x far j h is = ⊎_elim (λ to. laid_open to x j h is) (λ was. let c = (closes j h x is).1.1.1.1.1.1 in
         let runs = unwaited_runs x n a.base c.0 was (known.placed n x was) in
         let wait = known.runs n x _ was runs c.1.0 in let not = c.1.1.1 in absurd (grind arith)) (q.far n x far)
 
-    home : (i x : ℕ) → ((j h : ℕ) → w ≡ CloseSet j h x → ⊥) → IsOf i x s → IsOf i x (after_word w s)
+    home : (i x : ℕ) → ((j h : ℕ) → w ≡ CloseSet j h x → ⊥) → IsOf i x s → IsOf i x (after_primitive w s)
     home i x other h = of_word i x w s other (joins.sets x) h
 
     brings_home : (n x : ℕ) → Brings a n x → Home n x
     brings_home n x b =
         (home _ x (laid_open b.0.1 x) (q.homes b.0.1 _ x (⊎_elim (set_home n x) (known.waits.by_place n x) b.1)), known.there n b.0.0)
 
-    pub homed_word : Homed a (after_word w s)
+    pub homed_word : Homed a (after_primitive w s)
     homed_word = record {
       homes = λ to i x h. home i x (laid_open to x) (q.homes to i x h);
       by_place = λ n x h. ⊎_elim (λ e. let b = q.by_place n x e in (home _ x (place_open n x e) b.0, b.1)) (brings_home n x)

@@ -1,5 +1,5 @@
 -- How a set's three numbers change where one subtask or one thread does.
-use Rattle.task_laws.proofs.Words.{arith, Bool, by_number, Call, Change, Changes, Core, false, Fewer, get, how_far_of, HowFar, is_delivery_for, is_inside_wait, is_ready_in, is_ready_member, is_resumption, is_waiter, is_waiting_on, is_woken_for, More, nat_tests, None, Option, option_map, option_map_or, Place, place_of, ready_members, Records, refl, Same, same_subtask, Some, subst, Subtask, sym, Thread, true, waiters, woken, Work, ℕ, ◌&&◌, ◌+◌, ◌==◌, ◌||◌, ◌∙◌, ◌≡◌, ◌≤◌}
+use Rattle.task_laws.proofs.Words.{arith, Bool, by_number, Call, Change, Changes, Core, false, Fewer, get, op_progress_of, OpProgress, is_delivery_for, is_inside_wait, is_ready_in, is_ready_member, is_resumption, is_waiter, is_waiting_on, is_woken_for, More, nat_tests, None, Option, option_map, option_map_or, Place, place_of, ready_members, Records, refl, Same, same_subtask, Some, subst, Subtask, sym, Thread, true, waiters, woken, Work, ℕ, ◌&&◌, ◌+◌, ◌==◌, ◌||◌, ◌∙◌, ◌≡◌, ◌≤◌}
 use Rattle.task_laws.proofs.{Counts.at_number, Counts.counted, Counts.counted_weighs, Counts.marks, Counts.mass, Counts.one, ReadyCounts.call_ready, ReadyCounts.is_woken_at, ReadyCounts.work_ready}
 
 -- what a test says before and after
@@ -96,21 +96,21 @@ members_change x (Subtask.Host j) c s t here others = both_works c _ _ _ _
 
 -- ---- Whether a thread is woken hangs on its place and how far its op is
 
-abbrev pub woken_place : ℕ → Option Place → HowFar → Bool
+abbrev pub woken_place : ℕ → Option Place → OpProgress → Bool
 woken_place y (Some (Place.Ready m w)) far = is_delivery_for y w || (is_resumption w && is_inside_wait y far)
 woken_place y (Some (Place.Held w)) far = is_delivery_for y w
 woken_place y (Some Place.Running) far = is_inside_wait y far
 woken_place y _ far = false
 
-of_place : (y : ℕ) (r : Thread) (p : Place) → is_woken_for y r p ≡ woken_place y (Some p) r.how_far
+of_place : (y : ℕ) (r : Thread) (p : Place) → is_woken_for y r p ≡ woken_place y (Some p) r.op_progress
 of_place y r (Place.Ready m w) = refl
 of_place y r (Place.Held w) = refl
 of_place y r Place.Running = refl
 of_place y r p = refl
 
-pub woken_at : (y m : ℕ) (u : Core) → is_woken_at y m u ≡ woken_place y (place_of m u) (how_far_of m u)
+pub woken_at : (y m : ℕ) (u : Core) → is_woken_at y m u ≡ woken_place y (place_of m u) (op_progress_of m u)
 woken_at y m u = by (get u.threads m)
   where
-    by : (o : Option Thread) → option_map_or (λ (r : Thread). is_woken_for y r r.place) o false ≡ woken_place y (option_map (λ (r : Thread). r.place) o) (option_map_or (λ (r : Thread). r.how_far) o HowFar.Fresh)
+    by : (o : Option Thread) → option_map_or (λ (r : Thread). is_woken_for y r r.place) o false ≡ woken_place y (option_map (λ (r : Thread). r.place) o) (option_map_or (λ (r : Thread). r.op_progress) o OpProgress.Fresh)
     by None = refl
     by (Some r) = of_place y r r.place

@@ -1,5 +1,5 @@
 -- What host works come to along the words of a step: their ends, and what they have to hand out.
-use Rattle.task_laws.proofs.Words.{after_word, Allowed, along, ap, arith, base_at, Bool, Core, course_value, Doing, doing_of, false, fresh, get, get-empty, has_end, host_status, if◌then◌else◌, inl, inr, is_aborted, is_async_work, is_finishing, is_late, is_some, is_stage_ended, is_sync_work, Label, later_after, later_same, LaterBy, le_refl, le_trans, LoopLabel, made_works_word, MayAbort, MayBeAborted, None, of_base, Op, Option, option_and_then, refl, Scene, scene_as, Setting, Some, Stage, stand_word, State, Status, true, Turn, undelivered_end, WalkedAs, Word, Work, work_came, WorkAfter, WorkCame, WorksStand, ℕ, ⊎_elim, ◌&&◌, ◌||◌, ◌≡◌, ◌≤◌, ◌⊎◌}
+use Rattle.task_laws.proofs.Words.{after_primitive, Allowed, along, ap, arith, base_at, Bool, Core, course_value, Doing, doing_of, false, fresh, get, get-empty, has_end, host_status, if◌then◌else◌, inl, inr, is_aborted, is_async_work, is_finishing, is_late, is_some, is_stage_ended, is_sync_work, Label, later_after, later_same, LaterBy, le_refl, le_trans, LoopLabel, made_works_word, MayAbort, MayBeAborted, None, of_base, Op, Option, option_and_then, refl, Scene, scene_as, Setting, Some, Stage, stand_word, State, Status, true, Turn, undelivered_end, WalkedAs, Primitive, Work, work_came, WorkAfter, WorkCame, WorksStand, ℕ, ⊎_elim, ◌&&◌, ◌||◌, ◌≡◌, ◌≤◌, ◌⊎◌}
 
 -- What holds of a work: an end where its stage says so; an event of its own end, once it has ended; and, where S says that none is
 -- aborted, a sync one ends with a value.
@@ -70,8 +70,8 @@ module _ {S M : Type 0} {a : Scene} {s : Core} {b i : ℕ} {h g : ℕ × ℕ} {o
 lasts_after : (t u v : Doing) → Lasts t u → Lasts u v → Lasts t v
 lasts_after t u v p q = grind arith
 
-pub works_word : {S : Type 0} {a : Scene} → (S → (i : ℕ) → MayAbort a i → MayBeAborted a.base i) → (w : Word) (s : Core) → Allowed a w s →
-    WorksGo S a s → WorksGo S a (after_word w s)
+pub works_word : {S : Type 0} {a : Scene} → (S → (i : ℕ) → MayAbort a i → MayBeAborted a.base i) → (w : Primitive) (s : Core) → Allowed a w s →
+    WorksGo S a s → WorksGo S a (after_primitive w s)
 works_word {S = S} {a = a} unsync w s ok q = record {
   counted = le_trans q.counted (made_works_word a w s);
   holds = record {

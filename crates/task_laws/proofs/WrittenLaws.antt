@@ -1,5 +1,5 @@
 -- The laws of the ends of calls and works that hold by each step alone.
-use Rattle.task_laws.proofs.Words.{Answers, arith, base_at, Bool, changes_end, end_for, EndsHandedAsTold, EndsWrittenOnce, EndWords, event_of, false, get, HandsAtOnce, HandsOut, inl, inr, is_some, Label, NewEndsAreSaid, NewResultsAreSaid, NoEndIsCovered, None, ops_of, plain, plain_scene, Reached, reached_holds, reached_keeps, reached_step, refl, Setting, Some, State, Status, Step, step_walks, Subtask, TakesEvent, TakesResult, true, Turn, undelivered_end, Walked, WritesToo, written_by, WrittenEndsAreNew, ◌≡◌, ◌⊎◌}
+use Rattle.task_laws.proofs.Words.{Answers, arith, base_at, Bool, changes_end, end_for, EndsHandedAsTold, EndsWrittenOnce, EndPrimitives, event_of, false, get, HandsAtOnce, HandsOut, inl, inr, is_some, Label, NewEndsAreSaid, NewResultsAreSaid, NoEndIsCovered, None, ops_of, plain, plain_scene, Reached, reached_holds, reached_keeps, reached_step, refl, Setting, Some, State, Status, Step, step_walks, Subtask, TakesEvent, TakesResult, true, Turn, undelivered_end, Walked, WritesToo, written_by, WrittenEndsAreNew, ◌≡◌, ◌⊎◌}
 use Rattle.task_laws.proofs.{CallEnds.reached_ends_told, OnceLemmas.Keeps, OnceLemmas.Over, OnceLemmas.counts_once, OnceLemmas.over_changes, OnceLemmas.over_stays, SaidEnds.hands_at, SaidEnds.said_plain, StepEnds.events_come, StepEnds.guest_covers, StepEnds.host_keeps, StepEnds.keeps_call, StepEnds.results_come, StepEnds.written_new, Works.WorksHold, Works.opening_works, Works.works_go}
 
 pub new_ends_are_said : NewEndsAreSaid
@@ -24,7 +24,7 @@ pub ends_handed_as_told : EndsHandedAsTold
 unfolding EndsHandedAsTold
 ends_handed_as_told x s l t step k e out =
     let q : Walked x s l t = step_walks x s l t step in
-    let says = plain x s l q.next (λ a. EndWords a t.core) q.ends.says in
+    let says = plain x s l q.next (λ a. EndPrimitives a t.core) q.ends.says in
     by q.next _ e refl (says.hands _ e (hands_at (ops_of x.component s.core) s.main s.core (base_at s.turn s.core).queues t.core l _ out))
   where
     by : (next : Turn) (sub : Subtask) (f : Status) → sub ≡ Subtask.Guest k → HandsOut (plain_scene x s l next) t.core sub f →

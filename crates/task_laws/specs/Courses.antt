@@ -3,7 +3,7 @@
 use Rattle.std.specs.Prelude.{is_some, true, ℕ, ◌+◌, ◌≡◌, ◌≤◌, ◌⊎◌}
 use Rattle.task_machine.specs.Core.{State}
 use Rattle.task_machine.specs.Maps.{get}
-use Rattle.task_machine.specs.Read.{how_far_of}
+use Rattle.task_machine.specs.Read.{op_progress_of}
 use Rattle.task_machine.specs.declared.label.Label.{Label}
 use Rattle.task_machine.specs.declared.records.Turn.TheVariants as turn
 use Rattle.task_machine.specs.declared.records.Work.{Work}
@@ -25,7 +25,7 @@ CoursesStay = (ops : ℕ → Op) (x : Setting) (s : State) (l : Label) (t : Stat
 -- Who makes a work: main spawns it, or the op that the running thread has calls a host.
 pub data MakesWork (ops : ℕ → Op) (s : State) : Type 0 where
   Spawns : s.turn ≡ turn.Main → MakesWork ops s
-  CallsHost : (n : ℕ) → s.turn ≡ turn.Run n → queues_work (how_far_of n s.core) (ops n) ≡ true → MakesWork ops s
+  CallsHost : (n : ℕ) → s.turn ≡ turn.Run n → queues_work (op_progress_of n s.core) (ops n) ≡ true → MakesWork ops s
 
 -- Where each work has a number that was given, a work that is there after a step was made before it, or is made in it, with the next
 -- number.

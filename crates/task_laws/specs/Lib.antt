@@ -6,7 +6,7 @@ pub mod Handles
 pub mod Order
 pub mod Ends
 pub mod Exports
-pub mod Wakes
+pub mod WakeLaw
 pub mod Courses
 pub mod Settled
 pub mod WakeTable

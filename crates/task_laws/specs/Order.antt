@@ -13,25 +13,25 @@ use Rattle.task_rules.specs.Works.{has_end}
 use Rattle.task_machine.specs.declared.records.WorkCaller.TheVariants as work_caller
 use Rattle.std.specs.Prelude.{Bool, None, Option, Some, false, is_none, is_some, option_and_then, option_map, true, ℕ, ◌+◌, ◌≡◌, ◌≤◌, length, List, [], ◌∷◌, ◌==◌, ◌⊎◌, ◌&&◌, ◌||◌, not}
 use Rattle.task_laws.specs.Settings.{CodesInCallbacks}
-use Rattle.task_laws.specs.Wakes.{BehindFeet, CallersGoOn, NoneAdmitted, NoneBlockedOnEnd, WakesCounted}
+use Rattle.task_laws.specs.WakeLaw.{BehindFeet, CallersGoOn, NoneAdmitted, NoneBlockedOnEnd, WakesCounted}
 use Rattle.task_machine.specs.declared.words.Mark.TheVariants as mark
-use Rattle.task_machine.specs.Core.{Core, Main, State, Table}
+use Rattle.task_machine.specs.Core.{Core, Main, State, NameTable}
 use Rattle.task_machine.specs.Maps.{get, size}
-use Rattle.task_machine.specs.Read.{call_instance, how_far_of, instance_of, is_async_lifted, is_callback, is_direct, is_explicit, goal_of, kind_of, place_of, task_of, set_at, subtask_at, end_of, is_guest_call, subtask_handle, join_of, is_stage_ended, stage_of, work_caller_of, event_of, has_ended, undelivered_end, course_value}
+use Rattle.task_machine.specs.Read.{call_instance, op_progress_of, instance_of, is_async_lifted, is_callback, is_direct, is_explicit, goal_of, kind_of, place_of, task_of, set_at, subtask_at, end_of, is_guest_call, subtask_handle, join_of, is_stage_ended, stage_of, work_caller_of, event_of, has_ended, undelivered_end, course_value}
 use Rattle.task_machine.specs.declared.component.Component.{Component}
 use Rattle.task_machine.specs.declared.label.Label.{Label}
 use Rattle.task_machine.specs.declared.records.Call.{Call}
 use Rattle.task_machine.specs.declared.records.CallEnd.{CallEnd}
 use Rattle.task_machine.specs.declared.records.CallEnd.TheVariants as call_end
 use Rattle.task_machine.specs.declared.records.Caller.TheVariants as caller
-use Rattle.task_machine.specs.declared.words.OwnEvent.{OwnEvent}
-use Rattle.task_machine.specs.declared.words.OwnEvent.TheVariants as own
+use Rattle.task_machine.specs.declared.words.TaskEvent.{TaskEvent}
+use Rattle.task_machine.specs.declared.words.TaskEvent.TheVariants as own
 use Rattle.task_machine.specs.declared.words.Status.{Status}
 use Rattle.task_machine.specs.declared.words.Status.TheVariants as status
 use Rattle.std.specs.Option.{option_map_or}
 use Rattle.task_machine.specs.declared.records.Delivery.TheVariants as delivery
-use Rattle.task_machine.specs.declared.records.HowFar.{HowFar}
-use Rattle.task_machine.specs.declared.records.HowFar.TheVariants as how_far
+use Rattle.task_machine.specs.declared.records.OpProgress.{OpProgress}
+use Rattle.task_machine.specs.declared.records.OpProgress.TheVariants as op_progress
 use Rattle.task_machine.specs.declared.records.Join.TheVariants as join
 use Rattle.task_machine.specs.declared.records.Place.{Place}
 use Rattle.task_machine.specs.declared.records.Place.TheVariants as place
@@ -90,9 +90,9 @@ pub record WasCall (s : Core) (k : ℕ) : Type 0 where
 -- Each call that a handle names, or that an op under way is about, was made as a call.
 pub record CallsNamed (s : Core) : Type 0 where
   pub by_handle : (i h k : ℕ) → subtask_at i h s ≡ Some (subtask.Guest k) → WasCall s k
-  pub by_op : (n k : ℕ) → subtask_under_way (how_far_of n s) ≡ Some (subtask.Guest k) → WasCall s k
+  pub by_op : (n k : ℕ) → subtask_under_way (op_progress_of n s) ≡ Some (subtask.Guest k) → WasCall s k
 
-abbrev pub is_cancelled : Option OwnEvent → Bool
+abbrev pub is_cancelled : Option TaskEvent → Bool
 is_cancelled (Some own.Cancelled) = true
 is_cancelled _ = false
 
@@ -104,7 +104,7 @@ at_most_returned _ = false
 
 -- no cancel has come to the call
 abbrev pub is_uncancelled : Call → Bool
-is_uncancelled c = not (is_cancelled c.own_event) && (not c.cancel_delivered && at_most_returned c.«end»)
+is_uncancelled c = not (is_cancelled c.task_event) && (not c.cancel_delivered && at_most_returned c.«end»)
 
 -- if the call is there, the thread has made it, no handle names it, and no cancel has come to it
 abbrev pub OnlyCalled : ℕ → ℕ → Core → Type 0
@@ -114,7 +114,7 @@ OnlyCalled n k s = (c : Call) → get s.calls k ≡ Some c → (c.caller ≡ cal
 pub record NamesKnown (s : Core) : Type 0 where
   pub there : (i h k : ℕ) → subtask_at i h s ≡ Some (subtask.Guest k) → subtask_handle (subtask.Guest k) s ≡ Some h
   pub once : (i j h g k : ℕ) → subtask_at i h s ≡ Some (subtask.Guest k) → subtask_at j g s ≡ Some (subtask.Guest k) → i ≡ j
-  pub called : (n k : ℕ) → how_far_of n s ≡ how_far.Calls (subtask.Guest k) → OnlyCalled n k s
+  pub called : (n k : ℕ) → op_progress_of n s ≡ op_progress.Calls (subtask.Guest k) → OnlyCalled n k s
 
 abbrev pub is_returned : Option Status → Bool
 is_returned (Some status.Returned) = true
@@ -125,16 +125,16 @@ abbrev pub is_awaited : Call → Bool
 is_awaited c = (is_guest_call c.caller && not (is_direct c.goal)) && (is_none c.«end» || is_returned c.event)
 
 -- the call that an op under way cancels
-abbrev pub cancelled_call : HowFar → Option ℕ
-cancelled_call (how_far.Cancels (subtask.Guest k)) = Some k
-cancelled_call (how_far.AwaitsEnd (subtask.Guest k)) = Some k
+abbrev pub cancelled_call : OpProgress → Option ℕ
+cancelled_call (op_progress.Cancels (subtask.Guest k)) = Some k
+cancelled_call (op_progress.AwaitsEnd (subtask.Guest k)) = Some k
 cancelled_call _ = None
 
 -- A thread inside a call of an export is under the call's thread, or the call is there and awaited. Meanwhile no op cancels it.
 pub record CallsAwaited (s : Core) : Type 0 where
-  pub inside : (n k : ℕ) → how_far_of n s ≡ how_far.Calls (subtask.Guest k) →
+  pub inside : (n k : ℕ) → op_progress_of n s ≡ op_progress.Calls (subtask.Guest k) →
       (place_of n s ≡ Some (place.Under k)) ⊎ (option_map_or is_awaited (get s.calls k) false ≡ true)
-  pub apart : (n m k : ℕ) → how_far_of n s ≡ how_far.Calls (subtask.Guest k) → cancelled_call (how_far_of m s) ≡ Some k → ⊥
+  pub apart : (n m k : ℕ) → op_progress_of n s ≡ op_progress.Calls (subtask.Guest k) → cancelled_call (op_progress_of m s) ≡ Some k → ⊥
 
 -- The record of a host's work says which handle names it, in one instance, and that is the work of an async call. A thread inside a sync
 -- call of a host is inside the work of that call, which was made.
@@ -142,27 +142,27 @@ pub record WorksKnown (s : Core) : Type 0 where
   pub there : (i h j : ℕ) → subtask_at i h s ≡ Some (subtask.Host j) → subtask_handle (subtask.Host j) s ≡ Some h
   pub once : (i l h g j : ℕ) → subtask_at i h s ≡ Some (subtask.Host j) → subtask_at l g s ≡ Some (subtask.Host j) → i ≡ l
   pub async : (h j : ℕ) → subtask_handle (subtask.Host j) s ≡ Some h → is_async_work (work_caller_of j s) ≡ true
-  pub called : (n j : ℕ) → how_far_of n s ≡ how_far.Calls (subtask.Host j) →
+  pub called : (n j : ℕ) → op_progress_of n s ≡ op_progress.Calls (subtask.Host j) →
       (j ≤ s.made.works) × (work_caller_of j s ≡ work_caller.Sync n)
 
 -- Each work that a handle names, or that an op under way is about, was made.
 pub record WorksNamed (s : Core) : Type 0 where
   pub by_handle : (i h j : ℕ) → subtask_at i h s ≡ Some (subtask.Host j) → j ≤ s.made.works
-  pub by_op : (n j : ℕ) → subtask_under_way (how_far_of n s) ≡ Some (subtask.Host j) → j ≤ s.made.works
+  pub by_op : (n j : ℕ) → subtask_under_way (op_progress_of n s) ≡ Some (subtask.Host j) → j ≤ s.made.works
 
 -- the subtask that an op under way cancels
-abbrev pub cancelled_by : HowFar → Option Subtask
-cancelled_by (how_far.Cancels sub) = Some sub
-cancelled_by (how_far.AwaitsEnd sub) = Some sub
+abbrev pub cancelled_by : OpProgress → Option Subtask
+cancelled_by (op_progress.Cancels sub) = Some sub
+cancelled_by (op_progress.AwaitsEnd sub) = Some sub
 cancelled_by _ = None
 
 -- a subtask that an op cancels is there, and a handle names it
 abbrev pub CancelsNamed : Core → Type 0
-CancelsNamed s = (n : ℕ) (sub : Subtask) → cancelled_by (how_far_of n s) ≡ Some sub → is_some (subtask_handle sub s) ≡ true
+CancelsNamed s = (n : ℕ) (sub : Subtask) → cancelled_by (op_progress_of n s) ≡ Some sub → is_some (subtask_handle sub s) ≡ true
 
 -- a subtask that an op cancels is in the thread's own set, or gone
 abbrev pub CancelsWatched : Core → Type 0
-CancelsWatched s = (n : ℕ) (sub : Subtask) → cancelled_by (how_far_of n s) ≡ Some sub → watches n sub s ≡ true
+CancelsWatched s = (n : ℕ) (sub : Subtask) → cancelled_by (op_progress_of n s) ≡ Some sub → watches n sub s ≡ true
 
 -- A handle of a set names a set of its own instance, which was made, and no other handle names it.
 pub record SetsNamed (s : Core) : Type 0 where
@@ -173,7 +173,7 @@ pub record SetsNamed (s : Core) : Type 0 where
 -- ---- Handles and joins
 
 -- Handles from 1 up to some number were made: each is live, or was freed and isn't given again.
-pub record TableKept {X : Type 0} (t : Table X) : Type 0 where
+pub record TableKept {X : Type 0} (t : NameTable X) : Type 0 where
   pub live : (h : ℕ) → is_some (get t.live h) ≡ true → h ≤ size t.live + length t.freed
   pub freed : (h : ℕ) → 1 ≤ times h t.freed → (h ≤ size t.live + length t.freed) × (get t.live h ≡ None)
   pub once : (h : ℕ) → times h t.freed ≤ 1
@@ -188,7 +188,7 @@ pub record JoinNamed (sub : Subtask) (x : ℕ) (s : Core) : Type 0 where
 -- Each instance's table of handles is kept, each set's number was given, and a subtask that is joined to a set is named in the set's
 -- instance.
 pub record JoinsNamed (s : Core) : Type 0 where
-  pub tables : (i : ℕ) (t : Table Named) → get s.handles i ≡ Some t → TableKept t
+  pub tables : (i : ℕ) (t : NameTable Named) → get s.handles i ≡ Some t → TableKept t
   pub sets : (x : ℕ) → is_some (get s.sets x) ≡ true → x ≤ s.made.sets
   pub joins : (sub : Subtask) (x : ℕ) → join_of sub s ≡ join.Set x → JoinNamed sub x s
 
@@ -206,8 +206,8 @@ set_of_place (place.Held w) = set_of_why w
 set_of_place _ = None
 
 -- the set inside a wait on which the thread is
-abbrev pub set_of_op : HowFar → Option ℕ
-set_of_op (how_far.Waits x) = Some x
+abbrev pub set_of_op : OpProgress → Option ℕ
+set_of_op (op_progress.Waits x) = Some x
 set_of_op _ = None
 
 -- the set is there, and of the instance
@@ -217,15 +217,15 @@ IsOf i x s = option_map (λ (r : Set). r.instance) (get s.sets x) ≡ Some i
 -- A set on which a thread waits, for which it has a delivery, or inside a wait on which it is, is there and of the thread's instance.
 pub record WaitsAtHome (s : Core) : Type 0 where
   pub by_place : (n x : ℕ) → option_and_then set_of_place (place_of n s) ≡ Some x → IsOf (instance_of n s) x s
-  pub by_op : (n x : ℕ) → set_of_op (how_far_of n s) ≡ Some x → IsOf (instance_of n s) x s
+  pub by_op : (n x : ℕ) → set_of_op (op_progress_of n s) ≡ Some x → IsOf (instance_of n s) x s
 
 -- a thread that is inside a wait on a set waits on it, is to resume, or runs
 abbrev pub WaitsPlaced : Core → Type 0
-WaitsPlaced s = (n x : ℕ) → how_far_of n s ≡ how_far.Waits x → option_map_or (is_at_wait x) (place_of n s) false ≡ true
+WaitsPlaced s = (n x : ℕ) → op_progress_of n s ≡ op_progress.Waits x → option_map_or (is_at_wait x) (place_of n s) false ≡ true
 
 -- a thread that waits, but not by callback, or is blocked is inside the op that says so
 abbrev pub InsideOps : Core → Type 0
-InsideOps s = (n : ℕ) (p : Place) → place_of n s ≡ Some p → is_inside p (how_far_of n s) ≡ true
+InsideOps s = (n : ℕ) (p : Place) → place_of n s ≡ Some p → is_inside p (op_progress_of n s) ≡ true
 
 -- ---- Calls
 
@@ -274,7 +274,7 @@ has_one_on_top _ = false
 pub record ThreadFits (c : Component) (s : Core) (o : Op) (t : Thread) : Type 0 where
   pub script : names_script c (call_instance t.call s) t.explicit t.script ≡ true
   pub position : t.position ≤ length (script_of_thread c s t)
-  pub op : can_come o t.how_far ≡ true
+  pub op : can_come o t.op_progress ≡ true
   pub under : has_one_on_top t.place ≡ true → is_sync_call o ≡ true
   pub first : is_delivered t.place ≡ true → t.explicit ≡ false
 
@@ -350,7 +350,7 @@ pub record WorksQueued (s : Core) : Type 0 where
 
 -- a thread inside a sync call of a host is blocked on its work, which was made, or that has ended
 abbrev pub HostsAwaited : Core → Type 0
-HostsAwaited s = (n i : ℕ) → how_far_of n s ≡ how_far.Calls (subtask.Host i) →
+HostsAwaited s = (n i : ℕ) → op_progress_of n s ≡ op_progress.Calls (subtask.Host i) →
     (i ≤ s.made.works) × ((place_of n s ≡ Some (place.Blocked (subtask.Host i))) ⊎ (is_stage_ended (stage_of i s) ≡ true))
 
 -- a work that is finishing or has ended

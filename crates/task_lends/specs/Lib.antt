@@ -1,1 +1,1 @@
-pub mod Lends
+pub mod HeldBorrows

@@ -1,6 +1,6 @@
 //! Tasks that end while they still lend something: a host counts what its calls lend, and their ends are refused.
 #![tactic(auto)]
 
-mod lends;
+mod holds_borrows;
 
-pub use lends::{cancel_lends, exit_lends, return_lends};
+pub use holds_borrows::{cancel_holds_borrows, exit_holds_borrows, return_holds_borrows};

@@ -14,17 +14,17 @@ pub data Spot (P : Type 0) : Type 0 where
   -- a node that is in this chain, with this value
   LinkedNode : (chain : ℕ) (value : P) → Spot P
 
-abbrev pub Parts : Type 0 → Type 0
-Parts P = List (ℕ × P) ⊎ (Bool ⊎ (ℕ × P))
+abbrev pub LinkParts : Type 0 → Type 0
+LinkParts P = List (ℕ × P) ⊎ (Bool ⊎ (ℕ × P))
 
 module _ {P : Type 0} where
-  abbrev pub to_parts : Spot P → Parts P
+  abbrev pub to_parts : Spot P → LinkParts P
   to_parts Unmade = inr (inl false)
   to_parts (ChainOf list) = inl list
   to_parts FreeNode = inr (inl true)
   to_parts (LinkedNode chain value) = inr (inr (chain, value))
 
-  abbrev pub from_parts : Parts P → Spot P
+  abbrev pub from_parts : LinkParts P → Spot P
   from_parts (inl list) = ChainOf list
   from_parts (inr (inl false)) = Unmade
   from_parts (inr (inl true)) = FreeNode
@@ -39,7 +39,7 @@ module _ {P : Type 0} where
   abbrev pub links_code : Coded P → Coded (List (Spot P))
   links_code code =
       coded_list
-      (code_by (Parts P) (coded⊎ (coded_list (coded× coded_ℕ code)) (coded⊎ coded_bool (coded× coded_ℕ code))) to_parts from_parts
+      (code_by (LinkParts P) (coded⊎ (coded_list (coded× coded_ℕ code)) (coded⊎ coded_bool (coded× coded_ℕ code))) to_parts from_parts
       from_parts-to_parts)
 
   -- what a number names

@@ -3,7 +3,7 @@
 use Rattle.std.specs.Prelude.{◌≡◌, ℕ, zero, suc, ◌==◌, if◌then◌else◌, Bool, true, false, List, [], ◌∷◌, length, map, slice_index_or, slice_get, count_by, option_map, Option, Some, None}
 pub use Rattle.task_links.specs.Links.{In, Apart}
 use Rattle.task_links.specs.Links.{Spot, Unmade, ChainOf, FreeNode, LinkedNode}
-use Rattle.task_links.specs.declared.links.Cell.{Cell}
+use Rattle.task_links.specs.declared.links.LinkCell.{LinkCell}
 use Rattle.task_links.specs.declared.links.Role.{Role}
 use Rattle.task_links.specs.declared.links.Role.TheVariants.{Unused, Chain, Free, Linked}
 use Rattle.task_links.specs.declared.links.Use.{Use}
@@ -19,10 +19,10 @@ UnusedFrom next first (n ∷ ns) = (first ≡ n) × UnusedFrom next (at next n) 
 
 module _ {P : Type 0} where
   -- the name after each one, the name before it, and what it stands for
-  abbrev pub next_names : List (Cell P) → List ℕ
+  abbrev pub next_names : List (LinkCell P) → List ℕ
   next_names cs = map (λ c. c.next) cs
 
-  abbrev pub previous_names : List (Cell P) → List ℕ
+  abbrev pub previous_names : List (LinkCell P) → List ℕ
   previous_names cs = map (λ c. c.previous) cs
 
   abbrev pub role_as : Use → ℕ → P → Role P
@@ -32,10 +32,10 @@ module _ {P : Type 0} where
   role_as use_of.LinkedNode chain value = Linked chain value
 
   -- only a linked node's chain and value say something
-  abbrev pub cell_role : Cell P → Role P
+  abbrev pub cell_role : LinkCell P → Role P
   cell_role c = role_as c.used c.chain c.value
 
-  abbrev pub roles_in : List (Cell P) → List (Role P)
+  abbrev pub roles_in : List (LinkCell P) → List (Role P)
   roles_in cs = map cell_role cs
 
   abbrev pub role_at : List (Role P) → ℕ → Role P

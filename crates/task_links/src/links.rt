@@ -43,7 +43,7 @@ const NONE: usize = usize::MAX;
 /// A name's neighbours in its ring, and what it stands for. Its chain and value say something of a linked node alone, so
 /// that they are written where a node is linked, and nowhere else.
 #[derive(Clone, Copy)]
-pub(crate) struct Cell<P> {
+pub(crate) struct LinkCell<P> {
     /// The name after it, the chain's own after the last.
     pub(crate) next: usize,
     /// The name before it, the chain's own before the first.
@@ -58,7 +58,7 @@ pub(crate) struct Cell<P> {
 /// Chains and nodes have numbers from one range, and a number that was given back is given again. Each call works in constant time, but for the growth of the whole, and takes no memory but where it says so.
 #[derive(Drop)]
 pub struct Links<P> {
-    cells: Vec<Cell<P>>,
+    cells: Vec<LinkCell<P>>,
     // The unused name that is given next, if there is one. After each unused name comes the one that is given after it.
     unused: usize,
     // What stands in a new cell, in the place of a value.
@@ -82,7 +82,7 @@ impl<P> Model for Links<P> {
 
 // The name after one in its ring.
 #[inline(always)]
-fn next_of<P: Copy>(cells: &Vec<Cell<P>>, index: usize) -> usize
+fn next_of<P: Copy>(cells: &Vec<LinkCell<P>>, index: usize) -> usize
     requires { index < length cells.now.items }
     ensures { result ≡ slice_index_or (next_names cells.now.items) index result }
 {
@@ -91,7 +91,7 @@ fn next_of<P: Copy>(cells: &Vec<Cell<P>>, index: usize) -> usize
 
 // The name before one in its ring.
 #[inline(always)]
-fn previous_of<P: Copy>(cells: &Vec<Cell<P>>, index: usize) -> usize
+fn previous_of<P: Copy>(cells: &Vec<LinkCell<P>>, index: usize) -> usize
     requires { index < length cells.now.items }
     ensures { result ≡ slice_index_or (previous_names cells.now.items) index result }
 {
@@ -100,7 +100,7 @@ fn previous_of<P: Copy>(cells: &Vec<Cell<P>>, index: usize) -> usize
 
 // What a cell says of its name.
 #[inline(always)]
-fn cell_role<P: Copy>(cell: &Cell<P>) -> Role<P>
+fn cell_role<P: Copy>(cell: &LinkCell<P>) -> Role<P>
     ensures { result ≡ cell_role cell.now }
 {
     match cell.used {
@@ -113,7 +113,7 @@ fn cell_role<P: Copy>(cell: &Cell<P>) -> Role<P>
 
 // What a name in use stands for.
 #[inline(always)]
-fn role_in<P: Copy>(cells: &Vec<Cell<P>>, index: usize) -> Role<P>
+fn role_in<P: Copy>(cells: &Vec<LinkCell<P>>, index: usize) -> Role<P>
     requires { index < length cells.now.items }
     ensures { result ≡ role_at (roles_in cells.now.items) index }
 {
@@ -121,7 +121,7 @@ fn role_in<P: Copy>(cells: &Vec<Cell<P>>, index: usize) -> Role<P>
 }
 
 // What a name stands for.
-fn role_of<P: Copy>(cells: &Vec<Cell<P>>, index: usize) -> Role<P>
+fn role_of<P: Copy>(cells: &Vec<LinkCell<P>>, index: usize) -> Role<P>
     ensures { result ≡ role_at (roles_in cells.now.items) index }
 {
     match cells.get(index) {
@@ -132,7 +132,7 @@ fn role_of<P: Copy>(cells: &Vec<Cell<P>>, index: usize) -> Role<P>
 
 // Writes the name after one.
 #[inline(always)]
-fn set_next<P: Copy>(cells: &mut [Cell<P>], index: usize, next: usize)
+fn set_next<P: Copy>(cells: &mut [LinkCell<P>], index: usize, next: usize)
     requires { index < length cells.old }
     ensures long { length cells.new ≡ length cells.old }
     ensures next { next_names cells.new ≡ slice_set (next_names cells.old) index next }
@@ -144,7 +144,7 @@ fn set_next<P: Copy>(cells: &mut [Cell<P>], index: usize, next: usize)
 
 // Writes the name before one.
 #[inline(always)]
-fn set_previous<P: Copy>(cells: &mut [Cell<P>], index: usize, previous: usize)
+fn set_previous<P: Copy>(cells: &mut [LinkCell<P>], index: usize, previous: usize)
     requires { index < length cells.old }
     ensures long { length cells.new ≡ length cells.old }
     ensures next { next_names cells.new ≡ next_names cells.old }
@@ -156,7 +156,7 @@ fn set_previous<P: Copy>(cells: &mut [Cell<P>], index: usize, previous: usize)
 
 // A name stands for a free node.
 #[inline(always)]
-fn set_free<P: Copy>(cells: &mut [Cell<P>], index: usize)
+fn set_free<P: Copy>(cells: &mut [LinkCell<P>], index: usize)
     requires { index < length cells.old }
     ensures next { next_names cells.new ≡ next_names cells.old }
     ensures previous { previous_names cells.new ≡ previous_names cells.old }
@@ -167,7 +167,7 @@ fn set_free<P: Copy>(cells: &mut [Cell<P>], index: usize)
 
 // A name stands for nothing; this one is given after it.
 #[inline(always)]
-fn set_unused<P: Copy>(cells: &mut Vec<Cell<P>>, index: usize, next: usize)
+fn set_unused<P: Copy>(cells: &mut Vec<LinkCell<P>>, index: usize, next: usize)
     requires { index < length cells.old.items }
     ensures next { next_names cells.new.items ≡ slice_set (next_names cells.old.items) index next }
     ensures previous { previous_names cells.new.items ≡ previous_names cells.old.items }
@@ -180,7 +180,7 @@ fn set_unused<P: Copy>(cells: &mut Vec<Cell<P>>, index: usize, next: usize)
 
 // A name stands for a chain, whose ring is itself.
 #[inline(always)]
-fn set_chain<P: Copy>(cells: &mut Vec<Cell<P>>, index: usize)
+fn set_chain<P: Copy>(cells: &mut Vec<LinkCell<P>>, index: usize)
     requires { index < length cells.old.items }
     ensures next { next_names cells.new.items ≡ slice_set (next_names cells.old.items) index index }
     ensures previous { previous_names cells.new.items ≡ slice_set (previous_names cells.old.items) index index }
@@ -195,7 +195,7 @@ fn set_chain<P: Copy>(cells: &mut Vec<Cell<P>>, index: usize)
 // A name stands for a node of this chain, with this value, between these neighbours.
 #[inline(always)]
 fn set_linked<P: Copy>(
-    cells: &mut [Cell<P>],
+    cells: &mut [LinkCell<P>],
     index: usize,
     before: usize,
     after: usize,
@@ -218,7 +218,7 @@ fn set_linked<P: Copy>(
 
 // Puts a free node between two neighbours of a ring.
 fn link<P: Copy>(
-    cells: &mut Vec<Cell<P>>,
+    cells: &mut Vec<LinkCell<P>>,
     before: usize,
     after: usize,
     node: usize,
@@ -240,7 +240,7 @@ fn link<P: Copy>(
 
 // Takes a node out from between its neighbours; it is then free.
 #[inline(always)]
-fn unlink<P: Copy>(cells: &mut Vec<Cell<P>>, before: usize, after: usize, node: usize)
+fn unlink<P: Copy>(cells: &mut Vec<LinkCell<P>>, before: usize, after: usize, node: usize)
     requires before { before < length cells.old.items }
     requires after { after < length cells.old.items }
     requires node { node < length cells.old.items }
@@ -255,7 +255,7 @@ fn unlink<P: Copy>(cells: &mut Vec<Cell<P>>, before: usize, after: usize, node: 
 }
 
 // The node of a name with its value, if it is in a chain.
-fn entry<P: Copy>(cells: &Vec<Cell<P>>, index: usize) -> Option<(Node, P)>
+fn entry<P: Copy>(cells: &Vec<LinkCell<P>>, index: usize) -> Option<(Node, P)>
     requires { index < length cells.now.items }
     ensures { option_map (λ e. (e.0.index, e.1)) result ≡ entry_at (roles_in cells.now.items) index }
 {
@@ -294,7 +294,7 @@ fn is_node<P: Copy>(role: Role<P>) -> bool
 
 // A name that is given again stands for a free node.
 #[inline(always)]
-fn name_free<P: Copy>(cells: &mut Vec<Cell<P>>, index: usize)
+fn name_free<P: Copy>(cells: &mut Vec<LinkCell<P>>, index: usize)
     requires { index < length cells.old.items }
     ensures next { next_names cells.new.items ≡ next_names cells.old.items }
     ensures previous { previous_names cells.new.items ≡ previous_names cells.old.items }
@@ -305,7 +305,7 @@ fn name_free<P: Copy>(cells: &mut Vec<Cell<P>>, index: usize)
 
 // A name that was never given. Where there is no memory for it, all is as before.
 #[cold]
-fn new_name<P: Copy>(cells: &mut Vec<Cell<P>>, used: Use, blank: P) -> Result<usize, NoMemory>
+fn new_name<P: Copy>(cells: &mut Vec<LinkCell<P>>, used: Use, blank: P) -> Result<usize, NoMemory>
     requires { role_is_new (role_as used 0 blank) ≡ true }
     ensures sound { (unused : ℕ) → IsSound (next_names cells.old.items) (previous_names cells.old.items) (roles_in cells.old.items) unused → IsSound (next_names cells.new.items) (previous_names cells.new.items) (roles_in cells.new.items) unused }
     ensures named { (unused : ℕ) → IsSound (next_names cells.old.items) (previous_names cells.old.items) (roles_in cells.old.items) unused → IfOk result (λ index. Renames (shown (next_names cells.old.items) (roles_in cells.old.items)) (shown (next_names cells.new.items) (roles_in cells.new.items)) index Unmade (new_spot (role_as used 0 blank))) }
@@ -315,7 +315,7 @@ fn new_name<P: Copy>(cells: &mut Vec<Cell<P>>, used: Use, blank: P) -> Result<us
         return Err(NoMemory);
     }
     let index = cells.len();
-    cells.push_reserved(Cell {
+    cells.push_reserved(LinkCell {
         next: index,
         previous: index,
         used,

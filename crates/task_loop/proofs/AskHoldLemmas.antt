@@ -7,30 +7,30 @@ use Rattle.task_rules.specs.Finish.{SomeHost}
 use Rattle.task_rules.specs.Threads.{resume_later_by, resume_later_rule}
 use Rattle.task_rules.specs.Task.{ret_rule}
 use Rattle.cell_laws.specs.Cells.{Runs, RunsWorks}
-use Rattle.host_works.specs.Kept.{HeldWork}
+use Rattle.host_works.specs.KeptWorks.{HeldWork}
 use Rattle.std.proofs.lemmas.Bool.Decides.{nat_tests}
 use Rattle.task_laws.specs.Order.{HostsAwaited, WorksKnown, WorksTold}
-use Rattle.task_machine.specs.Read.{at_handle_limit, fits, goal_of, has_ended, how_far_of, instance_of, is_async_lifted, is_direct, is_explicit, is_stage_ended, kind_of, place_of, task_of, thread_at, thread_group}
+use Rattle.task_machine.specs.Read.{at_handle_limit, fits, goal_of, has_ended, op_progress_of, instance_of, is_async_lifted, is_direct, is_explicit, is_stage_ended, kind_of, place_of, task_of, thread_at, thread_group}
 use Rattle.task_machine.specs.declared.records.Stage.TheVariants as stage
 use Rattle.std.proofs.Common.{ap, arith, inl, inr, refl, subst, sym, ⊎_elim, ◌∙◌}
 use Rattle.std.specs.Option.{option_map_or}
 use Rattle.std.specs.Prelude.{Bool, Err, IfSome, List, None, Ok, Option, Result, Some, false, if◌then◌else◌, is_some, not, option_map, true, ℕ, ◌==◌, ◌<◌, ◌^◌, ◌≡◌, ◌≤◌, ◌∷◌, ◌⊎◌}
 use Rattle.state_calls.specs.declared.error.TaskError.{TaskError}
 use Rattle.state_calls.specs.declared.error.TaskError.TheVariants as task_error
-use Rattle.state_calls.specs.declared.names.QualifiedThreadId.{QualifiedThreadId}
+use Rattle.state_calls.specs.declared.name_calls.QualifiedThreadId.{QualifiedThreadId}
 use Rattle.subtask_ops.specs.Starts.{call_starts}
 use Rattle.op_dispatch.specs.Makes.{makes, takes_memory}
 use Rattle.task_calls.proofs.PausedLemmas.{is_plain}
-use Rattle.task_calls.specs.Asks.{Answers, AnswersHere, AnswersOp, Does, HasPaused, IsRunningIn, is_apart, row_at, row_of, takes_here}
+use Rattle.task_calls.specs.Asks.{Answers, AnswersHere, AnswersOp, Does, HasPaused, IsRunningIn, is_apart, row_at, scripted_rule_of, takes_here}
 use Rattle.task_calls.proofs.DirectLemmas.{goes_base}
-use Rattle.task_calls.specs.Calls.{Returned, Returns}
-use Rattle.task_calls.specs.Directs.{IsDirect, exits_row}
+use Rattle.task_calls.specs.MainCalls.{Returned, Returns}
+use Rattle.task_calls.specs.Directs.{IsDirect, exits_rule}
 use Rattle.task_calls.specs.Intrinsics.{cancel_op, pressure_op, suspension_op}
 use Rattle.task_calls.specs.Prepared.{Prepares, starts_in}
 use Rattle.task_calls.specs.Resumes.{Resumed, first_in, resumed_by}
 use Rattle.task_calls.specs.declared.intrinsics.ResumeThread.{ResumeThread}
 use Rattle.task_calls.specs.declared.intrinsics.ResumeThread.TheVariants as resume
-use Rattle.task_calls.specs.declared.answers.Step.{Step as Answer}
+use Rattle.task_calls.specs.declared.answer_calls.Step.{Step as Answer}
 use Rattle.task_calls.specs.declared.intrinsics.SuspensionTarget.{SuspensionTarget}
 use Rattle.task_calls.specs.declared.intrinsics.SuspensionTarget.TheVariants as target
 use Rattle.task_machine.proofs.CommuteLemmas.{get-change}
@@ -38,7 +38,7 @@ use Rattle.task_machine.specs.Core.{Core, Main, Unscripted}
 use Rattle.task_machine.specs.Labels.{Choice, choice_of, ret_label}
 use Rattle.task_machine.specs.Maps.{Records, get}
 use Rattle.task_machine.specs.Moves.{behind_one, put_low, promoted, promoted_unless, put_switch}
-use Rattle.task_machine.specs.Write.{add_call, add_thread, give_thread_handle, on_call, on_instance, on_thread, set_callers, set_do_not_suspend, set_how_far, set_place, set_register, set_saved_callee, set_saved_own, set_started, set_thread_handle}
+use Rattle.task_machine.specs.Write.{add_call, add_thread, give_thread_handle, on_call, on_instance, on_thread, set_callers, set_do_not_suspend, set_op_progress, set_place, set_register, set_saved_callee, set_saved_own, set_started, set_thread_handle}
 use Rattle.task_machine.specs.declared.component.Callee.{Callee}
 use Rattle.task_machine.specs.declared.component.Component.{Component}
 use Rattle.task_machine.specs.declared.component.ExportKind.{ExportKind}
@@ -55,9 +55,9 @@ use Rattle.task_machine.specs.declared.op.TaskOp.TheVariants as task_op
 use Rattle.task_machine.specs.declared.records.Caller.{Caller}
 use Rattle.task_machine.specs.declared.records.Caller.TheVariants as caller
 use Rattle.task_machine.specs.declared.records.Goal.{Goal}
-use Rattle.task_machine.specs.declared.records.Made.{Made}
-use Rattle.task_machine.specs.declared.records.HowFar.{HowFar}
-use Rattle.task_machine.specs.declared.records.HowFar.TheVariants as how_far
+use Rattle.task_machine.specs.declared.records.MadeCounts.{MadeCounts}
+use Rattle.task_machine.specs.declared.records.OpProgress.{OpProgress}
+use Rattle.task_machine.specs.declared.records.OpProgress.TheVariants as op_progress
 use Rattle.task_machine.specs.declared.records.Place.TheVariants as place
 use Rattle.task_machine.specs.declared.records.Subtask.TheVariants as subtask
 use Rattle.task_machine.specs.declared.records.Thread.{Thread}
@@ -70,18 +70,18 @@ use Rattle.task_machine.specs.declared.trap.Trap.{Trap}
 use Rattle.task_machine.specs.declared.trap.Trap.TheVariants as trap
 use Rattle.task_machine.specs.declared.words.Mark.TheVariants as mark
 use Rattle.task_moves.proofs.UntouchedLemmas.{set_register_untouched}
-use Rattle.task_ops.specs.Came.{Meets}
+use Rattle.task_ops.specs.OpResult.{Implements}
 use Rattle.task_ops.specs.Halting.{First, GoesFirst, Refused, StaysBehind, or_refused, promoted_found, promoted_if, refused_if, resumed_found}
 use Rattle.task_ops.specs.Stays.{StaysAfter}
 use Rattle.task_ops.specs.Steps.{label_of}
-use Rattle.task_ops.specs.declared.came.Came.{Came}
-use Rattle.task_ops.specs.declared.came.Came.TheVariants as came
+use Rattle.task_ops.specs.declared.op_result.OpResult.{OpResult}
+use Rattle.task_ops.specs.declared.op_result.OpResult.TheVariants as op_result
 use Rattle.task_laws.specs.Courses.{CallsHost, MakesWork, Spawns}
 use Rattle.task_rules.proofs.PlacingLemmas.{placing_shifted, shifted_works}
-use Rattle.task_rules.specs.Calls.{call_made, enter_row, enter_runs, next_thread, with_thread_handle}
+use Rattle.task_rules.specs.Calls.{call_made, enter_rule, enter_runs, next_thread, with_thread_handle}
 use Rattle.task_rules.specs.OpParts.{can_come, is_data_op, queues_work}
-use Rattle.task_rules.specs.Ends.{returned, direct_exit_row, exit_row, exit_row_for, implicit_exit_row, may_tell}
-use Rattle.task_rules.specs.Progress.{Asks, Fails, Goes, Never, Ordered, Progress, Stops, Traps, may, or_trap, trap_if}
+use Rattle.task_rules.specs.Ends.{returned, direct_exit_rule, exit_rule, exit_rule_for, implicit_exit_rule, may_tell}
+use Rattle.task_rules.specs.Progress.{Asks, Fails, Continues, Never, Ordered, Progress, Stops, Traps, may, or_trap, trap_if}
 use Rattle.task_rules.specs.Scripts.{export_kind, op_of}
 use Rattle.task_rules.specs.Step.{Progresses, op_rule}
 use Rattle.task_rules.specs.Threads.{has_yielded, resume_why}
@@ -92,7 +92,7 @@ use Rattle.task_turns.proofs.KeptLemmas.{setting}
 use Rattle.task_turns.specs.Turn.{running_of, state_at}
 use Rattle.task_words.specs.StateView.{StateView, with_core, with_current}
 use Rattle.task_ops.specs.Shown.{goes_as}
-use Rattle.task_ops.specs.declared.came.OpAnswer.{OpAnswer}
+use Rattle.task_ops.specs.declared.op_result.OpAnswer.{OpAnswer}
 
 -- ---- An op that names neither an export nor a host
 
@@ -101,7 +101,7 @@ not_data (op.Data k) e = absurd (cc)
 not_data k e = refl
 
 -- such an op calls no host
-calls_none : (k : Op) (h : HowFar) → is_apart k ≡ true → queues_work h k ≡ false
+calls_none : (k : Op) (h : OpProgress) → is_apart k ≡ true → queues_work h k ≡ false
 calls_none (op.Data k) h e = absurd (cc)
 calls_none (op.Call (call_op.Call r q g xs)) h e = absurd (cc)
 calls_none (op.Call (call_op.CallSync r g xs)) h e = absurd (cc)
@@ -110,17 +110,17 @@ calls_none (op.Call (call_op.CallSyncHost r f)) h e = absurd (cc)
 calls_none k h e = grind (arith, e)
 
 -- an op that has paused makes no work, since a call of a host that has paused has made its own
-paused_none : (k : Op) (h : HowFar) → can_come k h ≡ true → (h ≡ how_far.Fresh → ⊥) → queues_work h k ≡ false
-paused_none k how_far.Fresh can paused = absurd (paused refl)
-paused_none k (how_far.Waits x) can paused = grind (arith, can)
-paused_none k (how_far.Calls (subtask.Guest j)) can paused = grind (arith, can)
-paused_none k (how_far.Calls (subtask.Host i)) can paused = grind (arith, can)
-paused_none k (how_far.Answered v) can paused = grind (arith, can)
-paused_none k (how_far.Cancels (subtask.Guest j)) can paused = grind (arith, can)
-paused_none k (how_far.Cancels (subtask.Host i)) can paused = absurd (cc)
-paused_none k (how_far.AwaitsEnd sub) can paused = grind (arith, can)
-paused_none k how_far.Suspends can paused = grind (arith, can)
-paused_none k how_far.Yields can paused = grind (arith, can)
+paused_none : (k : Op) (h : OpProgress) → can_come k h ≡ true → (h ≡ op_progress.Fresh → ⊥) → queues_work h k ≡ false
+paused_none k op_progress.Fresh can paused = absurd (paused refl)
+paused_none k (op_progress.Waits x) can paused = grind (arith, can)
+paused_none k (op_progress.Calls (subtask.Guest j)) can paused = grind (arith, can)
+paused_none k (op_progress.Calls (subtask.Host i)) can paused = grind (arith, can)
+paused_none k (op_progress.Answered v) can paused = grind (arith, can)
+paused_none k (op_progress.Cancels (subtask.Guest j)) can paused = grind (arith, can)
+paused_none k (op_progress.Cancels (subtask.Host i)) can paused = absurd (cc)
+paused_none k (op_progress.AwaitsEnd sub) can paused = grind (arith, can)
+paused_none k op_progress.Suspends can paused = grind (arith, can)
+paused_none k op_progress.Yields can paused = grind (arith, can)
 
 pub runs_there : (n : ℕ) (s : Core) → place_of n s ≡ Some place.Running → (r : Thread) × (get s.threads n ≡ Some r)
 runs_there n s running = by (get s.threads n) refl running
@@ -130,7 +130,7 @@ runs_there n s running = by (get s.threads n) refl running
     by (Some r) at e = (r, at)
 
 -- the op at the place of the thread that runs can come as far as it has
-can_be_there : (c : Component) (s : StateView) (running : IsRunningIn c s) → can_come (op_of c running.number s.core) (how_far_of running.number s.core) ≡ true
+can_be_there : (c : Component) (s : StateView) (running : IsRunningIn c s) → can_come (op_of c running.number s.core) (op_progress_of running.number s.core) ≡ true
 can_be_there c s running =
     let n = running.number in
     let thread = runs_there n s.core ((running.order.order Unscripted).in_place.runs n refl) in
@@ -138,15 +138,15 @@ can_be_there c s running =
     let op = fits.op in let at = thread.1 in grind (arith)
 
 module _ (left : ℕ → Option HeldWork) (s t : StateView) (n : ℕ) (works : RunsWorks n s.core) (h : HoldsWorks left s.core) where
-  none_made : (ops : ℕ → Op) (m : Main) → queues_work (how_far_of n s.core) (ops n) ≡ false → MakesWork ops (state_at s.core m (turn.Run n)) → ⊥
+  none_made : (ops : ℕ → Op) (m : Main) → queues_work (op_progress_of n s.core) (ops n) ≡ false → MakesWork ops (state_at s.core m (turn.Run n)) → ⊥
   none_made ops m quiet (Spawns main) = cc
   none_made ops m quiet (CallsHost k runs queues) =
       let same : n ≡ k = cc in
-      let is : queues_work (how_far_of n s.core) (ops n) ≡ true = subst (λ (i : ℕ). queues_work (how_far_of i s.core) (ops i) ≡ true) (sym same) queues in
+      let is : queues_work (op_progress_of n s.core) (ops n) ≡ true = subst (λ (i : ℕ). queues_work (op_progress_of i s.core) (ops i) ≡ true) (sym same) queues in
       cc
 
   -- an op as a host has it done; no part of main is in it, so main may be one that has spawned nothing
-  module _ (c : Component) (o : Op) (other : is_data_op o ≡ false) (quiet : queues_work (how_far_of n s.core) o ≡ false) where
+  module _ (c : Component) (o : Op) (other : is_data_op o ≡ false) (quiet : queues_work (op_progress_of n s.core) o ≡ false) where
     walked : (l : Label) (p : Turn) → Progresses (state_at s.core nobody (turn.Run n)) s.core n (op_rule SomeHost c n s.core (choice_of l) o) l (state_at t.core nobody p) → HoldsWorks left t.core
     unfolding HostRulesAreWalks
     walked l p row =
@@ -158,15 +158,15 @@ module _ (left : ℕ → Option HeldWork) (s t : StateView) (n : ℕ) (works : R
         holds_quiet ops x before l after w (Runs n) works.made (walked_stays ops x before l after n works w refl (nothing_spawned before refl) left h) left h
         (none_made ops nobody quiet)
 
-    pub did_quiet : (r : Came) → Meets (row_of c o s.core n (choice_of (label_of n r))) s.core r t.core → StaysAfter r s t → HoldsWorks left t.core
-    did_quiet (came.Goes l m said) met stays = walked l (turn.Run m) (met_progresses c o n (came.Goes l m said) s.core t.core met refl nobody)
-    did_quiet (came.Stops l) met stays = walked l turn.Main (met_progresses c o n (came.Stops l) s.core t.core met refl nobody)
-    did_quiet (came.Traps why) met stays = subst (λ (v : StateView). HoldsWorks left v.core) (sym stays) h
-    did_quiet (came.Fails i) met stays = subst (λ (v : StateView). HoldsWorks left v.core) (sym stays) h
+    pub did_quiet : (r : OpResult) → Implements (scripted_rule_of c o s.core n (choice_of (label_of n r))) s.core r t.core → StaysAfter r s t → HoldsWorks left t.core
+    did_quiet (op_result.Continues l m said) met stays = walked l (turn.Run m) (met_progresses c o n (op_result.Continues l m said) s.core t.core met refl nobody)
+    did_quiet (op_result.Stops l) met stays = walked l turn.Main (met_progresses c o n (op_result.Stops l) s.core t.core met refl nobody)
+    did_quiet (op_result.Traps why) met stays = subst (λ (v : StateView). HoldsWorks left v.core) (sym stays) h
+    did_quiet (op_result.Fails i) met stays = subst (λ (v : StateView). HoldsWorks left v.core) (sym stays) h
 
   -- one that names neither an export nor a host
-  pub did_apart : (c : Component) (o : Op) → is_apart o ≡ true → (r : Came) → Meets (row_of c o s.core n (choice_of (label_of n r))) s.core r t.core → StaysAfter r s t → HoldsWorks left t.core
-  did_apart c o apart = did_quiet c o (not_data o apart) (calls_none o (how_far_of n s.core) apart)
+  pub did_apart : (c : Component) (o : Op) → is_apart o ≡ true → (r : OpResult) → Implements (scripted_rule_of c o s.core n (choice_of (label_of n r))) s.core r t.core → StaysAfter r s t → HoldsWorks left t.core
+  did_apart c o apart = did_quiet c o (not_data o apart) (calls_none o (op_progress_of n s.core) apart)
 
 -- ---- By what was answered
 
@@ -175,7 +175,7 @@ module _ (left : ℕ → Option HeldWork) (s t : StateView) (h : HoldsWorks left
   still same = subst (λ (v : StateView). HoldsWorks left v.core) (sym same) h
 
   -- nothing is changed, or it was done
-  pub by_answers : {A : Type 0} (takes : Bool) (row : ℕ → Choice → Progress) (f : OpAnswer → A) (a : Result (Answer A) TaskError) (n : ℕ) → running_of s ≡ Some n → ((r : Came) → Does (row n) n s r t → HoldsWorks left t.core) →
+  pub by_answers : {A : Type 0} (takes : Bool) (row : ℕ → Choice → Progress) (f : OpAnswer → A) (a : Result (Answer A) TaskError) (n : ℕ) → running_of s ≡ Some n → ((r : OpResult) → Does (row n) n s r t → HoldsWorks left t.core) →
       Answers takes row f s a t → HoldsWorks left t.core
   by_answers takes row f (Err task_error.NoMemory) n runs by_row answers = still answers.1
   by_answers takes row f (Ok a) n runs by_row answers = by_row answers.0 (subst (λ (o : Option ℕ). IfSome o (λ k. Does (row k) k s answers.0 t)) runs answers.1.0)
@@ -189,15 +189,15 @@ module _ (left : ℕ → Option HeldWork) (s t : StateView) (h : HoldsWorks left
     -- an op that names neither an export nor a host
     pub asked_holds : {A : Type 0} (o : Op) (f : OpAnswer → A) (a : Result (Answer A) TaskError) → is_apart o ≡ true → AnswersOp c o f s a t → HoldsWorks left t.core
     asked_holds o f a apart answers =
-        by_answers (takes_memory o) (row_of c o s.core) f a running.number running.runs (λ r d. did_apart left s t running.number works h c o apart r d.meets d.stays) answers
+        by_answers (takes_memory o) (scripted_rule_of c o s.core) f a running.number running.runs (λ r d. did_apart left s t running.number works h c o apart r d.meets d.stays) answers
 
     -- the op at the place, that has paused
     pub gone_on_holds : {A : Type 0} (f : OpAnswer → A) (a : Result (Answer A) TaskError) (i : ℕ) → HasPaused i s → AnswersHere c f s a t → HoldsWorks left t.core
     gone_on_holds f a i paused answers =
         let n = running.number in
-        let far = (subst (λ (o : Option ℕ). IfSome o (λ k. (instance_of k s.core ≡ i) × (how_far_of k s.core ≡ how_far.Fresh → ⊥))) running.runs paused).1 in
+        let far = (subst (λ (o : Option ℕ). IfSome o (λ k. (instance_of k s.core ≡ i) × (op_progress_of k s.core ≡ op_progress.Fresh → ⊥))) running.runs paused).1 in
         let can = can_be_there c s running in
-        by_answers (takes_here c s) (row_at c s.core) f a n running.runs (λ r d. did_quiet left s t n works h c (op_of c n s.core) (is_plain c s running (i, paused)).1 (paused_none (op_of c n s.core) (how_far_of n s.core) can far) r d.meets d.stays) answers
+        by_answers (takes_here c s) (row_at c s.core) f a n running.runs (λ r d. did_quiet left s t n works h c (op_of c n s.core) (is_plain c s running (i, paused)).1 (paused_none (op_of c n s.core) (op_progress_of n s.core) can far) r d.meets d.stays) answers
 
 pub apart_pressure : (up : Bool) → is_apart (pressure_op up) ≡ true
 apart_pressure true = refl
@@ -236,7 +236,7 @@ module _ (left : ℕ → Option HeldWork) (s t : StateView) (h : HoldsWorks left
 
   -- and begun
   starts_works : (n m k j : ℕ) (x : ExportKind) (u : Core) → (call_starts n m k j x u).works ≡ u.works
-  unfolding behind_one set_place on_thread set_callers set_how_far set_do_not_suspend on_instance set_saved_callee
+  unfolding behind_one set_place on_thread set_callers set_op_progress set_do_not_suspend on_instance set_saved_callee
   starts_works n m k j kind.Sync u = shifted_works (placing_shifted (Put mark.Switch m whys.Start) u)
   starts_works n m k j kind.Blocking u = shifted_works (placing_shifted (Put mark.Switch m whys.Start) u)
   starts_works n m k j kind.Stackful u = shifted_works (placing_shifted (Put mark.Switch m whys.Start) u)
@@ -247,16 +247,16 @@ module _ (left : ℕ → Option HeldWork) (s t : StateView) (h : HoldsWorks left
 
   -- a direct call is entered
   enters_works : (n : ℕ) (e : Callee) (x : ExportKind) (words : List ℕ) (u : Core) → (enter_runs n e x words u).works ≡ u.works
-  unfolding enter_runs call_made add_call add_thread with_thread_handle set_thread_handle give_thread_handle set_started set_place on_thread on_call on_instance set_how_far set_do_not_suspend set_saved_own
+  unfolding enter_runs call_made add_call add_thread with_thread_handle set_thread_handle give_thread_handle set_started set_place on_thread on_call on_instance set_op_progress set_do_not_suspend set_saved_own
   enters_works n e kind.Sync words u = refl
   enters_works n e kind.Blocking words u = refl
   enters_works n e kind.Stackful words u = refl
   enters_works n e kind.Callback words u = refl
 
-  pub entered_holds : (n : ℕ) (e : Callee) (x : ExportKind) (words : List ℕ) (r : Came) → Meets (enter_row n e x words s.core) s.core r t.core → HoldsWorks left t.core
+  pub entered_holds : (n : ℕ) (e : Callee) (x : ExportKind) (words : List ℕ) (r : OpResult) → Implements (enter_rule n e x words s.core) s.core r t.core → HoldsWorks left t.core
   entered_holds n e x words r met = by (not (fits 3 s.core)) (at_handle_limit s.core) met
     where
-      by : (a b : Bool) → Meets (trap_if a trap.TableFull (trap_if b trap.HandleLimit (Goes (label.Call (call_label.Enters n (next_thread s.core))) (enter_runs n e x words s.core) (next_thread s.core)))) s.core r t.core → HoldsWorks left t.core
+      by : (a b : Bool) → Implements (trap_if a trap.TableFull (trap_if b trap.HandleLimit (Continues (label.Call (call_label.Enters n (next_thread s.core))) (enter_runs n e x words s.core) (next_thread s.core)))) s.core r t.core → HoldsWorks left t.core
       by true b m = by_works s.core m.1 refl
       by false true m = by_works s.core m.1 refl
       by false false m = by_works (enter_runs n e x words s.core) m.1 (enters_works n e x words s.core)
@@ -291,17 +291,17 @@ module _ (left : ℕ → Option HeldWork) (s t : StateView) (h : HoldsWorks left
       by false = shifted_works (placing_shifted (Promote m) s.core)
   stays_promoted false m = λ u e. absurd (cc)
 
-  later_works : (n m : ℕ) (w : Why) → (set_how_far n how_far.Fresh (put_low m w s.core)).works ≡ s.core.works
-  unfolding set_how_far on_thread
+  later_works : (n m : ℕ) (w : Why) → (set_op_progress n op_progress.Fresh (put_low m w s.core)).works ≡ s.core.works
+  unfolding set_op_progress on_thread
   later_works n m w = shifted_works (placing_shifted (Put mark.Low m w) s.core)
 
   stays_later : (n h : ℕ) → Stays (first_in (resume_later_rule SomeHost n h s.core))
   stays_later n h = by (thread_at (instance_of n s.core) h s.core)
     where
-      found : (m : ℕ) (b : Bool) (o : Option Why) → Stays (first_in (trap_if b trap.CannotResumeThread (or_trap o trap.CannotResumeThread (λ w. Goes (label.Thread (thread_label.ResumeLater n)) (set_how_far n how_far.Fresh (put_low m w s.core)) n))))
+      found : (m : ℕ) (b : Bool) (o : Option Why) → Stays (first_in (trap_if b trap.CannotResumeThread (or_trap o trap.CannotResumeThread (λ w. Continues (label.Thread (thread_label.ResumeLater n)) (set_op_progress n op_progress.Fresh (put_low m w s.core)) n))))
       found m true o = stays_refused trap.CannotResumeThread
       found m false None = stays_refused trap.CannotResumeThread
-      found m false (Some w) = stays_going (set_how_far n how_far.Fresh (put_low m w s.core)) (later_works n m w)
+      found m false (Some w) = stays_going (set_op_progress n op_progress.Fresh (put_low m w s.core)) (later_works n m w)
 
       by : (o : Option ℕ) → Stays (first_in (or_trap o trap.BadHandle (resume_later_by SomeHost n s.core)))
       by None = stays_refused trap.BadHandle
@@ -325,8 +325,8 @@ module _ (left : ℕ → Option HeldWork) (s t : StateView) (h : HoldsWorks left
 
   -- ---- A task that returns
 
-  went : (a b d : Bool) (x y : Trap) (l : Label) (new : Core) (m : ℕ) (r : Result (Unit {0}) TaskError) → Returned (trap_if a x (trap_if b y (may d (Goes l new m)))) s r t →
-      (t ≡ s) ⊎ Meets (trap_if a x (trap_if b y (may d (Goes l new m)))) s.core (goes_as l m) t.core
+  went : (a b d : Bool) (x y : Trap) (l : Label) (new : Core) (m : ℕ) (r : Result (Unit {0}) TaskError) → Returned (trap_if a x (trap_if b y (may d (Continues l new m)))) s r t →
+      (t ≡ s) ⊎ Implements (trap_if a x (trap_if b y (may d (Continues l new m)))) s.core (goes_as l m) t.core
   went true b d x y l new m r q = inl q.1
   went false true d x y l new m r q = inl q.1
   went false false true x y l new m r q = inr (refl, ap (λ (v : StateView). v.core) q.1)
@@ -340,9 +340,9 @@ module _ (left : ℕ → Option HeldWork) (s t : StateView) (h : HoldsWorks left
     pub returned_holds : (b : Bool) (r : Result (Unit {0}) TaskError) → Returns n v b s r t → HoldsWorks left t.core
     returned_holds true r q = ⊎_elim by_same
         (λ met. did_apart left s t n works h c (op.Task (task_op.Ret (operand.Number v))) refl (goes_as (ret_label n v q.0) n)
-        (subst (λ (w : Option ℕ). Meets (ret_rule SomeHost n v w s.core) s.core (goes_as (ret_label n v q.0) n) t.core) (sym (shown n v q.0)) met) tt)
+        (subst (λ (w : Option ℕ). Implements (ret_rule SomeHost n v w s.core) s.core (goes_as (ret_label n v q.0) n) t.core) (sym (shown n v q.0)) met) tt)
         (went (has_ended (task_of n s.core) s.core) (not (is_async_lifted (kind_of (task_of n s.core) s.core))) (may_tell (task_of n s.core) q.0 s.core)
-        trap.TaskCancelOrReturnTwice trap.TaskReturnInvalid (ret_label n v q.0) (set_how_far n how_far.Fresh (returned (task_of n s.core) v q.0 s.core)) n r q.1)
+        trap.TaskCancelOrReturnTwice trap.TaskReturnInvalid (ret_label n v q.0) (set_op_progress n op_progress.Fresh (returned (task_of n s.core) v q.0 s.core)) n r q.1)
     returned_holds false r q = by (has_ended (task_of n s.core) s.core) q
       where
         by : (a : Bool) → Returned (trap_if a trap.TaskCancelOrReturnTwice (Traps trap.TaskReturnInvalid)) s r t → HoldsWorks left t.core
@@ -352,8 +352,8 @@ module _ (left : ℕ → Option HeldWork) (s t : StateView) (h : HoldsWorks left
 -- ---- A direct call that is left
 
 -- one that stops hangs on no core before
-pub stops_base : (p : Progress) (s u t : Core) (l : Label) → Meets p u (came.Stops l) t → Meets p s (came.Stops l) t
-stops_base (Goes k new n) s u t l h = h
+pub stops_base : (p : Progress) (s u t : Core) (l : Label) → Implements p u (op_result.Stops l) t → Implements p s (op_result.Stops l) t
+stops_base (Continues k new n) s u t l h = h
 stops_base (Stops k new) s u t l h = h
 stops_base (Traps why) s u t l h = let e = h.0 in absurd (cc)
 stops_base (Fails i) s u t l h = let e = h.0 in absurd (cc)
@@ -382,9 +382,9 @@ module _ (n v : ℕ) (s : Core) where
   written_goal = grind (arith, nat_tests, get-change)
 
   written_numbered : WorksNumbered s → WorksNumbered written
-  written_numbered numbered i there = subst (λ (m : Made). i ≤ m.works) (sym written_made) (numbered i (subst (λ (m : Records Work). is_some (get m i) ≡ true) written_works there))
+  written_numbered numbered i there = subst (λ (m : MadeCounts). i ≤ m.works) (sym written_made) (numbered i (subst (λ (m : Records Work). is_some (get m i) ≡ true) written_works there))
 
-  written_far : (m : ℕ) → how_far_of m written ≡ how_far_of m s
+  written_far : (m : ℕ) → op_progress_of m written ≡ op_progress_of m s
   unfolding set_register on_thread
   written_far m = grind (arith, nat_tests, get-change)
 
@@ -404,7 +404,7 @@ module _ (n v : ℕ) (s : Core) where
   written_awaited : HostsAwaited s → HostsAwaited written
   written_awaited q m i far =
       let old = q m i (sym (written_far m) ∙ far) in (
-        subst (λ (c : Made). i ≤ c.works) (sym written_made) old.0,
+        subst (λ (c : MadeCounts). i ≤ c.works) (sym written_made) old.0,
         ⊎_elim (λ at. inl ((set_register_untouched n 0 v s).places m ∙ at)) (λ over. inr (subst (λ (r : Records Work). is_stage_ended (option_map_or (λ (w : Work). w.stage) (get r i) stage.Ended) ≡ true) (sym written_works) over)) old.1,
       )
 
@@ -417,23 +417,23 @@ module _ (n v : ℕ) (s : Core) where
     awaited = written_awaited q.awaited;
   }
 
-  pub exit_is : (w : Option ℕ) → IsDirect n s → exit_row n w written ≡ direct_exit_row n written
-  exit_is w direct = ap (exit_row_for n w written) (written_explicit ∙ direct.implicit) ∙ ap (implicit_exit_row n w written) (ap is_direct written_goal ∙ direct.direct)
+  pub exit_is : (w : Option ℕ) → IsDirect n s → exit_rule n w written ≡ direct_exit_rule n written
+  exit_is w direct = ap (exit_rule_for n w written) (written_explicit ∙ direct.implicit) ∙ ap (implicit_exit_rule n w written) (ap is_direct written_goal ∙ direct.direct)
 
 module _ (left : ℕ → Option HeldWork) (s t : StateView) (h : HoldsWorks left s.core) (c : Component) (running : IsRunningIn c s) (v : ℕ) (direct : IsDirect running.number s.core) where
   moved : StateView
   moved = with_core (written running.number v s.core) s
 
-  left_by : (r : Came) → Meets (direct_exit_row running.number (written running.number v s.core)) (written running.number v s.core) r t.core → StaysAfter r moved t → HoldsWorks left t.core
+  left_by : (r : OpResult) → Implements (direct_exit_rule running.number (written running.number v s.core)) (written running.number v s.core) r t.core → StaysAfter r moved t → HoldsWorks left t.core
   unfolding moved
   left_by r met stays =
       let n = running.number in
       let u = written n v s.core in
       did_apart left moved t n (written_runs n v s.core (runs_works c n s.core (running.order.order Unscripted))) (holds_same s.core u left (written_works n v s.core) h) c (op.Task task_op.Exit) refl r
-      (subst (λ (p : Progress). Meets p u r t.core) (sym (exit_is n v s.core (choice_of (label_of n r)).woken direct)) met) stays
+      (subst (λ (p : Progress). Implements p u r t.core) (sym (exit_is n v s.core (choice_of (label_of n r)).woken direct)) met) stays
 
-  pub exited_holds : (r : Came) → Meets (exits_row v s.core running.number (choice_of (label_of running.number r))) s.core r t.core → StaysAfter r s t → HoldsWorks left t.core
-  exited_holds (came.Goes l m said) met stays = let n = running.number in left_by (came.Goes l m said) (goes_base (direct_exit_row n (written n v s.core)) (written n v s.core) s.core t.core l m said met) tt
-  exited_holds (came.Stops l) met stays = let n = running.number in left_by (came.Stops l) (stops_base (direct_exit_row n (written n v s.core)) (written n v s.core) s.core t.core l met) tt
-  exited_holds (came.Traps why) met stays = subst (λ (w : StateView). HoldsWorks left w.core) (sym stays) h
-  exited_holds (came.Fails i) met stays = subst (λ (w : StateView). HoldsWorks left w.core) (sym stays) h
+  pub exited_holds : (r : OpResult) → Implements (exits_rule v s.core running.number (choice_of (label_of running.number r))) s.core r t.core → StaysAfter r s t → HoldsWorks left t.core
+  exited_holds (op_result.Continues l m said) met stays = let n = running.number in left_by (op_result.Continues l m said) (goes_base (direct_exit_rule n (written n v s.core)) (written n v s.core) s.core t.core l m said met) tt
+  exited_holds (op_result.Stops l) met stays = let n = running.number in left_by (op_result.Stops l) (stops_base (direct_exit_rule n (written n v s.core)) (written n v s.core) s.core t.core l met) tt
+  exited_holds (op_result.Traps why) met stays = subst (λ (w : StateView). HoldsWorks left w.core) (sym stays) h
+  exited_holds (op_result.Fails i) met stays = subst (λ (w : StateView). HoldsWorks left w.core) (sym stays) h

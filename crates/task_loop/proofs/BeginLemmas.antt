@@ -1,5 +1,5 @@
 -- What a run asks that was begun.
-use Rattle.host_works.specs.Kept.{HoldsNone}
+use Rattle.host_works.specs.KeptWorks.{HoldsNone}
 use Rattle.std.proofs.Common.{ap₂, ap, arith, refl, subst, sym, ◌∙◌}
 use Rattle.std.specs.Prelude.{Bool, IfSome, Option, List, None, length, true, ℕ, ◌≡◌, ◌≤◌, ◌^◌}
 use Rattle.task_laws.specs.Settings.{CodesInCallbacks}
@@ -19,19 +19,19 @@ use Rattle.task_store.proofs.HostLemmas.{new_holds}
 use Rattle.task_words.specs.Groups.{IsAsked}
 use Rattle.task_store.specs.Hosts.{HoldsHosts}
 use Rattle.task_store.specs.declared.store.Store.{Store}
-use Rattle.task_turns.proofs.FreshLemmas.{given_fresh, sits_fresh}
-use Rattle.task_turns.specs.Turn.{IsSettled, Sits, given, is_open, running_of, runs_in, setting_of}
+use Rattle.task_turns.proofs.FreshLemmas.{given_fresh, core_in_order_fresh}
+use Rattle.task_turns.specs.Turn.{IsSettled, CoreInOrder, given, is_open, running_of, runs_in, setting_of}
 use Rattle.task_turns.specs.WellFormed.{IsWellFormed}
 use Rattle.task_words.specs.StateView.{StateView, with_core}
 
 module _ {M T H G : Type 0} (says : Says M) (course : H → HostDef) (c : Component) where
   -- it is main's turn, and no thread runs
-  pub may_begin : (a : At M T H G) → IsWellFormed c → a.turn ≡ turn.Main → Sits c turn.Main a.store.state.core → running_of a.store.state ≡ None → says.suits a.main c → says.knows a.main a.store.state →
+  pub may_begin : (a : At M T H G) → IsWellFormed c → a.turn ≡ turn.Main → CoreInOrder c turn.Main a.store.state.core → running_of a.store.state ≡ None → says.suits a.main c → says.knows a.main a.store.state →
       HoldsHosts course a.store → IsAsked a.store.state → numbers says course c a ≤ 2 ^ 60 → MayRun says course c a
   may_begin a covered main order current suits knows works asked few = record {
     covered = covered;
     stands = record {
-      order = subst (λ (p : Turn). Sits c p a.store.state.core) (sym main) order;
+      order = subst (λ (p : Turn). CoreInOrder c p a.store.state.core) (sym main) order;
       settled = subst (λ (p : Turn). IsSettled a.store.state.core p) (sym main) refl;
       running = current ∙ sym (ap runs_in main);
       pends = rw main tt;
@@ -56,10 +56,10 @@ module _ {M T H G : Type 0} (says : Says M) (course : H → HostDef) (c : Compon
       }
 
   -- the thread that runs then is in order
-  pub runner_stands : (x : Setting) (b : At M T H G) → Stands says course c x b → IfSome (running_of b.store.state) (λ n. Sits c (turn.Run n) b.store.state.core)
-  runner_stands x b stands = subst (λ (o : Option ℕ). IfSome o (λ n. Sits c (turn.Run n) b.store.state.core)) (sym stands.running) (by b.turn stands.order)
+  pub runner_stands : (x : Setting) (b : At M T H G) → Stands says course c x b → IfSome (running_of b.store.state) (λ n. CoreInOrder c (turn.Run n) b.store.state.core)
+  runner_stands x b stands = subst (λ (o : Option ℕ). IfSome o (λ n. CoreInOrder c (turn.Run n) b.store.state.core)) (sym stands.running) (by b.turn stands.order)
     where
-      by : (q : Turn) → Sits c q b.store.state.core → IfSome (runs_in q) (λ n. Sits c (turn.Run n) b.store.state.core)
+      by : (q : Turn) → CoreInOrder c q b.store.state.core → IfSome (runs_in q) (λ n. CoreInOrder c (turn.Run n) b.store.state.core)
       by (turn.Run n) sits = sits
       by turn.Main sits = tt
       by (turn.Futures n) sits = tt
@@ -68,7 +68,7 @@ module _ {M T H G : Type 0} (says : Says M) (course : H → HostDef) (c : Compon
 
   module _ (run : RunConcurrent) (main : run.turn ≡ turn.Main) (m : M) (suits : says.suits m c) (covered : IsWellFormed c) (st new : Store T H G) (begun : new ≡ record st { running = true }) (trace : List Label) where
     -- of a store in which no thread runs
-    pub may_start : Sits c turn.Main st.state.core → running_of st.state ≡ None → says.knows m st.state → HoldsHosts course st → IsAsked st.state → given st.state.core ≤ 2 ^ 60 →
+    pub may_start : CoreInOrder c turn.Main st.state.core → running_of st.state ≡ None → says.knows m st.state → HoldsHosts course st → IsAsked st.state → given st.state.core ≤ 2 ^ 60 →
         MayRun says course c (at run m new trace)
     may_start order current knows works asked few =
         subst (λ (t : Store T H G). MayRun says course c (at run m t trace)) (sym begun) (may_begin (at run m (record st { running = true }) trace) covered main order current suits knows works asked few)
@@ -80,7 +80,7 @@ module _ {M T H G : Type 0} (says : Says M) (course : H → HostDef) (c : Compon
     pub may_open : CodesInCallbacks c → (n handles table : ℕ) → length c.instances ≤ n → st.state ≡ with_core (fresh n handles table) nothing → HoldsNone st.works → says.knows m st.state → IsAsked st.state →
         MayRun says course c (at run m new trace)
     may_open codes n handles table enough is none knows asked =
-        may_start (subst (λ (s : StateView). Sits c turn.Main s.core) (sym is) (sits_fresh c codes n handles table enough))
+        may_start (subst (λ (s : StateView). CoreInOrder c turn.Main s.core) (sym is) (core_in_order_fresh c codes n handles table enough))
         (current_fresh n handles table is) knows
         (new_holds course st n handles table none (ap (λ (s : StateView). s.core) is)) asked
         (let given = ap (λ (s : StateView). given s.core) is ∙ given_fresh n handles table in omega (arith, given))

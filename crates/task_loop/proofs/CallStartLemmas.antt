@@ -1,15 +1,15 @@
 -- What the start of a call comes to, of what was told and made; what stays of the store; and what is so of it then.
-use Rattle.group_notices.proofs.MoveLemmas.{calmly}
+use Rattle.group_notices.proofs.MoveLemmas.{with_hook_ok}
 use Rattle.group_notices.specs.Moves.{finishes}
 use Rattle.state_calls.specs.declared.error.TaskError.{TaskError}
 use Rattle.state_calls.specs.declared.error.TaskError.TheVariants as task_error
 use Rattle.std.proofs.Common.{ap, arith, inl, inr, refl, subst, sym, ◌∙◌}
 use Rattle.std.specs.Prelude.{Bool, Err, List, None, Ok, Option, Some, [], false, is_some, true, ℕ, ◌++◌, ◌+◌, ◌∷◌, ◌≡◌, ◌≢◌, ◌≤◌}
 use Rattle.task_calls.proofs.ApartLemmas.{trap_in_order}
-use Rattle.task_calls.specs.Calls.{Starts}
+use Rattle.task_calls.specs.MainCalls.{Starts}
 use Rattle.task_calls.specs.Untrapped.{StartsUntrapped}
-use Rattle.task_group.proofs.GroupLemmas.{still_calm}
-use Rattle.task_group.specs.Listeners.{AnsweredErr, Listeners, Told, ToldCalmly, errors_of}
+use Rattle.task_group.proofs.GroupLemmas.{still_hook_is_ok}
+use Rattle.task_group.specs.Listeners.{AnsweredErr, Listeners, ToldListeners, ToldWithHookOk, errors_of}
 use Rattle.task_loop.proofs.HookLemmas.{answered_after}
 use Rattle.task_loop.proofs.HookStartLemmas.{heard_or_not, unfailed_always, unfailed_map, unfailed_on, unheard_at, unhooked_always, unhooked_map}
 use Rattle.task_loop.proofs.StartLemmas.{refused_starts, start_groups, trapped_hosts, untrapped_holds}
@@ -32,7 +32,7 @@ use Rattle.task_rules.specs.MainOps.{main_started, start_refusal}
 use Rattle.task_rules.specs.Notices.{told_of}
 use Rattle.task_store.specs.Hosts.{HoldsHosts, HoldsWorks, held_by}
 use Rattle.task_store.specs.declared.store.Store.{Store}
-use Rattle.task_turns.specs.Turn.{Sits}
+use Rattle.task_turns.specs.Turn.{CoreInOrder}
 use Rattle.task_words.specs.Groups.{IsAsked, asked}
 use Rattle.task_words.specs.StateView.{StateView, on_core}
 
@@ -54,7 +54,7 @@ keeps_then {T} {H} {G} c s m t a b = record {
 -- the state is as before
 pub keeps_still : {T H G : Type 0} (c : Component) (s : Store T H G) (u : StateView) (l : Listeners) → u ≡ s.state → is_some l.hook ≡ is_some s.listeners.hook → KeepsStore c s (record s { state = u; listeners = l })
 keeps_still c s u l state hook = record {
-  order = λ p sits. subst (λ (v : StateView). Sits c p v.core) (sym state) sits;
+  order = λ p sits. subst (λ (v : StateView). CoreInOrder c p v.core) (sym state) sits;
   works = λ course h. subst (λ (v : StateView). HoldsWorks (held_by course s) v.core) (sym state) h;
   asked = λ is. subst (λ (v : StateView). IsAsked v) (sym state) is;
   hook = hook;
@@ -63,13 +63,13 @@ keeps_still c s u l state hook = record {
 
 -- the store was trapped then
 module _ {T H G : Type 0} (s m t : Store T H G) (is : t ≡ record m { state = asked (on_core set_trapped m.state); listeners = t.listeners })
-    (told : Told (finishes m.state.tags.known) m.listeners t.listeners) where
+    (told : ToldListeners (finishes m.state.tags.tracked) m.listeners t.listeners) where
   trapped_state : t.state ≡ asked (on_core set_trapped m.state)
   trapped_state = ap (λ (k : Store T H G). k.state) is
 
   pub keeps_trapped : (c : Component) → KeepsStore c s m → KeepsStore c s t
   keeps_trapped c k = record {
-    order = λ p sits. subst (λ (v : StateView). Sits c p v.core) (sym trapped_state) (trap_in_order c p m.state.core (k.order p sits));
+    order = λ p sits. subst (λ (v : StateView). CoreInOrder c p v.core) (sym trapped_state) (trap_in_order c p m.state.core (k.order p sits));
     works = λ course h. subst (λ (x : Store T H G). HoldsHosts course x) (sym is) (trapped_hosts course m t.listeners (k.works course h));
     asked = λ was. subst (λ (v : StateView). IsAsked v) (sym trapped_state) refl;
     hook = told.same_hook ∙ k.hook;
@@ -82,15 +82,15 @@ module _ {T H G : Type 0} (s m t : Store T H G) (is : t ≡ record m { state = a
     reason = by (start_refusal s.state.core) left.reason;
     state = trapped_state ∙ ap (λ (v : StateView). asked (on_core set_trapped v)) left.state;
     told = record { between = m.listeners; told = left.told; finished = known_told told };
-    unhooked = unhooked_map listens _ _ _ (λ same. subst (λ (l : Listeners). Told (finishes s.state.tags.known) l t.listeners) same (known_told told)) left.unhooked;
+    unhooked = unhooked_map listens _ _ _ (λ same. subst (λ (l : Listeners). ToldListeners (finishes s.state.tags.tracked) l t.listeners) same (known_told told)) left.unhooked;
   }
     where
-      known_told : Told (finishes m.state.tags.known) m.listeners t.listeners → Told (finishes s.state.tags.known) m.listeners t.listeners
-      known_told q = subst (λ (v : StateView). Told (finishes v.tags.known) m.listeners t.listeners) left.state q
+      known_told : ToldListeners (finishes m.state.tags.tracked) m.listeners t.listeners → ToldListeners (finishes s.state.tags.tracked) m.listeners t.listeners
+      known_told q = subst (λ (v : StateView). ToldListeners (finishes v.tags.tracked) m.listeners t.listeners) left.state q
 
       by : (o : Option Trap) → IsReason listens o why s.listeners m.listeners → IsReason listens o why s.listeners t.listeners
       by (Some w) is = is
-      by None (inl wanting) = inl wanting
+      by None (inl out_of_memory) = inl out_of_memory
       by None (inr hook) = inr (hook.0, (hook.1.0, (let err = hook.1.1 in let more = told.errors in omega (arith, err, more))))
 
 -- ---- Why a call isn't made
@@ -98,8 +98,8 @@ module _ {T H G : Type 0} (s m t : Store T H G) (is : t ≡ record m { state = a
 pub reason_refused : (listens : Bool) (o : Option Trap) (w : Trap) (a b : Listeners) → o ≡ Some w → IsReason listens o (task_error.Trap w) a b
 reason_refused listens o w a b is = subst (λ (x : Option Trap). IsReason listens x (task_error.Trap w) a b) (sym is) refl
 
-pub reason_wanting : (listens : Bool) (o : Option Trap) (why : TaskError) (a b : Listeners) → o ≡ None → why ≡ task_error.NoMemory → IsReason listens o why a b
-reason_wanting listens o why a b is wants = subst (λ (x : Option Trap). IsReason listens x why a b) (sym is) (inl wants)
+pub reason_out_of_memory : (listens : Bool) (o : Option Trap) (why : TaskError) (a b : Listeners) → o ≡ None → why ≡ task_error.NoMemory → IsReason listens o why a b
+reason_out_of_memory listens o why a b is wants = subst (λ (x : Option Trap). IsReason listens x why a b) (sym is) (inl wants)
 
 pub reason_hook : (listens : Bool) (o : Option Trap) (why : TaskError) (a b : Listeners) → o ≡ None → listens ≡ true → AnsweredErr a b →
     why ≡ task_error.Trap trap.HookFailed → IsReason listens o why a b
@@ -107,11 +107,11 @@ reason_hook listens o why a b is hears err hook = subst (λ (x : Option Trap). I
 
 -- memory was wanting after the new group was told of, and the hook answered an error to its finish, or none
 pub reason_back : (listens : Bool) (o : Option Trap) (why r : TaskError) (a b d : Listeners) {ns : List Notice} → o ≡ None → listens ≡ true →
-    why ≡ task_error.NoMemory → errors_of a ≤ errors_of b → Told ns b d → Unheard listens b d (r ≡ why) →
+    why ≡ task_error.NoMemory → errors_of a ≤ errors_of b → ToldListeners ns b d → Unheard listens b d (r ≡ why) →
     (AnsweredErr b d → r ≡ task_error.Trap trap.HookFailed) → IsReason listens o r a d
 reason_back listens o why r a b d is hears wants first last answer failed = elim (heard_or_not b d last.errors) [
   | inl err ↦ reason_hook listens o r a d is hears (answered_after a b d first err) (failed err)
-  | inr same ↦ reason_wanting listens o r a d is (unheard_at listens b d (r ≡ why) answer (λ err. omega (arith, err, same)) ∙ wants)
+  | inr same ↦ reason_out_of_memory listens o r a d is (unheard_at listens b d (r ≡ why) answer (λ err. omega (arith, err, same)) ∙ wants)
 ]
 
 -- if it is refused by the hook, that listens, and answered an error
@@ -170,15 +170,15 @@ started_asked c e words s t None n k is =
 
 module _ {T H G : Type 0} (c : Component) (e : Callee) (words : List ℕ) (s : Store T H G) (u : StateView) (n : ℕ)
     (starts : StartsUntrapped c e words s.state (start_refusal s.state.core) (Ok n) u) (l : Listeners) (k : ℕ) (number : k ≡ s.state.core.made.groups + 1)
-    (begun : Told (told_of notice.Start k ∷ []) s.listeners l) where
+    (begun : ToldListeners (told_of notice.Start k ∷ []) s.listeners l) where
   pub has_started : (AnsweredErr s.listeners l → ⊥) → HasStarted c e words s (record { thread = n; group = k }) (record s { state = u; listeners = l })
-  has_started calm = record {
+  has_started hook_is_ok = record {
     starts = started c e words s.state u (start_refusal s.state.core) n starts;
     group = number;
-    begun = subst (λ (j : ℕ). ToldCalmly (told_of notice.Start j ∷ []) s.listeners l) number (calmly _ s.listeners l begun (still_calm s.listeners l begun calm));
+    begun = subst (λ (j : ℕ). ToldWithHookOk (told_of notice.Start j ∷ []) s.listeners l) number (with_hook_ok _ s.listeners l begun (still_hook_is_ok s.listeners l begun hook_is_ok));
   }
 
-  pub keeps_started : ((p : Turn) → Sits c p s.state.core → Sits c p u.core) → KeepsStore c s (record s { state = u; listeners = l })
+  pub keeps_started : ((p : Turn) → CoreInOrder c p s.state.core → CoreInOrder c p u.core) → KeepsStore c s (record s { state = u; listeners = l })
   keeps_started order = record {
     order = order;
     works = λ course h. untrapped_holds (held_by course s) c e words s.state u (start_refusal s.state.core) (Ok n) starts h;
@@ -189,8 +189,8 @@ module _ {T H G : Type 0} (c : Component) (e : Callee) (words : List ℕ) (s : S
 
 -- its group was told of
 pub start_told : {T H G : Type 0} (c : Component) (e : Callee) (words : List ℕ) (s : Store T H G) (call : FuncCallConcurrent) (t : Store T H G) →
-    HasStarted c e words s call t → Told (told_of notice.Start call.group ∷ []) s.listeners t.listeners
-start_told c e words s call t has = subst (λ (n : ℕ). Told (told_of notice.Start n ∷ []) s.listeners t.listeners) (sym has.group) has.begun.told
+    HasStarted c e words s call t → ToldListeners (told_of notice.Start call.group ∷ []) s.listeners t.listeners
+start_told c e words s call t has = subst (λ (n : ℕ). ToldListeners (told_of notice.Start n ∷ []) s.listeners t.listeners) (sym has.group) has.begun.told
 
 -- one that isn't made is as the machine's, unless the hook failed, but that the groups that had ended were told of
 pub stop_starts : {T H G : Type 0} (c : Component) (e : Callee) (words : List ℕ) (listens : Bool) (s : Store T H G) (why : TaskError) (t : Store T H G) →
@@ -201,13 +201,13 @@ stop_starts c e words listens s why t stops =
 
 -- by a trap of the machine: all groups finished, and nothing else was told
 pub stop_told : {T H G : Type 0} (listens : Bool) (s : Store T H G) (why : TaskError) (t : Store T H G) → StopsUnmade listens s why t →
-    why ≢ task_error.Trap trap.HookFailed → why ≢ task_error.NoMemory → Told (finishes s.state.tags.known) s.listeners t.listeners
-stop_told listens s why t stops other memory = subst (λ (l : Listeners). Told (finishes s.state.tags.known) l t.listeners) (stops.told.told.refused other memory) stops.told.finished
+    why ≢ task_error.Trap trap.HookFailed → why ≢ task_error.NoMemory → ToldListeners (finishes s.state.tags.tracked) s.listeners t.listeners
+stop_told listens s why t stops other memory = subst (λ (l : Listeners). ToldListeners (finishes s.state.tags.tracked) l t.listeners) (stops.told.told.refused other memory) stops.told.finished
 
 -- by the hook: it answered an error to the start of the group, or to its finish, and then all groups finished
 pub stop_fails : (why : TaskError) (s : StateView) (old new : Listeners) → TellsStopped why s old new → IsAsked s → why ≡ task_error.Trap trap.HookFailed → StartFails s.core old new
 stop_fails why s old new stops is failed = record {
   between = stops.between;
   stops = stops.told.hooked failed;
-  finished = subst (λ (gs : List ℕ). Told (finishes gs) stops.between new) is stops.finished;
+  finished = subst (λ (gs : List ℕ). ToldListeners (finishes gs) stops.between new) is stops.finished;
 }

@@ -13,10 +13,10 @@ use Rattle.task_machine.specs.declared.records.Turn.TheVariants as turn
 use Rattle.task_rules.specs.Stalled.{Setting}
 use Rattle.task_turns.proofs.SteppedLemmas.{none_as}
 use Rattle.task_turns.specs.Does.{label_of_step, step_of, step_shown}
-use Rattle.task_turns.specs.Stepped.{AddedOrNone}
-use Rattle.task_turns.specs.Turn.{Makes, PendsIn, Turned, TurnedBeside, Turns, idle_line_of, state_at}
-use Rattle.task_turns.specs.declared.made.Made.{Made}
-use Rattle.task_turns.specs.declared.made.Stepped.{Stepped}
+use Rattle.task_turns.specs.StepResult.{AddedOrNone}
+use Rattle.task_turns.specs.Turn.{MakesStep, PendsIn, Turned, TurnedBeside, Turns, idle_line_of, state_at}
+use Rattle.task_turns.specs.declared.made.MadeStep.{MadeStep}
+use Rattle.task_turns.specs.declared.made.StepResult.{StepResult}
 use Rattle.task_turns.specs.declared.mains.MainStep.{MainStep}
 use Rattle.task_words.specs.StateView.{StateView}
 
@@ -27,24 +27,24 @@ others_show_none (label.Loop _) h = refl
 others_show_none _ h = refl
 
 module _ {M : Type 0} (does : M → Core → MainStep → M → Core → Type 0) (m : M) (x : Setting) (k : Main) (s t : StateView) where
-  pub still : (p : Turn) → is_main_turn p ≡ false → (made : Made) → Turns x p k s made k t → DoesStep does m s.core (step_shown made.label) m t.core
+  pub still : (p : Turn) → is_main_turn p ≡ false → (made : MadeStep) → Turns x p k s made k t → DoesStep does m s.core (step_shown made.label) m t.core
   still p other made turns =
       let shows = main_at_its_turns x (state_at s.core k p) made.label (state_at t.core k made.turn) turns.step ∙ other in
       subst (λ (o : Option MainStep). DoesStep does m s.core o m t.core) (others_show_none made.label shows) refl
 
-  pub still_run : (n : ℕ) (made : Made) → Makes x.component (turn.Run n) s made t → DoesStep does m s.core (step_shown made.label) m t.core
+  pub still_run : (n : ℕ) (made : MadeStep) → MakesStep x.component (turn.Run n) s made t → DoesStep does m s.core (step_shown made.label) m t.core
   still_run n made makes =
       let shows = main_at_its_turns x (state_at s.core k (turn.Run n)) made.label (state_at t.core k made.turn) (makes.step x refl k) in
       subst (λ (o : Option MainStep). DoesStep does m s.core o m t.core) (others_show_none made.label shows) refl
 
-  still_turned : (ended : Bool) (o : Option Made) → Turned x (turn.Take ended) k s o k t → DoesStep does m s.core (step_of o) m t.core
+  still_turned : (ended : Bool) (o : Option MadeStep) → Turned x (turn.Take ended) k s o k t → DoesStep does m s.core (step_of o) m t.core
   still_turned ended None h = refl
   still_turned ended (Some made) h = still (turn.Take ended) refl made h
 
-  pub still_taken : {E : Type 0} (b ended : Bool) (r : Result (Option Stepped) E) (before after : List Label) → x.idle ≡ idle_line_of b → PendsIn x s.core k (turn.Take ended)
+  pub still_taken : {E : Type 0} (b ended : Bool) (r : Result (Option StepResult) E) (before after : List Label) → x.idle ≡ idle_line_of b → PendsIn x s.core k (turn.Take ended)
       → IfOk r (λ o. AddedOrNone (λ made. TurnedBeside x.component b (turn.Take ended) s made t) o before after) → IfOk r (λ o. AddedOrNone (λ made. DoesStep does m s.core (step_of made) m t.core) o before after)
   still_taken b ended (Ok o) before after idle pends turned =
-      none_as (λ (made : Option Made). TurnedBeside x.component b (turn.Take ended) s made t) (λ (made : Option Made). DoesStep does m s.core (step_of made) m t.core) o before after
+      none_as (λ (made : Option MadeStep). TurnedBeside x.component b (turn.Take ended) s made t) (λ (made : Option MadeStep). DoesStep does m s.core (step_of made) m t.core) o before after
       (λ made h. still_turned ended made (h x refl idle k pends)) turned
   still_taken b ended (Err e) before after idle pends turned = tt
 
@@ -53,7 +53,7 @@ not_main turn.Main other = absurd (other refl)
 not_main _ other = refl
 
 -- a label of another turn than main's shows no step of main
-pub others_shown : (x : Setting) (k k' : Main) (s t : StateView) (p : Turn) → (p ≡ turn.Main → ⊥) → (made : Made) → Turns x p k s made k' t → None ≡ step_shown made.label
+pub others_shown : (x : Setting) (k k' : Main) (s t : StateView) (p : Turn) → (p ≡ turn.Main → ⊥) → (made : MadeStep) → Turns x p k s made k' t → None ≡ step_shown made.label
 others_shown x k k' s t p other made turns =
     others_show_none made.label (main_at_its_turns x (state_at s.core k p) made.label (state_at t.core k' made.turn) turns.step ∙ not_main p other)
 

@@ -1,10 +1,10 @@
 -- How far a run has come since it last yielded, once it was driven.
-use Rattle.run_pace.specs.Pace.{since_driven}
-use Rattle.run_pace.specs.declared.pace.Pace.{Pace}
+use Rattle.run_pace.specs.YieldBudget.{since_driven}
+use Rattle.run_pace.specs.declared.yield_budget.YieldBudget.{YieldBudget}
 use Rattle.std.proofs.Common.{ap, drop, length, refl, sym, ◌∙◌}
 use Rattle.std.proofs.Math.Seq.{drop-append_seam}
 use Rattle.std.specs.Prelude.{List, false, ℕ, ◌++◌, ◌≡◌}
-use Rattle.task_loop.specs.Paces.{LeavesPace}
+use Rattle.task_loop.specs.YieldBudgets.{LeavesYieldBudget}
 use Rattle.task_loop.specs.RunPolls.{since_left_by}
 use Rattle.task_machine.specs.declared.label.Label.{Label}
 use Rattle.task_machine.specs.declared.outcome.Outcome.{Outcome}
@@ -29,13 +29,13 @@ unless_idle (outcome.HostFailed i) other k = refl
 unless_idle outcome.OutOfSteps other k = refl
 unless_idle outcome.Idle other k = absurd (other refl)
 
-module _ (before after added : List Label) (trace : after ≡ before ++ added) (o : Outcome) (pace pace' : Pace) where
+module _ (before after added : List Label) (trace : after ≡ before ++ added) (o : Outcome) (yield_budget yield_budget' : YieldBudget) where
   -- it is idle: the labels of the drive are counted, which stand from the end of those before on
-  pub leaves_counted : o ≡ outcome.Idle → pace'.since ≡ since_driven pace.passes pace.since (drop (length before) after) → pace'.passes ≡ false → LeavesPace pace added o pace'
+  pub leaves_counted : o ≡ outcome.Idle → yield_budget'.since ≡ since_driven yield_budget.passes yield_budget.since (drop (length before) after) → yield_budget'.passes ≡ false → LeavesYieldBudget yield_budget added o yield_budget'
   leaves_counted idle since passes =
-      let counted = since ∙ ap (λ (ls : List Label). since_driven pace.passes pace.since ls) (ap (λ (ls : List Label). drop (length before) ls) trace ∙ drop-append_seam before added) in
+      let counted = since ∙ ap (λ (ls : List Label). since_driven yield_budget.passes yield_budget.since ls) (ap (λ (ls : List Label). drop (length before) ls) trace ∙ drop-append_seam before added) in
       record { since = rw idle counted; passes_on = passes }
 
   -- else none counts
-  pub leaves_none : (o ≡ outcome.Idle → ⊥) → pace'.since ≡ 0 → pace'.passes ≡ false → LeavesPace pace added o pace'
+  pub leaves_none : (o ≡ outcome.Idle → ⊥) → yield_budget'.since ≡ 0 → yield_budget'.passes ≡ false → LeavesYieldBudget yield_budget added o yield_budget'
   leaves_none other since passes = record { since = since ∙ sym (unless_idle o other _); passes_on = passes }

@@ -1,6 +1,6 @@
 -- What the hook makes of the calls that have another thread run, end a thread or begin a task.
 use Rattle.state_calls.specs.declared.error.TaskError.{TaskError}
-use Rattle.state_calls.specs.declared.names.QualifiedThreadId.{QualifiedThreadId}
+use Rattle.state_calls.specs.declared.name_calls.QualifiedThreadId.{QualifiedThreadId}
 use Rattle.std.proofs.Common.{ap, arith, inl, inr, refl, subst, sym, ◌∙◌}
 use Rattle.std.specs.Prelude.{Bool, Err, IfOk, Ok, OnErr, Option, Result, false, is_some, true, ℕ, ◌≡◌, ◌≤◌, ◌⊎◌}
 use Rattle.task_group.specs.Listeners.{AnsweredErr, Listeners, errors_of}
@@ -59,7 +59,7 @@ module _ {T H G : Type 0} (x : ExportKind) (i : ℕ) (f : Option QualifiedThread
     where
       by : AnsweredErr made.between t.listeners ⊎ (errors_of t.listeners ≡ errors_of made.between) → MakesOn listens x i f s r t
       by (inl err) =
-          let answered : AnsweredErr s.listeners t.listeners = let calm = made.begun.calm in omega (arith, calm, err) in
+          let answered : AnsweredErr s.listeners t.listeners = let hook_is_ok = made.begun.hook_is_ok in omega (arith, hook_is_ok, err) in
           let hook = hears_of listens made.between t.listeners (r ≡ Ok id) answer (λ ok. ok_or_err r _ _ ok (failed err)) in
           let room = room_of x i f s.state made.left (has_room f s.state) id made.begins in
           subst (λ (q : Result QualifiedThreadId TaskError). MakesOn listens x i f s q t) (sym (failed err)) (
@@ -68,7 +68,7 @@ module _ {T H G : Type 0} (x : ExportKind) (i : ℕ) (f : Option QualifiedThread
           )
       by (inr same) =
           let is = unheard_at listens made.between t.listeners (r ≡ Ok id) answer (λ err. omega (arith, err, same)) in
-          subst (λ (q : Result QualifiedThreadId TaskError). MakesOn listens x i f s q t) (sym is) (made, λ err. let calm = made.begun.calm in omega (arith, calm, err, same))
+          subst (λ (q : Result QualifiedThreadId TaskError). MakesOn listens x i f s q t) (sym is) (made, λ err. let hook_is_ok = made.begun.hook_is_ok in omega (arith, hook_is_ok, err, same))
 
 -- another state and other listeners in a store that differs in these alone
 pub rest_with : {T H G : Type 0} (s m : Store T H G) (u : StateView) (new : Listeners) → m ≡ record s { state = m.state; listeners = m.listeners } →

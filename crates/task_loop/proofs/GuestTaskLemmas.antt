@@ -1,12 +1,12 @@
 -- Tasks and threads that begin and end between runs: the host works and the groups of a store.
-use Rattle.host_works.specs.Kept.{HeldWork}
+use Rattle.host_works.specs.KeptWorks.{HeldWork}
 use Rattle.state_calls.specs.Currents.{entered, is_left, left_for, now_runs, number_in, runner}
 use Rattle.state_calls.specs.Ends.{Ends}
 use Rattle.state_calls.specs.declared.currents.CurrentThread.{CurrentThread}
 use Rattle.state_calls.specs.declared.currents.CurrentThread.TheVariants as threads
 use Rattle.state_calls.specs.declared.error.TaskError.{TaskError}
 use Rattle.state_calls.specs.declared.error.TaskError.TheVariants as task_error
-use Rattle.state_calls.specs.declared.names.QualifiedThreadId.{QualifiedThreadId}
+use Rattle.state_calls.specs.declared.name_calls.QualifiedThreadId.{QualifiedThreadId}
 use Rattle.std.proofs.Common.{ap, arith, refl, subst, sym, ◌∙◌}
 use Rattle.std.proofs.lemmas.Bool.Decides.{nat_tests}
 use Rattle.std.specs.Prelude.{Bool, Err, None, Option, Result, Some, false, if◌then◌else◌, true, ℕ, ◌≡◌}
@@ -23,7 +23,7 @@ use Rattle.task_machine.specs.declared.records.Place.TheVariants as place
 use Rattle.task_rules.specs.Calls.{call_made}
 use Rattle.task_store.proofs.HostLemmas.{holds_same}
 use Rattle.task_store.specs.Hosts.{HoldsWorks}
-use Rattle.task_words.specs.Groups.{if_known, known_group}
+use Rattle.task_words.specs.Groups.{if_tracked, tracked_group}
 use Rattle.task_words.specs.StateView.{StateView, thread_of}
 
 module _ (left : ℕ → Option HeldWork) where
@@ -94,10 +94,10 @@ entered_group None k s = refl
 entered_group (Some n) k s = placed_group n k place.Running s
 
 -- is the same before it runs
-pub runs_group : (s : StateView) (q : QualifiedThreadId) → current_group (now_runs (threads.Guest q) s) ≡ known_group (thread_of s q.thread) s
+pub runs_group : (s : StateView) (q : QualifiedThreadId) → current_group (now_runs (threads.Guest q) s) ≡ tracked_group (thread_of s q.thread) s
 runs_group s q =
     let k = thread_of s q.thread in
-    ap (if_known s.tags.known) (entered_group (Some k) k (left_for (runner s) (Some k) s.core) ∙ left_for_group (runner s) (Some k) k s.core)
+    ap (if_tracked s.tags.tracked) (entered_group (Some k) k (left_for (runner s) (Some k) s.core) ∙ left_for_group (runner s) (Some k) k s.core)
 
 -- a call that fitted wasn't made, since memory was wanting
 pub begins_wants : (x : ExportKind) (i : ℕ) (f : Option QualifiedThreadId) (s t : StateView) (room : Bool) (why : TaskError) → room ≡ true → Begins x i f s room (Err why) t → why ≡ task_error.NoMemory

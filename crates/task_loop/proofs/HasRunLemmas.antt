@@ -1,12 +1,12 @@
 -- What a call on a run gives, of what its turns gave.
-use Rattle.run_pace.specs.declared.pace.Pace.{Pace}
+use Rattle.run_pace.specs.declared.yield_budget.YieldBudget.{YieldBudget}
 use Rattle.state_calls.specs.declared.error.TaskError.{TaskError}
 use Rattle.state_calls.specs.declared.error.TaskError.TheVariants as task_error
 use Rattle.std.proofs.Common.{ap, ap₂, arith, drop, inl, inr, length-append, refl, subst, sym, ◌∙◌}
 use Rattle.std.proofs.lemmas.List.{append_cancel_left}
 use Rattle.std.specs.Prelude.{Bool, Err, List, None, Ok, Option, Result, Some, [], false, is_some, length, true, ℕ, ◌+◌, ◌<◌, ◌∷◌, ◌≡◌, ◌≤◌, ◌^◌}
-use Rattle.task_group.specs.Listeners.{Listeners, Told}
-use Rattle.run_pace.specs.Pace.{since_driven}
+use Rattle.task_group.specs.Listeners.{Listeners, ToldListeners}
+use Rattle.run_pace.specs.YieldBudget.{since_driven}
 use Rattle.task_loop.proofs.DoesLemmas.{others_shown}
 use Rattle.task_loop.proofs.DrivenLemmas.{leaves_counted, leaves_none}
 use Rattle.task_loop.proofs.HookLemmas.{answered_after, knows_trapped, must_listen}
@@ -18,13 +18,13 @@ use Rattle.task_loop.proofs.TakenLemmas.{stands_adds}
 use Rattle.task_loop.proofs.ToldLemmas.{asked_computed}
 use Rattle.task_loop.specs.HasRun.{At, DrivesTo, FailsTurn, GoesTo, HasDriven, HasFailed, HasGone, HasHalted, HasLost, HasPolled, HasStopped, HasTurned, IsLost, IsStopped, Keeps, MayRun, MayTurn, PollsTo, RanTo, numbers, setting, state}
 use Rattle.task_loop.specs.Hooked.{StopsTurn, hook_failed}
-use Rattle.task_loop.specs.Paces.{LeavesPace}
+use Rattle.task_loop.specs.YieldBudgets.{LeavesYieldBudget}
 use Rattle.task_loop.specs.Ran.{Ran}
 use Rattle.task_loop.specs.RunPolls.{stop_answer}
 use Rattle.task_loop.specs.Says.{Says}
 use Rattle.task_loop.specs.Standing.{standing}
 use Rattle.task_loop.specs.Told.{TurnTold, group_running}
-use Rattle.task_loop.specs.declared.polls.RunPoll.{RunPoll}
+use Rattle.task_loop.specs.declared.poll_methods.RunPoll.{RunPoll}
 use Rattle.task_loop.specs.declared.run.Halt.{Halt}
 use Rattle.task_loop.specs.declared.run.Halt.TheVariants as halt
 use Rattle.task_loop.specs.declared.run.Stop.{Stop}
@@ -48,17 +48,17 @@ use Rattle.task_words.specs.Groups.{IsAsked, asked}
 use Rattle.task_store.specs.Hosts.{HoldsHosts, held_by}
 use Rattle.task_store.specs.declared.store.Store.{Store}
 use Rattle.task_turns.proofs.DriveLemmas.{on_begins, on_out_at, on_rests, was_on, was_on_short}
-use Rattle.task_turns.proofs.KeptLemmas.{sits_after}
+use Rattle.task_turns.proofs.KeptLemmas.{core_in_order_after}
 use Rattle.task_turns.proofs.LaterLemmas.{last_by_works}
 use Rattle.task_turns.proofs.SteppedLemmas.{added_ends, added_more, added_none}
 use Rattle.task_turns.specs.Drive.{Computes, Drives, Drove, IsOn, KeepsOn, StopsShort, WasGoing}
 use Rattle.task_turns.specs.Later.{SameWorks, WorksLast}
-use Rattle.task_turns.specs.Stepped.{Added, AddedOrNone}
+use Rattle.task_turns.specs.StepResult.{Added, AddedOrNone}
 use Rattle.task_turns.specs.Turn.{IsAtTurn, PendsIn, Turns, runs_in, setting_of, state_at}
 use Rattle.task_turns.specs.WellFormed.{IsWellFormed}
-use Rattle.task_turns.specs.declared.made.Made.{Made}
-use Rattle.task_turns.specs.declared.made.Stepped.{Stepped}
-use Rattle.task_turns.specs.declared.made.Stepped.TheVariants as stepped
+use Rattle.task_turns.specs.declared.made.MadeStep.{MadeStep}
+use Rattle.task_turns.specs.declared.made.StepResult.{StepResult}
+use Rattle.task_turns.specs.declared.made.StepResult.TheVariants as stepped
 use Rattle.task_words.specs.StateView.{StateView, Tags, on_core}
 
 -- ---- The turns of the run
@@ -81,8 +81,8 @@ module _ {M T H G : Type 0} (says : Says M) (course : H → HostDef) (c : Compon
   setting_kept a u k = ap₂ (λ (ops : List MainOpDef) (b : Bool). setting_of c ops b) k.script k.idle
 
   -- the step is this one
-  pub turned_as : (u v : At M T H G) (r : ℕ) (w o : Option Stepped) → w ≡ o → HasTurned says course c w r u v → HasTurned says course c o r u v
-  turned_as u v r w o is came = subst (λ (q : Option Stepped). HasTurned says course c q r u v) is came
+  pub turned_as : (u v : At M T H G) (r : ℕ) (w o : Option StepResult) → w ≡ o → HasTurned says course c w r u v → HasTurned says course c o r u v
+  turned_as u v r w o is op_result = subst (λ (q : Option StepResult). HasTurned says course c q r u v) is op_result
 
   pub halted_by : (why : Halt) (u v : At M T H G) → (why ≡ halt.NoMemory → v.trace ≡ u.trace) → (why ≡ halt.HookFailed → FailsTurn says course c u v) → HasHalted says course c why u v
   halted_by halt.NoMemory u v lost failed = lost refl
@@ -165,58 +165,58 @@ module _ {M T H G : Type 0} (says : Says M) (course : H → HostDef) (c : Compon
       abbrev turned_to : Turn → At M T H G
       turned_to q = record v { turn = q }
 
-      module _ (w : Option Stepped) (came : HasTurned says course c w r u v) where
-        pub told : AddedOrNone (λ (made : Option Made). TurnTold x u.turn (says.part u.main) u.store.state u.store.listeners made (says.part v.main) v.store.state v.store.listeners) w u.trace v.trace
-        told = subst (λ (y : Setting). AddedOrNone (λ (made : Option Made). TurnTold y u.turn (says.part u.main) u.store.state u.store.listeners made (says.part v.main) v.store.state v.store.listeners) w u.trace v.trace)
-            (setting_kept a u come.keeps) came.told
+      module _ (w : Option StepResult) (op_result : HasTurned says course c w r u v) where
+        pub told : AddedOrNone (λ (made : Option MadeStep). TurnTold x u.turn (says.part u.main) u.store.state u.store.listeners made (says.part v.main) v.store.state v.store.listeners) w u.trace v.trace
+        told = subst (λ (y : Setting). AddedOrNone (λ (made : Option MadeStep). TurnTold y u.turn (says.part u.main) u.store.state u.store.listeners made (says.part v.main) v.store.state v.store.listeners) w u.trace v.trace)
+            (setting_kept a u come.keeps) op_result.told
 
-      pub turned : (q : Stepped) → HasTurned says course c (Some q) r u v → Added (λ (made : Made). Turns x u.turn (says.part u.main) u.store.state made (says.part v.main) v.store.state) q u.trace v.trace
-      turned q came = let t = told (Some q) came in (t.0, (t.1.0, t.1.1.turned))
+      pub turned : (q : StepResult) → HasTurned says course c (Some q) r u v → Added (λ (made : MadeStep). Turns x u.turn (says.part u.main) u.store.state made (says.part v.main) v.store.state) q u.trace v.trace
+      turned q op_result = let t = told (Some q) op_result in (t.0, (t.1.0, t.1.1.turned))
 
-      come_on : (q : Turn) (computed : Bool) → HasTurned says course c (Some (stepped.Goes q computed)) r u v →
+      come_on : (q : Turn) (computed : Bool) → HasTurned says course c (Some (stepped.Continues q computed)) r u v →
           IsOn x s a.trace (numbers says course c a) q (says.part v.main) v.store.state v.trace (n + 1)
-      come_on q computed came =
-          added_more x s a.trace (numbers says course c a) u.turn (says.part u.main) u.store.state u.trace n come.on (says.part v.main) v.store.state v.trace q computed (turned (stepped.Goes q computed) came)
+      come_on q computed op_result =
+          added_more x s a.trace (numbers says course c a) u.turn (says.part u.main) u.store.state u.trace n come.on (says.part v.main) v.store.state v.trace q computed (turned (stepped.Continues q computed) op_result)
 
       -- it goes on in that turn
-      pub come_goes : (q : Turn) (computed : Bool) → HasTurned says course c (Some (stepped.Goes q computed)) r u v → Keeps says u v → HasCome says course c a (turned_to q) (n + 1)
-      come_goes q computed came kept =
-          let p = stepped.Goes q computed in
+      pub come_goes : (q : Turn) (computed : Bool) → HasTurned says course c (Some (stepped.Continues q computed)) r u v → Keeps says u v → HasCome says course c a (turned_to q) (n + 1)
+      come_goes q computed op_result kept =
+          let p = stepped.Continues q computed in
           record {
-            on = come_on q computed came;
-            ran = ran_more says.does x s a.main a.trace a.store.listeners says.part u.turn u.main u.store.state u.trace u.store.listeners v.main v.store.state v.store.listeners p v.trace come.ran (told (Some p) came) came.did;
+            on = come_on q computed op_result;
+            ran = ran_more says.does x s a.main a.trace a.store.listeners says.part u.turn u.main u.store.state u.trace u.store.listeners v.main v.store.state v.store.listeners p v.trace come.ran (told (Some p) op_result) op_result.did;
             keeps = let k = keeps_on a u v come.keeps kept in record { script = k.script; idle = k.idle; standing = k.standing };
-            suits = came.suits;
-            knows = came.knows;
-            works = came.works;
-            asked = came.asked;
+            suits = op_result.suits;
+            knows = op_result.knows;
+            works = op_result.works;
+            asked = op_result.asked;
           }
 
       pub ran_over : (o : Outcome) → HasTurned says course c (Some (stepped.Over o)) r u v → RanTo says course c a (turned_to turn.Over)
-      ran_over o came =
+      ran_over o op_result =
           let p = stepped.Over o in
-          ran_more says.does x s a.main a.trace a.store.listeners says.part u.turn u.main u.store.state u.trace u.store.listeners v.main v.store.state v.store.listeners p v.trace come.ran (told (Some p) came) came.did
+          ran_more says.does x s a.main a.trace a.store.listeners says.part u.turn u.main u.store.state u.trace u.store.listeners v.main v.store.state v.store.listeners p v.trace come.ran (told (Some p) op_result) op_result.did
 
       pub ran_kept : HasTurned says course c None r u v → RanTo says course c a v
-      ran_kept came =
-          subst (λ (q : Turn). Ran says.does x s a.main a.trace a.store.listeners (state_at v.store.state.core (says.part v.main) q) v.main v.trace v.store.listeners) (sym came.turn)
-          (ran_still says.does x s a.main a.trace a.store.listeners says.part u.turn u.main u.store.state u.trace u.store.listeners v.main v.store.state v.store.listeners v.trace come.ran (told None came) came.did.0)
+      ran_kept op_result =
+          subst (λ (q : Turn). Ran says.does x s a.main a.trace a.store.listeners (state_at v.store.state.core (says.part v.main) q) v.main v.trace v.store.listeners) (sym op_result.turn)
+          (ran_still says.does x s a.main a.trace a.store.listeners says.part u.turn u.main u.store.state u.trace u.store.listeners v.main v.store.state v.store.listeners v.trace come.ran (told None op_result) op_result.did.0)
 
       -- it is over
       pub come_over : (steps : ℕ) (o : Outcome) → n < steps → HasTurned says course c (Some (stepped.Over o)) r u v → HasGone says course c steps o a (turned_to turn.Over)
-      come_over steps o room came =
+      come_over steps o room op_result =
           gone steps o (turned_to turn.Over)
-          (added_ends x s a.trace (numbers says course c a) u.turn (says.part u.main) u.store.state u.trace n come.on (says.part v.main) v.store.state v.trace o steps room (turned (stepped.Over o) came))
-          (ran_over o came) came.suits came.knows came.works came.asked
+          (added_ends x s a.trace (numbers says course c a) u.turn (says.part u.main) u.store.state u.trace n come.on (says.part v.main) v.store.state v.trace o steps room (turned (stepped.Over o) op_result))
+          (ran_over o op_result) op_result.suits op_result.knows op_result.works op_result.asked
 
       -- nothing can go on, and that is no deadlock
       pub come_none : (steps : ℕ) → n ≤ steps → HasTurned says course c None r u v → HasGone says course c steps outcome.Idle a v
-      come_none steps room came =
-          let t = told None came in
+      come_none steps room op_result =
+          let t = told None op_result in
           gone steps outcome.Idle v
-          (subst (λ (q : Turn). Drove x s a.trace (numbers says course c a) q (says.part v.main) v.store.state v.trace steps outcome.Idle) (sym came.turn)
+          (subst (λ (q : Turn). Drove x s a.trace (numbers says course c a) q (says.part v.main) v.store.state v.trace steps outcome.Idle) (sym op_result.turn)
           (added_none x s a.trace (numbers says course c a) u.turn (says.part u.main) u.store.state u.trace n come.on (says.part v.main) v.store.state v.trace steps room (t.0.turned, t.1)))
-          (ran_kept came) came.suits came.knows came.works came.asked
+          (ran_kept op_result) op_result.suits op_result.knows op_result.works op_result.asked
 
     -- the same before a turn
     pub come_rests : (steps : ℕ) → n ≤ steps → is_at_rest x (state says course c u) ≡ true → HasGone says course c steps outcome.Idle a u
@@ -242,7 +242,7 @@ module _ {M T H G : Type 0} (says : Says M) (course : H → HostDef) (c : Compon
         suits = come.suits;
         knows = stays (last_by_works u.store.state w same) come.knows;
         works = holds_same u.store.state.core w.core (held_by course u.store) same.works come.works;
-        asked = asked_computed c u.store.state u.trace n w after k x refl (ap (λ (ts : Tags). ts.known) same.tags) u.turn computes still come.asked;
+        asked = asked_computed c u.store.state u.trace n w after k x refl (ap (λ (ts : Tags). ts.tracked) same.tags) u.turn computes still come.asked;
       }
 
     -- memory was wanting
@@ -293,7 +293,7 @@ module _ {M T H G : Type 0} (says : Says M) (course : H → HostDef) (c : Compon
                   step = made.1.1.step;
                   other = sym (others_shown x (says.part u.main) (says.part v.main) u.store.state v.store.state u.turn q.0 made.0 made.1.1);
                   told = q.1.0;
-                  order = sits_after x u.store.state.core v.store.state.core (says.part u.main) (says.part v.main) u.turn made.0.turn made.0.label come.on.at.order made.1.1.step;
+                  order = core_in_order_after x u.store.state.core v.store.state.core (says.part u.main) (says.part v.main) u.turn made.0.turn made.0.label come.on.at.order made.1.1.step;
                   running = made.1.1.running;
                 })
           ];
@@ -332,7 +332,7 @@ module _ {M T H G : Type 0} (says : Says M) (course : H → HostDef) (c : Compon
   }
 
   pub has_failed : (m : Store T H G) → b.store ≡ record m { state = asked (on_core set_trapped m.state); listeners = b.store.listeners } →
-      HasStopped says course c steps a b.main b.trace m.state m.listeners → Told (finishes m.state.tags.known) m.listeners b.store.listeners →
+      HasStopped says course c steps a b.main b.trace m.state m.listeners → ToldListeners (finishes m.state.tags.tracked) m.listeners b.store.listeners →
       ((u : StateView) → WorksLast m.state u → says.knows b.main m.state → says.knows b.main u) → says.knows b.main m.state → HoldsHosts course m → b.turn ≡ turn.Over →
       HasFailed says course c steps a b
   has_failed m rest stopped told stays knows works over = record {
@@ -354,78 +354,78 @@ module _ {M T H G : Type 0} (says : Says M) (course : H → HostDef) (c : Compon
 
   -- ---- By a policy
 
-  pub goes_on_by : (yields : Bool) (q : Stop) (pace pace' : Pace) → (yields ≡ false → GoesTo says course c false steps q pace a b pace') → (yields ≡ true → GoesTo says course c true steps q pace a b pace') →
-      GoesTo says course c yields steps q pace a b pace'
-  goes_on_by false q pace pace' driven polled = driven refl
-  goes_on_by true q pace pace' driven polled = polled refl
+  pub goes_on_by : (yields : Bool) (q : Stop) (yield_budget yield_budget' : YieldBudget) → (yields ≡ false → GoesTo says course c false steps q yield_budget a b yield_budget') → (yields ≡ true → GoesTo says course c true steps q yield_budget a b yield_budget') →
+      GoesTo says course c yields steps q yield_budget a b yield_budget'
+  goes_on_by false q yield_budget yield_budget' driven polled = driven refl
+  goes_on_by true q yield_budget yield_budget' driven polled = polled refl
 
   -- one that never stops them doesn't
-  pub never_rests : (q : Stop) (pace pace' : Pace) → q ≡ stop.Rests → GoesTo says course c false steps q pace a b pace' → ⊥
-  never_rests q pace pace' is gone = subst (λ (k : Stop). GoesTo says course c false steps k pace a b pace') is gone
+  pub never_rests : (q : Stop) (yield_budget yield_budget' : YieldBudget) → q ≡ stop.Rests → GoesTo says course c false steps q yield_budget a b yield_budget' → ⊥
+  never_rests q yield_budget yield_budget' is gone = subst (λ (k : Stop). GoesTo says course c false steps k yield_budget a b yield_budget') is gone
 
-  pub never_yields : (q : Stop) (pace pace' : Pace) → q ≡ stop.Yields → GoesTo says course c false steps q pace a b pace' → ⊥
-  never_yields q pace pace' is gone = subst (λ (k : Stop). GoesTo says course c false steps k pace a b pace') is gone
+  pub never_yields : (q : Stop) (yield_budget yield_budget' : YieldBudget) → q ≡ stop.Yields → GoesTo says course c false steps q yield_budget a b yield_budget' → ⊥
+  never_yields q yield_budget yield_budget' is gone = subst (λ (k : Stop). GoesTo says course c false steps k yield_budget a b yield_budget') is gone
 
   -- one that stops them
-  pub stops_by : (yields : Bool) (q : Stop) (pace pace' : Pace) → yields ≡ true → GoesTo says course c true steps q pace a b pace' → GoesTo says course c yields steps q pace a b pace'
-  stops_by yields q pace pace' on polled = subst (λ (y : Bool). GoesTo says course c y steps q pace a b pace') (sym on) polled
+  pub stops_by : (yields : Bool) (q : Stop) (yield_budget yield_budget' : YieldBudget) → yields ≡ true → GoesTo says course c true steps q yield_budget a b yield_budget' → GoesTo says course c yields steps q yield_budget a b yield_budget'
+  stops_by yields q yield_budget yield_budget' on polled = subst (λ (y : Bool). GoesTo says course c y steps q yield_budget a b yield_budget') (sym on) polled
 
   -- ---- Of a drive
 
   -- what the rows come to is no failed hook
-  drives_by : (listens : Bool) (o : Outcome) (pace pace' : Pace) → (o ≡ hook_failed → ⊥) → HasDriven says course c steps o pace a b pace' → DrivesTo says course c listens steps (Ok o) pace a b pace'
-  drives_by false o pace pace' other d = d
-  drives_by true (outcome.Trap trap.HookFailed) pace pace' other d = absurd (other refl)
-  drives_by true (outcome.Trap t) pace pace' other d = d
-  drives_by true o pace pace' other d = d
+  drives_by : (listens : Bool) (o : Outcome) (yield_budget yield_budget' : YieldBudget) → (o ≡ hook_failed → ⊥) → HasDriven says course c steps o yield_budget a b yield_budget' → DrivesTo says course c listens steps (Ok o) yield_budget a b yield_budget'
+  drives_by false o yield_budget yield_budget' other d = d
+  drives_by true (outcome.Trap trap.HookFailed) yield_budget yield_budget' other d = absurd (other refl)
+  drives_by true (outcome.Trap t) yield_budget yield_budget' other d = d
+  drives_by true o yield_budget yield_budget' other d = d
 
   pub drives_of : (o : Outcome) → HasGone says course c steps o a b → Drives (setting says course c a) (state says course c a) a.trace (state says course c b) b.trace steps o
   drives_of o h = record { added = h.has.ran.added; trace = h.has.ran.trace; run = h.has.ran.run; few = h.has.few; ends = h.outcome }
 
-  drives_on : (listens : Bool) (o : Outcome) (pace pace' : Pace) → (h : HasGone says course c steps o a b) → LeavesPace pace h.has.ran.added o pace' → DrivesTo says course c listens steps (Ok o) pace a b pace'
-  drives_on listens o pace pace' h leaves =
-      drives_by listens o pace pace' (never_failed (setting says course c a) (state says course c a) h.has.ran.added (state says course c b) h.has.ran.run steps o h.outcome)
+  drives_on : (listens : Bool) (o : Outcome) (yield_budget yield_budget' : YieldBudget) → (h : HasGone says course c steps o a b) → LeavesYieldBudget yield_budget h.has.ran.added o yield_budget' → DrivesTo says course c listens steps (Ok o) yield_budget a b yield_budget'
+  drives_on listens o yield_budget yield_budget' h leaves =
+      drives_by listens o yield_budget yield_budget' (never_failed (setting says course c a) (state says course c a) h.has.ran.added (state says course c b) h.has.ran.run steps o h.outcome)
       (record { gone = h; since = leaves.since; passes_on = leaves.passes_on })
 
   -- it is idle: the labels of the drive are counted
-  pub counted_on : (listens : Bool) (o : Outcome) (pace pace' : Pace) → HasGone says course c steps o a b → o ≡ outcome.Idle → pace'.since ≡ since_driven pace.passes pace.since (drop (length a.trace) b.trace) → pace'.passes ≡ false →
-      DrivesTo says course c listens steps (Ok o) pace a b pace'
-  counted_on listens o pace pace' h idle since passes =
-      drives_on listens o pace pace' h (leaves_counted a.trace b.trace h.has.ran.added h.has.ran.trace o pace pace' idle since passes)
+  pub counted_on : (listens : Bool) (o : Outcome) (yield_budget yield_budget' : YieldBudget) → HasGone says course c steps o a b → o ≡ outcome.Idle → yield_budget'.since ≡ since_driven yield_budget.passes yield_budget.since (drop (length a.trace) b.trace) → yield_budget'.passes ≡ false →
+      DrivesTo says course c listens steps (Ok o) yield_budget a b yield_budget'
+  counted_on listens o yield_budget yield_budget' h idle since passes =
+      drives_on listens o yield_budget yield_budget' h (leaves_counted a.trace b.trace h.has.ran.added h.has.ran.trace o yield_budget yield_budget' idle since passes)
 
   -- else none counts
-  pub none_on : (listens : Bool) (o : Outcome) (pace pace' : Pace) → HasGone says course c steps o a b → (o ≡ outcome.Idle → ⊥) → pace'.since ≡ 0 → pace'.passes ≡ false → DrivesTo says course c listens steps (Ok o) pace a b pace'
-  none_on listens o pace pace' h other since passes =
-      drives_on listens o pace pace' h (leaves_none a.trace b.trace h.has.ran.added h.has.ran.trace o pace pace' other since passes)
+  pub none_on : (listens : Bool) (o : Outcome) (yield_budget yield_budget' : YieldBudget) → HasGone says course c steps o a b → (o ≡ outcome.Idle → ⊥) → yield_budget'.since ≡ 0 → yield_budget'.passes ≡ false → DrivesTo says course c listens steps (Ok o) yield_budget a b yield_budget'
+  none_on listens o yield_budget yield_budget' h other since passes =
+      drives_on listens o yield_budget yield_budget' h (leaves_none a.trace b.trace h.has.ran.added h.has.ran.trace o yield_budget yield_budget' other since passes)
 
-  pub drives_failed : (listens hooked : Bool) (m : Store T H G) (pace pace' : Pace) → hooked ≡ is_some a.store.listeners.hook → (hooked ≡ true → listens ≡ true) →
-      HasStopped says course c steps a b.main b.trace m.state m.listeners → HasFailed says course c steps a b → DrivesTo says course c listens steps (Ok hook_failed) pace a b pace'
-  drives_failed listens hooked m pace pace' is so stopped failed =
-      subst (λ (l : Bool). DrivesTo says course c l steps (Ok hook_failed) pace a b pace') (sym (heard listens hooked m.listeners b.main m.state is so stopped)) failed
+  pub drives_failed : (listens hooked : Bool) (m : Store T H G) (yield_budget yield_budget' : YieldBudget) → hooked ≡ is_some a.store.listeners.hook → (hooked ≡ true → listens ≡ true) →
+      HasStopped says course c steps a b.main b.trace m.state m.listeners → HasFailed says course c steps a b → DrivesTo says course c listens steps (Ok hook_failed) yield_budget a b yield_budget'
+  drives_failed listens hooked m yield_budget yield_budget' is so stopped failed =
+      subst (λ (l : Bool). DrivesTo says course c l steps (Ok hook_failed) yield_budget a b yield_budget') (sym (heard listens hooked m.listeners b.main m.state is so stopped)) failed
 
   -- ---- Of a poll
 
-  abbrev Polled : Result RunPoll TaskError → (pace pace' : Pace) → Type 0
-  Polled r pace pace' = HasPolled says course c steps r pace a b pace'
+  abbrev Polled : Result RunPoll TaskError → (yield_budget yield_budget' : YieldBudget) → Type 0
+  Polled r yield_budget yield_budget' = HasPolled says course c steps r yield_budget a b yield_budget'
 
-  polls_by : (listens : Bool) (r : Result RunPoll TaskError) (pace pace' : Pace) → (r ≡ Err task_error.NoMemory → ⊥) → (r ≡ Err (task_error.Trap trap.HookFailed) → ⊥) → Polled r pace pace' → PollsTo says course c listens steps r pace a b pace'
-  polls_by false (Ok v) pace pace' there other d = d
-  polls_by false (Err task_error.NoMemory) pace pace' there other d = absurd (there refl)
-  polls_by false (Err (task_error.Trap t)) pace pace' there other d = d
-  polls_by false (Err (task_error.HostFailed i)) pace pace' there other d = d
-  polls_by true (Ok v) pace pace' there other d = d
-  polls_by true (Err task_error.NoMemory) pace pace' there other d = absurd (there refl)
-  polls_by true (Err (task_error.Trap trap.HookFailed)) pace pace' there other d = absurd (other refl)
-  polls_by true (Err (task_error.Trap t)) pace pace' there other d = d
-  polls_by true (Err (task_error.HostFailed i)) pace pace' there other d = d
+  polls_by : (listens : Bool) (r : Result RunPoll TaskError) (yield_budget yield_budget' : YieldBudget) → (r ≡ Err task_error.NoMemory → ⊥) → (r ≡ Err (task_error.Trap trap.HookFailed) → ⊥) → Polled r yield_budget yield_budget' → PollsTo says course c listens steps r yield_budget a b yield_budget'
+  polls_by false (Ok v) yield_budget yield_budget' there other d = d
+  polls_by false (Err task_error.NoMemory) yield_budget yield_budget' there other d = absurd (there refl)
+  polls_by false (Err (task_error.Trap t)) yield_budget yield_budget' there other d = d
+  polls_by false (Err (task_error.HostFailed i)) yield_budget yield_budget' there other d = d
+  polls_by true (Ok v) yield_budget yield_budget' there other d = d
+  polls_by true (Err task_error.NoMemory) yield_budget yield_budget' there other d = absurd (there refl)
+  polls_by true (Err (task_error.Trap trap.HookFailed)) yield_budget yield_budget' there other d = absurd (other refl)
+  polls_by true (Err (task_error.Trap t)) yield_budget yield_budget' there other d = d
+  polls_by true (Err (task_error.HostFailed i)) yield_budget yield_budget' there other d = d
 
-  pub polls_on : (listens : Bool) (q : Stop) (pace pace' : Pace) → Polled (stop_answer q) pace pace' → PollsTo says course c listens steps (stop_answer q) pace a b pace'
-  polls_on listens q pace pace' p =
+  pub polls_on : (listens : Bool) (q : Stop) (yield_budget yield_budget' : YieldBudget) → Polled (stop_answer q) yield_budget yield_budget' → PollsTo says course c listens steps (stop_answer q) yield_budget a b yield_budget'
+  polls_on listens q yield_budget yield_budget' p =
       let r = stop_answer q in
-      polls_by listens r pace pace' (stop_there q)
-      (polled_never (setting says course c a) (state says course c a) p.has.ran.added (state says course c b) p.has.ran.run pace.passes pace.since steps r p.answers) p
+      polls_by listens r yield_budget yield_budget' (stop_there q)
+      (polled_never (setting says course c a) (state says course c a) p.has.ran.added (state says course c b) p.has.ran.run yield_budget.passes yield_budget.since steps r p.answers) p
 
-  pub polls_failed : (listens hooked : Bool) (m : Store T H G) (pace pace' : Pace) → hooked ≡ is_some a.store.listeners.hook → (hooked ≡ true → listens ≡ true) →
-      HasStopped says course c steps a b.main b.trace m.state m.listeners → HasFailed says course c steps a b → PollsTo says course c listens steps (Err (task_error.Trap trap.HookFailed)) pace a b pace'
-  polls_failed listens hooked m pace pace' is so stopped failed =
-      subst (λ (l : Bool). PollsTo says course c l steps (Err (task_error.Trap trap.HookFailed)) pace a b pace') (sym (heard listens hooked m.listeners b.main m.state is so stopped)) failed
+  pub polls_failed : (listens hooked : Bool) (m : Store T H G) (yield_budget yield_budget' : YieldBudget) → hooked ≡ is_some a.store.listeners.hook → (hooked ≡ true → listens ≡ true) →
+      HasStopped says course c steps a b.main b.trace m.state m.listeners → HasFailed says course c steps a b → PollsTo says course c listens steps (Err (task_error.Trap trap.HookFailed)) yield_budget a b yield_budget'
+  polls_failed listens hooked m yield_budget yield_budget' is so stopped failed =
+      subst (λ (l : Bool). PollsTo says course c l steps (Err (task_error.Trap trap.HookFailed)) yield_budget a b yield_budget') (sym (heard listens hooked m.listeners b.main m.state is so stopped)) failed

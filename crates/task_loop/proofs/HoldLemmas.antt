@@ -2,13 +2,13 @@
 use Rattle.std.proofs.Common.{ap, arith, inl, inr, refl, subst, sym, ◌∙◌}
 use Rattle.cell_laws.specs.Cells.{Runs, StaysWork, Takes}
 use Rattle.host_works.specs.Course.{one_fewer}
-use Rattle.host_works.specs.Kept.{HeldWork}
+use Rattle.host_works.specs.KeptWorks.{HeldWork}
 use Rattle.op_dispatch.specs.Polls.{polled_host}
 use Rattle.std.specs.Option.{option_map}
 use Rattle.std.specs.Prelude.{[], Bool, Err, IfOk, List, None, Ok, OnOk, Option, Result, Some, cond, suc, true, zero, ℕ, ◌+◌, ◌==◌, ◌≡◌, ◌-◌}
 use Rattle.task_machine.specs.Core.{Main, State, Unscripted}
 use Rattle.task_machine.specs.Maps.{get}
-use Rattle.task_machine.specs.Read.{course_of, how_far_of}
+use Rattle.task_machine.specs.Read.{course_of, op_progress_of}
 use Rattle.task_machine.specs.declared.component.Component.{Component}
 use Rattle.task_machine.specs.declared.component.HostDef.{HostDef}
 use Rattle.task_machine.specs.declared.label.Label.{Label}
@@ -16,8 +16,8 @@ use Rattle.task_machine.specs.declared.op.CallOp.TheVariants as call_op
 use Rattle.task_machine.specs.declared.op.Op.{Op}
 use Rattle.task_machine.specs.declared.op.Op.TheVariants as op
 use Rattle.task_machine.specs.declared.records.Course.TheVariants as courses
-use Rattle.task_machine.specs.declared.records.HowFar.{HowFar}
-use Rattle.task_machine.specs.declared.records.HowFar.TheVariants as how_far
+use Rattle.task_machine.specs.declared.records.OpProgress.{OpProgress}
+use Rattle.task_machine.specs.declared.records.OpProgress.TheVariants as op_progress
 use Rattle.task_machine.specs.declared.records.Subtask.TheVariants as subtask
 use Rattle.task_machine.specs.declared.records.Turn.TheVariants as turn
 use Rattle.task_machine.specs.declared.scenario.IdleLine.TheVariants as idle_line
@@ -36,10 +36,10 @@ use Rattle.task_store.proofs.HostLemmas.{holds_as, holds_made, holds_quiet, hold
 use Rattle.task_store.specs.Hosts.{HoldsWorks, held_after_call, running}
 use Rattle.task_table.specs.declared.id.TableId.{TableId}
 use Rattle.task_turns.specs.Ran.{RanPolls, WorkMade}
-use Rattle.task_turns.specs.Stepped.{AddedOrNone}
-use Rattle.task_turns.specs.Turn.{Makes, PendsIn, Sits, Turned, TurnedBeside, idle_line_of, state_at}
+use Rattle.task_turns.specs.StepResult.{AddedOrNone}
+use Rattle.task_turns.specs.Turn.{MakesStep, PendsIn, CoreInOrder, Turned, TurnedBeside, idle_line_of, state_at}
 use Rattle.task_turns.specs.declared.made.Ran.{Ran}
-use Rattle.task_turns.specs.declared.made.Stepped.{Stepped}
+use Rattle.task_turns.specs.declared.made.StepResult.{StepResult}
 use Rattle.task_wait.specs.declared.keys.HostTaskKey.{HostTaskKey}
 use Rattle.task_words.specs.StateView.{StateView, work_of}
 
@@ -49,7 +49,7 @@ taking_makes_none : (ops : ℕ → Op) (s : State) (ended : Bool) → s.turn ≡
 taking_makes_none ops s ended is (Spawns main) = cc
 taking_makes_none ops s ended is (CallsHost n runs queues) = cc
 
-pub held_taken : {E : Type 0} (x : Setting) (b ended : Bool) (m : Main) (s t : StateView) (left : ℕ → Option HeldWork) (r : Result (Option Stepped) E) (before after : List Label) → Sits x.component (turn.Take ended) s.core →
+pub held_taken : {E : Type 0} (x : Setting) (b ended : Bool) (m : Main) (s t : StateView) (left : ℕ → Option HeldWork) (r : Result (Option StepResult) E) (before after : List Label) → CoreInOrder x.component (turn.Take ended) s.core →
     x.idle ≡ idle_line_of b → PendsIn x s.core m (turn.Take ended) → IfOk r (λ o. AddedOrNone (λ made. TurnedBeside x.component b (turn.Take ended) s made t) o before after) → HoldsWorks left s.core → OnOk r (HoldsWorks left t.core)
 held_taken x b ended m s t left (Err e) before after sits idle pends turned h = tt
 held_taken x b ended m s t left (Ok None) before after sits idle pends turned h =
@@ -67,8 +67,8 @@ held_taken x b ended m s t left (Ok (Some q)) before after sits idle pends turne
 -- ---- Ops of the running thread
 
 -- an op that may make a work polls a host first
-polls_first : (c : Component) (f : HowFar) (o : Op) → queues_work f o ≡ true → polled_host c f o ≡ None → ⊥
-polls_first c (how_far.Calls (subtask.Host i)) (op.Call (call_op.CallHost r q h)) queues none = cc
+polls_first : (c : Component) (f : OpProgress) (o : Op) → queues_work f o ≡ true → polled_host c f o ≡ None → ⊥
+polls_first c (op_progress.Calls (subtask.Host i)) (op.Call (call_op.CallHost r q h)) queues none = cc
 polls_first c f (op.Call (call_op.CallHost r q h)) queues none = grind (arith, none)
 polls_first c f (op.Call (call_op.CallSyncHost r h)) queues none = grind (arith, none, queues)
 polls_first c f o queues none = grind (arith, queues)
@@ -86,7 +86,7 @@ first_left host_def.Open l host_poll.Pending h = same_left host_def.Open l h
 first_left host_def.Open l (host_poll.Value v) h = absurd (cc)
 first_left host_def.Open l host_poll.Failed h = absurd (cc)
 
-module _ (answer : HostPoll) (c : Component) (n : ℕ) (s t : StateView) (ran : Ran) (sits : Sits c (turn.Run n) s.core) (makes : Makes c (turn.Run n) s ran.made t) (polls : RanPolls answer c n s ran t)
+module _ (answer : HostPoll) (c : Component) (n : ℕ) (s t : StateView) (ran : Ran) (sits : CoreInOrder c (turn.Run n) s.core) (makes : MakesStep c (turn.Run n) s ran.made t) (polls : RanPolls answer c n s ran t)
     (left : ℕ → Option HeldWork) (h : HoldsWorks left s.core) where
   x : Setting
   x = record { component = c; script = []; idle = idle_line.Wait }
@@ -106,7 +106,7 @@ module _ (answer : HostPoll) (c : Component) (n : ℕ) (s t : StateView) (ran : 
   makes_none none (Spawns main) = cc
   makes_none none (CallsHost k runs queues) =
       let same : n ≡ k = cc in
-      polls_first c (how_far_of k s.core) (op_of c k s.core) queues (subst (λ (i : ℕ). polled_host c (how_far_of i s.core) (op_of c i s.core) ≡ None) same (sym polls.polled ∙ none))
+      polls_first c (op_progress_of k s.core) (op_of c k s.core) queues (subst (λ (i : ℕ). polled_host c (op_progress_of i s.core) (op_of c i s.core) ≡ None) same (sym polls.polled ∙ none))
 
   after : State
   after = state_at t.core Unscripted ran.made.turn
@@ -125,7 +125,7 @@ module _ (answer : HostPoll) (c : Component) (n : ℕ) (s t : StateView) (ran : 
   made_held id right m is =
       let d = m.0 in let l = m.1.0 in let polled = m.1.1.0 in let first = m.1.1.1.0 in let number = m.1.1.1.1.0 in let goes = m.1.1.1.1.1 in
       holds_made own_ops x before ran.made.label after walked (Runs n) (sits.order Unscripted).works.made stays left h l right
-      (subst (λ (k : ℕ). course_of k t.core ≡ courses.Goes l) number goes)
+      (subst (λ (k : ℕ). course_of k t.core ≡ courses.Continues l) number goes)
       (λ i. is i ∙ (ap (λ (o : Option HostDef). held_after_call (Some (work_of t id)) (option_map one_fewer o) left i) polled ∙ (ap (λ (k : ℕ). cond (k == i) (running (one_fewer d)) (left i)) number
       ∙ ap (λ (e : HostDef). cond (s.core.made.works + 1 == i) (running e) (left i)) (first_left d l answer first))))
 

@@ -19,10 +19,10 @@ use Rattle.task_rules.specs.Stalled.{Setting}
 use Rattle.task_machine.specs.declared.component.HostDef.{HostDef}
 use Rattle.task_turns.specs.Later.{WorksLast}
 use Rattle.task_store.specs.declared.store.Store.{Store}
-use Rattle.task_turns.specs.Stepped.{Added}
+use Rattle.task_turns.specs.StepResult.{Added}
 use Rattle.task_turns.specs.Turn.{Turns, setting_of}
-use Rattle.task_turns.specs.declared.made.Made.{Made}
-use Rattle.task_turns.specs.declared.made.Stepped.{Stepped}
+use Rattle.task_turns.specs.declared.made.MadeStep.{MadeStep}
+use Rattle.task_turns.specs.declared.made.StepResult.{StepResult}
 use Rattle.task_words.specs.Groups.{asked}
 use Rattle.task_words.specs.StateView.{StateView, on_core, work_number}
 
@@ -54,8 +54,8 @@ must_listen listens false a b is so err same off = unanswered a b (sym is) (same
 
 -- the step of the turn was made, and the hook failed in what it gave
 pub stops_after : (x : Setting) (p r : Turn) → p ≡ r → (r ≡ turn.Main → ⊥) → (m : Main) (s : StateView) (before after : List Label) (old new : Listeners) →
-    AnsweredErr old new × (is_some new.hook ≡ is_some old.hook) → (q : Stepped) (n : Main) (t : StateView) →
-    TellsInPart s.core r t old new → Added (λ (made : Made). Turns x r m s made n t) q before after → StopsTurn x p m s before after old new n t
+    AnsweredErr old new × (is_some new.hook ≡ is_some old.hook) → (q : StepResult) (n : Main) (t : StateView) →
+    TellsInPart s.core r t old new → Added (λ (made : MadeStep). Turns x r m s made n t) q before after → StopsTurn x p m s before after old new n t
 stops_after x p r is other m s before after old new err q n t tells made = record {
   answered = err.0;
   hook = err.1;
@@ -63,7 +63,7 @@ stops_after x p r is other m s before after old new err q n t tells made = recor
     λ main. other (sym is ∙ main),
     (
       subst (λ (k : Turn). TellsInPart s.core k t old new) (sym is) tells,
-      (q, subst (λ (k : Turn). Added (λ (made : Made). Turns x k m s made n t) q before after) (sym is) made),
+      (q, subst (λ (k : Turn). Added (λ (made : MadeStep). Turns x k m s made n t) q before after) (sym is) made),
     ),
   );
 }
@@ -74,10 +74,10 @@ pub stops_main : {M T H G : Type 0} (course : H → HostDef) (part : M → Main)
 stops_main course part x p main m n before after same s t q =
     let fails = q.fails in
     let stops = fails.stops in
-    let first = answered_after s.listeners stops.between fails.between (stops.calm).told.errors stops.answered in
+    let first = answered_after s.listeners stops.between fails.between (stops.hook_is_ok).told.errors stops.answered in
     record {
       answered = answered_still s.listeners fails.between t.listeners first (fails.finished).errors;
-      hook = (fails.finished).same_hook ∙ ((stops.last).same_hook ∙ (stops.calm).told.same_hook);
+      hook = (fails.finished).same_hook ∙ ((stops.last).same_hook ∙ (stops.hook_is_ok).told.same_hook);
       stops = inl (record { turn = main; trace = same; main = ap part q.main; state = q.state; fails = fails });
     }
 
@@ -90,9 +90,9 @@ stops_same c ops ops' b b' same idle p m s before after old new n t stops =
 
 -- ---- What is so unless the hook answered an error
 
-pub always_calm : (b : Bool) (x y : Listeners) (P : Type 0) → P → Unheard b x y P
-always_calm false x y P p = p
-always_calm true x y P p = λ none. p
+pub always_hook_is_ok : (b : Bool) (x y : Listeners) (P : Type 0) → P → Unheard b x y P
+always_hook_is_ok false x y P p = p
+always_hook_is_ok true x y P p = λ none. p
 
 pub unheard_map : (b : Bool) (x y : Listeners) (P Q : Type 0) → (P → Q) → Unheard b x y P → Unheard b x y Q
 unheard_map false x y P Q f p = f p

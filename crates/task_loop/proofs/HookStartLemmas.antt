@@ -61,9 +61,9 @@ pub told_failed : {A E : Type 0} (r : Result A E) (a b : Listeners) → (IsErr r
 told_failed (Ok x) a b answer e = absurd (cc)
 told_failed (Err x) a b answer e = answer.0 refl
 
-pub told_calm : {A E : Type 0} (r : Result A E) (a b : Listeners) → (IsErr r ↔ AnsweredErr a b) → is_err r ≡ false → AnsweredErr a b → ⊥
-told_calm (Ok x) a b answer e err = absurd (let no = answer.1 err in cc)
-told_calm (Err x) a b answer e err = absurd (cc)
+pub told_hook_is_ok : {A E : Type 0} (r : Result A E) (a b : Listeners) → (IsErr r ↔ AnsweredErr a b) → is_err r ≡ false → AnsweredErr a b → ⊥
+told_hook_is_ok (Ok x) a b answer e err = absurd (let no = answer.1 err in cc)
+told_hook_is_ok (Err x) a b answer e err = absurd (cc)
 
 pub ok_or_err : {T E : Type 0} (r : Result T E) (v : T) (e : E) → r ≡ Ok v → r ≡ Err e → ⊥
 ok_or_err (Ok x) v e is other = absurd (cc)

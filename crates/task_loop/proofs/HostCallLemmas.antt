@@ -3,15 +3,15 @@ use Rattle.std.proofs.Common.{ap, arith, refl, subst, sym, ◌∙◌}
 use Rattle.std.proofs.lemmas.Bool.Decides.{nat_tests}
 use Rattle.std.specs.Option.{option_map}
 use Rattle.std.specs.Prelude.{Bool, Err, IfSome, Ok, None, Option, Result, Some, cond, false, is_ok, not, suc, true, zero, ℕ, ◌+◌, ◌-◌, ◌==◌, ◌≡◌}
-use Rattle.host_works.specs.Kept.{HeldWork, after_poll}
+use Rattle.host_works.specs.KeptWorks.{HeldWork, after_poll}
 use Rattle.op_dispatch.proofs.CallLemmas.{host_makes_none, sync_host_makes_none}
 use Rattle.state_calls.specs.declared.error.TaskError.{TaskError}
 use Rattle.state_calls.specs.declared.error.TaskError.TheVariants as task_error
-use Rattle.task_calls.specs.Answers.{answered, at_once, number_answered, value_answered}
+use Rattle.task_calls.specs.OpAnswers.{answered, at_once, number_answered, value_answered}
 use Rattle.task_calls.specs.Asks.{Answers, Did, Does}
-use Rattle.task_calls.specs.Polled.{blocks_row, polls_row}
-use Rattle.task_calls.specs.declared.answers.Step.{Step}
-use Rattle.task_calls.specs.declared.answers.Step.TheVariants as step
+use Rattle.task_calls.specs.PolledCalls.{blocks_rule, polls_rule}
+use Rattle.task_calls.specs.declared.answer_calls.Step.{Step}
+use Rattle.task_calls.specs.declared.answer_calls.Step.TheVariants as step
 use Rattle.task_machine.proofs.CommuteLemmas.{get-change}
 use Rattle.task_machine.specs.Core.{Core}
 use Rattle.task_machine.specs.Labels.{Choice}
@@ -19,9 +19,9 @@ use Rattle.task_machine.specs.Maps.{get}
 use Rattle.task_machine.specs.Moves.{checked, passes_check}
 use Rattle.task_machine.specs.Read.{at_handle_limit, fits, foot_of, instance_of, new_handle, thread_group}
 use Rattle.task_machine.specs.Statuses.{packed}
-use Rattle.task_machine.specs.Write.{give_handle, on_thread, on_work, set_how_far, set_place, set_subtask_handle}
+use Rattle.task_machine.specs.Write.{give_handle, on_thread, on_work, set_op_progress, set_place, set_subtask_handle}
 use Rattle.host_works.specs.Course.{MayTell, told_after}
-use Rattle.host_works.specs.Kept.{MayAnswer}
+use Rattle.host_works.specs.KeptWorks.{MayAnswer}
 use Rattle.subtask_ops.specs.First.{first_heard}
 use Rattle.task_machine.specs.declared.component.HostDef.{HostDef}
 use Rattle.task_machine.specs.declared.component.HostDef.TheVariants as host_def
@@ -30,29 +30,29 @@ use Rattle.task_machine.specs.declared.words.HostPoll.TheVariants as host_poll
 use Rattle.task_store.specs.declared.store.Store.{Store}
 use Rattle.task_machine.specs.declared.label.CallLabel.TheVariants as call_label
 use Rattle.task_machine.specs.declared.label.Label.TheVariants as label
-use Rattle.task_machine.specs.declared.records.HowFar.TheVariants as how_far
-use Rattle.task_machine.specs.declared.records.Made.{Made}
+use Rattle.task_machine.specs.declared.records.OpProgress.TheVariants as op_progress
+use Rattle.task_machine.specs.declared.records.MadeCounts.{MadeCounts}
 use Rattle.task_machine.specs.declared.records.Subtask.{Subtask}
 use Rattle.task_machine.specs.declared.records.Subtask.TheVariants as subtask
 use Rattle.task_machine.specs.declared.records.WorkCaller.TheVariants as callers
 use Rattle.task_machine.specs.declared.trap.Trap.{Trap}
 use Rattle.task_machine.specs.declared.trap.Trap.TheVariants as trap
 use Rattle.task_machine.specs.declared.words.Status.TheVariants as status
-use Rattle.task_ops.specs.Came.{Meets}
+use Rattle.task_ops.specs.OpResult.{Implements}
 use Rattle.task_ops.specs.Stays.{StaysAfter}
-use Rattle.task_ops.specs.declared.came.Came.{Came}
-use Rattle.task_ops.specs.declared.came.Came.TheVariants as came
+use Rattle.task_ops.specs.declared.op_result.OpResult.{OpResult}
+use Rattle.task_ops.specs.declared.op_result.OpResult.TheVariants as op_result
 use Rattle.task_rules.proofs.PlacingLemmas.{Shifted, placing_shifted, shifted_made, shifts_shifted}
 use Rattle.task_rules.proofs.WalkMoves.{checked_shifts}
 use Rattle.task_rules.specs.Calls.{AtOnce, Failing, FirstPoll, Later, call_host_by, call_stops, call_sync_host_by, call_sync_host_stops, host_with_handle, next_work, with_handle, work_queued}
 use Rattle.task_rules.specs.Finish.{SomeHost}
-use Rattle.task_rules.specs.Progress.{Goes, Progress, Stops, trap_if}
+use Rattle.task_rules.specs.Progress.{Continues, Progress, Stops, trap_if}
 use Rattle.task_rules.specs.Words.{Stop}
 use Rattle.task_store.proofs.HostLemmas.{holds_below, holds_queued, holds_same, holds_told, says}
 use Rattle.task_store.specs.Hosts.{HoldsWorks, WorksNumbered, running, settled}
 use Rattle.task_turns.specs.Turn.{running_of}
 use Rattle.task_words.specs.StateView.{StateView}
-use Rattle.task_ops.specs.declared.came.OpAnswer.{OpAnswer}
+use Rattle.task_ops.specs.declared.op_result.OpAnswer.{OpAnswer}
 
 -- ---- What is left of a work after its first poll
 
@@ -87,11 +87,11 @@ shifted_works : {s t : Core} → Shifted s t → t.works ≡ s.works
 shifted_works h = sym (ap (λ (c : Core). c.works) h.only)
 
 stops_works : (n : ℕ) (sub : Subtask) (s : Core) → (call_stops n sub s).works ≡ s.works
-unfolding call_stops set_how_far set_place on_thread
+unfolding call_stops set_op_progress set_place on_thread
 stops_works n sub s = shifted_works (placing_shifted (Stop (foot_of n s)) s)
 
-pending_says : (n q : ℕ) (host : HostDef) (s : Core) (j : ℕ) → option_map says (get (set_how_far n how_far.Fresh (host_with_handle n q host s)).works j) ≡ option_map says (get (work_queued (callers.Async n q) host (Some (thread_group n s)) s).works j)
-unfolding host_with_handle with_handle set_subtask_handle give_handle on_work set_how_far on_thread
+pending_says : (n q : ℕ) (host : HostDef) (s : Core) (j : ℕ) → option_map says (get (set_op_progress n op_progress.Fresh (host_with_handle n q host s)).works j) ≡ option_map says (get (work_queued (callers.Async n q) host (Some (thread_group n s)) s).works j)
+unfolding host_with_handle with_handle set_subtask_handle give_handle on_work set_op_progress on_thread
 pending_says n q host s j = grind (arith, nat_tests, get-change)
 
 module _ (s : Core) (left right : ℕ → Option HeldWork) (numbered : WorksNumbered s) (h : HoldsWorks left s) where
@@ -99,10 +99,10 @@ module _ (s : Core) (left right : ℕ → Option HeldWork) (numbered : WorksNumb
   unmade : (t : Core) → t.works ≡ s.works → ((i : ℕ) → right i ≡ cond (next_work s == i) None (left i)) → HoldsWorks right t
   unmade t works is = holds_same s t right works (holds_below s left right numbered is h)
 
-  pending : (n q : ℕ) (host : HostDef) → ((i : ℕ) → right i ≡ cond (next_work s == i) (running host) (left i)) → HoldsWorks right (set_how_far n how_far.Fresh (host_with_handle n q host s))
+  pending : (n q : ℕ) (host : HostDef) → ((i : ℕ) → right i ≡ cond (next_work s == i) (running host) (left i)) → HoldsWorks right (set_op_progress n op_progress.Fresh (host_with_handle n q host s))
   pending n q host is =
       let f = callers.Async n q in let g = Some (thread_group n s) in
-      holds_told (work_queued f host g s) (set_how_far n how_far.Fresh (host_with_handle n q host s)) right (pending_says n q host s) (holds_queued f host g s left right is h)
+      holds_told (work_queued f host g s) (set_op_progress n op_progress.Fresh (host_with_handle n q host s)) right (pending_says n q host s) (holds_queued f host g s left right is h)
 
   stopped : (n : ℕ) (host : HostDef) → ((i : ℕ) → right i ≡ cond (next_work s == i) (running host) (left i)) → HoldsWorks right (call_sync_host_stops n host s)
   unfolding call_sync_host_stops
@@ -111,40 +111,40 @@ module _ (s : Core) (left right : ℕ → Option HeldWork) (numbered : WorksNumb
       let moved = shifts_shifted (checked_shifts (instance_of n s) s) in
       let works = shifted_works moved in
       let made = shifted_made moved in
-      let next : (i : ℕ) → right i ≡ cond (next_work u == i) (running host) (left i) = λ i. is i ∙ ap (λ (m : Made). cond (m.works + 1 == i) (running host) (left i)) (sym made) in
+      let next : (i : ℕ) → right i ≡ cond (next_work u == i) (running host) (left i) = λ i. is i ∙ ap (λ (m : MadeCounts). cond (m.works + 1 == i) (running host) (left i)) (sym made) in
       let queued = holds_queued f host g u left right next (holds_same s u left works h) in
       holds_same (work_queued f host g u) (call_stops n (subtask.Host (next_work s)) (work_queued f host g u)) right (stops_works n (subtask.Host (next_work s)) (work_queued f host g u)) queued
 
 -- ---- By what was answered
 
-refused_same : {A : Type 0} (f : OpAnswer → A) (r : Came) (why : TaskError) (s t : StateView) → Err why ≡ answered f r → StaysAfter r s t → t ≡ s
-refused_same f (came.Goes l m said) why s t e stays = absurd (cc)
-refused_same f (came.Stops l) why s t e stays = absurd (cc)
-refused_same f (came.Traps w) why s t e stays = stays
-refused_same f (came.Fails i) why s t e stays = stays
+refused_same : {A : Type 0} (f : OpAnswer → A) (r : OpResult) (why : TaskError) (s t : StateView) → Err why ≡ answered f r → StaysAfter r s t → t ≡ s
+refused_same f (op_result.Continues l m said) why s t e stays = absurd (cc)
+refused_same f (op_result.Stops l) why s t e stays = absurd (cc)
+refused_same f (op_result.Traps w) why s t e stays = stays
+refused_same f (op_result.Fails i) why s t e stays = stays
 
-not_trapped : {A : Type 0} (f : OpAnswer → A) (r : Came) (a : Step A) (why : Trap) → Ok a ≡ answered f r → r ≡ came.Traps why → ⊥
+not_trapped : {A : Type 0} (f : OpAnswer → A) (r : OpResult) (a : Step A) (why : Trap) → Ok a ≡ answered f r → r ≡ op_result.Traps why → ⊥
 not_trapped f r a why e is = let t = e ∙ ap (answered f) is in cc
 
-not_failed : {A : Type 0} (f : OpAnswer → A) (r : Came) (a : Step A) (i : ℕ) → Ok a ≡ answered f r → r ≡ came.Fails i → ⊥
+not_failed : {A : Type 0} (f : OpAnswer → A) (r : OpResult) (a : Step A) (i : ℕ) → Ok a ≡ answered f r → r ≡ op_result.Fails i → ⊥
 not_failed f r a i e is = let t = e ∙ ap (answered f) is in cc
 
 module _ (host : HostDef) (told : HostPoll) (tells : MayTell host told) (s t : StateView) (n : ℕ) (runs : running_of s ≡ Some n) (left right : ℕ → Option HeldWork) (numbered : WorksNumbered s.core) (h : HoldsWorks left s.core) where
-  does_of : (row : ℕ → Choice → Progress) (r : Came) → Did row s r t → Does (row n) n s r t
+  does_of : (row : ℕ → Choice → Progress) (r : OpResult) → Did row s r t → Does (row n) n s r t
   does_of row r did = subst (λ (o : Option ℕ). IfSome o (λ k. Does (row k) k s r t)) runs did
 
   -- nothing was changed
   as_before : t ≡ s → ((i : ℕ) → right i ≡ cond (next_work s.core == i) None (left i)) → HoldsWorks right t.core
   as_before same is = unmade s.core left right numbered h t.core (ap (λ (v : StateView). v.core.works) same) is
 
-  refused : {A : Type 0} (f : OpAnswer → A) (row : ℕ → Choice → Progress) (why : TaskError) (r : Came) → Did row s r t → Err why ≡ answered f r → ((i : ℕ) → right i ≡ cond (next_work s.core == i) None (left i)) → HoldsWorks right t.core
+  refused : {A : Type 0} (f : OpAnswer → A) (row : ℕ → Choice → Progress) (why : TaskError) (r : OpResult) → Did row s r t → Err why ≡ answered f r → ((i : ℕ) → right i ≡ cond (next_work s.core == i) None (left i)) → HoldsWorks right t.core
   refused f row why r did e is = as_before (refused_same f r why s t e (does_of row r did).stays) is
 
   module _ (is : (i : ℕ) → right i ≡ cond (next_work s.core == i) (after_poll (Some told) (running host)) (left i)) where
     after : (o : Option HeldWork) → after_poll (Some told) (running host) ≡ o → (i : ℕ) → right i ≡ cond (next_work s.core == i) o (left i)
     after o e i = is i ∙ ap (λ (x : Option HeldWork). cond (next_work s.core == i) x (left i)) e
 
-    polled : (q : ℕ) (a : Step ℕ) (r : Came) → Ok a ≡ answered number_answered r → (p : FirstPoll) → first_heard host told ≡ p → Meets (call_host_by SomeHost n q s.core p) s.core r t.core → HoldsWorks right t.core
+    polled : (q : ℕ) (a : Step ℕ) (r : OpResult) → Ok a ≡ answered number_answered r → (p : FirstPoll) → first_heard host told ≡ p → Implements (call_host_by SomeHost n q s.core p) s.core r t.core → HoldsWorks right t.core
     polled q a r e (AtOnce v) first met = unmade s.core left right numbered h t.core (host_makes_none s.core t.core n SomeHost q (AtOnce v) r met refl) (after None (after_value host told tells v first))
     polled q a r e Failing first met = absurd (not_failed number_answered r a (next_work s.core) e met.0)
     polled q a r e (Later d) first met = by (not (fits 1 s.core)) (at_handle_limit s.core) met
@@ -153,14 +153,14 @@ module _ (host : HostDef) (told : HostPoll) (tells : MayTell host told) (s t : S
         v = packed (new_handle (instance_of n s.core) s.core) status.Started
 
         done : Progress
-        done = Goes (label.Call (call_label.CallPolls v n (next_work s.core))) (set_how_far n how_far.Fresh (host_with_handle n q d s.core)) n
+        done = Continues (label.Call (call_label.CallPolls v n (next_work s.core))) (set_op_progress n op_progress.Fresh (host_with_handle n q d s.core)) n
 
-        by : (b c : Bool) → Meets (trap_if b trap.TableFull (trap_if c trap.HandleLimit done)) s.core r t.core → HoldsWorks right t.core
+        by : (b c : Bool) → Implements (trap_if b trap.TableFull (trap_if c trap.HandleLimit done)) s.core r t.core → HoldsWorks right t.core
         by true c m = absurd (not_trapped number_answered r a trap.TableFull e m.0)
         by false true m = absurd (not_trapped number_answered r a trap.HandleLimit e m.0)
         by false false m = subst (HoldsWorks right) (sym m.1) (pending s.core left right numbered h n q d (after (running d) (after_later host told tells d first)))
 
-    blocked : (a : Step ℕ) (r : Came) → Ok a ≡ answered value_answered r → (p : FirstPoll) → first_heard host told ≡ p → Meets (call_sync_host_by SomeHost n s.core p) s.core r t.core → HoldsWorks right t.core
+    blocked : (a : Step ℕ) (r : OpResult) → Ok a ≡ answered value_answered r → (p : FirstPoll) → first_heard host told ≡ p → Implements (call_sync_host_by SomeHost n s.core p) s.core r t.core → HoldsWorks right t.core
     blocked a r e (AtOnce v) first met = unmade s.core left right numbered h t.core (sync_host_makes_none s.core t.core n SomeHost (AtOnce v) r met refl) (after None (after_value host told tells v first))
     blocked a r e Failing first met = absurd (not_failed value_answered r a (next_work s.core) e met.0)
     blocked a r e (Later d) first met = by (not (fits 1 s.core)) (not (passes_check (instance_of n s.core) s.core)) met
@@ -168,24 +168,24 @@ module _ (host : HostDef) (told : HostPoll) (tells : MayTell host told) (s t : S
         done : Progress
         done = Stops (label.Call (call_label.PausesPolls n (next_work s.core))) (call_sync_host_stops n d s.core)
 
-        by : (b c : Bool) → Meets (trap_if b trap.TableFull (trap_if c trap.CannotBlockSyncTask done)) s.core r t.core → HoldsWorks right t.core
+        by : (b c : Bool) → Implements (trap_if b trap.TableFull (trap_if c trap.CannotBlockSyncTask done)) s.core r t.core → HoldsWorks right t.core
         by true c m = absurd (not_trapped value_answered r a trap.TableFull e m.0)
         by false true m = absurd (not_trapped value_answered r a trap.CannotBlockSyncTask e m.0)
         by false false m = subst (HoldsWorks right) (sym m.1) (stopped s.core left right numbered h n d (after (running d) (after_later host told tells d first)))
 
   -- what is held after a call that goes on
-  pub polled_holds : (q : ℕ) (a : Result ℕ TaskError) → Answers true (polls_row q (first_heard host told) s.core) number_answered s (at_once a) t → ((i : ℕ) → right i ≡ cond (next_work s.core == i) (settled (is_ok a) told (running host)) (left i)) → HoldsWorks right t.core
-  polled_holds q (Ok v) answers is = let did = answers.1.0 in polled is q (step.Done v) answers.0 answers.1.1 (first_heard host told) refl (does_of (polls_row q (first_heard host told) s.core) answers.0 did).meets
+  pub polled_holds : (q : ℕ) (a : Result ℕ TaskError) → Answers true (polls_rule q (first_heard host told) s.core) number_answered s (at_once a) t → ((i : ℕ) → right i ≡ cond (next_work s.core == i) (settled (is_ok a) told (running host)) (left i)) → HoldsWorks right t.core
+  polled_holds q (Ok v) answers is = let did = answers.1.0 in polled is q (step.Done v) answers.0 answers.1.1 (first_heard host told) refl (does_of (polls_rule q (first_heard host told) s.core) answers.0 did).meets
   polled_holds q (Err task_error.NoMemory) answers is = as_before answers.1 is
-  polled_holds q (Err (task_error.Trap w)) answers is = refused number_answered (polls_row q (first_heard host told) s.core) (task_error.Trap w) answers.0 answers.1.0 answers.1.1 is
-  polled_holds q (Err (task_error.HostFailed i)) answers is = refused number_answered (polls_row q (first_heard host told) s.core) (task_error.HostFailed i) answers.0 answers.1.0 answers.1.1 is
+  polled_holds q (Err (task_error.Trap w)) answers is = refused number_answered (polls_rule q (first_heard host told) s.core) (task_error.Trap w) answers.0 answers.1.0 answers.1.1 is
+  polled_holds q (Err (task_error.HostFailed i)) answers is = refused number_answered (polls_rule q (first_heard host told) s.core) (task_error.HostFailed i) answers.0 answers.1.0 answers.1.1 is
 
   -- and after one that waits for its value
-  pub blocked_holds : (a : Result (Step ℕ) TaskError) → Answers true (blocks_row (first_heard host told) s.core) value_answered s a t → ((i : ℕ) → right i ≡ cond (next_work s.core == i) (settled (is_ok a) told (running host)) (left i)) → HoldsWorks right t.core
-  blocked_holds (Ok v) answers is = let did = answers.1.0 in blocked is v answers.0 answers.1.1 (first_heard host told) refl (does_of (blocks_row (first_heard host told) s.core) answers.0 did).meets
+  pub blocked_holds : (a : Result (Step ℕ) TaskError) → Answers true (blocks_rule (first_heard host told) s.core) value_answered s a t → ((i : ℕ) → right i ≡ cond (next_work s.core == i) (settled (is_ok a) told (running host)) (left i)) → HoldsWorks right t.core
+  blocked_holds (Ok v) answers is = let did = answers.1.0 in blocked is v answers.0 answers.1.1 (first_heard host told) refl (does_of (blocks_rule (first_heard host told) s.core) answers.0 did).meets
   blocked_holds (Err task_error.NoMemory) answers is = as_before answers.1 is
-  blocked_holds (Err (task_error.Trap w)) answers is = refused value_answered (blocks_row (first_heard host told) s.core) (task_error.Trap w) answers.0 answers.1.0 answers.1.1 is
-  blocked_holds (Err (task_error.HostFailed i)) answers is = refused value_answered (blocks_row (first_heard host told) s.core) (task_error.HostFailed i) answers.0 answers.1.0 answers.1.1 is
+  blocked_holds (Err (task_error.Trap w)) answers is = refused value_answered (blocks_rule (first_heard host told) s.core) (task_error.Trap w) answers.0 answers.1.0 answers.1.1 is
+  blocked_holds (Err (task_error.HostFailed i)) answers is = refused value_answered (blocks_rule (first_heard host told) s.core) (task_error.HostFailed i) answers.0 answers.1.0 answers.1.1 is
 
 -- ---- What the store holds beside the call
 

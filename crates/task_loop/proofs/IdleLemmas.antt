@@ -7,10 +7,10 @@ use Rattle.task_machine.specs.declared.records.Turn.TheVariants as turn
 use Rattle.task_rules.specs.Progress.{Stops, may}
 use Rattle.task_rules.specs.Stalled.{Setting}
 use Rattle.task_rules.specs.Step.{FuturesStep, Polled, Progresses, Step}
-use Rattle.task_rules.specs.Turns.{at_turn, nothing_stands, settled_futures, settled_take}
+use Rattle.task_rules.specs.Turns.{at_turn, queues_are_empty, settled_futures, settled_take}
 use Rattle.task_rules.specs.Works.{Asked, Ends, FailsNow, Poll, StillPends, next_polled, poll_of}
 use Rattle.task_turns.specs.Turn.{Turns, running_of, runs_in, state_at}
-use Rattle.task_turns.specs.declared.made.Made.{Made}
+use Rattle.task_turns.specs.declared.made.MadeStep.{MadeStep}
 use Rattle.task_words.specs.StateView.{StateView}
 
 pub main_idle : (s : State) (new : Core) (m : Main) → runs_in (at_turn s new m turn.Main).turn ≡ None
@@ -29,10 +29,10 @@ settled_idle false false = refl
 
 take_idle : (s : State) (new : Core) (m : Main) (b : Bool) → runs_in (at_turn s new m (turn.Take b)).turn ≡ None
 unfolding at_turn
-take_idle s new m b = settled_idle b (nothing_stands new)
+take_idle s new m b = settled_idle b (queues_are_empty new)
 
 polled_idle : (n : ℕ) (s : Core) (o : Option ℕ) → runs_in (settled_futures n s o) ≡ None
-polled_idle n s None = settled_idle false (nothing_stands s)
+polled_idle n s None = settled_idle false (queues_are_empty s)
 polled_idle n s (Some i) = refl
 
 pub futures_idle : (s : State) (new : Core) (m : Main) (n : ℕ) → runs_in (at_turn s new m (turn.Futures n)).turn ≡ None
@@ -56,6 +56,6 @@ pub stop_idle : (s : State) (base : Core) (n : ℕ) (b : Bool) (k : Label) (new 
 stop_idle s base n true k new l t h = idle_by t _ h.1 (main_idle s new s.main)
 stop_idle s base n false k new l t h = absurd h
 
-pub poll_leaves_none : (x : Setting) (n : ℕ) (m : Main) (s t : StateView) (made : Made) → Turns x (turn.Futures n) m s made m t → running_of t ≡ None
+pub poll_leaves_none : (x : Setting) (n : ℕ) (m : Main) (s t : StateView) (made : MadeStep) → Turns x (turn.Futures n) m s made m t → running_of t ≡ None
 unfolding Step
 poll_leaves_none x n m s t made h = h.running ∙ works_idle (state_at s.core m (turn.Futures n)) (next_polled n s.core) made.label (state_at t.core m made.turn) h.step

@@ -1,24 +1,24 @@
 -- What a method of an instance does, of what its op came to and what was told; and what is so of its answer then.
-use Rattle.group_notices.specs.declared.tells.Asked.{Asked}
-use Rattle.host_works.specs.Kept.{HeldWork}
+use Rattle.group_notices.specs.declared.tells.GroupsBefore.{GroupsBefore}
+use Rattle.host_works.specs.KeptWorks.{HeldWork}
 use Rattle.state_calls.specs.declared.error.TaskError.{TaskError}
 use Rattle.std.proofs.Common.{ap, inl, inr, refl, subst, sym, ⊎_elim, ◌∙◌}
 use Rattle.std.specs.Prelude.{Bool, Option, Result, false, true, ℕ, ◌≡◌, ◌⊎◌}
-use Rattle.task_calls.specs.Asks.{AnswersOp, IsRunningIn, is_apart, row_of}
+use Rattle.task_calls.specs.Asks.{AnswersOp, IsRunningIn, is_apart, scripted_rule_of}
 use Rattle.op_dispatch.specs.Makes.{takes_memory}
-use Rattle.task_calls.specs.declared.answers.Step.{Step}
+use Rattle.task_calls.specs.declared.answer_calls.Step.{Step}
 use Rattle.task_group.specs.Listeners.{Listeners}
 use Rattle.task_loop.proofs.AskHoldLemmas.{asked_holds}
-use Rattle.task_loop.proofs.KnownLemmas.{KnowsSame, answers_known}
-use Rattle.task_loop.proofs.RowTrapLemmas.{asked_not}
+use Rattle.task_loop.proofs.TrackedLemmas.{TracksSame, answers_known}
+use Rattle.task_loop.proofs.RuleTrapLemmas.{asked_not}
 use Rattle.task_loop.proofs.ToldLemmas.{told_core}
 use Rattle.task_loop.specs.Hooked.{HookCaused, HookFails}
 use Rattle.task_loop.specs.InstanceCalls.{ComesOf, DoesCall, DoesHostOp, IsTold}
-use Rattle.task_loop.specs.Told.{TellsCall, asked_now, refused_by_hook}
+use Rattle.task_loop.specs.Told.{TellsCall, groups_before_call, refused_by_hook}
 use Rattle.task_machine.specs.Core.{Core}
 use Rattle.task_machine.specs.declared.component.Component.{Component}
 use Rattle.task_machine.specs.declared.op.Op.{Op}
-use Rattle.task_ops.specs.declared.came.OpAnswer.{OpAnswer}
+use Rattle.task_ops.specs.declared.op_result.OpAnswer.{OpAnswer}
 use Rattle.task_store.specs.Hosts.{HoldsWorks, held_by}
 use Rattle.task_store.specs.declared.store.Store.{Store}
 use Rattle.task_words.specs.Groups.{asked}
@@ -26,18 +26,18 @@ use Rattle.task_words.specs.StateView.{StateView}
 
 -- ---- A call that was told
 
-module _ {A T H G : Type 0} (listens : Bool) (comes : ComesOf A) (s : Store T H G) (u v : StateView) (m : Listeners) (b : Asked) (asks : b ≡ asked_now s.state)
-    (answer r : Result A TaskError) (came : comes answer u) (known : KnowsSame s.state u) (unfailed : answer ≡ refused_by_hook → ⊥) where
+module _ {A T H G : Type 0} (listens : Bool) (comes : ComesOf A) (s : Store T H G) (u v : StateView) (m : Listeners) (b : GroupsBefore) (asks : b ≡ groups_before_call s.state)
+    (answer r : Result A TaskError) (op_result : comes answer u) (known : TracksSame s.state u) (unfailed : answer ≡ refused_by_hook → ⊥) where
   pub is_told : TellsCall listens b answer r u v s.listeners m → (t : Store T H G) → t.state ≡ v → t.listeners ≡ m → IsTold listens comes s r t
   is_told told t state listeners = record {
     answer = answer;
     left = u;
-    came = came;
+    op_result = op_result;
     known = known;
     unfailed = unfailed;
-    heard = subst (λ (l : Listeners). TellsCall listens (asked_now s.state) answer r u t.state s.listeners l) (sym listeners)
-        (subst (λ (w : StateView). TellsCall listens (asked_now s.state) answer r u w s.listeners m) (sym state)
-        (subst (λ (a : Asked). TellsCall listens a answer r u v s.listeners m) asks told));
+    heard = subst (λ (l : Listeners). TellsCall listens (groups_before_call s.state) answer r u t.state s.listeners l) (sym listeners)
+        (subst (λ (w : StateView). TellsCall listens (groups_before_call s.state) answer r u w s.listeners m) (sym state)
+        (subst (λ (a : GroupsBefore). TellsCall listens a answer r u v s.listeners m) asks told));
   }
 
   abbrev called_to : Store T H G
@@ -55,7 +55,7 @@ module _ {A T H G : Type 0} (listens : Bool) (comes : ComesOf A) (s : Store T H 
 
 module _ {A T H G : Type 0} (listens : Bool) (comes : ComesOf A) (s t : Store T H G) (r : Result A TaskError) (told : IsTold listens comes s r t) where
   pub hook_fails : HookFails s t r
-  hook_fails err = ⊎_elim (λ h. absurd (h.calm err)) (λ h. h.answers) told.heard
+  hook_fails err = ⊎_elim (λ h. absurd (h.hook_is_ok err)) (λ h. h.answers) told.heard
 
   pub hook_caused : HookCaused s t r
   hook_caused is = ⊎_elim (λ h. absurd (told.unfailed (sym h.answers ∙ is))) (λ h. h.failed) told.heard
@@ -69,16 +69,16 @@ module _ {A T H G : Type 0} (listens : Bool) (comes : ComesOf A) (s t : Store T 
 -- The thread did this op, which is the one that the call names.
 module _ {A R T H G : Type 0} (listens : Bool) (c : Component) (o p : Op) (same : o ≡ p) (to : Result R TaskError → Result (Step A) TaskError)
     (read : OpAnswer → A) (refuses : to refused_by_hook ≡ refused_by_hook) (s : Store T H G) (u v : StateView) (m : Listeners)
-    (running : IsRunningIn c s.state) (apart : is_apart p ≡ true) (b : Asked) (asks : b ≡ asked_now s.state)
+    (running : IsRunningIn c s.state) (apart : is_apart p ≡ true) (b : GroupsBefore) (asks : b ≡ groups_before_call s.state)
     (answer r : Result R TaskError) (did : AnswersOp c o read s.state (to answer) u) where
-  came : AnswersOp c p read s.state (to answer) u
-  came = subst (λ (k : Op). AnswersOp c k read s.state (to answer) u) same did
+  op_result : AnswersOp c p read s.state (to answer) u
+  op_result = subst (λ (k : Op). AnswersOp c k read s.state (to answer) u) same did
 
   pub does_host_op : TellsCall listens b answer r u v s.listeners m → DoesHostOp listens c p to read s r (record s { state = v; listeners = m })
-  does_host_op told = does_call listens (λ a w. AnswersOp c p read s.state (to a) w) s u v m b asks answer r came
-      (answers_known s.state u running.number running.runs (takes_memory p) (row_of c p s.state.core) read (to answer) came)
-      (λ e. asked_not s.state u c running p read (to answer) came (ap to e ∙ refuses))
-      (λ left h. asked_holds left s.state u h c running p read (to answer) apart came) told
+  does_host_op told = does_call listens (λ a w. AnswersOp c p read s.state (to a) w) s u v m b asks answer r op_result
+      (answers_known s.state u running.number running.runs (takes_memory p) (scripted_rule_of c p s.state.core) read (to answer) op_result)
+      (λ e. asked_not s.state u c running p read (to answer) op_result (ap to e ∙ refuses))
+      (λ left h. asked_holds left s.state u h c running p read (to answer) apart op_result) told
 
 -- ---- A call of a host
 
@@ -113,5 +113,5 @@ unheld_rest {T} {H} {G} s t holds v l =
 pub comes_to : {A T H G : Type 0} (comes : ComesOf A) (P : StateView → Type 0) (s : Store T H G) (r : Result A TaskError) (t : Store T H G) → IsTold false comes s r t →
     ((v : StateView) → t.state ≡ asked v → comes r v → P (asked v)) → P t.state
 comes_to comes P s r t told gives = ⊎_elim
-    (λ heeds. subst P (sym heeds.told.asked) (gives told.left heeds.told.asked (subst (λ a. comes a told.left) (sym heeds.answers) told.came)))
+    (λ answers_ok. subst P (sym answers_ok.told.asked) (gives told.left answers_ok.told.asked (subst (λ a. comes a told.left) (sym answers_ok.answers) told.op_result)))
     (λ refuses. absurd (let hears = refuses.hears in cc)) told.heard

@@ -4,11 +4,11 @@ use Rattle.state_calls.specs.declared.error.TaskError.TheVariants as task_error
 use Rattle.std.proofs.Common.{ap, refl, subst, sym, ◌∙◌}
 use Rattle.std.specs.Prelude.{Bool, Err, IfSome, None, Option, Result, Some, false, option_map, true, ℕ, ◌≡◌}
 use Rattle.task_calls.specs.Asks.{IsRunningIn, turn_for, turn_in}
-use Rattle.task_lends.specs.Lends.{Comes, UnlessLent}
+use Rattle.task_lends.specs.HeldBorrows.{Comes, UnlessLent}
 use Rattle.task_machine.specs.declared.component.Component.{Component}
 use Rattle.task_machine.specs.declared.trap.Trap.TheVariants as trap
 use Rattle.task_table.specs.declared.id.TableId.{TableId}
-use Rattle.task_turns.specs.Turn.{Sits, running_of}
+use Rattle.task_turns.specs.Turn.{CoreInOrder, running_of}
 use Rattle.task_wait.specs.declared.keys.ThreadKey.{ThreadKey}
 use Rattle.task_words.specs.StateView.{StateView, thread_of}
 
@@ -24,13 +24,13 @@ module _ (s : StateView) (id : TableId ThreadKey) (o : Option (TableId ThreadKey
         (subst (λ (b : Bool). UnlessLent b (comes (thread_of s id)) s (Err (task_error.Trap trap.ScopeExit)) s) (sym is) (refl, refl))
 
     pub ended_unlent : (r : Result (Unit {0}) TaskError) (t : StateView) → lends (thread_of s id) ≡ false → comes (thread_of s id) s r t → IfSome (running_of s) (λ n. UnlessLent (lends n) (comes n) s r t)
-    ended_unlent r t is came =
+    ended_unlent r t is op_result =
         subst (λ (k : Option ℕ). IfSome k (λ n. UnlessLent (lends n) (comes n) s r t)) (sym asked_runs)
-        (subst (λ (b : Bool). UnlessLent b (comes (thread_of s id)) s r t) (sym is) came)
+        (subst (λ (b : Bool). UnlessLent b (comes (thread_of s id)) s r t) (sym is) op_result)
 
 -- nothing is changed, so it is in order still
-pub sits_still : (c : Component) (s : StateView) → IsRunningIn c s → Sits c (turn_in s) s.core
-sits_still c s q = subst (λ (o : Option ℕ). Sits c (turn_for o) s.core) (sym q.runs) q.order
+pub sits_still : (c : Component) (s : StateView) → IsRunningIn c s → CoreInOrder c (turn_in s) s.core
+sits_still c s q = subst (λ (o : Option ℕ). CoreInOrder c (turn_for o) s.core) (sym q.runs) q.order
 
 -- what is so of the thread that runs is so whatever else is asked
 pub runs_on : (o : Option ℕ) (P Q : ℕ → Type 0) → ((n : ℕ) → P n → Q n) → IfSome o P → IfSome o Q

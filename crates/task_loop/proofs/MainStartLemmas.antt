@@ -4,14 +4,14 @@ use Rattle.state_calls.specs.declared.error.TaskError.{TaskError}
 use Rattle.state_calls.specs.declared.error.TaskError.TheVariants as task_error
 use Rattle.std.proofs.Common.{ap, inr, refl, subst, sym, ◌∙◌}
 use Rattle.std.specs.Prelude.{Bool, Err, List, Ok, ℕ, ◌∷◌, ◌≡◌}
-use Rattle.task_calls.specs.Calls.{Starts}
-use Rattle.task_group.specs.Listeners.{Told}
+use Rattle.task_calls.specs.MainCalls.{Starts}
+use Rattle.task_group.specs.Listeners.{ToldListeners}
 use Rattle.task_loop.proofs.CallStartLemmas.{stop_fails}
 use Rattle.task_loop.proofs.MainToldLemmas.{refused_notices, started_notices}
 use Rattle.task_loop.proofs.StartLemmas.{start_current}
 use Rattle.task_loop.proofs.ToldLemmas.{running_asked}
 use Rattle.task_loop.specs.CallStarts.{HasStarted, KeepsStore, StopsUnmade}
-use Rattle.task_loop.specs.HasRun.{HasStepped, MayStep}
+use Rattle.task_loop.specs.HasRun.{HasStepResult, MayStep}
 use Rattle.task_loop.specs.Hooked.{FailsMain}
 use Rattle.task_loop.specs.Says.{Says}
 use Rattle.task_loop.specs.Told.{main_notices}
@@ -45,15 +45,15 @@ shows_refusal k why = step.Did (label.Main (main_label.StartRefused why k))
 module _ {M T H G : Type 0} (says : Says M) (course : H → HostDef) (c : Component) (e : Callee) (words : List ℕ) (m : M) (s : Store T H G) (may : MayStep says course c m s) (t : Store T H G) (keeps : KeepsStore c s t) (k : ℕ) where
   -- the call was made
   pub start_stepped : (call : FuncCallConcurrent) → HasStarted c e words s call t → (thread : ℕ) → thread ≡ call.thread → (n : M) → Steps c (says.script m) (says.part m) s.state.core (shows_start k thread) (says.part n) t.state.core →
-      says.does m s.state.core (shows_start k thread) n t.state.core → says.suits n c → says.knows n t.state → HasStepped says course c (shows_start k thread) m s n t
+      says.does m s.state.core (shows_start k thread) n t.state.core → says.suits n c → says.knows n t.state → HasStepResult says course c (shows_start k thread) m s n t
   start_stepped call has thread is n steps does suits knows =
       let started = started_notices c e words s.state t.state k (start_refusal s.state.core) call.thread has.starts in
       record {
         steps = steps;
         does = does;
-        told = subst (λ (i : ℕ). Told (main_notices (shows_start k i) s.state.core t.state.core) s.listeners t.listeners) (sym is)
-            (subst (λ (ns : List Notice). Told ns s.listeners t.listeners) started has.begun.told);
-        calm = λ unrefused. has.begun.calm;
+        told = subst (λ (i : ℕ). ToldListeners (main_notices (shows_start k i) s.state.core t.state.core) s.listeners t.listeners) (sym is)
+            (subst (λ (ns : List Notice). ToldListeners ns s.listeners t.listeners) started has.begun.told);
+        hook_is_ok = λ unrefused. has.begun.hook_is_ok;
         idle = start_current c e words s.state t.state (start_refusal s.state.core) (Ok call.thread) may.idle has.starts ∙ sym may.idle;
         suits = suits;
         knows = knows;
@@ -63,17 +63,17 @@ module _ {M T H G : Type 0} (says : Says M) (course : H → HostDef) (c : Compon
 
   -- the machine refused it, and all groups were told that they finish
   pub refusal_stepped : (why : Trap) → Starts c e words s.state (start_refusal s.state.core) (Err (task_error.Trap why)) (on_core set_trapped s.state) → t.state ≡ asked (on_core set_trapped s.state) →
-      Told (finishes s.state.tags.known) s.listeners t.listeners → (n : M) → Steps c (says.script m) (says.part m) s.state.core (shows_refusal k why) (says.part n) t.state.core →
-      says.does m s.state.core (shows_refusal k why) n t.state.core → says.suits n c → says.knows n t.state → HasStepped says course c (shows_refusal k why) m s n t
+      ToldListeners (finishes s.state.tags.tracked) s.listeners t.listeners → (n : M) → Steps c (says.script m) (says.part m) s.state.core (shows_refusal k why) (says.part n) t.state.core →
+      says.does m s.state.core (shows_refusal k why) n t.state.core → says.suits n c → says.knows n t.state → HasStepResult says course c (shows_refusal k why) m s n t
   refusal_stepped why starts state told n steps does suits knows =
       let refused = refused_notices c e words s.state (on_core set_trapped s.state) k (start_refusal s.state.core) why starts in
       let trapped = start_current c e words s.state (on_core set_trapped s.state) (start_refusal s.state.core) (Err (task_error.Trap why)) may.idle starts in
       record {
         steps = steps;
         does = does;
-        told = subst (λ (ns : List Notice). Told ns s.listeners t.listeners)
+        told = subst (λ (ns : List Notice). ToldListeners ns s.listeners t.listeners)
             (ap finishes may.asked ∙ (refused ∙ sym (ap (λ (v : StateView). main_notices (shows_refusal k why) s.state.core v.core) state))) told;
-        calm = λ unrefused. absurd (cc);
+        hook_is_ok = λ unrefused. absurd (cc);
         idle = ap running_of state ∙ (running_asked (on_core set_trapped s.state) ∙ (trapped ∙ sym may.idle));
         suits = suits;
         knows = knows;

@@ -4,13 +4,13 @@ use Rattle.state_calls.specs.declared.error.TaskError.{TaskError}
 use Rattle.state_calls.specs.declared.error.TaskError.TheVariants as task_error
 use Rattle.std.proofs.Common.{ap, inl, inr, refl, subst, sym, ◌∙◌}
 use Rattle.std.specs.Prelude.{Bool, List, None, Some, false, ◌≡◌}
-use Rattle.task_group.specs.Listeners.{Told, errors_of}
+use Rattle.task_group.specs.Listeners.{ToldListeners, errors_of}
 use Rattle.task_loop.proofs.DoesLemmas.{step_in}
 use Rattle.task_loop.proofs.HookLemmas.{knows_trapped, stops_main}
 use Rattle.task_loop.proofs.MainToldLemmas.{asked_step, told_step}
 use Rattle.task_loop.proofs.ToldLemmas.{idle_at, idle_running, main_moment, stands_turn}
-use Rattle.task_loop.specs.HasRun.{FailsTurn, HasStepped, HasTurned, MayStep, at_main}
-use Rattle.task_loop.specs.Heeds.{is_refused}
+use Rattle.task_loop.specs.HasRun.{FailsTurn, HasStepResult, HasTurned, MayStep, at_main}
+use Rattle.task_loop.specs.AnswersOk.{is_refused}
 use Rattle.task_loop.specs.Hooked.{FailsMain, MainFails}
 use Rattle.task_loop.specs.Says.{Says}
 use Rattle.task_loop.specs.Told.{group_running}
@@ -29,10 +29,10 @@ use Rattle.task_turns.proofs.DoesLemmas.{steps_shown}
 use Rattle.task_turns.specs.Does.{label_of_step}
 use Rattle.task_turns.specs.Later.{WorksLast}
 use Rattle.task_turns.specs.Main.{Steps}
-use Rattle.task_turns.specs.Stepped.{Stands}
+use Rattle.task_turns.specs.StepResult.{Stands}
 use Rattle.task_turns.specs.Turn.{Turns, running_of, setting_of}
-use Rattle.task_turns.specs.declared.made.Made.{Made}
-use Rattle.task_turns.specs.declared.made.Stepped.{Stepped}
+use Rattle.task_turns.specs.declared.made.MadeStep.{MadeStep}
+use Rattle.task_turns.specs.declared.made.StepResult.{StepResult}
 use Rattle.task_turns.specs.declared.mains.MainStep.{MainStep}
 use Rattle.task_words.specs.StateView.{StateView}
 
@@ -40,13 +40,13 @@ module _ {M T H G : Type 0} (says : Says M) (course : H → HostDef) (c : Compon
   -- ---- What a main shows of its own step
 
   -- it is no start, and the listeners and the known groups are as before
-  pub stepped_quietly : (q : MainStep) (m : M) (s : Store T H G) (n : M) (t : Store T H G) → t.listeners ≡ s.listeners → t.state.tags.known ≡ s.state.tags.known →
-      Steps c (says.script m) (says.part m) s.state.core q (says.part n) t.state.core → is_start (label_of_step q) ≡ false → IsAsked s.state → running_of t.state ≡ running_of s.state → says.does m s.state.core q n t.state.core → says.suits n c → says.knows n t.state → HoldsHosts course t → HasStepped says course c q m s n t
+  pub stepped_quietly : (q : MainStep) (m : M) (s : Store T H G) (n : M) (t : Store T H G) → t.listeners ≡ s.listeners → t.state.tags.tracked ≡ s.state.tags.tracked →
+      Steps c (says.script m) (says.part m) s.state.core q (says.part n) t.state.core → is_start (label_of_step q) ≡ false → IsAsked s.state → running_of t.state ≡ running_of s.state → says.does m s.state.core q n t.state.core → says.suits n c → says.knows n t.state → HoldsHosts course t → HasStepResult says course c q m s n t
   stepped_quietly q m s n t same known steps quiet is idle does suits knows works = record {
     steps = steps;
     does = does;
     told = told_step c (says.script m) (says.part m) s.state (says.part n) t.state s.listeners t.listeners same q steps quiet;
-    calm = λ unrefused. ap errors_of same;
+    hook_is_ok = λ unrefused. ap errors_of same;
     idle = idle;
     suits = suits;
     knows = knows;
@@ -56,14 +56,14 @@ module _ {M T H G : Type 0} (says : Says M) (course : H → HostDef) (c : Compon
 
   -- nor is anything else of the store changed
   pub stepped_still : (q : MainStep) (m : M) (s : Store T H G) (n : M) → MayStep says course c m s → Steps c (says.script m) (says.part m) s.state.core q (says.part n) s.state.core → is_start (label_of_step q) ≡ false →
-      says.does m s.state.core q n s.state.core → says.suits n c → says.knows n s.state → HasStepped says course c q m s n s
+      says.does m s.state.core q n s.state.core → says.suits n c → says.knows n s.state → HasStepResult says course c q m s n s
   stepped_still q m s n may steps quiet does suits knows = stepped_quietly q m s n s refl refl steps quiet may.asked refl does suits knows may.works
 
   -- ---- What the loop makes of it
 
   -- what main did is a turn, which was made into the step that is shown
-  pub step_turned : (x y : MainStep) → x ≡ y → (m : M) (s : Store T H G) (n : M) (t : Store T H G) → HasStepped says course c x m s n t → running_of s.state ≡ None → (made : Made) → made.label ≡ label_of_step y →
-      ((z : Setting) → (k l : Main) → (v : StateView) → Steps z.component z.script k v.core y l t.state.core → Turns z turn.Main k v made l t.state) → (q : Stepped) (before after : List Label) → Stands q before made after → (idle : Bool) →
+  pub step_turned : (x y : MainStep) → x ≡ y → (m : M) (s : Store T H G) (n : M) (t : Store T H G) → HasStepResult says course c x m s n t → running_of s.state ≡ None → (made : MadeStep) → made.label ≡ label_of_step y →
+      ((z : Setting) → (k l : Main) → (v : StateView) → Steps z.component z.script k v.core y l t.state.core → Turns z turn.Main k v made l t.state) → (q : StepResult) (before after : List Label) → Stands q before made after → (idle : Bool) →
       HasTurned says course c (Some q) 0 (at_main idle m s before) (at_main idle n t after)
   step_turned x y is m s n t did none made label turns q before after stands idle =
       let z = setting_of c (says.script m) idle in
@@ -79,9 +79,9 @@ module _ {M T H G : Type 0} (says : Says M) (course : H → HostDef) (c : Compon
             stands,
             record {
               turned = turned;
-              told = subst (λ (ns : List Notice). Told ns s.listeners t.listeners)
+              told = subst (λ (ns : List Notice). ToldListeners ns s.listeners t.listeners)
                   (sym (main_moment c (says.script m) (says.part m) s.state.core (says.part n) t.state.core x did.steps made.label label made.turn none_then)) did.told;
-              calm = λ e. did.calm (ap is_refused (sym label) ∙ e);
+              hook_is_ok = λ e. did.hook_is_ok (ap is_refused (sym label) ∙ e);
               fewer = λ other. absurd (cc);
             },
           ),
@@ -107,5 +107,5 @@ module _ {M T H G : Type 0} (says : Says M) (course : H → HostDef) (c : Compon
       }
     where
       fails_main : (e : TaskError) (w : Trap) → e ≡ task_error.Trap w → (m n : M) (s t : Store T H G) → FailsMain course e m n s t → MainFails course m n s t
-      fails_main e w is m n s t (inl wanting) = absurd (cc)
+      fails_main e w is m n s t (inl out_of_memory) = absurd (cc)
       fails_main e w is m n s t (inr q) = q.1

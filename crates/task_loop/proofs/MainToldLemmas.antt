@@ -7,9 +7,9 @@ use Rattle.group_laws.specs.Tells.{is_start}
 use Rattle.group_notices.specs.Moves.{finishes}
 use Rattle.state_calls.specs.declared.error.TaskError.{TaskError}
 use Rattle.state_calls.specs.declared.error.TaskError.TheVariants as task_error
-use Rattle.task_calls.specs.Calls.{Starts}
+use Rattle.task_calls.specs.MainCalls.{Starts}
 use Rattle.task_group.proofs.GroupLemmas.{told-none}
-use Rattle.task_group.specs.Listeners.{Listeners, Told}
+use Rattle.task_group.specs.Listeners.{Listeners, ToldListeners}
 use Rattle.task_loop.proofs.StartLemmas.{start_groups, start_made}
 use Rattle.task_loop.proofs.ToldLemmas.{main_asked, main_quiet}
 use Rattle.task_loop.specs.Told.{main_notices}
@@ -68,18 +68,18 @@ module _ (c : Component) (e : Callee) (words : List ℕ) (s t : StateView) (k : 
 -- ---- The other ops
 
 module _ (c : Component) (ops : List MainOpDef) (m : Main) (s : StateView) (n : Main) (t : StateView) (g h : Listeners) (same : h ≡ g) where
-  pub asked_step : t.tags.known ≡ s.tags.known → (q : MainStep) → Steps c ops m s.core q n t.core → is_start (label_of_step q) ≡ false → IsAsked s → IsAsked t
-  asked_step known q steps other is = known ∙ main_asked c ops m s.core n t.core q steps other s.tags.known is
+  pub asked_step : t.tags.tracked ≡ s.tags.tracked → (q : MainStep) → Steps c ops m s.core q n t.core → is_start (label_of_step q) ≡ false → IsAsked s → IsAsked t
+  asked_step known q steps other is = known ∙ main_asked c ops m s.core n t.core q steps other s.tags.tracked is
 
-  pub told_step : (q : MainStep) → Steps c ops m s.core q n t.core → is_start (label_of_step q) ≡ false → Told (main_notices q s.core t.core) g h
+  pub told_step : (q : MainStep) → Steps c ops m s.core q n t.core → is_start (label_of_step q) ≡ false → ToldListeners (main_notices q s.core t.core) g h
   told_step q steps other =
-      subst (λ (ns : List Notice). Told ns g h) (sym (main_quiet c ops m s.core n t.core q steps other)) (subst (λ (k : Listeners). Told [] g k) (sym same) (told-none g))
+      subst (λ (ns : List Notice). ToldListeners ns g h) (sym (main_quiet c ops m s.core n t.core q steps other)) (subst (λ (k : Listeners). ToldListeners [] g k) (sym same) (told-none g))
 
-  pub asked_result : t.tags.known ≡ s.tags.known → (r : Result MainStep TaskError) → IfOk r (λ q. Steps c ops m s.core q n t.core) → IfOk r (λ q. is_start (label_of_step q) ≡ false) → IsAsked s → OnOk r (IsAsked t)
+  pub asked_result : t.tags.tracked ≡ s.tags.tracked → (r : Result MainStep TaskError) → IfOk r (λ q. Steps c ops m s.core q n t.core) → IfOk r (λ q. is_start (label_of_step q) ≡ false) → IsAsked s → OnOk r (IsAsked t)
   asked_result known (Ok q) steps other is = asked_step known q steps other is
   asked_result known (Err e) steps other is = tt
 
-  pub told_result : (r : Result MainStep TaskError) → IfOk r (λ q. Steps c ops m s.core q n t.core) → IfOk r (λ q. is_start (label_of_step q) ≡ false) → IfOk r (λ q. Told (main_notices q s.core t.core) g h)
+  pub told_result : (r : Result MainStep TaskError) → IfOk r (λ q. Steps c ops m s.core q n t.core) → IfOk r (λ q. is_start (label_of_step q) ≡ false) → IfOk r (λ q. ToldListeners (main_notices q s.core t.core) g h)
   told_result (Ok q) steps other = told_step q steps other
   told_result (Err e) steps other = tt
 

@@ -1,11 +1,11 @@
 -- What the making of a call comes to whose thread is New, and what is so of it then.
 use Rattle.state_calls.specs.declared.error.TaskError.{TaskError}
 use Rattle.state_calls.specs.declared.error.TaskError.TheVariants as task_error
-use Rattle.state_calls.specs.declared.names.QualifiedThreadId.{QualifiedThreadId}
+use Rattle.state_calls.specs.declared.name_calls.QualifiedThreadId.{QualifiedThreadId}
 use Rattle.std.proofs.Common.{inl, refl}
 use Rattle.std.specs.Prelude.{Bool, Err, None, Ok, Option, Result, Some, false, is_some, true, ℕ, ◌≡◌}
 use Rattle.task_calls.specs.Tasks.{Begins, task_begun}
-use Rattle.task_group.specs.Listeners.{AnsweredErr, Listeners, ToldCalmly}
+use Rattle.task_group.specs.Listeners.{AnsweredErr, Listeners, ToldWithHookOk}
 use Rattle.group_notices.proofs.MoveLemmas.{none_told}
 use Rattle.task_loop.proofs.CallStartLemmas.{reason_heard}
 use Rattle.task_loop.proofs.HookStartLemmas.{unhooked_always}
@@ -51,7 +51,7 @@ pub called_makes : {T H G : Type 0} (listens : Bool) (x : ExportKind) (i : ℕ) 
     MakesCall listens x i f s r (record s { state = u })
 called_makes listens x i f s u (Ok id) some begins = record { begins = begins; begun = nothing_begun f some }
   where
-    nothing_begun : (f : Option QualifiedThreadId) → is_some f ≡ true → ToldCalmly (begun_notices f s.state.core) s.listeners s.listeners
+    nothing_begun : (f : Option QualifiedThreadId) → is_some f ≡ true → ToldWithHookOk (begun_notices f s.state.core) s.listeners s.listeners
     nothing_begun None some = absurd (cc)
     nothing_begun (Some from) some = none_told s.listeners
 called_makes listens x i f s u (Err why) some begins = record {

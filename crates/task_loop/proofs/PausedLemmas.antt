@@ -10,11 +10,11 @@ use Rattle.std.proofs.lemmas.List.{append_cancel_left}
 use Rattle.std.specs.List.{list_all}
 use Rattle.std.specs.Prelude.{Bool, Err, List, None, Ok, Option, Result, Some, [], false, is_none, length, not, option_map, true, ℕ, ◌&&◌, ◌*◌, ◌++◌, ◌+◌, ◌<◌, ◌==◌, ◌||◌, ◌∷◌, ◌≡◌, ◌≤◌}
 use Rattle.task_loop.proofs.RunPollLemmas.{answer_last, answer_none, data_since, data_unrested, data_unyielded, ends_answer, moves_on, none_rests, passes_more, passes_one, rest_answer, rest_both, rests_none, rests_one, since_both, unyielded_both}
-use Rattle.run_pace.specs.Pace.{counted, is_unyielded, passes_after, since_after, yields_before}
+use Rattle.run_pace.specs.YieldBudget.{counted, is_unyielded, passes_after, since_after, yields_before}
 use Rattle.task_loop.specs.RunPolls.{answer_of_label, is_yielded, last_answer, may_poll, or_paused, poll_answer, rests_last, run_answer, since_left, yields_at}
-use Rattle.run_pace.specs.declared.pace.Pace.{Pace}
-use Rattle.task_loop.specs.declared.polls.RunPoll.{RunPoll}
-use Rattle.task_loop.specs.declared.polls.RunPoll.TheVariants as poll
+use Rattle.run_pace.specs.declared.yield_budget.YieldBudget.{YieldBudget}
+use Rattle.task_loop.specs.declared.poll_methods.RunPoll.{RunPoll}
+use Rattle.task_loop.specs.declared.poll_methods.RunPoll.TheVariants as poll
 use Rattle.task_machine.specs.Core.{Main, State}
 use Rattle.task_machine.specs.declared.label.Label.{Label}
 use Rattle.task_machine.specs.declared.label.Label.TheVariants as label
@@ -29,38 +29,38 @@ use Rattle.task_rules.specs.Outcome.{is_at_rest, last_outcome, outcome_of_label}
 use Rattle.task_rules.specs.Run.{Run}
 use Rattle.task_rules.specs.Stalled.{Setting}
 use Rattle.task_turns.proofs.DriveLemmas.{Run-more, label_ends}
-use Rattle.task_turns.proofs.KeptLemmas.{sits_after}
+use Rattle.task_turns.proofs.KeptLemmas.{core_in_order_after}
 use Rattle.task_turns.proofs.SettleLemmas.{step_settles}
 use Rattle.task_turns.specs.Drive.{IsOn}
-use Rattle.task_turns.specs.Stepped.{Added}
-use Rattle.task_turns.specs.Turn.{IsSettled, PendsIn, Sits, Turned, Turns, given, goes_on, is_open, running_of, runs_in, state_at}
-use Rattle.task_turns.specs.declared.made.Made.{Made}
-use Rattle.task_turns.specs.declared.made.Stepped.TheVariants as stepped
+use Rattle.task_turns.specs.StepResult.{Added}
+use Rattle.task_turns.specs.Turn.{IsSettled, PendsIn, CoreInOrder, Turned, Turns, given, goes_on, is_open, running_of, runs_in, state_at}
+use Rattle.task_turns.specs.declared.made.MadeStep.{MadeStep}
+use Rattle.task_turns.specs.declared.made.StepResult.TheVariants as stepped
 use Rattle.task_words.specs.StateView.{StateView}
 
 -- ---- What the turns of a poll come to
 
 -- What a poll of at most so many steps has added and answered, where so many entries were taken before, since the run yielded, and it
 -- passes on or not: a run that stopped at the first place at which there was an answer; and what is so then.
-pub record Polls (x : Setting) (s : State) (before : List Label) (pace : Pace) (steps : ℕ) (r : Result RunPoll TaskError) (t : State)
-    (after : List Label) (pace' : Pace) : Type 0 where
+pub record Polls (x : Setting) (s : State) (before : List Label) (yield_budget : YieldBudget) (steps : ℕ) (r : Result RunPoll TaskError) (t : State)
+    (after : List Label) (yield_budget' : YieldBudget) : Type 0 where
   pub added : List Label
   pub trace : after ≡ before ++ added
   pub run : Run x s added t
   pub few : length added ≤ steps
-  pub unyielded : is_unyielded pace.passes pace.since added ≡ true
+  pub unyielded : is_unyielded yield_budget.passes yield_budget.since added ≡ true
   pub unrested : rests_last added ≡ true
-  pub answers : poll_answer x t pace.passes pace.since added steps ≡ Some r
-  pub left : pace'.since ≡ since_left r (since_after pace.since added)
+  pub answers : poll_answer x t yield_budget.passes yield_budget.since added steps ≡ Some r
+  pub left : yield_budget'.since ≡ since_left r (since_after yield_budget.since added)
   -- it passes on next where it has yielded before an entry
-  pub passes_on : pace'.passes ≡ (is_yielded r && not (length added == steps))
+  pub passes_on : yield_budget'.passes ≡ (is_yielded r && not (length added == steps))
 
 -- What the turns of a poll came to, and how the store stands then.
-pub record Paused (x : Setting) (s : State) (before : List Label) (numbers : ℕ) (pace : Pace) (steps : ℕ) (r : Result RunPoll TaskError)
-    (p : Turn) (m : Main) (t : StateView) (after : List Label) (pace' : Pace) : Type 0 where
-  pub polls : Polls x s before pace steps r (state_at t.core m p) after pace'
+pub record Paused (x : Setting) (s : State) (before : List Label) (numbers : ℕ) (yield_budget : YieldBudget) (steps : ℕ) (r : Result RunPoll TaskError)
+    (p : Turn) (m : Main) (t : StateView) (after : List Label) (yield_budget' : YieldBudget) : Type 0 where
+  pub polls : Polls x s before yield_budget steps r (state_at t.core m p) after yield_budget'
   pub unfinished : is_open p ≡ may_poll r
-  pub order : Sits x.component p t.core
+  pub order : CoreInOrder x.component p t.core
   pub settled : IsSettled t.core p
   pub few : given t.core ≤ numbers + 2 * steps
   pub running : running_of t ≡ runs_in p
@@ -194,13 +194,13 @@ fewer ls n steps is less = grind (arith, nat_tests, is, less)
 as_many : (ls : List Label) (n steps : ℕ) → length ls ≡ n → n ≡ steps → (length ls == steps) ≡ true
 as_many ls n steps is all = grind (arith, nat_tests, is, all)
 
-module _ (x : Setting) (s : State) (before : List Label) (numbers : ℕ) (pace : Pace) (steps : ℕ) (p : Turn) (m : Main) (t : StateView) (mid : List Label) (n : ℕ) (b' : Bool) (k' : ℕ)
-    (on : IsOn x s before numbers p m t mid n) (so_far : Paced pace.passes pace.since before mid b' k') where
+module _ (x : Setting) (s : State) (before : List Label) (numbers : ℕ) (yield_budget : YieldBudget) (steps : ℕ) (p : Turn) (m : Main) (t : StateView) (mid : List Label) (n : ℕ) (b' : Bool) (k' : ℕ)
+    (on : IsOn x s before numbers p m t mid n) (so_far : Paced yield_budget.passes yield_budget.since before mid b' k') where
   abbrev b : Bool
-  b = pace.passes
+  b = yield_budget.passes
 
   abbrev k : ℕ
-  k = pace.since
+  k = yield_budget.since
 
   abbrev added : List Label
   added = so_far.added
@@ -234,11 +234,11 @@ module _ (x : Setting) (s : State) (before : List Label) (numbers : ℕ) (pace :
   not_on : (c d : Bool) → c ≡ true → d ≡ false → d ≡ (true && not c)
   not_on c d h e = grind (arith, h, e)
 
-  module _ (pace' : Pace) where
+  module _ (yield_budget' : YieldBudget) where
     abbrev Stops : Result RunPoll TaskError → Type 0
-    Stops r = Paused x s before numbers pace steps r p m t mid pace'
+    Stops r = Paused x s before numbers yield_budget steps r p m t mid yield_budget'
 
-    stands : (r : Result RunPoll TaskError) → may_poll r ≡ true → n ≤ steps → Polls x s before pace steps r (state_at t.core m p) mid pace' → Stops r
+    stands : (r : Result RunPoll TaskError) → may_poll r ≡ true → n ≤ steps → Polls x s before yield_budget steps r (state_at t.core m p) mid yield_budget' → Stops r
     stands r may room polls = record {
       polls = polls;
       unfinished = on.at.unfinished ∙ sym may;
@@ -250,7 +250,7 @@ module _ (x : Setting) (s : State) (before : List Label) (numbers : ℕ) (pace :
     }
 
     -- before an entry
-    pub yields_now : n < steps → yields_before b' k' (next_mark p t.core) ≡ true → pace'.since ≡ 0 → pace'.passes ≡ true → Stops (Ok poll.Yielded)
+    pub yields_now : n < steps → yields_before b' k' (next_mark p t.core) ≡ true → yield_budget'.since ≡ 0 → yield_budget'.passes ≡ true → Stops (Ok poll.Yielded)
     yields_now less h fresh passes = stands (Ok poll.Yielded) refl (omega arith) (record {
       added = added;
       trace = so_far.trace;
@@ -260,11 +260,11 @@ module _ (x : Setting) (s : State) (before : List Label) (numbers : ℕ) (pace :
       unrested = rests_none added so_far.unrested;
       answers = paused_by (last_answer added) (is_at_rest x (state_at t.core m p)) (yields_at (state_at t.core m p) b k added steps) none (moves_on b' k' x (state_at t.core m p) h) (or_true (length added == steps) _ (yields_here h));
       left = fresh;
-      passes_on = not_off (length added == steps) pace'.passes (fewer added n steps count less) passes;
+      passes_on = not_off (length added == steps) yield_budget'.passes (fewer added n steps count less) passes;
     })
 
     -- where the steps are used up
-    pub used_up : n ≡ steps → is_at_rest x (state_at t.core m p) ≡ false → pace'.since ≡ 0 → pace'.passes ≡ false → Stops (Ok poll.Yielded)
+    pub used_up : n ≡ steps → is_at_rest x (state_at t.core m p) ≡ false → yield_budget'.since ≡ 0 → yield_budget'.passes ≡ false → Stops (Ok poll.Yielded)
     used_up all moves fresh passes = stands (Ok poll.Yielded) refl (omega arith) (record {
       added = added;
       trace = so_far.trace;
@@ -274,11 +274,11 @@ module _ (x : Setting) (s : State) (before : List Label) (numbers : ℕ) (pace :
       unrested = rests_none added so_far.unrested;
       answers = paused_by (last_answer added) (is_at_rest x (state_at t.core m p)) (yields_at (state_at t.core m p) b k added steps) none moves (or_first (length added == steps) _ (as_many added n steps count all));
       left = fresh;
-      passes_on = not_on (length added == steps) pace'.passes (as_many added n steps count all) passes;
+      passes_on = not_on (length added == steps) yield_budget'.passes (as_many added n steps count all) passes;
     })
 
     -- where nothing can go on
-    pub idles : n ≤ steps → is_at_rest x (state_at t.core m p) ≡ true → pace'.since ≡ k' → pace'.passes ≡ false → Stops (Ok poll.Idle)
+    pub idles : n ≤ steps → is_at_rest x (state_at t.core m p) ≡ true → yield_budget'.since ≡ k' → yield_budget'.passes ≡ false → Stops (Ok poll.Idle)
     idles room rests since passes = stands (Ok poll.Idle) refl room (record {
       added = added;
       trace = so_far.trace;
@@ -291,10 +291,10 @@ module _ (x : Setting) (s : State) (before : List Label) (numbers : ℕ) (pace :
       passes_on = passes;
     })
 
-    module _ (made : Made) (m' : Main) (t' : StateView) (turns : Turns x p m t made m' t') (after : List Label) (pushed : after ≡ mid ++ made.label ∷ []) where
+    module _ (made : MadeStep) (m' : Main) (t' : StateView) (turns : Turns x p m t made m' t') (after : List Label) (pushed : after ≡ mid ++ made.label ∷ []) where
       -- by a label that ends it
-      pub ends_now : (r : Result RunPoll TaskError) → n < steps → answer_of_label made.label ≡ Some r → yields_before b' k' (mark_taken made.label) ≡ false → pace'.since ≡ counted k' (mark_taken made.label) → pace'.passes ≡ false
-          → Paused x s before numbers pace steps r made.turn m' t' after pace'
+      pub ends_now : (r : Result RunPoll TaskError) → n < steps → answer_of_label made.label ≡ Some r → yields_before b' k' (mark_taken made.label) ≡ false → yield_budget'.since ≡ counted k' (mark_taken made.label) → yield_budget'.passes ≡ false
+          → Paused x s before numbers yield_budget steps r made.turn m' t' after yield_budget'
       ends_now r less answer ok since passes =
           let l = made.label in
           let here = state_at t.core m p in
@@ -309,11 +309,11 @@ module _ (x : Setting) (s : State) (before : List Label) (numbers : ℕ) (pace :
               unyielded = unyielded_then b k before mid b' k' so_far l ok;
               unrested = rests_one added l so_far.unrested;
               answers = ended_by (last_answer (added ++ l ∷ [])) (is_at_rest x then) (yields_at then b k (added ++ l ∷ []) steps) r (answer_last added l ∙ answer);
-              left = since_then b k before mid b' k' so_far l ok pace'.since since ∙ sym (left_same r (since_after k (added ++ l ∷ [])) ends.unyielded);
+              left = since_then b k before mid b' k' so_far l ok yield_budget'.since since ∙ sym (left_same r (since_after k (added ++ l ∷ [])) ends.unyielded);
               passes_on = let no = ends.unyielded in grind (arith, no, passes);
             };
             unfinished = sym turns.over ∙ ends.over;
-            order = sits_after x t.core t'.core m m' p made.turn l on.at.order turns.step;
+            order = core_in_order_after x t.core t'.core m m' p made.turn l on.at.order turns.step;
             settled = step_settles x here l then turns.step;
             few = let few_then = (steps_make_few x here l then turns.step).all in let few = on.few in omega arith;
             running = turns.running;
@@ -321,21 +321,21 @@ module _ (x : Setting) (s : State) (before : List Label) (numbers : ℕ) (pace :
           }
 
 -- A step that was added: it ends the poll by its outcome, or as it rests; or the poll goes on.
-module _ (x : Setting) (s : State) (before : List Label) (numbers : ℕ) (pace : Pace) (steps : ℕ) (p : Turn) (m : Main) (t : StateView) (mid : List Label) (n : ℕ) (b' : Bool) (k' : ℕ)
-    (on : IsOn x s before numbers p m t mid n) (so_far : Paced pace.passes pace.since before mid b' k') (m' : Main) (t' : StateView) (after : List Label) where
+module _ (x : Setting) (s : State) (before : List Label) (numbers : ℕ) (yield_budget : YieldBudget) (steps : ℕ) (p : Turn) (m : Main) (t : StateView) (mid : List Label) (n : ℕ) (b' : Bool) (k' : ℕ)
+    (on : IsOn x s before numbers p m t mid n) (so_far : Paced yield_budget.passes yield_budget.since before mid b' k') (m' : Main) (t' : StateView) (after : List Label) where
   abbrev next : Option Mark
   next = next_mark p t.core
 
-  pub poll_ends : (pace' : Pace) (o : Outcome) → n < steps → Added (λ made. Turns x p m t made m' t') (stepped.Over o) mid after → pace'.since ≡ k' → pace'.passes ≡ false
-      → Paused x s before numbers pace steps (run_answer o) turn.Over m' t' after pace'
-  poll_ends pace' o room h since passes =
+  pub poll_ends : (yield_budget' : YieldBudget) (o : Outcome) → n < steps → Added (λ made. Turns x p m t made m' t') (stepped.Over o) mid after → yield_budget'.since ≡ k' → yield_budget'.passes ≡ false
+      → Paused x s before numbers yield_budget steps (run_answer o) turn.Over m' t' after yield_budget'
+  poll_ends yield_budget' o room h since passes =
       let l = h.0.label in
       let none = ends_take_none l o h.1.0.1.1 in
-      subst (λ (q : Turn). Paused x s before numbers pace steps (run_answer o) q m' t' after pace') h.1.0.1.0
-      (ends_now x s before numbers pace steps p m t mid n b' k' on so_far pace' h.0 m' t' h.1.1 after h.1.0.0 (run_answer o) room (ends_answer l o h.1.0.1.1)
+      subst (λ (q : Turn). Paused x s before numbers yield_budget steps (run_answer o) q m' t' after yield_budget') h.1.0.1.0
+      (ends_now x s before numbers yield_budget steps p m t mid n b' k' on so_far yield_budget' h.0 m' t' h.1.1 after h.1.0.0 (run_answer o) room (ends_answer l o h.1.0.1.1)
       (ap (λ (q : Option Mark). yields_before b' k' q) none) (since ∙ sym (ap (λ (q : Option Mark). counted k' q) none)) passes)
 
-  module _ (q : Turn) (computed : Bool) (h : Added (λ made. Turns x p m t made m' t') (stepped.Goes q computed) mid after) (stays : yields_before b' k' (next_mark p t.core) ≡ false) where
+  module _ (q : Turn) (computed : Bool) (h : Added (λ made. Turns x p m t made m' t') (stepped.Continues q computed) mid after) (stays : yields_before b' k' (next_mark p t.core) ≡ false) where
     shows : (mark_taken h.0.label ≡ next) × (is_rest h.0.label ≡ rests_by p next)
     shows = goings_show_next x (state_at t.core m p) h.0.label (state_at t'.core m' h.0.turn) h.1.1.step h.1.0.1.1
 
@@ -345,22 +345,22 @@ module _ (x : Setting) (s : State) (before : List Label) (numbers : ℕ) (pace :
     counts : (k'' : ℕ) → k'' ≡ counted k' (next_mark p t.core) → k'' ≡ counted k' (mark_taken h.0.label)
     counts k'' is = is ∙ sym (ap (λ (o : Option Mark). counted k' o) shows.0)
 
-    pub poll_rests : (pace' : Pace) → n < steps → rests_by p (next_mark p t.core) ≡ true → pace'.since ≡ counted k' (next_mark p t.core) → pace'.passes ≡ false
-        → Paused x s before numbers pace steps (Ok poll.Rest) q m' t' after pace'
-    poll_rests pace' room rests since passes =
-        subst (λ (q : Turn). Paused x s before numbers pace steps (Ok poll.Rest) q m' t' after pace') h.1.0.1.0
-        (ends_now x s before numbers pace steps p m t mid n b' k' on so_far pace' h.0 m' t' h.1.1 after h.1.0.0 (Ok poll.Rest) room (rest_answer h.0.label (shows.1 ∙ rests))
-        unyielded (counts pace'.since since) passes)
+    pub poll_rests : (yield_budget' : YieldBudget) → n < steps → rests_by p (next_mark p t.core) ≡ true → yield_budget'.since ≡ counted k' (next_mark p t.core) → yield_budget'.passes ≡ false
+        → Paused x s before numbers yield_budget steps (Ok poll.Rest) q m' t' after yield_budget'
+    poll_rests yield_budget' room rests since passes =
+        subst (λ (q : Turn). Paused x s before numbers yield_budget steps (Ok poll.Rest) q m' t' after yield_budget') h.1.0.1.0
+        (ends_now x s before numbers yield_budget steps p m t mid n b' k' on so_far yield_budget' h.0 m' t' h.1.1 after h.1.0.0 (Ok poll.Rest) room (rest_answer h.0.label (shows.1 ∙ rests))
+        unyielded (counts yield_budget'.since since) passes)
 
-    pub poll_goes : (b'' : Bool) (k'' : ℕ) → rests_by p (next_mark p t.core) ≡ false → k'' ≡ counted k' (next_mark p t.core) → b'' ≡ false → Paced pace.passes pace.since before after b'' k''
+    pub poll_goes : (b'' : Bool) (k'' : ℕ) → rests_by p (next_mark p t.core) ≡ false → k'' ≡ counted k' (next_mark p t.core) → b'' ≡ false → Paced yield_budget.passes yield_budget.since before after b'' k''
     poll_goes b'' k'' rests since passes =
-        paced_more pace.passes pace.since before mid b' k' so_far h.0.label unyielded (shows.1 ∙ rests) after h.1.0.0 b'' k'' passes (counts k'' since)
+        paced_more yield_budget.passes yield_budget.since before mid b' k' so_far h.0.label unyielded (shows.1 ∙ rests) after h.1.0.0 b'' k'' passes (counts k'' since)
 
 -- nothing can go on, and nothing was changed by that turn
-pub idle_turned : (x : Setting) (s : State) (before : List Label) (numbers : ℕ) (pace : Pace) (steps : ℕ) (p : Turn) (m : Main) (t : StateView) (mid : List Label) (n : ℕ) (b' : Bool) (k' : ℕ)
-    → IsOn x s before numbers p m t mid n → Paced pace.passes pace.since before mid b' k' → (m' : Main) (t' : StateView) (after : List Label) (pace' : Pace) → n ≤ steps
-    → Turned x p m t None m' t' × (after ≡ mid) → pace'.since ≡ k' → pace'.passes ≡ false → Paused x s before numbers pace steps (Ok poll.Idle) p m' t' after pace'
-idle_turned x s before numbers pace steps p m t mid n b' k' on so_far m' t' after pace' room h since passes =
-    subst (λ (ls : List Label). Paused x s before numbers pace steps (Ok poll.Idle) p m' t' ls pace') (sym h.1)
-    (subst (λ (u : StateView). Paused x s before numbers pace steps (Ok poll.Idle) p m' u mid pace') (sym h.0.1.1)
-    (subst (λ (k : Main). Paused x s before numbers pace steps (Ok poll.Idle) p k t mid pace') (sym h.0.1.0) (idles x s before numbers pace steps p m t mid n b' k' on so_far pace' room h.0.0 since passes)))
+pub idle_turned : (x : Setting) (s : State) (before : List Label) (numbers : ℕ) (yield_budget : YieldBudget) (steps : ℕ) (p : Turn) (m : Main) (t : StateView) (mid : List Label) (n : ℕ) (b' : Bool) (k' : ℕ)
+    → IsOn x s before numbers p m t mid n → Paced yield_budget.passes yield_budget.since before mid b' k' → (m' : Main) (t' : StateView) (after : List Label) (yield_budget' : YieldBudget) → n ≤ steps
+    → Turned x p m t None m' t' × (after ≡ mid) → yield_budget'.since ≡ k' → yield_budget'.passes ≡ false → Paused x s before numbers yield_budget steps (Ok poll.Idle) p m' t' after yield_budget'
+idle_turned x s before numbers yield_budget steps p m t mid n b' k' on so_far m' t' after yield_budget' room h since passes =
+    subst (λ (ls : List Label). Paused x s before numbers yield_budget steps (Ok poll.Idle) p m' t' ls yield_budget') (sym h.1)
+    (subst (λ (u : StateView). Paused x s before numbers yield_budget steps (Ok poll.Idle) p m' u mid yield_budget') (sym h.0.1.1)
+    (subst (λ (k : Main). Paused x s before numbers yield_budget steps (Ok poll.Idle) p k t mid yield_budget') (sym h.0.1.0) (idles x s before numbers yield_budget steps p m t mid n b' k' on so_far yield_budget' room h.0.0 since passes)))

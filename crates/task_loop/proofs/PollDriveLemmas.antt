@@ -1,9 +1,9 @@
 -- A drive leaves the pace that its polls leave, one after another.
 use Rattle.label_laws.proofs.GoingLemmas.{goings_show_next}
 use Rattle.label_laws.specs.Own.{mark_taken, next_mark}
-use Rattle.run_pace.proofs.PaceLemmas.{driven_both, driven_unyielded, past_yielded}
-use Rattle.run_pace.specs.Pace.{is_unyielded, passes_after, since_after, since_driven, yields_before}
-use Rattle.run_pace.specs.declared.pace.Pace.{Pace}
+use Rattle.run_pace.proofs.YieldBudgetLemmas.{driven_both, driven_unyielded, past_yielded}
+use Rattle.run_pace.specs.YieldBudget.{is_unyielded, passes_after, since_after, since_driven, yields_before}
+use Rattle.run_pace.specs.declared.yield_budget.YieldBudget.{YieldBudget}
 use Rattle.state_calls.specs.declared.error.TaskError.{TaskError}
 use Rattle.std.proofs.Common.{ap, refl, subst, sym, ◌∙◌}
 use Rattle.std.specs.Prelude.{Bool, Err, List, None, Ok, Option, Result, Some, [], false, length, not, true, ℕ, ◌&&◌, ◌++◌, ◌==◌, ◌||◌, ◌∷◌, ◌≡◌}
@@ -11,11 +11,11 @@ use Rattle.task_loop.proofs.DrivenLemmas.{none_left}
 use Rattle.task_loop.proofs.PausedLemmas.{label_ends_poll}
 use Rattle.task_loop.proofs.RunPollLemmas.{moves_on}
 use Rattle.task_loop.specs.HasRun.{At, setting, state}
-use Rattle.task_loop.specs.Paces.{LastPollIsDrive, LeavesPace, PollThenDrive}
+use Rattle.task_loop.specs.YieldBudgets.{LastPollIsDrive, LeavesYieldBudget, PollThenDrive}
 use Rattle.task_loop.specs.RunPolls.{is_yielded, last_answer, or_paused, since_left_by, yields_at}
 use Rattle.task_loop.specs.Says.{Says}
-use Rattle.task_loop.specs.declared.polls.RunPoll.{RunPoll}
-use Rattle.task_loop.specs.declared.polls.RunPoll.TheVariants as poll
+use Rattle.task_loop.specs.declared.poll_methods.RunPoll.{RunPoll}
+use Rattle.task_loop.specs.declared.poll_methods.RunPoll.TheVariants as poll
 use Rattle.task_machine.specs.Core.{State}
 use Rattle.task_machine.specs.declared.component.HostDef.{HostDef}
 use Rattle.task_machine.specs.declared.label.Label.{Label}
@@ -68,14 +68,14 @@ used_of c h = h
 -- ---- The poll with which a drive ends
 
 pub last_poll_is_drive : {M T H G : Type 0} (says : Says M) (course : H → HostDef) (a : At M T H G) → LastPollIsDrive says course a
-last_poll_is_drive says course a c b pace pace' n outcome.Idle polled goes ends =
-    record { since = polled.since ∙ sym (driven_unyielded pace.passes pace.since polled.has.ran.added polled.unyielded); passes_on = polled.passes_on }
-last_poll_is_drive says course a c b pace pace' n outcome.OutOfSteps polled goes ends =
+last_poll_is_drive says course a c b yield_budget yield_budget' n outcome.Idle polled goes ends =
+    record { since = polled.since ∙ sym (driven_unyielded yield_budget.passes yield_budget.since polled.has.ran.added polled.unyielded); passes_on = polled.passes_on }
+last_poll_is_drive says course a c b yield_budget yield_budget' n outcome.OutOfSteps polled goes ends =
     record { since = polled.since; passes_on = polled.passes_on ∙ used_of (length polled.has.ran.added == n) ends }
-last_poll_is_drive says course a c b pace pace' n (outcome.Done v) polled goes ends = absurd (cc)
-last_poll_is_drive says course a c b pace pace' n (outcome.Trap w) polled goes ends = absurd (cc)
-last_poll_is_drive says course a c b pace pace' n (outcome.Deadlock w) polled goes ends = absurd (cc)
-last_poll_is_drive says course a c b pace pace' n (outcome.HostFailed i) polled goes ends = absurd (cc)
+last_poll_is_drive says course a c b yield_budget yield_budget' n (outcome.Done v) polled goes ends = absurd (cc)
+last_poll_is_drive says course a c b yield_budget yield_budget' n (outcome.Trap w) polled goes ends = absurd (cc)
+last_poll_is_drive says course a c b yield_budget yield_budget' n (outcome.Deadlock w) polled goes ends = absurd (cc)
+last_poll_is_drive says course a c b yield_budget yield_budget' n (outcome.HostFailed i) polled goes ends = absurd (cc)
 
 -- ---- A poll, and a drive after it
 
@@ -118,43 +118,43 @@ module _ (x : Setting) (t u : State) (steps : ℕ) (o : Outcome) (b : Bool) (k :
           let over = over_then l run.0 ls o' run.1.0 is run.1.1 ends in
           none_left o _ over ∙ sym (none_left o _ over)
 
-module _ (ls ks : List Label) (o : Outcome) (pace pace' pace'' : Pace) (unyielded : is_unyielded pace.passes pace.since ls ≡ true)
-    (since : pace''.since ≡ since_left_by o (since_driven pace'.passes pace'.since ks)) (passes_on : pace''.passes ≡ false) where
-  counts : since_driven pace.passes pace.since ls ≡ since_after pace.since ls
-  counts = driven_unyielded pace.passes pace.since ls unyielded
+module _ (ls ks : List Label) (o : Outcome) (yield_budget yield_budget' yield_budget'' : YieldBudget) (unyielded : is_unyielded yield_budget.passes yield_budget.since ls ≡ true)
+    (since : yield_budget''.since ≡ since_left_by o (since_driven yield_budget'.passes yield_budget'.since ks)) (passes_on : yield_budget''.passes ≡ false) where
+  counts : since_driven yield_budget.passes yield_budget.since ls ≡ since_after yield_budget.since ls
+  counts = driven_unyielded yield_budget.passes yield_budget.since ls unyielded
 
-  joined : since_left_by o (since_driven pace'.passes pace'.since ks) ≡ since_left_by o (since_driven (passes_after pace.passes ls) (since_driven pace.passes pace.since ls) ks) → LeavesPace pace (ls ++ ks) o pace''
+  joined : since_left_by o (since_driven yield_budget'.passes yield_budget'.since ks) ≡ since_left_by o (since_driven (passes_after yield_budget.passes ls) (since_driven yield_budget.passes yield_budget.since ls) ks) → LeavesYieldBudget yield_budget (ls ++ ks) o yield_budget''
   joined is = record {
-    since = since ∙ (is ∙ sym (ap (λ (j : ℕ). since_left_by o j) (driven_both pace.passes pace.since ls ks)));
+    since = since ∙ (is ∙ sym (ap (λ (j : ℕ). since_left_by o j) (driven_both yield_budget.passes yield_budget.since ls ks)));
     passes_on = passes_on;
   }
 
-  begun : (b : Bool) (k : ℕ) → pace'.passes ≡ b → pace'.since ≡ k → since_left_by o (since_driven pace'.passes pace'.since ks) ≡ since_left_by o (since_driven b k ks)
+  begun : (b : Bool) (k : ℕ) → yield_budget'.passes ≡ b → yield_budget'.since ≡ k → since_left_by o (since_driven yield_budget'.passes yield_budget'.since ks) ≡ since_left_by o (since_driven b k ks)
   begun b k passes since =
-      ap (λ (q : Bool). since_left_by o (since_driven q pace'.since ks)) passes ∙ ap (λ (j : ℕ). since_left_by o (since_driven b j ks)) since
+      ap (λ (q : Bool). since_left_by o (since_driven q yield_budget'.since ks)) passes ∙ ap (λ (j : ℕ). since_left_by o (since_driven b j ks)) since
 
 pub poll_then_drive : {M T H G : Type 0} (says : Says M) (course : H → HostDef) (a : At M T H G) → PollThenDrive says course a
-poll_then_drive says course a c b d pace pace' pace'' n steps (Ok poll.Rest) o polled on driven =
+poll_then_drive says course a c b d yield_budget yield_budget' yield_budget'' n steps (Ok poll.Rest) o polled on driven =
     let ls = polled.has.ran.added in
     let ks = driven.gone.has.ran.added in
     let x = setting says course c a in
     let t = state says course c b in
-    let rests = rests_later pace.passes ls (is_at_rest x t) (yields_at t pace.passes pace.since ls n) polled.answers in
-    joined ls ks o pace pace' pace'' polled.unyielded driven.since driven.passes_on
-    (begun ls ks o pace pace' pace'' polled.unyielded driven.since driven.passes_on (passes_after pace.passes ls) (since_driven pace.passes pace.since ls) (polled.passes_on ∙ sym rests)
-    (polled.since ∙ sym (counts ls ks o pace pace' pace'' polled.unyielded driven.since driven.passes_on)))
-poll_then_drive says course a c b d pace pace' pace'' n steps (Ok poll.Yielded) o polled on driven =
+    let rests = rests_later yield_budget.passes ls (is_at_rest x t) (yields_at t yield_budget.passes yield_budget.since ls n) polled.answers in
+    joined ls ks o yield_budget yield_budget' yield_budget'' polled.unyielded driven.since driven.passes_on
+    (begun ls ks o yield_budget yield_budget' yield_budget'' polled.unyielded driven.since driven.passes_on (passes_after yield_budget.passes ls) (since_driven yield_budget.passes yield_budget.since ls) (polled.passes_on ∙ sym rests)
+    (polled.since ∙ sym (counts ls ks o yield_budget yield_budget' yield_budget'' polled.unyielded driven.since driven.passes_on)))
+poll_then_drive says course a c b d yield_budget yield_budget' yield_budget'' n steps (Ok poll.Yielded) o polled on driven =
     let ls = polled.has.ran.added in
     let ks = driven.gone.has.ran.added in
     let x = setting says course c a in
     let t = state says course c b in
-    let stops = yields_there ls (is_at_rest x t) (yields_at t pace.passes pace.since ls n) polled.answers in
-    let before_next = second_of (length ls == n) (yields_before (passes_after pace.passes ls) (since_after pace.since ls) (next_mark t.turn t.core)) on stops in
-    let counted = counts ls ks o pace pace' pace'' polled.unyielded driven.since driven.passes_on in
-    let yields = subst (λ (j : ℕ). yields_before (passes_after pace.passes ls) j (next_mark t.turn t.core) ≡ true) (sym counted) before_next in
-    joined ls ks o pace pace' pace'' polled.unyielded driven.since driven.passes_on
-    (begun ls ks o pace pace' pace'' polled.unyielded driven.since driven.passes_on true 0 (polled.passes_on ∙ on) polled.since
-    ∙ yielded_on (setting says course c b) t (state says course c d) steps o (passes_after pace.passes ls) (since_driven pace.passes pace.since ls) yields ks driven.gone.has.ran.run driven.gone.outcome)
-poll_then_drive says course a c b d pace pace' pace'' n steps (Ok poll.Idle) o polled on driven = absurd (cc)
-poll_then_drive says course a c b d pace pace' pace'' n steps (Ok (poll.Done v)) o polled on driven = absurd (cc)
-poll_then_drive says course a c b d pace pace' pace'' n steps (Err e) o polled on driven = absurd (cc)
+    let stops = yields_there ls (is_at_rest x t) (yields_at t yield_budget.passes yield_budget.since ls n) polled.answers in
+    let before_next = second_of (length ls == n) (yields_before (passes_after yield_budget.passes ls) (since_after yield_budget.since ls) (next_mark t.turn t.core)) on stops in
+    let counted = counts ls ks o yield_budget yield_budget' yield_budget'' polled.unyielded driven.since driven.passes_on in
+    let yields = subst (λ (j : ℕ). yields_before (passes_after yield_budget.passes ls) j (next_mark t.turn t.core) ≡ true) (sym counted) before_next in
+    joined ls ks o yield_budget yield_budget' yield_budget'' polled.unyielded driven.since driven.passes_on
+    (begun ls ks o yield_budget yield_budget' yield_budget'' polled.unyielded driven.since driven.passes_on true 0 (polled.passes_on ∙ on) polled.since
+    ∙ yielded_on (setting says course c b) t (state says course c d) steps o (passes_after yield_budget.passes ls) (since_driven yield_budget.passes yield_budget.since ls) yields ks driven.gone.has.ran.run driven.gone.outcome)
+poll_then_drive says course a c b d yield_budget yield_budget' yield_budget'' n steps (Ok poll.Idle) o polled on driven = absurd (cc)
+poll_then_drive says course a c b d yield_budget yield_budget' yield_budget'' n steps (Ok (poll.Done v)) o polled on driven = absurd (cc)
+poll_then_drive says course a c b d yield_budget yield_budget' yield_budget'' n steps (Err e) o polled on driven = absurd (cc)

@@ -4,7 +4,7 @@ use Rattle.state_calls.specs.declared.error.TaskError.{TaskError}
 use Rattle.std.proofs.Common.{subst, sym}
 use Rattle.std.specs.Prelude.{None, Option, Result, Some, ℕ, ◌≡◌, ◌⊎◌}
 use Rattle.task_loop.specs.InstanceCalls.{DoesOn}
-use Rattle.task_loop.specs.Polled.{FinishesAs, PollsCall, StartsFirst, StartsNone}
+use Rattle.task_loop.specs.PolledRuns.{FinishesAs, PollsCall, StartsFirst, StartsNone}
 use Rattle.task_loop.specs.declared.call.FuncCallConcurrent.{FuncCallConcurrent}
 use Rattle.task_store.specs.declared.store.Store.{Store}
 

@@ -5,9 +5,9 @@ use Rattle.state_calls.specs.declared.error.TaskError.TheVariants as task_error
 use Rattle.std.proofs.Common.{ap, arith, refl, ◌∙◌}
 use Rattle.std.specs.List.{list_all}
 use Rattle.std.specs.Prelude.{Bool, Err, List, None, Ok, Option, Some, [], false, not, option_map, true, ℕ, ◌&&◌, ◌++◌, ◌∷◌, ◌≡◌}
-use Rattle.run_pace.specs.Pace.{counted, is_unyielded, passes_after, since_after, yields_before}
+use Rattle.run_pace.specs.YieldBudget.{counted, is_unyielded, passes_after, since_after, yields_before}
 use Rattle.task_loop.specs.RunPolls.{answer_of_label, last_answer, rests_last, run_answer}
-use Rattle.task_loop.specs.declared.polls.RunPoll.TheVariants as poll
+use Rattle.task_loop.specs.declared.poll_methods.RunPoll.TheVariants as poll
 use Rattle.task_machine.specs.Core.{Core, State}
 use Rattle.task_machine.specs.Read.{next_entry}
 use Rattle.task_machine.specs.declared.label.Label.{Label}

@@ -4,8 +4,8 @@ use Rattle.futures.specs.declared.task.Poll.TheVariants.{Pending, Ready}
 use Rattle.std.proofs.Common.{ap, arith, refl, subst, sym, ◌∙◌}
 use Rattle.std.specs.Prelude.{Err, List, None, Ok, Option, Result, Some, [], option_map, ℕ, ◌++◌, ◌+◌, ◌∷◌, ◌≡◌, ◌<◌, ◌≤◌}
 use Rattle.task_group.specs.Listeners.{Listeners}
-use Rattle.task_calls.specs.Calls.{Finishes, Starts}
-use Rattle.task_words.specs.Becomes.{Becomes}
+use Rattle.task_calls.specs.MainCalls.{Finishes, Starts}
+use Rattle.task_words.specs.BecomesRecord.{BecomesRecord}
 use Rattle.task_calls.specs.Untrapped.{StartsUntrapped}
 use Rattle.state_calls.specs.declared.error.TaskError.{TaskError}
 use Rattle.task_machine.specs.Core.{Core}
@@ -13,7 +13,7 @@ use Rattle.task_machine.specs.Moves.{put_high}
 use Rattle.task_machine.specs.Write.{add_call, add_group, add_thread, on_thread, push_high, set_place, set_trapped, take_result}
 use Rattle.task_machine.specs.declared.component.Callee.{Callee}
 use Rattle.task_machine.specs.declared.component.Component.{Component}
-use Rattle.host_works.specs.Kept.{HeldWork}
+use Rattle.host_works.specs.KeptWorks.{HeldWork}
 use Rattle.task_machine.specs.declared.component.HostDef.{HostDef}
 use Rattle.task_machine.specs.declared.trap.Trap.{Trap}
 use Rattle.task_rules.specs.Calls.{call_made}
@@ -38,7 +38,7 @@ start_current c e words s t (Some why) r none k = current_still s t k.1.current 
 start_current c e words s t None (Ok n) none k = current_still s t k.1.current none
 start_current c e words s t None (Err why) none k = current_still s t k.1.current none
 
-trapped_becomes : (s u t : StateView) → u ≡ s → t ≡ on_core set_trapped u → Becomes (set_trapped s.core) s t
+trapped_becomes : (s u t : StateView) → u ≡ s → t ≡ on_core set_trapped u → BecomesRecord (set_trapped s.core) s t
 trapped_becomes s u t same is = grind arith
 
 -- ---- What a store holds of host works

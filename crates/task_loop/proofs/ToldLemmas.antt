@@ -1,5 +1,5 @@
 -- What the loop tells of groups.
-use Rattle.task_loop.specs.Heeds.{FewerGroups}
+use Rattle.task_loop.specs.AnswersOk.{FewerGroups}
 use Rattle.group_laws.proofs.GroupLemmas.{group_stays}
 use Rattle.group_laws.proofs.ListLemmas.{finish_none}
 use Rattle.group_laws.proofs.DataGroups.{Mild, mild_group, mild_same}
@@ -7,16 +7,16 @@ use Rattle.group_laws.proofs.RunTells.{data_runs_mild}
 use Rattle.group_laws.proofs.MainGroups.{mains_spare}
 use Rattle.label_laws.specs.Own.{is_main_turn}
 use Rattle.group_laws.specs.Tells.{is_start}
-use Rattle.group_notices.proofs.RunLemmas.{asked_told, main_told}
+use Rattle.group_notices.proofs.RunLemmas.{other_turns_told, main_told}
 use Rattle.group_notices.specs.Moves.{finishes, moved}
-use Rattle.group_notices.specs.Runs.{IsAskedIn, moment, running_in}
-use Rattle.group_notices.specs.declared.tells.Asked.{Asked}
+use Rattle.group_notices.specs.Runs.{AreGroupsBefore, moment, running_in}
+use Rattle.group_notices.specs.declared.tells.GroupsBefore.{GroupsBefore}
 use Rattle.std.proofs.Common.{ap, append-nil, arith, filter, length, not, refl, subst, sym, ⊎_elim, ◌∙◌, ◌≡◌, map}
 use Rattle.std.proofs.lemmas.Bool.Decides.{nat_tests}
 use Rattle.std.specs.Prelude.{Bool, List, None, Option, Result, Some, [], false, is_some, option_map, true, ℕ, ◌++◌, ◌∷◌, ◌+◌}
 use Rattle.std.specs.Option.{option_map_or}
 use Rattle.task_group.proofs.GroupLemmas.{told-none}
-use Rattle.task_group.specs.Listeners.{Listeners, Told, errors_of}
+use Rattle.task_group.specs.Listeners.{Listeners, ToldListeners, errors_of}
 use Rattle.state_calls.specs.declared.error.TaskError.{TaskError}
 use Rattle.task_calls.specs.Asks.{turn_for, turn_in}
 use Rattle.task_loop.specs.Told.{RunTold, TellsCall, TellsTurn, TurnTold, current_group, group_running, main_notices, runs_on, told_by, turn_of}
@@ -41,18 +41,18 @@ use Rattle.task_rules.specs.Run.{Run}
 use Rattle.task_rules.specs.Stalled.{Setting}
 use Rattle.task_rules.specs.Step.{Step}
 use Rattle.task_turns.proofs.IdleLemmas.{makes_turns}
-use Rattle.task_turns.proofs.KeptLemmas.{sits_after}
+use Rattle.task_turns.proofs.KeptLemmas.{core_in_order_after}
 use Rattle.task_turns.specs.Does.{label_of_step}
 use Rattle.task_turns.specs.Drive.{Computes}
 use Rattle.task_turns.specs.Main.{IsOpOfMain, Steps, main_setting}
-use Rattle.task_turns.specs.Stepped.{Added, AddedOrNone, Stands}
-use Rattle.task_turns.specs.Turn.{IsFree, Makes, PendsIn, Sits, Turned, Turns, running_of, runs_in, setting_of, state_at}
-use Rattle.task_turns.specs.declared.made.Made.{Made}
-use Rattle.task_turns.specs.declared.made.Stepped.{Stepped}
-use Rattle.task_turns.specs.declared.made.Stepped.TheVariants as stepped
+use Rattle.task_turns.specs.StepResult.{Added, AddedOrNone, Stands}
+use Rattle.task_turns.specs.Turn.{IsFree, MakesStep, PendsIn, CoreInOrder, Turned, Turns, running_of, runs_in, setting_of, state_at}
+use Rattle.task_turns.specs.declared.made.MadeStep.{MadeStep}
+use Rattle.task_turns.specs.declared.made.StepResult.{StepResult}
+use Rattle.task_turns.specs.declared.made.StepResult.TheVariants as stepped
 use Rattle.task_turns.specs.declared.mains.MainStep.{MainStep}
 use Rattle.task_turns.specs.declared.mains.MainStep.TheVariants as step
-use Rattle.task_words.specs.Groups.{IsAsked, asked, ended_groups, if_known, known_group, CountsEnded}
+use Rattle.task_words.specs.Groups.{IsAsked, asked, ended_groups, if_tracked, tracked_group, CountsEnded}
 use Rattle.task_words.specs.StateView.{StateView, thread_number}
 
 -- ---- Main's step
@@ -95,8 +95,8 @@ idle_running t (turn.Take b) e none = refl
 idle_running t turn.Over e none = refl
 
 -- the turn after a step whose label is in the trace
-pub stands_turn : (q : Stepped) (before : List Label) (made : Made) (after : List Label) → Stands q before made after → made.turn ≡ turn_of q
-stands_turn (stepped.Goes p computed) before made after h = h.1.0
+pub stands_turn : (q : StepResult) (before : List Label) (made : MadeStep) (after : List Label) → Stands q before made after → made.turn ≡ turn_of q
+stands_turn (stepped.Continues p computed) before made after h = h.1.0
 stands_turn (stepped.Over o) before made after h = h.1.0
 
 -- ---- A thread that runs on
@@ -110,7 +110,7 @@ some_is None e = absurd (cc)
 some_is (Some x) e = (x, refl)
 
 -- stays in its group
-pub stays_in : (c : Component) (n : ℕ) (s t : Core) → Sits c (turn.Run n) s → Sits c (turn.Run n) t → Steady s t → thread_group n t ≡ thread_group n s
+pub stays_in : (c : Component) (n : ℕ) (s t : Core) → CoreInOrder c (turn.Run n) s → CoreInOrder c (turn.Run n) t → Steady s t → thread_group n t ≡ thread_group n s
 stays_in c n s t before after r =
     let os = before.order Unscripted in
     let ot = after.order Unscripted in
@@ -123,15 +123,15 @@ stays_in c n s t before after r =
 
 -- the group of the thread that runs, by the turn
 pub current_is : (t : StateView) (p : Turn) → running_of t ≡ runs_in p → current_group t ≡ group_running t p
-current_is t (turn.Run n) e = ap (λ (o : Option ℕ). option_map_or (λ k. known_group k t) o 0) e
-current_is t turn.Main e = ap (λ (o : Option ℕ). option_map_or (λ k. known_group k t) o 0) e
-current_is t (turn.Futures n) e = ap (λ (o : Option ℕ). option_map_or (λ k. known_group k t) o 0) e
-current_is t (turn.Take b) e = ap (λ (o : Option ℕ). option_map_or (λ k. known_group k t) o 0) e
-current_is t turn.Over e = ap (λ (o : Option ℕ). option_map_or (λ k. known_group k t) o 0) e
+current_is t (turn.Run n) e = ap (λ (o : Option ℕ). option_map_or (λ k. tracked_group k t) o 0) e
+current_is t turn.Main e = ap (λ (o : Option ℕ). option_map_or (λ k. tracked_group k t) o 0) e
+current_is t (turn.Futures n) e = ap (λ (o : Option ℕ). option_map_or (λ k. tracked_group k t) o 0) e
+current_is t (turn.Take b) e = ap (λ (o : Option ℕ). option_map_or (λ k. tracked_group k t) o 0) e
+current_is t turn.Over e = ap (λ (o : Option ℕ). option_map_or (λ k. tracked_group k t) o 0) e
 
 -- none runs
 pub idle_group : (t : StateView) → running_of t ≡ None → current_group t ≡ 0
-idle_group t none = ap (λ (o : Option ℕ). option_map_or (λ k. known_group k t) o 0) none
+idle_group t none = ap (λ (o : Option ℕ). option_map_or (λ k. tracked_group k t) o 0) none
 
 -- ---- A core that was asked which groups have ended
 
@@ -142,10 +142,10 @@ running_asked t = refl
 
 -- where none has ended it is as before
 pub asked_same : (t : StateView) → IsAsked t → asked t ≡ t
-asked_same t is = ap (λ (gs : List ℕ). record t { tags = record t.tags { known = gs } }) (sym is)
+asked_same t is = ap (λ (gs : List ℕ). record t { tags = record t.tags { tracked = gs } }) (sym is)
 
 -- a step that was made was made
-pub turns_asked : (x : Setting) (p : Turn) (m : Main) (s : StateView) (made : Made) (n : Main) (t u : StateView) → u ≡ asked t → Turns x p m s made n t → Turns x p m s made n u
+pub turns_asked : (x : Setting) (p : Turn) (m : Main) (s : StateView) (made : MadeStep) (n : Main) (t u : StateView) → u ≡ asked t → Turns x p m s made n t → Turns x p m s made n u
 turns_asked x p m s made n t u is q = subst (λ (v : StateView). Turns x p m s made n v) (sym is) (record {
   step = q.step;
   running = running_asked t ∙ q.running;
@@ -153,38 +153,38 @@ turns_asked x p m s made n t u is q = subst (λ (v : StateView). Turns x p m s m
   pends = q.pends;
 })
 
-pub makes_asked : (c : Component) (p : Turn) (s : StateView) (made : Made) (t u : StateView) → u ≡ asked t → Makes c p s made t → Makes c p s made u
-makes_asked c p s made t u is q = subst (λ (v : StateView). Makes c p s made v) (sym is) (record { step = q.step; running = running_asked t ∙ q.running; over = q.over })
+pub makes_asked : (c : Component) (p : Turn) (s : StateView) (made : MadeStep) (t u : StateView) → u ≡ asked t → MakesStep c p s made t → MakesStep c p s made u
+makes_asked c p s made t u is q = subst (λ (v : StateView). MakesStep c p s made v) (sym is) (record { step = q.step; running = running_asked t ∙ q.running; over = q.over })
 
 -- what is told leaves the core as it is
-pub told_core : {A : Type 0} (listens : Bool) (a : Asked) (answer r : Result A TaskError) (t u : StateView) (old new : Listeners) → TellsCall listens a answer r t u old new → u.core ≡ t.core
+pub told_core : {A : Type 0} (listens : Bool) (a : GroupsBefore) (answer r : Result A TaskError) (t u : StateView) (old new : Listeners) → TellsCall listens a answer r t u old new → u.core ≡ t.core
 told_core listens a answer r t u old new told =
     ⊎_elim (λ h. ap (λ (v : StateView). v.core) h.told.asked)
     (λ h. ⊎_elim (λ q. ap (λ (v : StateView). v.core) q.same) (λ q. ap (λ (v : StateView). v.core) q.asked) h.told) told
 
 -- and the thread that runs, and order
-pub running_told : {A : Type 0} (listens : Bool) (a : Asked) (answer r : Result A TaskError) (t u : StateView) (old new : Listeners) → TellsCall listens a answer r t u old new → running_of u ≡ running_of t
+pub running_told : {A : Type 0} (listens : Bool) (a : GroupsBefore) (answer r : Result A TaskError) (t u : StateView) (old new : Listeners) → TellsCall listens a answer r t u old new → running_of u ≡ running_of t
 running_told listens a answer r t u old new told =
     ⊎_elim (λ h. ap running_of h.told.asked ∙ running_asked t)
     (λ h. ⊎_elim (λ q. ap running_of q.same) (λ q. ap running_of q.asked ∙ running_asked t) h.told) told
 
-pub sits_told : {A : Type 0} (listens : Bool) (a : Asked) (answer r : Result A TaskError) (c : Component) (t u : StateView) (old new : Listeners) → TellsCall listens a answer r t u old new →
-    Sits c (turn_in t) t.core → Sits c (turn_in u) u.core
+pub sits_told : {A : Type 0} (listens : Bool) (a : GroupsBefore) (answer r : Result A TaskError) (c : Component) (t u : StateView) (old new : Listeners) → TellsCall listens a answer r t u old new →
+    CoreInOrder c (turn_in t) t.core → CoreInOrder c (turn_in u) u.core
 sits_told listens a answer r c t u old new told sits =
-    subst (λ (o : Option ℕ). Sits c (turn_for o) u.core) (sym (running_told listens a answer r t u old new told))
-    (subst (λ (d : Core). Sits c (turn_in t) d) (sym (told_core listens a answer r t u old new told)) sits)
+    subst (λ (o : Option ℕ). CoreInOrder c (turn_for o) u.core) (sym (running_told listens a answer r t u old new told))
+    (subst (λ (d : Core). CoreInOrder c (turn_in t) d) (sym (told_core listens a answer r t u old new told)) sits)
 
 -- ---- What was asked in a turn
 
 -- the groups that a step tells of are those that were live
-pub turn_notices : (x : Setting) (p : Turn) (main : is_main_turn p ≡ false) (m : Main) (s t : StateView) (a : Asked) (made : Made) (n : Main) → IsAskedIn s.core p a → is_in s.core.groups 0 ≡ false →
-    IsAsked s → t.tags.known ≡ s.tags.known → Turns x p m s made n t → told_by a t ≡ moment_notices (moment (state_at s.core m p) made.label (state_at t.core n made.turn))
+pub turn_notices : (x : Setting) (p : Turn) (main : is_main_turn p ≡ false) (m : Main) (s t : StateView) (a : GroupsBefore) (made : MadeStep) (n : Main) → AreGroupsBefore s.core p a → is_in s.core.groups 0 ≡ false →
+    IsAsked s → t.tags.tracked ≡ s.tags.tracked → Turns x p m s made n t → told_by a t ≡ moment_notices (moment (state_at s.core m p) made.label (state_at t.core n made.turn))
 turn_notices x p main m s t a made n is_asked positive is known q =
     let gs = s.core.groups in
-    let same : t.tags.known ≡ gs = known ∙ is in
+    let same : t.tags.tracked ≡ gs = known ∙ is in
     ap (λ (r : ℕ). moved a r ++ finishes (ended_groups t)) (current_is t made.turn q.running)
     ∙ (ap (λ (ks : List ℕ). moved a (running_in ks t.core made.turn) ++ finishes (filter (λ g. not (is_in t.core.groups g)) ks)) same
-    ∙ asked_told x (state_at s.core m p) made.label (state_at t.core n made.turn) a q.step main is_asked positive)
+    ∙ other_turns_told x (state_at s.core m p) made.label (state_at t.core n made.turn) a q.step main is_asked positive)
 
 -- ---- A step in another turn than main's
 
@@ -193,7 +193,7 @@ length_told [] = refl
 length_told (g ∷ gs) = let rest = length_told gs in omega (arith, rest)
 
 -- those that have ended were live, where those that are known were
-fewer_by : (s : Core) (t : StateView) → t.tags.known ≡ s.groups → CountsEnded t → FewerGroups s t.core
+fewer_by : (s : Core) (t : StateView) → t.tags.tracked ≡ s.groups → CountsEnded t → FewerGroups s t.core
 fewer_by s t known counted =
     let same : length (filter (λ g. not (is_in t.core.groups g)) s.groups) + length t.core.groups ≡ length s.groups =
     subst (λ (ks : List ℕ). length (filter (λ g. not (is_in t.core.groups g)) ks) + length t.core.groups ≡ length ks) known counted in
@@ -208,7 +208,7 @@ module _ (x : Setting) (p : Turn) (main : is_main_turn p ≡ false) (m : Main) (
   same_left : u.core ≡ told.left.core
   same_left = ap (λ (v : StateView). v.core) told.told.asked
 
-  left_turns : (made : Made) → Turns x p m s made n u → Turns x p m s made n told.left
+  left_turns : (made : MadeStep) → Turns x p m s made n u → Turns x p m s made n told.left
   left_turns made q = record {
     step = subst (λ (d : Core). Step x (state_at s.core m p) made.label (state_at d n made.turn)) same_left q.step;
     running = sym (running_asked told.left) ∙ (sym (ap running_of told.told.asked) ∙ q.running);
@@ -216,19 +216,19 @@ module _ (x : Setting) (p : Turn) (main : is_main_turn p ≡ false) (m : Main) (
     pends = subst (λ (d : Core). PendsIn x d n made.turn) same_left q.pends;
   }
 
-  pub told_made : (made : Made) → Turns x p m s made n u → errors_of new ≡ errors_of old → TurnTold x p m s old (Some made) n u new
-  told_made made q calm = record {
+  pub told_made : (made : MadeStep) → Turns x p m s made n u → errors_of new ≡ errors_of old → TurnTold x p m s old (Some made) n u new
+  told_made made q hook_is_ok = record {
     turned = q;
-    told = subst (λ (ns : List Notice). Told ns old new)
+    told = subst (λ (ns : List Notice). ToldListeners ns old new)
         (turn_notices x p main m s told.left told.asked made n told.is_asked told.positive is told.known (left_turns made q)
         ∙ sym (ap (λ (d : Core). moment_notices (moment (state_at s.core m p) made.label (state_at d n made.turn))) same_left)) told.told.told;
-    calm = λ unrefused. calm;
+    hook_is_ok = λ unrefused. hook_is_ok;
     fewer = λ other. subst (λ (d : Core). FewerGroups s.core d) (sym same_left) (fewer_by s.core told.left (told.known ∙ is) told.counted);
   }
 
-  pub other_told : (q : Stepped) (before after : List Label) → Added (λ made. Turns x p m s made n u) q before after → errors_of new ≡ errors_of old →
+  pub other_told : (q : StepResult) (before after : List Label) → Added (λ made. Turns x p m s made n u) q before after → errors_of new ≡ errors_of old →
       Added (λ made. TurnTold x p m s old (Some made) n u new) q before after
-  other_told q before after made calm = (made.0, (made.1.0, told_made made.0 made.1.1 calm))
+  other_told q before after made hook_is_ok = (made.0, (made.1.0, told_made made.0 made.1.1 hook_is_ok))
 
 -- ---- A step of the running thread
 
@@ -245,25 +245,25 @@ runs_same (turn.Take b) q e = absurd (cc)
 runs_same turn.Over q e = absurd (cc)
 
 -- is of the same group after the step
-pub group_on : (x : Setting) (p q : Turn) (m n : Main) (s t : Core) (l : Label) → Sits x.component p s → Step x (state_at s m p) l (state_at t n q) → (gs : List ℕ) → runs_on p q ≡ true → running_in gs t q ≡ running_in gs s p
+pub group_on : (x : Setting) (p q : Turn) (m n : Main) (s t : Core) (l : Label) → CoreInOrder x.component p s → Step x (state_at s m p) l (state_at t n q) → (gs : List ℕ) → runs_on p q ≡ true → running_in gs t q ≡ running_in gs s p
 group_on x p q m n s t l sits step gs on =
     let same = runs_same p q on in
     let k = same.0 in
-    let after = subst (λ (w : Turn). Sits x.component w t) same.1.1 (sits_after x s t m n p q l sits step) in
-    let before = subst (λ (w : Turn). Sits x.component w s) same.1.0 sits in
-    ap (running_in gs t) same.1.1 ∙ (ap (if_known gs) (stays_in x.component k s t before after (steady x (state_at s m p) l (state_at t n q) step)) ∙ sym (ap (running_in gs s) same.1.0))
+    let after = subst (λ (w : Turn). CoreInOrder x.component w t) same.1.1 (core_in_order_after x s t m n p q l sits step) in
+    let before = subst (λ (w : Turn). CoreInOrder x.component w s) same.1.0 sits in
+    ap (running_in gs t) same.1.1 ∙ (ap (if_tracked gs) (stays_in x.component k s t before after (steady x (state_at s m p) l (state_at t n q) step)) ∙ sym (ap (running_in gs s) same.1.0))
 
-module _ (c : Component) (n : ℕ) (s t : StateView) (q : Stepped) (before after : List Label)
-    (made : Added (λ made. Makes c (turn.Run n) s made t × IsFree made.turn) q before after) where
+module _ (c : Component) (n : ℕ) (s t : StateView) (q : StepResult) (before after : List Label)
+    (made : Added (λ made. MakesStep c (turn.Run n) s made t × IsFree made.turn) q before after) where
   pub run_turns : (x : Setting) → x.component ≡ c → (m : Main) → Turns x (turn.Run n) m s made.0 m t
   run_turns x is m =
-      makes_turns x (turn.Run n) s made.0 t (subst (λ (k : Component). Makes k (turn.Run n) s made.0 t) (sym is) (made.1.1).0) m ((made.1.1).1 x t.core m)
+      makes_turns x (turn.Run n) s made.0 t (subst (λ (k : Component). MakesStep k (turn.Run n) s made.0 t) (sym is) (made.1.1).0) m ((made.1.1).1 x t.core m)
 
   pub run_runs : running_of t ≡ runs_in (turn_of q)
   run_runs = ((made.1.1).0).running ∙ ap (λ (p : Turn). runs_in p) (stands_turn q before made.0 after made.1.0)
 
   -- one that runs on stays in its group
-  pub run_stays : Sits c (turn.Run n) s.core → t.tags.known ≡ s.tags.known → running_of s ≡ Some n → runs_on (turn.Run n) (turn_of q) ≡ true → current_group t ≡ current_group s
+  pub run_stays : CoreInOrder c (turn.Run n) s.core → t.tags.tracked ≡ s.tags.tracked → running_of s ≡ Some n → runs_on (turn.Run n) (turn_of q) ≡ true → current_group t ≡ current_group s
   run_stays sits known runs on =
       let x = setting_of c [] false in
       let step = subst (λ (p : Turn). Step x (state_at s.core Unscripted (turn.Run n)) (made.0).label (state_at t.core Unscripted p))
@@ -271,14 +271,14 @@ module _ (c : Component) (n : ℕ) (s t : StateView) (q : Stepped) (before after
       let same = runs_same (turn.Run n) (turn_of q) on in
       current_is t (turn_of q) run_runs
       ∙ (ap (λ (ks : List ℕ). running_in ks t.core (turn_of q)) known
-      ∙ (group_on x (turn.Run n) (turn_of q) Unscripted Unscripted s.core t.core (made.0).label sits step s.tags.known on ∙ sym (current_is s (turn.Run n) runs)))
+      ∙ (group_on x (turn.Run n) (turn_of q) Unscripted Unscripted s.core t.core (made.0).label sits step s.tags.tracked on ∙ sym (current_is s (turn.Run n) runs)))
 
   module _ (is : IsAsked s) (old : Listeners) (new : Listeners) (told : TellsTurn s (turn.Run n) t old new) where
     pub run_told : errors_of new ≡ errors_of old → Added (λ made. RunTold c n s old made t new) q before after
-    run_told calm = (made.0, (made.1.0, λ x same m. told_made x (turn.Run n) refl m s is old m t new told made.0 (run_turns x same m) calm))
+    run_told hook_is_ok = (made.0, (made.1.0, λ x same m. told_made x (turn.Run n) refl m s is old m t new told made.0 (run_turns x same m) hook_is_ok))
 
 -- the turn after such a step
-pub turns_runs : (x : Setting) (p : Turn) (m : Main) (s : StateView) (n : Main) (t : StateView) (q : Stepped) (before after : List Label) → Added (λ made. Turns x p m s made n t) q before after → running_of t ≡ runs_in (turn_of q)
+pub turns_runs : (x : Setting) (p : Turn) (m : Main) (s : StateView) (n : Main) (t : StateView) (q : StepResult) (before after : List Label) → Added (λ made. Turns x p m s made n t) q before after → running_of t ≡ runs_in (turn_of q)
 turns_runs x p m s n t q before after made = (made.1.1).running ∙ ap (λ (k : Turn). runs_in k) (stands_turn q before made.0 after made.1.0)
 
 -- ---- Ops on registers and words
@@ -310,17 +310,17 @@ module _ (c : Component) (s : StateView) (mid : List Label) (added : ℕ) (t : S
   computed_mild (turn.Take b) q still = stays (turn.Take b) q (still refl)
   computed_mild turn.Over q still = stays turn.Over q (still refl)
 
-  pub group_computed : t.tags.known ≡ s.tags.known → (p : Turn) → Computes c p s mid added t after k → (runs_in p ≡ None → k ≡ added) → group_running t p ≡ group_running s p
+  pub group_computed : t.tags.tracked ≡ s.tags.tracked → (p : Turn) → Computes c p s mid added t after k → (runs_in p ≡ None → k ≡ added) → group_running t p ≡ group_running s p
   group_computed known p q still = ap (λ (ks : List ℕ). running_in ks t.core p) known ∙ by p q still
     where
-      by : (p : Turn) → Computes c p s mid added t after k → (runs_in p ≡ None → k ≡ added) → running_in s.tags.known t.core p ≡ running_in s.tags.known s.core p
-      by (turn.Run n) q still = ap (if_known s.tags.known) (mild_group (computed_mild (turn.Run n) q still) n)
+      by : (p : Turn) → Computes c p s mid added t after k → (runs_in p ≡ None → k ≡ added) → running_in s.tags.tracked t.core p ≡ running_in s.tags.tracked s.core p
+      by (turn.Run n) q still = ap (if_tracked s.tags.tracked) (mild_group (computed_mild (turn.Run n) q still) n)
       by turn.Main q still = refl
       by (turn.Futures n) q still = refl
       by (turn.Take b) q still = refl
       by turn.Over q still = refl
 
-  pub asked_computed : t.tags.known ≡ s.tags.known → (p : Turn) → Computes c p s mid added t after k → (runs_in p ≡ None → k ≡ added) → IsAsked s → IsAsked t
+  pub asked_computed : t.tags.tracked ≡ s.tags.tracked → (p : Turn) → Computes c p s mid added t after k → (runs_in p ≡ None → k ≡ added) → IsAsked s → IsAsked t
   asked_computed known p q still is = known ∙ (is ∙ sym (computed_mild p q still).groups)
 
 -- a turn in which nothing was made tells nothing
@@ -329,8 +329,8 @@ pub none_told : (x : Setting) (p : Turn) (m : Main) (s : StateView) (old : Liste
 none_told x p m s old n t new before after same h = (
   record {
     turned = h.0;
-    told = subst (λ (g : Listeners). Told [] old g) (sym same) (told-none old);
-    calm = ap errors_of same;
+    told = subst (λ (g : Listeners). ToldListeners [] old g) (sym same) (told-none old);
+    hook_is_ok = ap errors_of same;
     fewer = λ other. subst (λ (d : Core). FewerGroups s.core d) (sym (ap (λ (v : StateView). v.core) h.0.1.1)) (fewer_same s.core);
   },
   h.1,
@@ -362,6 +362,6 @@ module _ (c : Component) (ops : List MainOpDef) (m : Main) (s : Core) (n : Main)
 -- ---- In the terms of a turn's answers
 
 -- the step of this turn was made and told, where the turn is this one
-pub told_turn : (x : Setting) (n : ℕ) (m : Main) (s : StateView) (old : Listeners) (t : StateView) (new : Listeners) (q : Stepped) (before after : List Label) →
+pub told_turn : (x : Setting) (n : ℕ) (m : Main) (s : StateView) (old : Listeners) (t : StateView) (new : Listeners) (q : StepResult) (before after : List Label) →
     Added (λ made. RunTold x.component n s old made t new) q before after → Added (λ made. TurnTold x (turn.Run n) m s old (Some made) m t new) q before after
 told_turn x n m s old t new q before after made = (made.0, (made.1.0, made.1.1 x refl m))

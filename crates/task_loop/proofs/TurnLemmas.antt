@@ -26,10 +26,10 @@ use Rattle.task_rules.specs.Stalled.{Setting}
 use Rattle.task_store.specs.Hosts.{HoldsHosts, held_by}
 use Rattle.task_store.specs.declared.store.Store.{Store}
 use Rattle.task_turns.specs.Later.{WorksLast}
-use Rattle.task_turns.specs.Stepped.{AddedOrNone}
-use Rattle.task_turns.specs.Turn.{PendsIn, Sits, TurnedBeside, setting_of}
-use Rattle.task_turns.specs.declared.made.Made.{Made}
-use Rattle.task_turns.specs.declared.made.Stepped.{Stepped}
+use Rattle.task_turns.specs.StepResult.{AddedOrNone}
+use Rattle.task_turns.specs.Turn.{PendsIn, CoreInOrder, TurnedBeside, setting_of}
+use Rattle.task_turns.specs.declared.made.MadeStep.{MadeStep}
+use Rattle.task_turns.specs.declared.made.StepResult.{StepResult}
 use Rattle.task_words.specs.Groups.{IsAsked}
 use Rattle.task_words.specs.StateView.{StateView}
 
@@ -51,30 +51,30 @@ module _ {M T H G : Type 0} (says : Says M) (course : H → HostDef) (c : Compon
   abbrev v : Turn → At M T H G
   v r = record { turn = r; idle = b; main = m; store = t; trace = after }
 
-  abbrev Taken : Option Stepped → Type 0
-  Taken o = AddedOrNone (λ (k : Option Made). TurnedBeside c b p s.state k t.state) o before after
+  abbrev Taken : Option StepResult → Type 0
+  Taken o = AddedOrNone (λ (k : Option MadeStep). TurnedBeside c b p s.state k t.state) o before after
 
   pends : PendsIn x s.state.core part p
   pends = subst (λ (r : Turn). PendsIn x s.state.core part r) is may.stands.pends
 
-  order : Sits c p s.state.core
-  order = subst (λ (r : Turn). Sits c r s.state.core) is may.stands.order
+  order : CoreInOrder c p s.state.core
+  order = subst (λ (r : Turn). CoreInOrder c r s.state.core) is may.stands.order
 
-  works : (o : Option Stepped) → Taken o → HoldsHosts course t
+  works : (o : Option StepResult) → Taken o → HoldsHosts course t
   works o turned =
       subst (λ (st : Store T H G). HoldsHosts course st) (sym rest)
       (held_taken {E = Halted} x b ended part s.state t.state (held_by course s) (Ok o) before after order refl pends turned may.stands.works)
 
-  knows : (o : Option Stepped) → Taken o → KeepsWorks s.state t.state → says.knows m t.state
+  knows : (o : Option StepResult) → Taken o → KeepsWorks s.state t.state → says.knows m t.state
   knows o turned kept = by_take (says.knows m) s.state t.state (λ last. stays t.state last may.stands.knows) {E = Halted} x b ended part (Ok o) before after refl pends turned kept
 
   -- nothing was told where nothing stands
-  beside_told : (o : Option Stepped) → IfSome o (λ k. ToldBeside s.state s.listeners p running t.state t.listeners) → (◌≡◌ {A = Result (Option Stepped) Halted} (Ok o) (Ok None) → t.listeners ≡ s.listeners) →
+  beside_told : (o : Option StepResult) → IfSome o (λ k. ToldBeside s.state s.listeners p running t.state t.listeners) → (◌≡◌ {A = Result (Option StepResult) Halted} (Ok o) (Ok None) → t.listeners ≡ s.listeners) →
       IfSome o (λ k. TellsTurn s.state p t.state s.listeners t.listeners) × ((errors_of t.listeners ≡ errors_of s.listeners) × IfSome o (λ k. running ≡ current_group t.state))
   beside_told None told none = (tt, (ap errors_of (none refl), tt))
-  beside_told (Some k) told none = (told.told, (told.calm, told.group))
+  beside_told (Some k) told none = (told.told, (told.hook_is_ok, told.group))
 
-  took_ok : (o : Option Stepped) → Taken o → KeepsWorks s.state t.state → IfSome o (λ k. ToldBeside s.state s.listeners p running t.state t.listeners) → (◌≡◌ {A = Result (Option Stepped) Halted} (Ok o) (Ok None) → t.listeners ≡ s.listeners) → IsAsked t.state →
+  took_ok : (o : Option StepResult) → Taken o → KeepsWorks s.state t.state → IfSome o (λ k. ToldBeside s.state s.listeners p running t.state t.listeners) → (◌≡◌ {A = Result (Option StepResult) Halted} (Ok o) (Ok None) → t.listeners ≡ s.listeners) → IsAsked t.state →
       HasTurned says course c o running (u p) (v p)
   took_ok o turned kept all_told none asked =
       let told = beside_told o all_told none in
@@ -90,7 +90,7 @@ module _ {M T H G : Type 0} (says : Says M) (course : H → HostDef) (c : Compon
         asked = asked;
       }
 
-  took_failed : (k : Stepped) → Taken (Some k) → KeepsWorks s.state t.state → FailsTold s.state.core p t.state s.listeners t.listeners → FailsTurn says course c (u p) (v p)
+  took_failed : (k : StepResult) → Taken (Some k) → KeepsWorks s.state t.state → FailsTold s.state.core p t.state s.listeners t.listeners → FailsTurn says course c (u p) (v p)
   took_failed k turned kept fails = record {
     stops = stops_after x p p refl (λ no. absurd (cc)) part s.state before after s.listeners t.listeners (fails.told.answered, fails.hook) k part t.state fails.told
         (turned_beside {E = Halted} x b p part s.state t.state (Ok (Some k)) before after refl pends turned);
@@ -100,9 +100,9 @@ module _ {M T H G : Type 0} (says : Says M) (course : H → HostDef) (c : Compon
   }
 
   -- by the clauses of the call that takes it
-  pub took : (r : Result (Option Stepped) Halted) → IfOk r (λ o. Takes c b ended s.state o t.state before after) → IfOk r (λ o. IfSome o (λ k. ToldBeside s.state s.listeners p running t.state t.listeners)) →
+  pub took : (r : Result (Option StepResult) Halted) → IfOk r (λ o. Takes c b ended s.state o t.state before after) → IfOk r (λ o. IfSome o (λ k. ToldBeside s.state s.listeners p running t.state t.listeners)) →
       OnOk r (IsAsked t.state) → (r ≡ Ok None → t.listeners ≡ s.listeners) → OnOk r (why ≡ halt.NoMemory) → OnErr r (why ≡ halt.NoMemory → after ≡ before) →
-      OnErr r (why ≡ halt.HookFailed → FailsTold s.state.core p t.state s.listeners t.listeners × ((k : Stepped) × Takes c b ended s.state (Some k) t.state before after)) → TurnsTo says course c r running why (u q) (v q)
+      OnErr r (why ≡ halt.HookFailed → FailsTold s.state.core p t.state s.listeners t.listeners × ((k : StepResult) × Takes c b ended s.state (Some k) t.state before after)) → TurnsTo says course c r running why (u q) (v q)
   took (Ok o) taken told asked none still err failed =
       (subst (λ (w : Turn). HasTurned says course c o running (u w) (v w)) (sym is) (took_ok o taken.0 taken.1 told none asked), still)
   took (Err e) taken told asked none still err failed =

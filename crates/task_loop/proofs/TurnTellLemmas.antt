@@ -1,7 +1,7 @@
 -- What a turn has told, and what is so of the state once it was told.
 use Rattle.group_laws.specs.Tells.{worked_group}
-use Rattle.group_notices.specs.Runs.{IsAskedIn, running_in}
-use Rattle.group_notices.specs.declared.tells.Asked.{Asked}
+use Rattle.group_notices.specs.Runs.{AreGroupsBefore, running_in}
+use Rattle.group_notices.specs.declared.tells.GroupsBefore.{GroupsBefore}
 use Rattle.std.proofs.Common.{ap, refl, subst, sym, ⊎_elim, ◌∙◌}
 use Rattle.std.specs.Prelude.{List, false, option_and_then, ℕ, ◌≡◌}
 use Rattle.task_group.specs.Listeners.{AnsweredErr, Listeners}
@@ -14,27 +14,27 @@ use Rattle.task_machine.specs.declared.records.Turn.{Turn}
 use Rattle.task_ops.specs.Works.{KeepsWorks, NamesWorks}
 use Rattle.task_rules.specs.Notices.{is_in}
 use Rattle.task_rules.specs.Stalled.{Setting}
-use Rattle.task_turns.specs.Turn.{Makes, Turns}
-use Rattle.task_turns.specs.Worked.{known_worked}
-use Rattle.task_turns.specs.declared.made.Made.{Made}
-use Rattle.task_words.specs.Groups.{IsAsked, asked, some_if_known, CountsEnded}
+use Rattle.task_turns.specs.Turn.{MakesStep, Turns}
+use Rattle.task_turns.specs.Worked.{tracked_worked_group}
+use Rattle.task_turns.specs.declared.made.MadeStep.{MadeStep}
+use Rattle.task_words.specs.Groups.{IsAsked, asked, some_if_tracked, CountsEnded}
 use Rattle.task_words.specs.StateView.{StateView, work_number}
 
 -- ---- What was asked in the turn
 
-module _ (s : StateView) (p : Turn) (is : IsAsked s) (zero : is_in s.tags.known 0 ≡ false) (a : Asked) (running : a.running ≡ group_running s p) (worked : a.worked ≡ known_worked s p) where
-  pub is_asked_in : IsAskedIn s.core p a
-  is_asked_in = record {
+module _ (s : StateView) (p : Turn) (is : IsAsked s) (zero : is_in s.tags.tracked 0 ≡ false) (a : GroupsBefore) (running : a.running ≡ group_running s p) (worked : a.worked ≡ tracked_worked_group s p) where
+  pub are_groups_before : AreGroupsBefore s.core p a
+  are_groups_before = record {
     running = running ∙ ap (λ (ks : List ℕ). running_in ks s.core p) is;
-    worked = worked ∙ ap (λ (ks : List ℕ). option_and_then (some_if_known ks) (worked_group s.core p)) is;
+    worked = worked ∙ ap (λ (ks : List ℕ). option_and_then (some_if_tracked ks) (worked_group s.core p)) is;
   }
 
-  module _ (left u : StateView) (known : left.tags.known ≡ s.tags.known) (old new : Listeners) where
+  module _ (left u : StateView) (known : left.tags.tracked ≡ s.tags.tracked) (old new : Listeners) where
     pub tells_turn : CountsEnded left → TellsWhole a left u old new → TellsTurn s p u old new
-    tells_turn counted told = record { asked = a; is_asked = is_asked_in; positive = subst (λ (ks : List ℕ). is_in ks 0 ≡ false) is zero; left = left; known = known; counted = counted; told = told }
+    tells_turn counted told = record { asked = a; is_asked = are_groups_before; positive = subst (λ (ks : List ℕ). is_in ks 0 ≡ false) is zero; left = left; known = known; counted = counted; told = told }
 
     pub tells_in_part : TellsPart a left u old new → AnsweredErr old new → TellsInPart s.core p u old new
-    tells_in_part told failed = record { asked = a; is_asked = is_asked_in; left = left; known = known ∙ is; told = told; answered = failed }
+    tells_in_part told failed = record { asked = a; is_asked = are_groups_before; left = left; known = known ∙ is; told = told; answered = failed }
 
 -- ---- Once it was asked which groups have ended
 
@@ -51,7 +51,7 @@ names_asked s t u is names = subst (λ (v : StateView). NamesWorks s v) (sym is)
 
 -- ---- Or where the hook answered an error
 
-module _ (a : Asked) (t u : StateView) (old new : Listeners) (told : TellsPart a t u old new) where
+module _ (a : GroupsBefore) (t u : StateView) (old new : Listeners) (told : TellsPart a t u old new) where
   -- the state is as it was left, but for that
   pub by_part : (P : StateView → Type 0) → P t → ((v : StateView) → v ≡ asked t → P v) → P u
   by_part P left asks = ⊎_elim (λ q. subst P (sym q.same) left) (λ q. asks u q.asked) told
@@ -65,8 +65,8 @@ module _ (a : Asked) (t u : StateView) (old new : Listeners) (told : TellsPart a
   pub names_part : (s : StateView) → NamesWorks s t → NamesWorks s u
   names_part s names = by_part (λ v. NamesWorks s v) names (λ v is. names_asked s t v is names)
 
-  pub turns_part : (x : Setting) (p : Turn) (m : Main) (s : StateView) (made : Made) (n : Main) → Turns x p m s made n t → Turns x p m s made n u
+  pub turns_part : (x : Setting) (p : Turn) (m : Main) (s : StateView) (made : MadeStep) (n : Main) → Turns x p m s made n t → Turns x p m s made n u
   turns_part x p m s made n q = by_part (λ v. Turns x p m s made n v) q (λ v is. turns_asked x p m s made n t v is q)
 
-  pub makes_part : (c : Component) (p : Turn) (s : StateView) (made : Made) → Makes c p s made t → Makes c p s made u
-  makes_part c p s made q = by_part (λ v. Makes c p s made v) q (λ v is. makes_asked c p s made t v is q)
+  pub makes_part : (c : Component) (p : Turn) (s : StateView) (made : MadeStep) → MakesStep c p s made t → MakesStep c p s made u
+  makes_part c p s made q = by_part (λ v. MakesStep c p s made v) q (λ v is. makes_asked c p s made t v is q)

@@ -2,10 +2,10 @@
 use Rattle.group_notices.specs.Moves.{StopsAt, finishes}
 use Rattle.state_calls.specs.declared.error.TaskError.{TaskError}
 use Rattle.state_calls.specs.declared.error.TaskError.TheVariants as task_error
-use Rattle.state_calls.specs.declared.names.QualifiedThreadId.{QualifiedThreadId}
+use Rattle.state_calls.specs.declared.name_calls.QualifiedThreadId.{QualifiedThreadId}
 use Rattle.std.specs.Prelude.{Bool, List, None, Ok, Option, Some, [], false, true, ℕ, ◌∷◌, ◌≡◌, ◌≢◌, ◌⊎◌}
 use Rattle.task_calls.specs.Tasks.{Begins}
-use Rattle.task_group.specs.Listeners.{AnsweredErr, Listeners, Told, ToldCalmly}
+use Rattle.task_group.specs.Listeners.{AnsweredErr, Listeners, ToldListeners, ToldWithHookOk}
 use Rattle.task_loop.specs.Told.{begun_notices, finish_of_group, start_of_group}
 use Rattle.task_machine.specs.Core.{Core}
 use Rattle.task_machine.specs.declared.component.ExportKind.{ExportKind}
@@ -22,7 +22,7 @@ start_and_finish s = start_of_group s ∷ finish_of_group s ∷ []
 -- error to one of both. Where memory was wanting without a hook, or the call was refused by another trap, nothing was told.
 pub record TellsUnmade (why : TaskError) (s : Core) (old new : Listeners) : Type 0 where
   pub hooked : why ≡ task_error.Trap trap.HookFailed → StopsAt (start_and_finish s) old new
-  pub wanting : why ≡ task_error.NoMemory → (new ≡ old) ⊎ ToldCalmly (start_and_finish s) old new
+  pub out_of_memory : why ≡ task_error.NoMemory → (new ≡ old) ⊎ ToldWithHookOk (start_and_finish s) old new
   pub refused : why ≢ task_error.Trap trap.HookFailed → why ≢ task_error.NoMemory → new ≡ old
 
 -- an error of the hook is that reason
@@ -33,7 +33,7 @@ HookIsReason = (why : TaskError) (s : Core) (old new : Listeners) → TellsUnmad
 pub record TellsStopped (why : TaskError) (s : StateView) (old new : Listeners) : Type 0 where
   pub between : Listeners
   pub told : TellsUnmade why s.core old between
-  pub finished : Told (finishes s.tags.known) between new
+  pub finished : ToldListeners (finishes s.tags.tracked) between new
 
 -- ---- A new task
 
@@ -44,7 +44,7 @@ LeavesTask None why s old new = TellsUnmade why s old new
 
 -- in a trapped store all groups have ended, and they finish; else nothing is told, nor asked
 abbrev pub SettlesGroups : (trapped : Bool) → (left t : StateView) → (old new : Listeners) → Type 0
-SettlesGroups true left t old new = (t ≡ asked left) × Told (finishes (ended_groups left)) old new
+SettlesGroups true left t old new = (t ≡ asked left) × ToldListeners (finishes (ended_groups left)) old new
 SettlesGroups false left t old new = (t ≡ left) × (new ≡ old)
 
 -- The task was made. Its group starts if it has no caller, and finishes at once in a trapped store.
@@ -54,7 +54,7 @@ pub record MakesTold (x : ExportKind) (i : ℕ) (f : Option QualifiedThreadId) (
   pub left : StateView
   pub begins : Begins x i f s room (Ok id) left
   pub between : Listeners
-  pub begun : ToldCalmly (begun_notices f s.core) old between
+  pub begun : ToldWithHookOk (begun_notices f s.core) old between
   pub settles : SettlesGroups left.core.trapped left t between new
 
 -- A new task isn't answered, for this reason: it wasn't made; or the hook answered an error to a finish after it was.

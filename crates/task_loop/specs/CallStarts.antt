@@ -1,11 +1,11 @@
 -- What the start of a call by the host comes to, on a store whose groups are told of it.
 use Rattle.state_calls.specs.declared.error.TaskError.{TaskError}
 use Rattle.state_calls.specs.declared.error.TaskError.TheVariants as task_error
-use Rattle.state_calls.specs.declared.names.QualifiedThreadId.{QualifiedThreadId}
+use Rattle.state_calls.specs.declared.name_calls.QualifiedThreadId.{QualifiedThreadId}
 use Rattle.std.specs.Prelude.{Bool, Err, List, None, Ok, Option, Some, is_some, true, ℕ, ◌+◌, ◌≡◌, ◌⊎◌}
-use Rattle.task_calls.specs.Calls.{Starts}
+use Rattle.task_calls.specs.MainCalls.{Starts}
 use Rattle.group_notices.specs.Moves.{finishes}
-use Rattle.task_group.specs.Listeners.{AnsweredErr, Listeners, Told, ToldCalmly}
+use Rattle.task_group.specs.Listeners.{AnsweredErr, Listeners, ToldListeners, ToldWithHookOk}
 use Rattle.task_loop.specs.Begun.{LeavesTask, TellsStopped}
 use Rattle.task_loop.specs.Hooked.{Unhooked}
 use Rattle.task_loop.specs.InstanceCalls.{DoesOn}
@@ -21,14 +21,14 @@ use Rattle.task_machine.specs.declared.trap.Trap.TheVariants as trap
 use Rattle.task_rules.specs.MainOps.{start_refusal}
 use Rattle.task_store.specs.Hosts.{HoldsHosts}
 use Rattle.task_store.specs.declared.store.Store.{Store}
-use Rattle.task_turns.specs.Turn.{Sits}
+use Rattle.task_turns.specs.Turn.{CoreInOrder}
 use Rattle.task_words.specs.Groups.{IsAsked, asked}
 use Rattle.task_words.specs.StateView.{on_core}
 
 -- What stays of a store, whatever a call by the host comes to.
 pub record KeepsStore {T H G : Type 0} (c : Component) (s t : Store T H G) : Type 0 where
   -- it is in order at each turn at which it was
-  pub order : (p : Turn) → Sits c p s.state.core → Sits c p t.state.core
+  pub order : (p : Turn) → CoreInOrder c p s.state.core → CoreInOrder c p t.state.core
   -- it holds the works of its hosts, if it did
   pub works : (course : H → HostDef) → HoldsHosts course s → HoldsHosts course t
   -- each group that has ended was told of, if so it was before
@@ -62,7 +62,7 @@ pub record StopsUnmade {T H G : Type 0} (listens : Bool) (s : Store T H G) (why 
   pub reason : IsReason listens (start_refusal s.state.core) why s.listeners t.listeners
   pub state : t.state ≡ asked (on_core set_trapped s.state)
   pub told : TellsStopped why s.state s.listeners t.listeners
-  pub unhooked : Unhooked listens s.listeners (Told (finishes s.state.tags.known) s.listeners t.listeners)
+  pub unhooked : Unhooked listens s.listeners (ToldListeners (finishes s.state.tags.tracked) s.listeners t.listeners)
 
 -- ---- A start
 
@@ -71,7 +71,7 @@ pub record HasStarted {T H G : Type 0} (c : Component) (e : Callee) (words : Lis
     (t : Store T H G) : Type 0 where
   pub starts : Starts c e words s.state (start_refusal s.state.core) (Ok call.thread) t.state
   pub group : call.group ≡ s.state.core.made.groups + 1
-  pub begun : ToldCalmly (begun_notices None s.state.core) s.listeners t.listeners
+  pub begun : ToldWithHookOk (begun_notices None s.state.core) s.listeners t.listeners
 
 -- a start that leaves all as before if it isn't made
 abbrev pub StartsOrLeaves : {T H G : Type 0} → (listens : Bool) → Component → Callee → List ℕ → DoesOn FuncCallConcurrent T H G

@@ -4,23 +4,23 @@ use Rattle.state_calls.specs.declared.error.TaskError.{TaskError}
 use Rattle.state_calls.specs.declared.error.TaskError.TheVariants as task_error
 use Rattle.std.specs.Option.{option_map_or}
 use Rattle.std.specs.Prelude.{List, false, if◌then◌else◌, true, ℕ, ◌++◌, ◌==◌, ◌≡◌, ◌⊎◌}
-use Rattle.task_group.specs.Listeners.{AnsweredErr, Listeners, Told, ToldCalmly}
-use Rattle.task_loop.specs.Told.{asked_now}
+use Rattle.task_group.specs.Listeners.{AnsweredErr, Listeners, ToldListeners, ToldWithHookOk}
+use Rattle.task_loop.specs.Told.{groups_before_call}
 use Rattle.task_machine.specs.declared.records.Notice.{Notice}
 use Rattle.task_machine.specs.declared.trap.Trap.TheVariants as trap
 use Rattle.task_moves.specs.Gone.{HasEnded}
 use Rattle.task_rules.specs.Ends.{leaves_no_result}
 use Rattle.task_turns.specs.Turn.{running_of}
-use Rattle.task_words.specs.Groups.{asked, ended_groups, known_group}
+use Rattle.task_words.specs.Groups.{asked, ended_groups, tracked_group}
 use Rattle.task_words.specs.StateView.{StateView}
 
 -- the group of the thread that runs once this one has ended, as long as it is known; default: 0
 abbrev pub group_left : ℕ → StateView → ℕ
-group_left n s = option_map_or (λ m. if m == n then 0 else known_group m s) (running_of s) 0
+group_left n s = option_map_or (λ m. if m == n then 0 else tracked_group m s) (running_of s) 0
 
 -- where the thread was the one that ran, its group is left
 abbrev pub left_notices : ℕ → StateView → List Notice
-left_notices n s = moved (asked_now s) (group_left n s)
+left_notices n s = moved (groups_before_call s) (group_left n s)
 
 -- The thread has ended, and what that has finished is told.
 pub record EndsTold (n : ℕ) (s t : StateView) (old new : Listeners) : Type 0 where
@@ -29,8 +29,8 @@ pub record EndsTold (n : ℕ) (s t : StateView) (old new : Listeners) : Type 0 w
   pub gone : HasEnded n s left
   pub asked : t ≡ asked left
   pub between : Listeners
-  pub moved : ToldCalmly (left_notices n s) old between
-  pub finished : Told (finishes (ended_groups left)) between new
+  pub moved : ToldWithHookOk (left_notices n s) old between
+  pub finished : ToldListeners (finishes (ended_groups left)) between new
 
 -- The hook answered an error to the exit from the group of the thread that ran: nothing has ended.
 abbrev pub StopsAtExit : ℕ → StateView → Listeners → StateView → Listeners → Type 0

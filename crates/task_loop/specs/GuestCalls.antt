@@ -1,19 +1,19 @@
 -- What the calls of a store come to that have another thread run, end a thread or begin a task, of which its groups are told.
 use Rattle.group_notices.specs.Moves.{StopsAt, moved}
-use Rattle.order_laws.specs.Kept.{LeavesInOrder, TurnsInOrder}
+use Rattle.order_laws.specs.KeptOrder.{LeavesInOrder, TurnsInOrder}
 use Rattle.state_calls.specs.Currents.{IsCurrent, LosesNoWake, now_runs, number_in, runner}
 use Rattle.state_calls.specs.declared.currents.CurrentThread.{CurrentThread}
 use Rattle.state_calls.specs.declared.error.TaskError.{TaskError}
-use Rattle.state_calls.specs.declared.names.QualifiedThreadId.{QualifiedThreadId}
+use Rattle.state_calls.specs.declared.name_calls.QualifiedThreadId.{QualifiedThreadId}
 use Rattle.std.specs.Prelude.{Bool, Err, List, None, Ok, OnErr, Option, Result, Some, false, true, ℕ, ◌≡◌, ◌⊎◌}
 use Rattle.task_calls.specs.Tasks.{entries_of, first_export}
-use Rattle.task_group.specs.Listeners.{AnsweredErr, ToldCalmly}
+use Rattle.task_group.specs.Listeners.{AnsweredErr, ToldWithHookOk}
 use Rattle.task_loop.specs.Begun.{EndsUnmade, MakesTold}
 use Rattle.task_loop.specs.CallStarts.{IsReason}
 use Rattle.task_loop.specs.Ended.{EndsTold, RefusesEnd}
 use Rattle.task_loop.specs.Hooked.{Unhooked}
 use Rattle.task_loop.specs.InstanceCalls.{DoesOn}
-use Rattle.task_loop.specs.Told.{asked_now, current_group, refused_by_hook}
+use Rattle.task_loop.specs.Told.{groups_before_call, current_group, refused_by_hook}
 use Rattle.task_machine.specs.Read.{fits}
 use Rattle.task_machine.specs.declared.component.Component.{Component}
 use Rattle.task_machine.specs.declared.component.ExportKind.{ExportKind}
@@ -26,7 +26,7 @@ use Rattle.task_rules.specs.Ends.{leaves_no_result}
 use Rattle.task_rules.specs.Scripts.{export_kind}
 use Rattle.task_store.specs.Hosts.{HoldsHosts}
 use Rattle.task_store.specs.declared.store.Store.{Store}
-use Rattle.task_turns.specs.Turn.{Sits}
+use Rattle.task_turns.specs.Turn.{CoreInOrder}
 use Rattle.task_words.specs.StateView.{StateView}
 use Rattle.wake_laws.specs.Stands.{MayLeave, NoWakeLost}
 
@@ -34,7 +34,7 @@ use Rattle.wake_laws.specs.Stands.{MayLeave, NoWakeLost}
 
 -- the one's group is left, and the other's entered
 abbrev pub next_notices : CurrentThread → StateView → List Notice
-next_notices thread s = moved (asked_now s) (current_group (now_runs thread s))
+next_notices thread s = moved (groups_before_call s) (current_group (now_runs thread s))
 
 -- The hook answered no error: the thread that ran is answered, and the other one runs.
 pub record RunsNext {T H G : Type 0} (thread : CurrentThread) (s : Store T H G) (r : Result CurrentThread TaskError) (t : Store T H G) :
@@ -45,7 +45,7 @@ pub record RunsNext {T H G : Type 0} (thread : CurrentThread) (s : Store T H G) 
   pub runs : t.state ≡ now_runs thread s.state
   -- in order in its turn, if it was in that of the thread that ran
   pub order : TurnsInOrder (runner s.state) (number_in s.state thread) s.state.core t.state.core
-  pub told : ToldCalmly (next_notices thread s.state) s.listeners t.listeners
+  pub told : ToldWithHookOk (next_notices thread s.state) s.listeners t.listeners
 
 -- The hook answered an error to an exit or an enter, and the same thread runs.
 pub record KeepsRunner {T H G : Type 0} (listens : Bool) (thread : CurrentThread) (s : Store T H G) (r : Result CurrentThread TaskError)
@@ -70,7 +70,7 @@ pub record HasCleanedUp {T H G : Type 0} (n : ℕ) (s t : Store T H G) : Type 0 
   pub result : leaves_no_result n s.state.core ≡ false
   pub ends : EndsTold n s.state t.state s.listeners t.listeners
   pub order : LeavesInOrder n s.state.core t.state.core
-  pub calm : AnsweredErr s.listeners t.listeners → ⊥
+  pub hook_is_ok : AnsweredErr s.listeners t.listeners → ⊥
 
 -- It has ended, or the end is refused for this reason.
 abbrev pub CleansUp : {T H G : Type 0} → ℕ → DoesOn (Unit {0}) T H G
@@ -114,6 +114,6 @@ pub record MakesTask {T H G : Type 0} (listens : Bool) (x : ExportKind) (i : ℕ
   pub kept : s.state.core.trapped ≡ false → OnErr r (t.state ≡ s.state)
   pub refused : Unhooked listens s.listeners (OnErr r (t.listeners ≡ s.listeners))
   -- at whatever turn, for a component in which that export has this kind
-  pub order : (c : Component) → (p : Turn) → x ≡ export_kind c (first_export i) → Sits c p s.state.core → Sits c p t.state.core
+  pub order : (c : Component) → (p : Turn) → x ≡ export_kind c (first_export i) → CoreInOrder c p s.state.core → CoreInOrder c p t.state.core
   pub works : (course : H → HostDef) → HoldsHosts course s → HoldsHosts course t
   pub rest : t ≡ record s { state = t.state; listeners = t.listeners }

@@ -1,19 +1,19 @@
 -- What a call on a run asks, and what it gives.
 use Rattle.group_notices.specs.Moves.{finishes}
-use Rattle.run_pace.specs.Pace.{is_unyielded, since_after, since_driven}
-use Rattle.run_pace.specs.declared.pace.Pace.{Pace}
+use Rattle.run_pace.specs.YieldBudget.{is_unyielded, since_after, since_driven}
+use Rattle.run_pace.specs.declared.yield_budget.YieldBudget.{YieldBudget}
 use Rattle.state_calls.specs.declared.error.TaskError.{TaskError}
 use Rattle.state_calls.specs.declared.error.TaskError.TheVariants as task_error
 use Rattle.std.specs.Prelude.{Bool, Err, IfSome, List, None, Ok, Option, Result, Some, [], false, is_some, length, not, true, ℕ, ◌&&◌, ◌*◌, ◌++◌, ◌+◌, ◌<◌, ◌==◌, ◌∷◌, ◌≡◌, ◌≤◌, ◌^◌, ◌⊎◌}
-use Rattle.task_group.specs.Listeners.{AnsweredErr, Listeners, Told, errors_of}
-use Rattle.task_loop.specs.Heeds.{is_refused}
+use Rattle.task_group.specs.Listeners.{AnsweredErr, Listeners, ToldListeners, errors_of}
+use Rattle.task_loop.specs.AnswersOk.{is_refused}
 use Rattle.task_loop.specs.Hooked.{FailsMain, StopsTurn, TellsInPart}
 use Rattle.task_loop.specs.Ran.{DoesStep, Ran}
 use Rattle.task_loop.specs.RunPolls.{is_yielded, may_poll, poll_answer, rests_last, since_left, since_left_by, stop_answer}
 use Rattle.task_loop.specs.Says.{Says}
 use Rattle.task_loop.specs.Standing.{standing}
 use Rattle.task_loop.specs.Told.{StartFails, TurnTold, group_running, main_notices, turn_of}
-use Rattle.task_loop.specs.declared.polls.RunPoll.{RunPoll}
+use Rattle.task_loop.specs.declared.poll_methods.RunPoll.{RunPoll}
 use Rattle.task_loop.specs.declared.run.Halt.{Halt}
 use Rattle.task_loop.specs.declared.run.Halt.TheVariants as halt
 use Rattle.task_loop.specs.declared.run.Halted.{Halted}
@@ -40,11 +40,11 @@ use Rattle.task_store.specs.declared.store.Store.{Store}
 use Rattle.task_turns.specs.Does.{label_of_step, step_of, step_shown}
 use Rattle.task_turns.specs.Drive.{WasGoing}
 use Rattle.task_turns.specs.Main.{Steps}
-use Rattle.task_turns.specs.Stepped.{AddedOrNone}
-use Rattle.task_turns.specs.Turn.{IsSettled, PendsIn, Sits, given, goes_on, is_open, running_of, runs_in, setting_of, state_at}
+use Rattle.task_turns.specs.StepResult.{AddedOrNone}
+use Rattle.task_turns.specs.Turn.{IsSettled, PendsIn, CoreInOrder, given, goes_on, is_open, running_of, runs_in, setting_of, state_at}
 use Rattle.task_turns.specs.WellFormed.{IsWellFormed}
 use Rattle.task_turns.specs.declared.mains.MainStep.{MainStep}
-use Rattle.task_turns.specs.declared.made.Stepped.{Stepped}
+use Rattle.task_turns.specs.declared.made.StepResult.{StepResult}
 use Rattle.task_words.specs.Groups.{IsAsked, asked}
 use Rattle.task_words.specs.StateView.{StateView, on_core}
 
@@ -84,7 +84,7 @@ module _ {M T H G : Type 0} (says : Says M) (course : H → HostDef) (c : Compon
   -- Main and the store are such that the loop may take a turn.
   pub record Stands (x : Setting) (a : At M T H G) : Type 0 where
     -- the core is in order at this turn
-    pub order : Sits c a.turn a.store.state.core
+    pub order : CoreInOrder c a.turn a.store.state.core
     -- the moves that show no label are made
     pub settled : IsSettled a.store.state.core a.turn
     -- the thread of the turn runs, or none
@@ -112,7 +112,7 @@ module _ {M T H G : Type 0} (says : Says M) (course : H → HostDef) (c : Compon
   -- What a step of main asks: main's op may be done in the store, in which no thread runs.
   pub record MayStep (m : M) (s : Store T H G) : Type 0 where
     pub covered : IsWellFormed c
-    pub order : Sits c turn.Main s.state.core
+    pub order : CoreInOrder c turn.Main s.state.core
     pub idle : running_of s.state ≡ None
     pub suits : says.suits m c
     pub knows : says.knows m s.state
@@ -121,13 +121,13 @@ module _ {M T H G : Type 0} (says : Says M) (course : H → HostDef) (c : Compon
     pub few : given s.state.core + 4 < 2 ^ 61
 
   -- Main did this step, and main and the store are such that the loop goes on.
-  pub record HasStepped (step : MainStep) (m : M) (s : Store T H G) (n : M) (t : Store T H G) : Type 0 where
+  pub record HasStepResult (step : MainStep) (m : M) (s : Store T H G) (n : M) (t : Store T H G) : Type 0 where
     -- it is lawful, and main's part and the core are as it leaves them
     pub steps : Steps c (says.script m) (says.part m) s.state.core step (says.part n) t.state.core
     pub does : says.does m s.state.core step n t.state.core
     -- its notices were told, and the hook answered no error but to a refused start
-    pub told : Told (main_notices step s.state.core t.state.core) s.listeners t.listeners
-    pub calm : is_refused (label_of_step step) ≡ false → errors_of t.listeners ≡ errors_of s.listeners
+    pub told : ToldListeners (main_notices step s.state.core t.state.core) s.listeners t.listeners
+    pub hook_is_ok : is_refused (label_of_step step) ≡ false → errors_of t.listeners ≡ errors_of s.listeners
     pub idle : running_of t.state ≡ running_of s.state
     pub suits : says.suits n c
     pub knows : says.knows n t.state
@@ -136,7 +136,7 @@ module _ {M T H G : Type 0} (says : Says M) (course : H → HostDef) (c : Compon
 
   -- Memory is wanting, or the hook failed, where it isn't done.
   abbrev pub StepsTo : Result MainStep TaskError → (m : M) (s : Store T H G) (n : M) (t : Store T H G) → Type 0
-  StepsTo (Ok step) m s n t = HasStepped step m s n t
+  StepsTo (Ok step) m s n t = HasStepResult step m s n t
   StepsTo (Err e) m s n t = FailsMain course e m n s t
 
   -- ---- A turn
@@ -151,7 +151,7 @@ module _ {M T H G : Type 0} (says : Says M) (course : H → HostDef) (c : Compon
     pub unstopped : why ≡ halt.NoMemory
 
   -- A step was made, or none if nothing can go on. The run is where it was, but for whose turn it is.
-  pub record HasTurned (q : Option Stepped) (running : ℕ) (a b : At M T H G) : Type 0 where
+  pub record HasTurned (q : Option StepResult) (running : ℕ) (a b : At M T H G) : Type 0 where
     pub turn : b.turn ≡ a.turn
     -- it is a step of the machine, and its notices were told
     pub told :
@@ -182,7 +182,7 @@ module _ {M T H G : Type 0} (says : Says M) (course : H → HostDef) (c : Compon
   HasHalted halt.NoMemory a b = b.trace ≡ a.trace
   HasHalted halt.HookFailed a b = FailsTurn a b
 
-  abbrev pub TurnsTo : Result (Option Stepped) Halted → (running : ℕ) → (why : Halt) → (a b : At M T H G) → Type 0
+  abbrev pub TurnsTo : Result (Option StepResult) Halted → (running : ℕ) → (why : Halt) → (a b : At M T H G) → Type 0
   TurnsTo (Ok q) running why a b = HasTurned q running a b × (why ≡ halt.NoMemory)
   TurnsTo (Err e) running why a b = HasHalted why a b
 
@@ -210,22 +210,22 @@ module _ {M T H G : Type 0} (says : Says M) (course : H → HostDef) (c : Compon
     pub unfinished : is_open b.turn ≡ goes_on o
 
   -- The run was driven up to this outcome.
-  pub record HasDriven (steps : ℕ) (o : Outcome) (pace : Pace) (a b : At M T H G) (pace' : Pace) : Type 0 where
+  pub record HasDriven (steps : ℕ) (o : Outcome) (yield_budget : YieldBudget) (a b : At M T H G) (yield_budget' : YieldBudget) : Type 0 where
     pub gone : HasGone steps o a b
     -- if it is idle, the entries count for the next poll that were taken since it last yielded
-    pub since : pace'.since ≡ since_left_by o (since_driven pace.passes pace.since gone.has.ran.added)
-    pub passes_on : pace'.passes ≡ false
+    pub since : yield_budget'.since ≡ since_left_by o (since_driven yield_budget.passes yield_budget.since gone.has.ran.added)
+    pub passes_on : yield_budget'.passes ≡ false
 
   -- The run was polled up to the first place at which there is an answer, which is this.
-  pub record HasPolled (steps : ℕ) (r : Result RunPoll TaskError) (pace : Pace) (a b : At M T H G) (pace' : Pace) : Type 0 where
+  pub record HasPolled (steps : ℕ) (r : Result RunPoll TaskError) (yield_budget : YieldBudget) (a b : At M T H G) (yield_budget' : YieldBudget) : Type 0 where
     pub has : HasRun steps a b
-    pub answers : poll_answer (setting a) (state b) pace.passes pace.since has.ran.added steps ≡ Some r
-    pub unyielded : is_unyielded pace.passes pace.since has.ran.added ≡ true
+    pub answers : poll_answer (setting a) (state b) yield_budget.passes yield_budget.since has.ran.added steps ≡ Some r
+    pub unyielded : is_unyielded yield_budget.passes yield_budget.since has.ran.added ≡ true
     pub unrested : rests_last has.ran.added ≡ true
     pub unfinished : is_open b.turn ≡ may_poll r
-    pub since : pace'.since ≡ since_left r (since_after pace.since has.ran.added)
+    pub since : yield_budget'.since ≡ since_left r (since_after yield_budget.since has.ran.added)
     -- it passes on next if it has yielded before an entry
-    pub passes_on : pace'.passes ≡ (is_yielded r && not (length has.ran.added == steps))
+    pub passes_on : yield_budget'.passes ≡ (is_yielded r && not (length has.ran.added == steps))
 
   -- ---- Memory is wanting
 
@@ -259,7 +259,7 @@ module _ {M T H G : Type 0} (says : Says M) (course : H → HostDef) (c : Compon
     pub step : Step (setting a) last label (state_at left.core (says.part n) turn)
     pub other : step_shown label ≡ None
     pub told : TellsInPart last.core last.turn left between listeners
-    pub order : Sits c turn left.core
+    pub order : CoreInOrder c turn left.core
     pub running : running_of left ≡ runs_in turn
 
   -- A run was added that was heeded whole, and then the hook answered an error, which left the state and the listeners so. Main is as the step
@@ -281,7 +281,7 @@ module _ {M T H G : Type 0} (says : Says M) (course : H → HostDef) (c : Compon
     pub listeners : Listeners
     pub stopped : HasStopped steps a b.main b.trace left listeners
     pub trapped : b.store.state ≡ asked (on_core set_trapped left)
-    pub finishes : Told (finishes left.tags.known) listeners b.store.listeners
+    pub finishes : ToldListeners (finishes left.tags.tracked) listeners b.store.listeners
     pub knows : says.knows b.main b.store.state
     pub works : HoldsHosts course b.store
     pub over : b.turn ≡ turn.Over
@@ -289,10 +289,10 @@ module _ {M T H G : Type 0} (says : Says M) (course : H → HostDef) (c : Compon
   -- ---- Where the turns stop
 
   -- The turns were taken by a policy, which stops them before the run does or never does.
-  abbrev pub GoesTo : (yields : Bool) → ℕ → Stop → (pace : Pace) → (a b : At M T H G) → (pace' : Pace) → Type 0
-  GoesTo false steps (stop.Ends o) pace a b pace' = HasGone steps o a b
-  GoesTo false steps _ pace a b pace' = ⊥
-  GoesTo true steps stopped pace a b pace' = HasPolled steps (stop_answer stopped) pace a b pace'
+  abbrev pub GoesTo : (yields : Bool) → ℕ → Stop → (yield_budget : YieldBudget) → (a b : At M T H G) → (yield_budget' : YieldBudget) → Type 0
+  GoesTo false steps (stop.Ends o) yield_budget a b yield_budget' = HasGone steps o a b
+  GoesTo false steps _ yield_budget a b yield_budget' = ⊥
+  GoesTo true steps stopped yield_budget a b yield_budget' = HasPolled steps (stop_answer stopped) yield_budget a b yield_budget'
 
   -- memory is wanting in the turns
   abbrev pub IsLost : ℕ → (a b : At M T H G) → Type 0
@@ -305,13 +305,13 @@ module _ {M T H G : Type 0} (says : Says M) (course : H → HostDef) (c : Compon
 
   -- ---- What the calls come to. The hook fails only if its type is one that listens.
 
-  abbrev pub DrivesTo : (listens : Bool) → ℕ → Result Outcome NoMemory → (pace : Pace) → (a b : At M T H G) → (pace' : Pace) → Type 0
-  DrivesTo false steps (Ok o) pace a b pace' = HasDriven steps o pace a b pace'
-  DrivesTo true steps (Ok (outcome.Trap trap.HookFailed)) pace a b pace' = HasFailed steps a b
-  DrivesTo true steps (Ok o) pace a b pace' = HasDriven steps o pace a b pace'
-  DrivesTo listens steps (Err e) pace a b pace' = HasLost steps a b × (pace' ≡ pace)
+  abbrev pub DrivesTo : (listens : Bool) → ℕ → Result Outcome NoMemory → (yield_budget : YieldBudget) → (a b : At M T H G) → (yield_budget' : YieldBudget) → Type 0
+  DrivesTo false steps (Ok o) yield_budget a b yield_budget' = HasDriven steps o yield_budget a b yield_budget'
+  DrivesTo true steps (Ok (outcome.Trap trap.HookFailed)) yield_budget a b yield_budget' = HasFailed steps a b
+  DrivesTo true steps (Ok o) yield_budget a b yield_budget' = HasDriven steps o yield_budget a b yield_budget'
+  DrivesTo listens steps (Err e) yield_budget a b yield_budget' = HasLost steps a b × (yield_budget' ≡ yield_budget)
 
-  abbrev pub PollsTo : (listens : Bool) → ℕ → Result RunPoll TaskError → (pace : Pace) → (a b : At M T H G) → (pace' : Pace) → Type 0
-  PollsTo listens steps (Err task_error.NoMemory) pace a b pace' = HasLost steps a b
-  PollsTo true steps (Err (task_error.Trap trap.HookFailed)) pace a b pace' = HasFailed steps a b
-  PollsTo listens steps r pace a b pace' = HasPolled steps r pace a b pace'
+  abbrev pub PollsTo : (listens : Bool) → ℕ → Result RunPoll TaskError → (yield_budget : YieldBudget) → (a b : At M T H G) → (yield_budget' : YieldBudget) → Type 0
+  PollsTo listens steps (Err task_error.NoMemory) yield_budget a b yield_budget' = HasLost steps a b
+  PollsTo true steps (Err (task_error.Trap trap.HookFailed)) yield_budget a b yield_budget' = HasFailed steps a b
+  PollsTo listens steps r yield_budget a b yield_budget' = HasPolled steps r yield_budget a b yield_budget'

@@ -1,6 +1,6 @@
 -- What a run comes to where the hook that is told of groups answers an error.
-use Rattle.group_notices.specs.Runs.{IsAskedIn}
-use Rattle.group_notices.specs.declared.tells.Asked.{Asked}
+use Rattle.group_notices.specs.Runs.{AreGroupsBefore}
+use Rattle.group_notices.specs.declared.tells.GroupsBefore.{GroupsBefore}
 use Rattle.state_calls.specs.declared.error.TaskError.{TaskError}
 use Rattle.state_calls.specs.declared.error.TaskError.TheVariants as task_error
 use Rattle.std.specs.Prelude.{Bool, Err, List, Result, false, is_some, true, ◌≡◌, ◌≢◌, ◌⊎◌}
@@ -18,9 +18,9 @@ use Rattle.task_machine.specs.declared.trap.Trap.TheVariants as trap
 use Rattle.task_rules.specs.Stalled.{Setting}
 use Rattle.task_store.specs.Hosts.{HoldsHosts}
 use Rattle.task_store.specs.declared.store.Store.{Store}
-use Rattle.task_turns.specs.Stepped.{Added}
+use Rattle.task_turns.specs.StepResult.{Added}
 use Rattle.task_turns.specs.Turn.{Turns}
-use Rattle.task_turns.specs.declared.made.Stepped.{Stepped}
+use Rattle.task_turns.specs.declared.made.StepResult.{StepResult}
 use Rattle.task_words.specs.Groups.{asked}
 use Rattle.task_words.specs.StateView.{StateView, on_core}
 
@@ -51,8 +51,8 @@ Unhooked false l P = P
 Unhooked true l P = is_some l.hook ≡ false → P
 
 -- unless the hook answered an error in a call on a store
-abbrev pub Calm : {T H G : Type 0} → (listens : Bool) → Store T H G → Store T H G → Type 0 → Type 0
-Calm listens s t P = Unheard listens s.listeners t.listeners P
+abbrev pub HookIsOk : {T H G : Type 0} → (listens : Bool) → Store T H G → Store T H G → Type 0 → Type 0
+HookIsOk listens s t P = Unheard listens s.listeners t.listeners P
 
 -- where it answered one, the call is refused
 abbrev pub HookFails : {T H G A : Type 0} → Store T H G → Store T H G → Result A TaskError → Type 0
@@ -77,11 +77,11 @@ pub record StopsMain (p : Turn) (m : Main) (s : StateView) (before after : List 
 
 -- A step of this turn was made, and the hook answered an error as it was told of it.
 pub record TellsInPart (s : Core) (p : Turn) (u : StateView) (old new : Listeners) : Type 0 where
-  pub asked : Asked
-  pub is_asked : IsAskedIn s p asked
+  pub asked : GroupsBefore
+  pub is_asked : AreGroupsBefore s p asked
   -- the state that the step has left
   pub left : StateView
-  pub known : left.tags.known ≡ s.groups
+  pub known : left.tags.tracked ≡ s.groups
   pub told : TellsPart asked left u old new
   pub answered : AnsweredErr old new
 
@@ -92,4 +92,4 @@ pub record StopsTurn (x : Setting) (p : Turn) (m : Main) (s : StateView) (before
   pub hook : is_some new.hook ≡ is_some old.hook
   pub stops : StopsMain p m s before after old new n t
       ⊎ ((p ≢ turn.Main)
-      × (TellsInPart s.core p t old new × ((q : Stepped) × Added (λ made. Turns x p m s made n t) q before after)))
+      × (TellsInPart s.core p t old new × ((q : StepResult) × Added (λ made. Turns x p m s made n t) q before after)))

@@ -3,23 +3,23 @@
 use Rattle.state_calls.specs.declared.error.TaskError.{TaskError}
 use Rattle.state_calls.specs.declared.error.TaskError.TheVariants as task_error
 use Rattle.state_calls.specs.Named.{IsLive}
-use Rattle.state_calls.specs.declared.names.QualifiedThreadId.{QualifiedThreadId}
+use Rattle.state_calls.specs.declared.name_calls.QualifiedThreadId.{QualifiedThreadId}
 use Rattle.std.specs.Prelude.{Bool, IfOk, IfSome, IsSome, List, None, Ok, Result, Some, cond, length, min, true, ℕ, ◌<◌, ◌==◌, ◌≡◌, ◌≢◌, ◌⊎◌}
-use Rattle.task_calls.specs.Answers.{whole_answer, at_once, number_answered, value_answered}
-use Rattle.task_calls.specs.Asks.{Answers, AnswersHere, AnswersOp, row_of, turn_in}
-use Rattle.task_calls.specs.Calls.{Returns}
-use Rattle.task_calls.specs.Directs.{entered, enters_row, exits_row, thread_entered}
-use Rattle.task_calls.specs.Polled.{blocks_row, polls_row}
+use Rattle.task_calls.specs.OpAnswers.{whole_answer, at_once, number_answered, value_answered}
+use Rattle.task_calls.specs.Asks.{Answers, AnswersHere, AnswersOp, scripted_rule_of, turn_in}
+use Rattle.task_calls.specs.MainCalls.{Returns}
+use Rattle.task_calls.specs.Directs.{entered, enters_rule, exits_rule, thread_entered}
+use Rattle.task_calls.specs.PolledCalls.{blocks_rule, polls_rule}
 use Rattle.task_calls.specs.Prepared.{Prepared, Prepares, goal_for, starts_in}
 use Rattle.task_calls.specs.Resumes.{Resumed, resumed_by}
-use Rattle.task_calls.specs.declared.answers.Answer.{Answer}
-use Rattle.task_calls.specs.declared.answers.Step.{Step}
-use Rattle.task_calls.specs.declared.answers.Step.TheVariants as step
+use Rattle.task_calls.specs.declared.answer_calls.Answer.{Answer}
+use Rattle.task_calls.specs.declared.answer_calls.Step.{Step}
+use Rattle.task_calls.specs.declared.answer_calls.Step.TheVariants as step
 use Rattle.task_calls.specs.declared.intrinsics.ResumeThread.{ResumeThread}
 use Rattle.task_calls.specs.declared.intrinsics.ResumeThread.TheVariants as resume
-use Rattle.task_lends.specs.Lends.{Comes, UnlessLent, cancel_lends, exit_lends, return_lends}
-use Rattle.task_loop.specs.Lent.{RowAnswers}
-use Rattle.task_loop.specs.Told.{TellsCall, asked_now, refused_by_hook}
+use Rattle.task_lends.specs.HeldBorrows.{Comes, UnlessLent, cancel_holds_borrows, exit_holds_borrows, return_holds_borrows}
+use Rattle.task_loop.specs.Lent.{RuleAnswers}
+use Rattle.task_loop.specs.Told.{TellsCall, groups_before_call, refused_by_hook}
 use Rattle.task_machine.specs.Core.{Core}
 use Rattle.task_machine.specs.Labels.{Choice}
 use Rattle.task_machine.specs.Read.{fits}
@@ -44,9 +44,9 @@ use Rattle.task_rules.specs.Progress.{Progress}
 use Rattle.task_rules.specs.Scripts.{export_at, export_kind}
 use Rattle.task_store.specs.Hosts.{HoldsHosts, held_by}
 use Rattle.task_store.specs.declared.store.Store.{Store}
-use Rattle.task_turns.specs.Turn.{Sits, running_of}
+use Rattle.task_turns.specs.Turn.{CoreInOrder, running_of}
 use Rattle.task_words.specs.StateView.{StateView, with_core, with_current}
-use Rattle.task_ops.specs.declared.came.OpAnswer.{OpAnswer}
+use Rattle.task_ops.specs.declared.op_result.OpAnswer.{OpAnswer}
 
 -- ---- What a call does
 
@@ -63,11 +63,11 @@ pub record IsTold {A T H G : Type 0} (listens : Bool) (comes : ComesOf A) (s : S
     Type 0 where
   pub answer : Result A TaskError
   pub left : StateView
-  pub came : comes answer left
-  pub known : left.tags.known ≡ s.state.tags.known
+  pub op_result : comes answer left
+  pub known : left.tags.tracked ≡ s.state.tags.tracked
   pub unfailed : answer ≢ refused_by_hook
   -- it is answered, unless the hook refuses it
-  pub heard : TellsCall listens (asked_now s.state) answer r left t.state s.listeners t.listeners
+  pub heard : TellsCall listens (groups_before_call s.state) answer r left t.state s.listeners t.listeners
 
 -- The same of a call that holds the works of hosts, and changes nothing but the state and the listeners.
 pub record DoesCall {A T H G : Type 0} (listens : Bool) (comes : ComesOf A) (s : Store T H G) (r : Result A TaskError) (t : Store T H G) :
@@ -80,7 +80,7 @@ pub record DoesCall {A T H G : Type 0} (listens : Bool) (comes : ComesOf A) (s :
 pub record DoesInOrder {A T H G : Type 0} (listens : Bool) (c : Component) (comes : ComesOf A) (s : Store T H G) (r : Result A TaskError)
     (t : Store T H G) : Type 0 where
   pub call : DoesCall listens comes s r t
-  pub order : Sits c (turn_in t.state) t.state.core
+  pub order : CoreInOrder c (turn_in t.state) t.state.core
 
 -- ---- A method at its op
 
@@ -130,23 +130,23 @@ resume_later_op h = op.Thread (thread_op.ResumeLater (operand.Number h))
 
 -- ---- Methods that end a task, unless it still lends something
 
-abbrev pub UnlessLending : (ℕ → Core → Bool) → (ℕ → Comes) → StateView → ComesOf (Unit {0})
-UnlessLending lends comes s a t = IfSome (running_of s) (λ n. UnlessLent (lends n s.core) (comes n) s a t)
+abbrev pub UnlessHoldsBorrows : (ℕ → Core → Bool) → (ℕ → Comes) → StateView → ComesOf (Unit {0})
+UnlessHoldsBorrows lends comes s a t = IfSome (running_of s) (λ n. UnlessLent (lends n s.core) (comes n) s a t)
 
 -- the running thread's task returned the value, of its own type or not
 abbrev pub DoesReturn : {T H G : Type 0} → Bool → (own_type : Bool) → (value : ℕ) → DoesOn (Unit {0}) T H G
 DoesReturn listens own v s r t =
-    DoesCall listens (UnlessLending (λ n. return_lends n own) (λ n. Returns n v own) s.state) s r t
+    DoesCall listens (UnlessHoldsBorrows (λ n. return_holds_borrows n own) (λ n. Returns n v own) s.state) s r t
 
 -- it answered a cancel
 abbrev pub DoesCancel : {T H G : Type 0} → Bool → Component → DoesOn (Unit {0}) T H G
 DoesCancel listens c s r t =
-    DoesCall listens (UnlessLending cancel_lends (λ n. RowAnswers (row_of c task_cancel_op s.state.core)) s.state) s r t
+    DoesCall listens (UnlessHoldsBorrows cancel_holds_borrows (λ n. RuleAnswers (scripted_rule_of c task_cancel_op s.state.core)) s.state) s r t
 
 -- the first thread of a direct call ended with this value
 abbrev pub ExitsCall : {T H G : Type 0} → Bool → Component → (value : ℕ) → DoesOn (Unit {0}) T H G
 ExitsCall listens c v s r t =
-    DoesCall listens (UnlessLending exit_lends (λ n. RowAnswers (exits_row v s.state.core)) s.state) s r t
+    DoesCall listens (UnlessHoldsBorrows exit_holds_borrows (λ n. RuleAnswers (exits_rule v s.state.core)) s.state) s r t
 
 -- ---- Methods that call an export
 
@@ -160,7 +160,7 @@ pub record CanCall (c : Component) (i : ℕ) (e : Callee) (words : List ℕ) : T
 abbrev pub EntersCall : {T H G : Type 0} → Bool → Component → Callee → List ℕ → DoesOn QualifiedThreadId T H G
 EntersCall listens c e words s r t =
     DoesCall listens
-    (λ a u. Answers true (enters_row c e words s.state.core) thread_entered s.state (at_once (entered u a)) u × IfOk a (λ id. IsLive u id)) s r t
+    (λ a u. Answers true (enters_rule c e words s.state.core) thread_entered s.state (at_once (entered u a)) u × IfOk a (λ id. IsLive u id)) s r t
 
 -- a call of this export was made, whose result goes to the register, or to the answer of a sync caller
 abbrev pub PreparesCall : {T H G : Type 0} → Bool → Component → Callee → List ℕ → (async_caller : Bool) → (register : ℕ) →
@@ -208,12 +208,12 @@ pub record CallsHost {A R T H G : Type 0} (listens : Bool) (course : H → HostD
 -- it polls this host once, which answers as it may, and the value goes to the register
 abbrev pub PollsHost : {T H G : Type 0} → Bool → (H → HostDef) → Component → (register : ℕ) → HostDef → DoesOn ℕ T H G
 PollsHost listens course c q host s r t =
-    (answer : HostPoll) × (MayTell host answer × CallsHost listens course c (polls_row q (first_heard host answer) s.state.core) at_once number_answered s r t)
+    (answer : HostPoll) × (MayTell host answer × CallsHost listens course c (polls_rule q (first_heard host answer) s.state.core) at_once number_answered s r t)
 
 -- it polls it once, and waits for its value
 abbrev pub WaitsForHost : {T H G : Type 0} → Bool → (H → HostDef) → Component → HostDef → DoesOn (Step ℕ) T H G
 WaitsForHost listens course c host s r t =
-    (answer : HostPoll) × (MayTell host answer × CallsHost listens course c (blocks_row (first_heard host answer) s.state.core) may_pause value_answered s r t)
+    (answer : HostPoll) × (MayTell host answer × CallsHost listens course c (blocks_rule (first_heard host answer) s.state.core) may_pause value_answered s r t)
 
 -- the work of this number stays as it is if its call was made, and else isn't held any more
 abbrev pub SettlesWork : {T H G : Type 0} → (H → HostDef) → ℕ → (made : Bool) → Store T H G → Store T H G → Type 0

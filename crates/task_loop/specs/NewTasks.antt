@@ -1,8 +1,8 @@
 -- What a call whose thread is New comes to before the groups that have ended are told of.
-use Rattle.state_calls.specs.declared.names.QualifiedThreadId.{QualifiedThreadId}
+use Rattle.state_calls.specs.declared.name_calls.QualifiedThreadId.{QualifiedThreadId}
 use Rattle.std.specs.Prelude.{Bool, Err, Ok, Option, ℕ}
 use Rattle.task_calls.specs.Tasks.{Begins}
-use Rattle.task_group.specs.Listeners.{ToldCalmly}
+use Rattle.task_group.specs.Listeners.{ToldWithHookOk}
 use Rattle.task_loop.specs.CallStarts.{LeavesUnmade}
 use Rattle.task_loop.specs.GuestCalls.{has_room, table_refusal}
 use Rattle.task_loop.specs.InstanceCalls.{DoesOn}
@@ -14,7 +14,7 @@ use Rattle.task_store.specs.declared.store.Store.{Store}
 pub record HasMade {T H G : Type 0} (x : ExportKind) (i : ℕ) (f : Option QualifiedThreadId) (s : Store T H G) (id : QualifiedThreadId)
     (t : Store T H G) : Type 0 where
   pub begins : Begins x i f s.state (has_room f s.state) (Ok id) t.state
-  pub begun : ToldCalmly (begun_notices f s.state.core) s.listeners t.listeners
+  pub begun : ToldWithHookOk (begun_notices f s.state.core) s.listeners t.listeners
 
 abbrev pub MakesCall : {T H G : Type 0} → (listens : Bool) → ExportKind → ℕ → Option QualifiedThreadId → DoesOn QualifiedThreadId T H G
 MakesCall listens x i f s (Ok id) t = HasMade x i f s id t

@@ -1,7 +1,7 @@
 -- One run that was added to a trace, what was told in it, and what main did in it.
 use Rattle.std.specs.Prelude.{List, None, Option, Some, [], ◌++◌, ◌∷◌, ◌≡◌}
 use Rattle.task_group.specs.Listeners.{Listeners}
-use Rattle.task_loop.specs.Heeds.{HeedsAll}
+use Rattle.task_loop.specs.AnswersOk.{AnswersOkAll}
 use Rattle.task_machine.specs.Core.{Core, State}
 use Rattle.task_machine.specs.declared.label.Label.{Label}
 use Rattle.task_rules.specs.History.{Moment, history}
@@ -34,6 +34,6 @@ pub record Ran {M : Type 0} (does : M → Core → MainStep → M → Core → T
   -- the machine may show them from the state before, and then is in the state after
   pub run : Run x s added t
   -- the notices of each step were told as it was made, and the hook answered no error but to a refused start
-  pub heeds : HeedsAll (history x s added t run) old new
+  pub answers_ok : AnswersOkAll (history x s added t run) old new
   -- main did the steps of main among them, in their order, each from the core before it to the core after it, and no other
   pub mains : DoesAll does (history x s added t run) m n

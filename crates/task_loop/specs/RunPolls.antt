@@ -3,9 +3,9 @@ use Rattle.state_calls.specs.declared.error.TaskError.{TaskError}
 use Rattle.state_calls.specs.declared.error.TaskError.TheVariants as task_error
 use Rattle.std.specs.Prelude.{Bool, Err, List, None, Ok, Option, Result, Some, [], false, length, option_map, true, ℕ, ◌==◌, ◌||◌, ◌∷◌}
 use Rattle.label_laws.specs.Own.{next_mark}
-use Rattle.run_pace.specs.Pace.{passes_after, since_after, yields_before}
-use Rattle.task_loop.specs.declared.polls.RunPoll.{RunPoll}
-use Rattle.task_loop.specs.declared.polls.RunPoll.TheVariants as poll
+use Rattle.run_pace.specs.YieldBudget.{passes_after, since_after, yields_before}
+use Rattle.task_loop.specs.declared.poll_methods.RunPoll.{RunPoll}
+use Rattle.task_loop.specs.declared.poll_methods.RunPoll.TheVariants as poll
 use Rattle.task_loop.specs.declared.run.Stop.{Stop}
 use Rattle.task_loop.specs.declared.run.Stop.TheVariants as stop
 use Rattle.task_machine.specs.Core.{State}

@@ -13,39 +13,39 @@ use Rattle.task_ops.specs.Works.{KeepsWorks, NamesTold, NamesWorks}
 use Rattle.task_rules.specs.Stalled.{Setting}
 use Rattle.task_store.specs.Hosts.{HoldsHosts}
 use Rattle.task_store.specs.declared.store.Store.{Store}
-use Rattle.task_turns.specs.Stepped.{Added, AddedOrNone}
-use Rattle.task_turns.specs.Turn.{IsFree, Makes, PendsIn, Sits, TurnedBeside, Turns, given, running_of}
+use Rattle.task_turns.specs.StepResult.{Added, AddedOrNone}
+use Rattle.task_turns.specs.Turn.{IsFree, MakesStep, PendsIn, CoreInOrder, TurnedBeside, Turns, given, running_of}
 use Rattle.task_turns.specs.WellFormed.{IsWellFormed}
-use Rattle.task_turns.specs.declared.made.Stepped.{Stepped}
+use Rattle.task_turns.specs.declared.made.StepResult.{StepResult}
 use Rattle.task_words.specs.Groups.{IsAsked}
 use Rattle.task_words.specs.StateView.{StateView}
 
 -- The thread runs in a store that is in order and holds the works of its hosts.
 pub record RunsThread {T H G : Type 0} (course : H → HostDef) (c : Component) (n : ℕ) (s : Store T H G) : Type 0 where
   pub covered : IsWellFormed c
-  pub order : Sits c (turn.Run n) s.state.core
+  pub order : CoreInOrder c (turn.Run n) s.state.core
   pub current : running_of s.state ≡ Some n
   pub few : given s.state.core + 4 < 2 ^ 61
   pub hosts : HoldsHosts course s
 
 -- It took a step, whose label was added, and the works of its hosts are held. Of ids and groups that stays as this says.
 pub record StepsWith {T H G : Type 0} (Keeps : StateView → StateView → Type 0) (course : H → HostDef) (c : Component) (n : ℕ)
-    (s : Store T H G) (q : Stepped) (t : Store T H G) (before after : List Label) : Type 0 where
-  pub makes : Added (λ made. Makes c (turn.Run n) s.state made t.state × IsFree made.turn) q before after
+    (s : Store T H G) (q : StepResult) (t : Store T H G) (before after : List Label) : Type 0 where
+  pub makes : Added (λ made. MakesStep c (turn.Run n) s.state made t.state × IsFree made.turn) q before after
   pub works : Keeps s.state t.state
   pub hosts : HoldsHosts course t
 
 -- before it is told, and after that
-abbrev pub StepsUntold : {T H G : Type 0} → (H → HostDef) → Component → ℕ → Store T H G → Stepped → Store T H G →
+abbrev pub StepsUntold : {T H G : Type 0} → (H → HostDef) → Component → ℕ → Store T H G → StepResult → Store T H G →
     (before after : List Label) → Type 0
 StepsUntold = StepsWith NamesTold
 
-abbrev pub StepsThread : {T H G : Type 0} → (H → HostDef) → Component → ℕ → Store T H G → Stepped → Store T H G →
+abbrev pub StepsThread : {T H G : Type 0} → (H → HostDef) → Component → ℕ → Store T H G → StepResult → Store T H G →
     (before after : List Label) → Type 0
 StepsThread = StepsWith NamesWorks
 
 -- It was told, and the thread that runs then is of this group. Each group that has ended was told of.
-pub record RanThread {T H G : Type 0} (course : H → HostDef) (c : Component) (n : ℕ) (s : Store T H G) (q : Stepped) (running : ℕ)
+pub record RanThread {T H G : Type 0} (course : H → HostDef) (c : Component) (n : ℕ) (s : Store T H G) (q : StepResult) (running : ℕ)
     (t : Store T H G) (before after : List Label) : Type 0 where
   pub steps : StepsThread course c n s q t before after
   pub told : Added (λ made. RunTold c n s.state s.listeners made t.state t.listeners) q before after
@@ -53,18 +53,18 @@ pub record RanThread {T H G : Type 0} (course : H → HostDef) (c : Component) (
   pub asked : IsAsked t.state
 
 -- a step of this turn was made, whatever main is
-abbrev pub TurnsAnyhow : Turn → (s t : StateView) → Stepped → (before after : List Label) → Type 0
+abbrev pub TurnsAnyhow : Turn → (s t : StateView) → StepResult → (before after : List Label) → Type 0
 TurnsAnyhow p s t q before after =
     Added (λ made. (x : Setting) → (m : Main) → PendsIn x s.core m p → Turns x p m s made m t) q before after
 
 -- an entry was taken in this turn, or it was seen that nothing stands
-abbrev pub Takes : Component → (trap_on_idle ended : Bool) → StateView → Option Stepped → StateView → (before after : List Label) → Type 0
+abbrev pub Takes : Component → (trap_on_idle ended : Bool) → StateView → Option StepResult → StateView → (before after : List Label) → Type 0
 Takes c b ended s q t before after = AddedOrNone (λ made. TurnedBeside c b (turn.Take ended) s made t) q before after × KeepsWorks s t
 
 -- It was told, and the thread that runs then is of this group.
 pub record ToldBeside (s : StateView) (old : Listeners) (p : Turn) (running : ℕ) (t : StateView) (new : Listeners) : Type 0 where
   pub told : TellsTurn s p t old new
-  pub calm : errors_of new ≡ errors_of old
+  pub hook_is_ok : errors_of new ≡ errors_of old
   pub group : running ≡ current_group t
 
 -- The hook answered an error as it was told.
@@ -75,21 +75,21 @@ pub record FailsTold (s : Core) (p : Turn) (t : StateView) (old new : Listeners)
 -- It answered one as the step of the thread was told.
 abbrev pub FailsThread : {T H G : Type 0} → (H → HostDef) → Component → ℕ → (s t : Store T H G) → (before after : List Label) → Type 0
 FailsThread course c n s t before after =
-    FailsTold s.state.core (turn.Run n) t.state s.listeners t.listeners × ((q : Stepped) × StepsThread course c n s q t before after)
+    FailsTold s.state.core (turn.Run n) t.state s.listeners t.listeners × ((q : StepResult) × StepsThread course c n s q t before after)
 
 -- A work was polled, and that was told; or the hook answered an error as it was.
-abbrev pub PollsTold : {T H G : Type 0} → Turn → (running : ℕ) → (s : Store T H G) → Stepped → (t : Store T H G) →
+abbrev pub PollsTold : {T H G : Type 0} → Turn → (running : ℕ) → (s : Store T H G) → StepResult → (t : Store T H G) →
     (before after : List Label) → Type 0
 PollsTold p running s q t before after =
     TurnsAnyhow p s.state t.state q before after × ToldBeside s.state s.listeners p running t.state t.listeners
 
 abbrev pub FailsPoll : {T H G : Type 0} → Turn → (s t : Store T H G) → (before after : List Label) → Type 0
 FailsPoll p s t before after =
-    FailsTold s.state.core p t.state s.listeners t.listeners × ((q : Stepped) × TurnsAnyhow p s.state t.state q before after)
+    FailsTold s.state.core p t.state s.listeners t.listeners × ((q : StepResult) × TurnsAnyhow p s.state t.state q before after)
 
 -- It answered one as the taking of an entry was told.
 abbrev pub FailsTake : {T H G : Type 0} → Component → (trap_on_idle ended : Bool) → (s t : Store T H G) →
     (before after : List Label) → Type 0
 FailsTake c b ended s t before after =
     FailsTold s.state.core (turn.Take ended) t.state s.listeners t.listeners
-    × ((q : Stepped) × Takes c b ended s.state (Some q) t.state before after)
+    × ((q : StepResult) × Takes c b ended s.state (Some q) t.state before after)

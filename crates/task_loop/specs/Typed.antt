@@ -3,11 +3,11 @@ use Rattle.futures.specs.declared.task.Poll.{Poll}
 use Rattle.futures.specs.declared.task.Poll.TheVariants.{Pending, Ready}
 use Rattle.state_calls.specs.declared.error.TaskError.{TaskError}
 use Rattle.std.specs.Prelude.{Bool, Err, List, Ok, Option, Result, option_map, ℕ, ◌≡◌}
-use Rattle.task_calls.specs.Calls.{Finishes}
+use Rattle.task_calls.specs.MainCalls.{Finishes}
 use Rattle.task_loop.specs.CallStarts.{StartsOrLeaves}
-use Rattle.task_loop.specs.Calls.{callee_of}
+use Rattle.task_loop.specs.LoopCalls.{callee_of}
 use Rattle.task_loop.specs.InstanceCalls.{DoesOn}
-use Rattle.task_loop.specs.Polled.{PollsCall}
+use Rattle.task_loop.specs.PolledRuns.{PollsCall}
 use Rattle.task_loop.specs.declared.call.FuncCallConcurrent.{FuncCallConcurrent}
 use Rattle.task_loop.specs.declared.typed.TypedCallConcurrent.{TypedCallConcurrent}
 use Rattle.task_loop.specs.declared.typed.TypedFuncCallConcurrent.{TypedFuncCallConcurrent}

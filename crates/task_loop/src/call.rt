@@ -1,12 +1,12 @@
 ghost use Rattle.std.specs.Prelude.{◌≡◌, ◌<◌, ◌^◌, IfSome, IsSome, None, is_some, length, true};
-ghost use Rattle.task_calls.specs.Calls.{Finishes};
+ghost use Rattle.task_calls.specs.MainCalls.{Finishes};
 ghost use Rattle.task_loop.specs.CallStarts.{KeepsStore, StartsOrLeaves, StartsOrStops};
-ghost use Rattle.task_loop.specs.Calls.{callee_of};
+ghost use Rattle.task_loop.specs.LoopCalls.{callee_of};
 ghost use Rattle.task_machine.specs.declared.records.Turn.{Turn};
 ghost use Rattle.task_rules.specs.MainOps.{start_refusal};
 ghost use Rattle.task_rules.specs.Scripts.{export_at};
 ghost use Rattle.task_turns.specs.WellFormed.{IsWellFormed};
-ghost use Rattle.task_turns.specs.Turn.{Sits, given};
+ghost use Rattle.task_turns.specs.Turn.{CoreInOrder, given};
 
 use crate::call_tells::take_back;
 use crate::guest_tasks::next_group;
@@ -83,7 +83,7 @@ impl Func {
         requires covered { IsWellFormed component.now }
         requires there { IsSome (export_at component.now (callee_of self)) }
         requires params { IfSome (export_at component.now (callee_of self)) (λ e. length params.now ≡ e.params) }
-        requires order { (p : Turn) × Sits component.now p store.old.state.core }
+        requires order { (p : Turn) × CoreInOrder component.now p store.old.state.core }
         requires given { given store.old.state.core < 2 ^ 61 }
         ensures does { StartsOrStops G.listens component.now (callee_of self) params.now store.old result store.new }
         ensures keeps { KeepsStore component.now store.old store.new }
@@ -110,7 +110,7 @@ impl Func {
         requires covered { IsWellFormed component.now }
         requires there { IsSome (export_at component.now (callee_of self)) }
         requires params { IfSome (export_at component.now (callee_of self)) (λ e. length params.now ≡ e.params) }
-        requires order { (p : Turn) × Sits component.now p store.old.state.core }
+        requires order { (p : Turn) × CoreInOrder component.now p store.old.state.core }
         requires given { given store.old.state.core < 2 ^ 61 }
         ensures does { StartsOrLeaves G.listens component.now (callee_of self) params.now store.old result store.new }
         ensures keeps { KeepsStore component.now store.old store.new }
@@ -131,7 +131,7 @@ impl Func {
         requires covered { IsWellFormed component.now }
         requires there { IsSome (export_at component.now (callee_of self)) }
         requires params { IfSome (export_at component.now (callee_of self)) (λ e. length params.now ≡ e.params) }
-        requires order { (p : Turn) × Sits component.now p store.old.state.core }
+        requires order { (p : Turn) × CoreInOrder component.now p store.old.state.core }
         requires fits { start_refusal store.old.state.core ≡ None }
         requires given { given store.old.state.core < 2 ^ 61 }
         ensures does { StartsOrLeaves G.listens component.now (callee_of self) params.now store.old result store.new }
@@ -160,7 +160,7 @@ impl Func {
         requires covered { IsWellFormed component.now }
         requires there { IsSome (export_at component.now (callee_of self)) }
         requires params { IfSome (export_at component.now (callee_of self)) (λ e. length params.now ≡ e.params) }
-        requires order { (p : Turn) × Sits component.now p store.old.state.core }
+        requires order { (p : Turn) × CoreInOrder component.now p store.old.state.core }
         requires fits { start_refusal store.old.state.core ≡ None }
         requires given { given store.old.state.core < 2 ^ 61 }
         requires listens { G.listens ≡ true }

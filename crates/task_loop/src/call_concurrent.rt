@@ -1,12 +1,12 @@
 //! A call by the host that is polled: it is started at the first poll, and then waited for.
 ghost use Rattle.std.specs.Prelude.{◌≡◌, ◌<◌, ◌^◌, IfOk, IfSome, IsSome, None, length};
 ghost use Rattle.task_loop.specs.CallStarts.{KeepsStore};
-ghost use Rattle.task_loop.specs.Calls.{callee_of};
-ghost use Rattle.task_loop.specs.Polled.{FinishesAs, Polls};
+ghost use Rattle.task_loop.specs.LoopCalls.{callee_of};
+ghost use Rattle.task_loop.specs.PolledRuns.{FinishesAs, Polls};
 ghost use Rattle.task_machine.specs.declared.component.Component.{Component as Shape};
 ghost use Rattle.task_machine.specs.declared.records.Turn.{Turn};
 ghost use Rattle.task_rules.specs.Scripts.{export_at};
-ghost use Rattle.task_turns.specs.Turn.{Sits, given};
+ghost use Rattle.task_turns.specs.Turn.{CoreInOrder, given};
 ghost use Rattle.task_turns.specs.WellFormed.{IsWellFormed};
 
 use crate::call::{Func, FuncCallConcurrent};
@@ -81,7 +81,7 @@ impl CallConcurrent {
         requires covered { IsWellFormed component.now }
         requires there { IsSome (export_at component.now (callee_of self.old.func)) }
         requires params { IfSome (export_at component.now (callee_of self.old.func)) (λ e. length self.old.params.items ≡ e.params) }
-        requires order { (p : Turn) × Sits component.now p store.old.state.core }
+        requires order { (p : Turn) × CoreInOrder component.now p store.old.state.core }
         requires given { given store.old.state.core < 2 ^ 61 }
         ensures polls { Polls G.listens component.now self.old store.old result self.new store.new }
         ensures keeps { KeepsStore component.now store.old store.new }

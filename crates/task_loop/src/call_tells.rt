@@ -1,22 +1,22 @@
 //! What a call between runs tells of groups.
 ghost use Rattle.std.specs.Prelude.{Err, [], ◌≡◌, ◌∷◌};
 ghost use Rattle.task_group.specs.Heard.{finish_of};
-ghost use Rattle.task_group.specs.Listeners.{AnsweredErr, Told};
+ghost use Rattle.task_group.specs.Listeners.{AnsweredErr, ToldListeners};
 ghost use Rattle.task_loop.specs.Hooked.{Unheard};
-ghost use Rattle.task_loop.specs.Told.{TellsCall, asked_now};
+ghost use Rattle.task_loop.specs.Told.{TellsCall, groups_before_call};
 
 use crate::tells::{group_now, tell_all};
-use group_notices::Asked;
+use group_notices::GroupsBefore;
 use record_core::TaskCore;
 use task_calls::TaskError;
 use task_group::{Listeners, TaskGroupHook, TaskGroupId};
 use task_machine::{NoticeKind, Trap};
 
 /// What is asked before a call.
-pub(crate) fn asked(core: &TaskCore) -> Asked
-    ensures { result ≡ asked_now core.now }
+pub(crate) fn asked(core: &TaskCore) -> GroupsBefore
+    ensures { result ≡ groups_before_call core.now }
 {
-    Asked {
+    GroupsBefore {
         running: group_now(core),
         worked: None,
     }
@@ -28,7 +28,7 @@ pub(crate) fn asked(core: &TaskCore) -> Asked
 pub(crate) fn tell_call<G: TaskGroupHook, A: Drop>(
     core: &mut TaskCore,
     listeners: &mut Listeners<G>,
-    asked: &Asked,
+    asked: &GroupsBefore,
     answer: Result<A, TaskError>,
 ) -> Result<A, TaskError>
     ensures { TellsCall G.listens asked.now answer result core.old core.new listeners.old listeners.new }
@@ -44,7 +44,7 @@ pub(crate) fn tell_call<G: TaskGroupHook, A: Drop>(
 pub(crate) fn tell_refused<G: TaskGroupHook, A: Drop>(
     core: &mut TaskCore,
     listeners: &mut Listeners<G>,
-    asked: &Asked,
+    asked: &GroupsBefore,
     why: TaskError,
 ) -> Result<A, TaskError>
     ensures { TellsCall G.listens asked.now (Err why) result core.old core.new listeners.old listeners.new }
@@ -59,7 +59,7 @@ pub(crate) fn take_back<G: TaskGroupHook>(
     group: TaskGroupId,
     why: TaskError,
 ) -> TaskError
-    ensures told { Told (finish_of group ∷ []) listeners.old listeners.new }
+    ensures told { ToldListeners (finish_of group ∷ []) listeners.old listeners.new }
     ensures answer { Unheard G.listens listeners.old listeners.new (result ≡ why) }
     ensures failed { AnsweredErr listeners.old listeners.new → result ≡ TaskError.Trap Trap.HookFailed }
 {

@@ -22,7 +22,7 @@ use task_calls::{QualifiedThreadId, TaskError};
 use task_group::{Listeners, TaskGroupHook, TaskGroupId};
 use task_machine::{ExportKind, NoticeKind, Trap};
 use task_store::{Store, finish_ended};
-use task_words::{CallWords, ResultWords, ThreadId, ThreadWords, View};
+use task_words::{CallPrimitives, ResultPrimitives, ThreadId, ThreadPrimitives, View};
 
 // The group that is made next.
 pub(crate) fn next_group(core: &TaskCore) -> TaskGroupId

@@ -1,20 +1,20 @@
 ghost use Rattle.std.specs.Prelude.{◌≡◌, IfSome, IsSome};
-ghost use Rattle.task_calls.specs.Answers.{at_once, nothing_answered};
+ghost use Rattle.task_calls.specs.OpAnswers.{at_once, nothing_answered};
 ghost use Rattle.task_calls.specs.Asks.{CanAsk, IsRunningIn};
-ghost use Rattle.task_calls.specs.Calls.{is_own_type};
+ghost use Rattle.task_calls.specs.MainCalls.{is_own_type};
 ghost use Rattle.task_calls.specs.Intrinsics.{pressure_op};
 ghost use Rattle.task_machine.specs.Read.{instance_of};
 ghost use Rattle.task_turns.specs.WellFormed.{IsWellFormed};
-ghost use Rattle.task_turns.specs.Turn.{Sits, running_of};
+ghost use Rattle.task_turns.specs.Turn.{CoreInOrder, running_of};
 ghost use Rattle.task_loop.specs.InstanceCalls.{DoesCancel, DoesHostOp, DoesReturn};
 
 use crate::call_tells::{asked, tell_call, tell_refused};
 use task_calls::{TaskError, ask_nothing, is_own_type, pressure_op, task_return};
 use task_group::TaskGroupHook;
-use task_lends::{cancel_lends, return_lends};
+use task_lends::{cancel_holds_borrows, return_holds_borrows};
 use task_machine::{Component, Op, TaskOp, Trap, Turn};
 use task_store::Store;
-use task_words::{ThreadWords, View};
+use task_words::{ThreadPrimitives, View};
 
 /// Names an instance by its place, from 0.
 #[derive(Clone, Copy, PartialEq, Eq)]
@@ -39,7 +39,7 @@ impl Instance {
     ) -> Result<(), TaskError>
         requires covered { IsWellFormed component.now }
         requires runs { IsSome (running_of store.old.state) }
-        requires order { IfSome (running_of store.old.state) (λ n. Sits component.now (Turn.Run n) store.old.state.core) }
+        requires order { IfSome (running_of store.old.state) (λ n. CoreInOrder component.now (Turn.Run n) store.old.state.core) }
         requires instance { IfSome (running_of store.old.state) (λ n. instance_of n store.old.state.core ≡ self.index) }
         ensures does { DoesReturn G.listens (is_own_type ty encoding memory) value store.old result store.new }
     {
@@ -48,7 +48,7 @@ impl Instance {
         };
         let own_type = is_own_type(ty, encoding, memory);
         let before = asked(&store.state);
-        if return_lends(&store.state, thread, own_type) {
+        if return_holds_borrows(&store.state, thread, own_type) {
             let why = TaskError::Trap(Trap::ScopeExit);
             return tell_refused(&mut store.state, &mut store.listeners, &before, why);
         }
@@ -80,7 +80,7 @@ impl Instance {
             unreachable!()
         };
         let before = asked(&store.state);
-        if cancel_lends(&store.state, thread) {
+        if cancel_holds_borrows(&store.state, thread) {
             let why = TaskError::Trap(Trap::ScopeExit);
             return tell_refused(&mut store.state, &mut store.listeners, &before, why);
         }

@@ -1,7 +1,7 @@
 ghost use Rattle.std.specs.Prelude.{◌≡◌, Bool, Err, IfErr, IfOk, IfSome, None, Ok, OnErr, OnOk, Some, false, true};
 ghost use Rattle.label_laws.specs.Own.{next_mark};
 ghost use Rattle.op_dispatch.specs.Fits.{calls_host};
-ghost use Rattle.run_pace.specs.Pace.{unless_yielded};
+ghost use Rattle.run_pace.specs.YieldBudget.{unless_yielded};
 ghost use Rattle.task_loop.specs.HasRun.{DrivesTo, GoesTo, HasHalted, HasTurned, IsLost, IsStopped, Keeps, MayRun, MayStep};
 ghost use Rattle.task_loop.specs.HasRun.{MayTurn, StepsTo, TurnsTo, at, at_main};
 ghost use Rattle.task_loop.specs.Standing.{standing};
@@ -18,23 +18,23 @@ use crate::main_task::MainTask;
 use crate::tells::{group_now, tell_poll, tell_run, tell_work};
 use crate::trace::Trace;
 use label_trace::PackedLabels;
-use run_pace::{Driven, Pace, Policy, ended_by, paced_by, rests_with, yields_by};
+use run_pace::{Driven, YieldBudget, Policy, ended_by, paced_by, rests_with, yields_by};
 use task_calls::{TaskError, host_called};
 use task_group::TaskGroupHook;
 use task_machine::{Component, Mark, NoMemory, Outcome, Trap, Turn};
-use task_store::{Access, AccessorTask, FromHost, HostWork, StandingRun, Store};
+use task_store::{Access, AccessorTask, FromHost, HostWork, ActiveRun, Store};
 use task_turns::{
-    MainStep, RunStep, Stepped, compute, is_idle, made_by_main, put, step_call, step_run, take,
+    MainStep, RunStep, StepResult, compute, is_idle, made_by_main, put, step_call, step_run, take,
 };
-use task_words::{QueueWords, View};
+use task_words::{QueuePrimitives, View};
 
 /// A run of the event loop on a store.
 #[derive(Drop)]
 pub struct RunConcurrent {
     pub(crate) turn: Turn,
     pub(crate) trap_on_idle: bool,
-    standing: StandingRun,
-    pub(crate) pace: Pace,
+    standing: ActiveRun,
+    pub(crate) yield_budget: YieldBudget,
 }
 
 /// Begins a run on a store, with main. `trap_on_idle` says that the run ends as a deadlock where
@@ -48,8 +48,8 @@ pub fn run_concurrent<T, H, G: TaskGroupHook>(
     ensures begun { OnOk result (store.old.running ≡ false) }
     ensures turn { IfOk result (λ run. run.turn ≡ Turn.Main) }
     ensures idle { IfOk result (λ run. run.trap_on_idle ≡ trap_on_idle) }
-    ensures since { IfOk result (λ run. run.pace.since ≡ 0) }
-    ensures passes { IfOk result (λ run. run.pace.passes ≡ false) }
+    ensures since { IfOk result (λ run. run.yield_budget.since ≡ 0) }
+    ensures passes { IfOk result (λ run. run.yield_budget.passes ≡ false) }
     ensures store { store.new ≡ record store.old { running = true } }
 {
     match store.begin_run() {
@@ -57,7 +57,7 @@ pub fn run_concurrent<T, H, G: TaskGroupHook>(
             turn: Turn::Main,
             trap_on_idle,
             standing,
-            pace: Pace::new(),
+            yield_budget: YieldBudget::new(),
         }),
         Err(trap) => Err(trap),
     }
@@ -108,7 +108,7 @@ fn step_main<T, H: HostWork, G: TaskGroupHook, M: MainTask<T, H, G>>(
     main: &mut M,
     trace: &mut PackedLabels,
     why: &mut Halt,
-) -> Result<Stepped, Halted>
+) -> Result<StepResult, Halted>
     requires may { MayStep M.says H.course component.now main.old store.old }
     requires why { why.old ≡ Halt.NoMemory }
     ensures stands { standing store.new ≡ standing store.old }
@@ -147,12 +147,12 @@ fn step_main<T, H: HostWork, G: TaskGroupHook, M: MainTask<T, H, G>>(
 // The running thread, which has this number, does its op, which calls a host: that is polled, and its work is held. It is out
 // of line, as few ops do so.
 #[inline(never)]
-fn call_host_apart<T, H: AccessorTask<T> + FromHost, G: TaskGroupHook>(
+fn call_host_outlined<T, H: AccessorTask<T> + FromHost, G: TaskGroupHook>(
     component: &Component,
     store: &mut Store<T, H, G>,
     thread: u64,
     trace: &mut PackedLabels,
-) -> Result<Stepped, NoMemory>
+) -> Result<StepResult, NoMemory>
     requires runs { RunsThread H.course component.now thread store.old }
     requires calls { calls_host (op_of component.now thread store.old.state.core) ≡ true }
     ensures stands { standing store.new ≡ standing store.old }
@@ -175,7 +175,7 @@ fn call_host<T, H: AccessorTask<T> + FromHost, G: TaskGroupHook>(
     store: &mut Store<T, H, G>,
     thread: u64,
     trace: &mut PackedLabels,
-) -> Result<Stepped, NoMemory>
+) -> Result<StepResult, NoMemory>
     requires runs { RunsThread H.course component.now thread store.old }
     requires calls { calls_host (op_of component.now thread store.old.state.core) ≡ true }
     ensures stands { standing store.new ≡ standing store.old }
@@ -183,7 +183,7 @@ fn call_host<T, H: AccessorTask<T> + FromHost, G: TaskGroupHook>(
     ensures listeners { OnOk result (store.new.listeners ≡ store.old.listeners) }
     ensures err { OnErr result (trace.new ≡ trace.old) }
 {
-    call_host_apart(component, store, thread, trace)
+    call_host_outlined(component, store, thread, trace)
 }
 
 // The running thread, which has this number, takes a step. A host that it calls is polled, and its
@@ -194,7 +194,7 @@ fn step_thread<T, H: AccessorTask<T> + FromHost, G: TaskGroupHook>(
     store: &mut Store<T, H, G>,
     thread: u64,
     trace: &mut PackedLabels,
-) -> Result<Stepped, NoMemory>
+) -> Result<StepResult, NoMemory>
     requires runs { RunsThread H.course component.now thread store.old }
     ensures stands { standing store.new ≡ standing store.old }
     ensures steps { IfOk result (λ stepped. StepsUntold H.course component.now thread store.old stepped store.new trace.old trace.new) }
@@ -220,7 +220,7 @@ fn run_thread<T, H: AccessorTask<T> + FromHost, G: TaskGroupHook>(
     trace: &mut PackedLabels,
     running: &mut u64,
     why: &mut Halt,
-) -> Result<Stepped, Halted>
+) -> Result<StepResult, Halted>
     requires runs { RunsThread H.course component.now thread store.old }
     requires running { running.old ≡ group_running store.old.state (Turn.Run thread) }
     requires asked { IsAsked store.old.state }
@@ -262,7 +262,7 @@ fn poll_work<T, H: AccessorTask<T> + FromHost, G: TaskGroupHook>(
     trace: &mut PackedLabels,
     running: &mut u64,
     why: &mut Halt,
-) -> Result<Stepped, Halted>
+) -> Result<StepResult, Halted>
     requires at { IsAtTurn component.now (Turn.Futures polled) store.old.state }
     requires hosts { HoldsHosts H.course store.old }
     requires asked { IsAsked store.old.state }
@@ -303,7 +303,7 @@ fn take_entry<T, H: AccessorTask<T> + FromHost, G: TaskGroupHook>(
     trace: &mut PackedLabels,
     running: &mut u64,
     why: &mut Halt,
-) -> Result<Option<Stepped>, Halted>
+) -> Result<Option<StepResult>, Halted>
     requires at { IsAtTurn component.now (Turn.Take ended) store.old.state }
     requires asked { IsAsked store.old.state }
     requires why { why.old ≡ Halt.NoMemory }
@@ -397,8 +397,8 @@ impl RunConcurrent {
     ) -> Result<Outcome, NoMemory>
         requires may { MayRun M.says H.course component.now (at self.old main.old store.old trace.old) }
         ensures keeps { Keeps M.says (at self.old main.old store.old trace.old) (at self.new main.new store.new trace.new) }
-        ensures drives { DrivesTo M.says H.course component.now G.listens steps result self.old.pace
-            (at self.old main.old store.old trace.old) (at self.new main.new store.new trace.new) self.new.pace }
+        ensures drives { DrivesTo M.says H.course component.now G.listens steps result self.old.yield_budget
+            (at self.old main.old store.old trace.old) (at self.new main.new store.new trace.new) self.new.yield_budget }
     {
         let _hooked = store.listeners.is_hooked();
         let labels = &mut trace.labels;
@@ -406,9 +406,9 @@ impl RunConcurrent {
         match self.go_on::<Driven, T, H, G, M>(component, store, main, steps, labels) {
             Ok(stop) => match stop {
                 Stop::Ends(outcome) => {
-                    self.pace = match outcome {
-                        Outcome::Idle => self.pace.driven(labels, from),
-                        _ => Pace::new(),
+                    self.yield_budget = match outcome {
+                        Outcome::Idle => self.yield_budget.driven(labels, from),
+                        _ => YieldBudget::new(),
                     };
                     return Ok(outcome);
                 }
@@ -444,10 +444,10 @@ impl RunConcurrent {
     ) -> Result<Stop, Halt>
         requires may { MayRun M.says H.course component.now (at self.old main.old store.old trace.old) }
         ensures keeps { Keeps M.says (at self.old main.old store.old trace.old) (at self.new main.new store.new trace.new) }
-        ensures kept { P.YIELDS ≡ false → self.new.pace ≡ self.old.pace }
+        ensures kept { P.YIELDS ≡ false → self.new.yield_budget ≡ self.old.yield_budget }
         ensures gone { IfOk result (λ stop.
-            GoesTo M.says H.course component.now P.YIELDS steps stop self.old.pace
-            (at self.old main.old store.old trace.old) (at self.new main.new store.new trace.new) self.new.pace) }
+            GoesTo M.says H.course component.now P.YIELDS steps stop self.old.yield_budget
+            (at self.old main.old store.old trace.old) (at self.new main.new store.new trace.new) self.new.yield_budget) }
         ensures lost { result ≡ Err Halt.NoMemory →
             IsLost M.says H.course component.now steps
             (at self.old main.old store.old trace.old) (at self.new main.new store.new trace.new) }
@@ -460,8 +460,8 @@ impl RunConcurrent {
         let mut why = Halt::NoMemory;
         'turns: while added < steps {
             let next = next_mark::<P, T, H, G>(store, self.turn);
-            if yields_by::<P>(self.pace, next) {
-                self.pace = Pace::yielded(true);
+            if yields_by::<P>(self.yield_budget, next) {
+                self.yield_budget = YieldBudget::yielded(true);
                 return Ok(Stop::Yields);
             }
             let rests = rests_with::<P>(self.turn, next);
@@ -471,13 +471,13 @@ impl RunConcurrent {
             };
             match stepped {
                 None => return Ok(self.ends::<P>(Outcome::Idle, false)),
-                Some(Stepped::Over(outcome)) => {
+                Some(StepResult::Over(outcome)) => {
                     self.turn = Turn::Over;
                     return Ok(self.ends::<P>(outcome, false));
                 }
-                Some(Stepped::Goes { turn, computed }) => {
+                Some(StepResult::Continues { turn, computed }) => {
                     self.turn = turn;
-                    self.pace = paced_by::<P>(self.pace, next);
+                    self.yield_budget = paced_by::<P>(self.yield_budget, next);
                     if rests {
                         return Ok(Stop::Rests);
                     }
@@ -500,12 +500,12 @@ impl RunConcurrent {
     #[inline(always)]
     fn ends<P: Policy>(&mut self, outcome: Outcome, used_up: bool) -> Stop
         ensures stop { result ≡ Stop.Ends outcome }
-        ensures new { self.new ≡ record self.old { pace = self.new.pace } }
-        ensures kept { P.YIELDS ≡ false → self.new.pace ≡ self.old.pace }
-        ensures since { P.YIELDS ≡ true → self.new.pace.since ≡ unless_yielded used_up self.old.pace.since }
-        ensures passes { P.YIELDS ≡ true → self.new.pace.passes ≡ false }
+        ensures new { self.new ≡ record self.old { yield_budget = self.new.yield_budget } }
+        ensures kept { P.YIELDS ≡ false → self.new.yield_budget ≡ self.old.yield_budget }
+        ensures since { P.YIELDS ≡ true → self.new.yield_budget.since ≡ unless_yielded used_up self.old.yield_budget.since }
+        ensures passes { P.YIELDS ≡ true → self.new.yield_budget.passes ≡ false }
     {
-        self.pace = ended_by::<P>(self.pace, used_up);
+        self.yield_budget = ended_by::<P>(self.yield_budget, used_up);
         Stop::Ends(outcome)
     }
 
@@ -520,7 +520,7 @@ impl RunConcurrent {
         trace: &mut PackedLabels,
         running: &mut u64,
         why: &mut Halt,
-    ) -> Result<Option<Stepped>, Halted>
+    ) -> Result<Option<StepResult>, Halted>
         requires may { MayTurn M.says H.course component.now running.old why.old (at self.now main.old store.old trace.old) }
         ensures keeps { Keeps M.says (at self.now main.old store.old trace.old) (at self.now main.new store.new trace.new) }
         ensures turned { TurnsTo M.says H.course component.now result running.new why.new

@@ -1,17 +1,17 @@
 //! What the loop tells of groups after a step.
 ghost use Rattle.std.specs.Prelude.{◌≡◌, IfOk, None, Some, false, is_some, true};
-ghost use Rattle.task_loop.specs.Told.{TellsOut, TellsWhole, asked_beside, asked_in, current_group, runs_on, turn_of};
+ghost use Rattle.task_loop.specs.Told.{TellsOut, TellsWhole, groups_before_work, groups_before_run, current_group, runs_on, turn_of};
 ghost use Rattle.task_machine.specs.declared.records.Turn.TheVariants as turns;
 ghost use Rattle.task_turns.specs.Turn.{RunnerThere, running_of};
 ghost use Rattle.task_words.specs.Groups.{asked};
 
-use group_notices::{Asked, tell_at_once, tell_moves};
+use group_notices::{GroupsBefore, tell_at_once, tell_moves};
 use record_core::TaskCore;
 use task_group::{HookError, Listeners, TaskGroupHook};
 use task_machine::Turn;
 use task_store::finish_ended;
-use task_turns::Stepped;
-use task_words::{ThreadWords, View};
+use task_turns::StepResult;
+use task_words::{ThreadPrimitives, View};
 
 /// The group of the thread that runs, as long as it is known; 0 where none runs.
 #[inline(always)]
@@ -32,18 +32,18 @@ fn runner_group(core: &TaskCore) -> u64
 {
     core.none_is_zero();
     match core.current() {
-        Some(thread) => core.group_there(thread),
+        Some(thread) => core.group_unchecked(thread),
         None => 0,
     }
 }
 
 // Whether the thread runs on after a step.
 #[inline(always)]
-fn goes_on(thread: u64, stepped: &Stepped) -> bool
+fn goes_on(thread: u64, stepped: &StepResult) -> bool
     ensures { result ≡ runs_on (turns.Run thread) (turn_of stepped.now) }
 {
     match stepped {
-        Stepped::Goes {
+        StepResult::Continues {
             turn: Turn::Run { thread: next },
             computed: _,
         } => *next == thread,
@@ -57,7 +57,7 @@ fn goes_on(thread: u64, stepped: &Stepped) -> bool
 pub(crate) fn tell_all<G: TaskGroupHook>(
     core: &mut TaskCore,
     listeners: &mut Listeners<G>,
-    asked: &Asked,
+    asked: &GroupsBefore,
 ) -> Result<u64, HookError>
     ensures running { IfOk result (λ running. running ≡ current_group core.new) }
     ensures told { TellsOut asked.now result core.old core.new listeners.old listeners.new }
@@ -74,7 +74,7 @@ pub(crate) fn tell_all<G: TaskGroupHook>(
 fn tell_unhooked<G: TaskGroupHook>(
     core: &mut TaskCore,
     listeners: &mut Listeners<G>,
-    asked: Asked,
+    asked: GroupsBefore,
 ) -> u64
     requires unhooked { is_some listeners.old.hook ≡ false }
     ensures running { result ≡ current_group core.new }
@@ -93,7 +93,7 @@ fn tell_unhooked<G: TaskGroupHook>(
 fn tell_step<G: TaskGroupHook>(
     core: &mut TaskCore,
     listeners: &mut Listeners<G>,
-    asked: Asked,
+    asked: GroupsBefore,
     after: u64,
 ) -> u64
     requires after { after ≡ current_group core.old }
@@ -118,9 +118,9 @@ pub(crate) fn tell_work<G: TaskGroupHook>(
 ) -> Result<u64, HookError>
     requires { RunnerThere core.old }
     ensures running { IfOk result (λ running. running ≡ current_group core.new) }
-    ensures told { TellsOut (asked_beside worked) result core.old core.new listeners.old listeners.new }
+    ensures told { TellsOut (groups_before_work worked) result core.old core.new listeners.old listeners.new }
 {
-    let asked = Asked { running: 0, worked };
+    let asked = GroupsBefore { running: 0, worked };
     if listeners.is_hooked() {
         return tell_all(core, listeners, &asked);
     }
@@ -137,9 +137,9 @@ pub(crate) fn tell_poll<G: TaskGroupHook>(
 ) -> Result<u64, HookError>
     requires { running_of core.old ≡ None }
     ensures running { IfOk result (λ running. running ≡ current_group core.new) }
-    ensures told { TellsOut (asked_beside worked) result core.old core.new listeners.old listeners.new }
+    ensures told { TellsOut (groups_before_work worked) result core.old core.new listeners.old listeners.new }
 {
-    let asked = Asked { running: 0, worked };
+    let asked = GroupsBefore { running: 0, worked };
     if listeners.is_hooked() {
         return tell_all(core, listeners, &asked);
     }
@@ -148,7 +148,7 @@ pub(crate) fn tell_poll<G: TaskGroupHook>(
 
 // The group of the thread that runs after a step of this thread, which is of the group `running`: one that runs on stays in it.
 #[inline(always)]
-fn group_after(core: &TaskCore, thread: u64, stepped: &Stepped, running: u64) -> u64
+fn group_after(core: &TaskCore, thread: u64, stepped: &StepResult, running: u64) -> u64
     requires there { RunnerThere core.now }
     requires stays { runs_on (turns.Run thread) (turn_of stepped.now) ≡ true → current_group core.now ≡ running }
     ensures { result ≡ current_group core.now }
@@ -166,15 +166,15 @@ pub(crate) fn tell_run<G: TaskGroupHook>(
     core: &mut TaskCore,
     listeners: &mut Listeners<G>,
     thread: u64,
-    stepped: &Stepped,
+    stepped: &StepResult,
     running: u64,
 ) -> Result<u64, HookError>
     requires there { RunnerThere core.old }
     requires stays { runs_on (turns.Run thread) (turn_of stepped.now) ≡ true → current_group core.old ≡ running }
     ensures running { IfOk result (λ running. running ≡ current_group core.new) }
-    ensures told { TellsOut (asked_in running) result core.old core.new listeners.old listeners.new }
+    ensures told { TellsOut (groups_before_run running) result core.old core.new listeners.old listeners.new }
 {
-    let asked = Asked {
+    let asked = GroupsBefore {
         running,
         worked: None,
     };

@@ -1,13 +1,13 @@
 //! Functions whose parameters and result have types of the host's.
 ghost use Rattle.std.specs.Prelude.{◌≡◌, ◌<◌, ◌≤◌, ◌^◌, ◌∷◌, [], IfSome, IsSome, List, None, Some, length, refl, slice_get, take, ℕ};
 ghost use Rattle.task_loop.specs.CallStarts.{KeepsStore};
-ghost use Rattle.task_loop.specs.Calls.{callee_of};
-ghost use Rattle.task_loop.specs.Polled.{FinishesAs};
+ghost use Rattle.task_loop.specs.LoopCalls.{callee_of};
+ghost use Rattle.task_loop.specs.PolledRuns.{FinishesAs};
 ghost use Rattle.task_loop.specs.Typed.{FinishesTyped, PollsTyped, StartsTyped};
 ghost use Rattle.task_machine.specs.declared.component.Component.{Component as Shape};
 ghost use Rattle.task_machine.specs.declared.records.Turn.{Turn};
 ghost use Rattle.task_rules.specs.Scripts.{export_at};
-ghost use Rattle.task_turns.specs.Turn.{Sits, given};
+ghost use Rattle.task_turns.specs.Turn.{CoreInOrder, given};
 ghost use Rattle.task_turns.specs.WellFormed.{IsWellFormed};
 
 use crate::call::{Func, FuncCallConcurrent};
@@ -105,7 +105,7 @@ impl<P: Words, R: FromWord> TypedFunc<P, R> {
         requires there { IsSome (export_at component.now (callee_of self.now.func)) }
         requires params { IfSome (export_at component.now (callee_of self.now.func)) (λ e. P.COUNT ≡ e.params) }
         requires few { P.COUNT ≤ 16 }
-        requires order { (p : Turn) × Sits component.now p store.old.state.core }
+        requires order { (p : Turn) × CoreInOrder component.now p store.old.state.core }
         requires given { given store.old.state.core < 2 ^ 61 }
         ensures does { StartsTyped G.listens component.now (callee_of self.now.func) (P.words params.now) store.old result store.new }
         ensures keeps { KeepsStore component.now store.old store.new }
@@ -137,7 +137,7 @@ impl<P: Words, R: FromWord> TypedFunc<P, R> {
         requires there { IsSome (export_at component.now (callee_of self.now.func)) }
         requires params { IfSome (export_at component.now (callee_of self.now.func)) (λ e. P.COUNT ≡ e.params) }
         requires few { P.COUNT ≤ 16 }
-        requires order { (p : Turn) × Sits component.now p store.old.state.core }
+        requires order { (p : Turn) × CoreInOrder component.now p store.old.state.core }
         requires given { given store.old.state.core < 2 ^ 61 }
         ensures does { StartsTyped G.listens component.now (callee_of self.now.func) (P.words params) store.old result store.new }
         ensures keeps { KeepsStore component.now store.old store.new }
@@ -215,7 +215,7 @@ impl<P: Words, R: FromWord> TypedCallConcurrent<P, R> {
         requires there { IsSome (export_at component.now (callee_of self.old.func.func)) }
         requires params { IfSome (export_at component.now (callee_of self.old.func.func)) (λ e. P.COUNT ≡ e.params) }
         requires few { P.COUNT ≤ 16 }
-        requires order { (p : Turn) × Sits component.now p store.old.state.core }
+        requires order { (p : Turn) × CoreInOrder component.now p store.old.state.core }
         requires given { given store.old.state.core < 2 ^ 61 }
         ensures polls { PollsTyped P.words R.from G.listens component.now self.old store.old result self.new store.new }
         ensures keeps { KeepsStore component.now store.old store.new }

@@ -1,6 +1,6 @@
 //! Waitable sets, as an instance's calls change them.
 ghost use Rattle.std.specs.Prelude.{◌≡◌, ◌<◌, ◌^◌};
-ghost use Rattle.task_calls.specs.Answers.{at_once, event_answered, nothing_answered, number_answered};
+ghost use Rattle.task_calls.specs.OpAnswers.{at_once, event_answered, nothing_answered, number_answered};
 ghost use Rattle.task_calls.specs.Asks.{CanAsk, IsRunningIn};
 ghost use Rattle.task_turns.specs.Turn.{given};
 ghost use Rattle.task_loop.specs.InstanceCalls.{DoesHostOp, drop_set_op, join_op, may_pause, new_set_op, poll_set_op, wait_set_op};

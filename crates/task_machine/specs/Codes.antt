@@ -4,7 +4,7 @@ use Rattle.std.specs.Coded.{Coded, code_by, coded×, coded_ℕ, coded_bool, code
 use Rattle.task_machine.specs.declared.records.Call.{Call}
 use Rattle.task_machine.specs.declared.records.Entry.{Entry}
 use Rattle.task_machine.specs.declared.records.Instance.{Instance}
-use Rattle.task_machine.specs.declared.records.Made.{Made}
+use Rattle.task_machine.specs.declared.records.MadeCounts.{MadeCounts}
 use Rattle.task_machine.specs.declared.records.Named.{Named}
 use Rattle.task_machine.specs.declared.records.Set.{Set}
 use Rattle.task_machine.specs.declared.records.Thread.{Thread}
@@ -12,15 +12,15 @@ use Rattle.task_machine.specs.declared.records.Work.{Work}
 use Rattle.task_machine.specs.contracts.records.Call as call
 use Rattle.task_machine.specs.contracts.records.Entry as entry
 use Rattle.task_machine.specs.contracts.records.Instance as instance
-use Rattle.task_machine.specs.contracts.records.Made as made
+use Rattle.task_machine.specs.contracts.records.MadeCounts as made
 use Rattle.task_machine.specs.contracts.records.Named as named
 use Rattle.task_machine.specs.contracts.records.Set as set
 use Rattle.task_machine.specs.contracts.records.Thread as thread
 use Rattle.task_machine.specs.contracts.records.Work as work
 use Rattle.task_machine.specs.Maps.{Records, records_code}
-use Rattle.task_machine.specs.Core.{Table, Queues, Core}
+use Rattle.task_machine.specs.Core.{NameTable, Queues, Core}
 
-abbrev pub table_code : {X : Type 0} → Coded X → Coded (Table X)
+abbrev pub table_code : {X : Type 0} → Coded X → Coded (NameTable X)
 table_code {X = X} x =
     code_by (Records X × List ℕ) (coded× (records_code x) (coded_list coded_ℕ))
     (λ t. (t.live, t.freed)) (λ p. record { live = p.0; freed = p.1 }) (λ _. refl)
@@ -36,7 +36,7 @@ queues_code =
 -- what threads, calls, works, sets and instances have
 abbrev Maps : Type 0
 Maps = Records Call × (Records Thread × (Records (List ℕ) × (Records Work ×
-    (Records Set × (Records Instance × (Records (Table Named) × Records (Table ℕ)))))))
+    (Records Set × (Records Instance × (Records (NameTable Named) × Records (NameTable ℕ)))))))
 
 maps_code : Coded Maps
 maps_code =
@@ -46,7 +46,7 @@ maps_code =
 
 -- the rest of a core
 abbrev Rest : Type 0
-Rest = Queues × (Records ℕ × (List ℕ × (Bool × (ℕ × (ℕ × Made)))))
+Rest = Queues × (Records ℕ × (List ℕ × (Bool × (ℕ × (ℕ × MadeCounts)))))
 
 rest_code : Coded Rest
 rest_code =

@@ -8,12 +8,12 @@ use Rattle.task_machine.specs.declared.records.Set.{Set}
 use Rattle.task_machine.specs.declared.records.Instance.{Instance}
 use Rattle.task_machine.specs.declared.records.Named.{Named}
 use Rattle.task_machine.specs.declared.records.Entry.{Entry}
-use Rattle.task_machine.specs.declared.records.Made.{Made}
+use Rattle.task_machine.specs.declared.records.MadeCounts.{MadeCounts}
 use Rattle.task_machine.specs.declared.records.Turn.{Turn}
 use Rattle.task_machine.specs.Maps.{Records, empty, insert}
 
 -- The handles of one instance: what each live one names, and the freed ones, the last first.
-pub record Table (X : Type 0) : Type 0 where
+pub record NameTable (X : Type 0) : Type 0 where
   pub live : Records X
   pub freed : List ℕ
 
@@ -34,8 +34,8 @@ pub record Core : Type 0 where
   pub sets : Records Set
   -- by their places, from 0, as the two maps after them
   pub instances : Records Instance
-  pub handles : Records (Table Named)
-  pub thread_handles : Records (Table ℕ)
+  pub handles : Records (NameTable Named)
+  pub thread_handles : Records (NameTable ℕ)
   pub queues : Queues
   -- the results for main that it has not finished, by the calls
   pub results : Records ℕ
@@ -46,7 +46,7 @@ pub record Core : Type 0 where
   pub handle_limit : ℕ
   -- how many entries the table has room for
   pub capacity : ℕ
-  pub made : Made
+  pub made : MadeCounts
 
 -- What a start of main resulted in.
 pub data Started : Type 0 where
@@ -77,13 +77,13 @@ pub record State : Type 0 where
 
 -- ---- The first states
 
-abbrev pub no_handles : {X : Type 0} → Table X
+abbrev pub no_handles : {X : Type 0} → NameTable X
 no_handles = record { live = empty; freed = [] }
 
 abbrev pub no_entries : Queues
 no_entries = record { switch = None; high = []; low = [] }
 
-abbrev pub nothing_made : Made
+abbrev pub nothing_made : MadeCounts
 nothing_made = record { threads = 0; works = 0; sets = 0; groups = 0 }
 
 abbrev pub untouched : Instance

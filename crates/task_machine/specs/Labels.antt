@@ -3,8 +3,8 @@ use Rattle.std.specs.Prelude.{ℕ, Option, Some, None}
 use Rattle.task_machine.specs.declared.words.Given.{Given}
 use Rattle.task_machine.specs.declared.words.Given.TheVariants as given
 use Rattle.task_machine.specs.declared.words.Mark.{Mark}
-use Rattle.task_machine.specs.declared.words.OwnEvent.{OwnEvent}
-use Rattle.task_machine.specs.declared.words.OwnEvent.TheVariants as own
+use Rattle.task_machine.specs.declared.words.TaskEvent.{TaskEvent}
+use Rattle.task_machine.specs.declared.words.TaskEvent.TheVariants as own
 use Rattle.task_machine.specs.declared.label.Label.{Label}
 use Rattle.task_machine.specs.declared.label.Label.TheVariants as label
 use Rattle.task_machine.specs.declared.label.TakeLabel.{TakeLabel}
@@ -33,7 +33,7 @@ join_label n None = label.Set (set.Join n)
 join_label n (Some w) = label.Set (set.JoinWakes n w)
 
 -- Only a thread that takes its task's own event hands a wake on.
-abbrev pub own_given : Given → OwnEvent
+abbrev pub own_given : Given → TaskEvent
 own_given given.Cancelled = own.Cancelled
 own_given _ = own.None
 

@@ -7,8 +7,8 @@ use Rattle.task_machine.specs.declared.words.Given.{Given}
 use Rattle.task_machine.specs.declared.words.Given.TheVariants as given
 use Rattle.task_machine.specs.declared.words.Mark.{Mark}
 use Rattle.task_machine.specs.declared.words.Mark.TheVariants as mark
-use Rattle.task_machine.specs.declared.words.OwnEvent.{OwnEvent}
-use Rattle.task_machine.specs.declared.words.OwnEvent.TheVariants as own
+use Rattle.task_machine.specs.declared.words.TaskEvent.{TaskEvent}
+use Rattle.task_machine.specs.declared.words.TaskEvent.TheVariants as own
 use Rattle.task_machine.specs.declared.words.Status.{Status}
 use Rattle.task_machine.specs.declared.words.Status.TheVariants as status
 use Rattle.task_machine.specs.declared.records.Call.{Call}
@@ -25,8 +25,8 @@ use Rattle.task_machine.specs.declared.records.Why.{Why}
 use Rattle.task_machine.specs.declared.records.Why.TheVariants as why
 use Rattle.task_machine.specs.Maps.{get}
 use Rattle.task_machine.specs.Core.{Core}
-use Rattle.task_machine.specs.Read.{place_of, task_of, instance_of, is_explicit, thread_handle_of, callers_of, foot_of, own_event_of, may_not_suspend, event_of, join_of, blocked_on, waits_by_callback, is_waiter, has_waiter, is_ready_member, has_ready_member, has_thread, undelivered_end, call_group, held_why, is_entry_of, first_in}
-use Rattle.task_machine.specs.Write.{set_place, set_callers, set_switch, push_high, push_high_first, push_low, set_high, set_low, set_event, set_own_event, set_cancel_delivered, set_exited, set_uninteresting, set_end, remove_thread, remove_call, remove_group, free_thread_handle}
+use Rattle.task_machine.specs.Read.{place_of, task_of, instance_of, is_explicit, thread_handle_of, callers_of, foot_of, task_event_of, may_not_suspend, event_of, join_of, blocked_on, waits_by_callback, is_waiter, has_waiter, is_ready_member, has_ready_member, has_thread, undelivered_end, call_group, held_why, is_entry_of, first_in}
+use Rattle.task_machine.specs.Write.{set_place, set_callers, set_switch, push_high, push_high_first, push_low, set_high, set_low, set_event, set_task_event, set_cancel_delivered, set_exited, set_uninteresting, set_end, remove_thread, remove_call, remove_group, free_thread_handle}
 
 -- ---- Put
 
@@ -182,71 +182,71 @@ may_publish sub w s = may_wake_joined (join_of sub s) w s
 -- ---- Give
 
 -- What a task is given: its own event, that of a member, or nothing.
-pub data Gift : Type 0 where
-  OwnGift : (event : OwnEvent) → Gift
-  MemberGift : (subtask : Subtask) → Gift
-  NoGift : Gift
+pub data PickedEvent : Type 0 where
+  PickedTaskEvent : (event : TaskEvent) → PickedEvent
+  PickedMember : (subtask : Subtask) → PickedEvent
+  NothingPicked : PickedEvent
 
 -- the task's own event, Cancelled only by callback
-abbrev pub own_gift : Bool → Option OwnEvent → Option OwnEvent
-own_gift by_callback None = None
-own_gift by_callback (Some own.None) = Some own.None
-own_gift true (Some own.Cancelled) = Some own.Cancelled
-own_gift false (Some own.Cancelled) = None
+abbrev pub picked_task_event : Bool → Option TaskEvent → Option TaskEvent
+picked_task_event by_callback None = None
+picked_task_event by_callback (Some own.None) = Some own.None
+picked_task_event true (Some own.Cancelled) = Some own.Cancelled
+picked_task_event false (Some own.Cancelled) = None
 
-abbrev pub own_gift_of : Bool → ℕ → Core → Option OwnEvent
-own_gift_of by_callback k s = own_gift by_callback (own_event_of k s)
+abbrev pub picked_task_event_of : Bool → ℕ → Core → Option TaskEvent
+picked_task_event_of by_callback k s = picked_task_event by_callback (task_event_of k s)
 
 -- the chosen one, where it is a ready member of the set
-abbrev pub member_gift : ℕ → Option Subtask → Core → Option Gift
-member_gift x None s = None
-member_gift x (Some sub) s = if is_ready_member x sub s then Some (MemberGift sub) else None
+abbrev pub picked_member : ℕ → Option Subtask → Core → Option PickedEvent
+picked_member x None s = None
+picked_member x (Some sub) s = if is_ready_member x sub s then Some (PickedMember sub) else None
 
-abbrev pub gift_after_own : Option OwnEvent → ℕ → Option Subtask → Core → Option Gift
-gift_after_own (Some e) x chosen s = Some (OwnGift e)
-gift_after_own None x chosen s = if has_ready_member x s then member_gift x chosen s else Some NoGift
+abbrev pub picked_event_after_own : Option TaskEvent → ℕ → Option Subtask → Core → Option PickedEvent
+picked_event_after_own (Some e) x chosen s = Some (PickedTaskEvent e)
+picked_event_after_own None x chosen s = if has_ready_member x s then picked_member x chosen s else Some NothingPicked
 
 -- the own event, else the event of the chosen ready member of the set, else nothing; None where the choice isn't lawful
-unfoldable pub gift : Bool → ℕ → ℕ → Option Subtask → Core → Option Gift
-gift by_callback k x chosen s = gift_after_own (own_gift_of by_callback k s) x chosen s
+unfoldable pub picked_event : Bool → ℕ → ℕ → Option Subtask → Core → Option PickedEvent
+picked_event by_callback k x chosen s = picked_event_after_own (picked_task_event_of by_callback k s) x chosen s
 
 -- the own event alone, by callback
-abbrev pub own_or_nothing : Option OwnEvent → Gift
-own_or_nothing None = NoGift
-own_or_nothing (Some e) = OwnGift e
+abbrev pub own_or_nothing : Option TaskEvent → PickedEvent
+own_or_nothing None = NothingPicked
+own_or_nothing (Some e) = PickedTaskEvent e
 
-unfoldable pub own_gift_only : ℕ → Core → Gift
-own_gift_only k s = own_or_nothing (own_gift_of true k s)
+unfoldable pub picked_task_event_only : ℕ → Core → PickedEvent
+picked_task_event_only k s = own_or_nothing (picked_task_event_of true k s)
 
-abbrev pub taken_own : OwnEvent → ℕ → Core → Core
-taken_own own.None k s = set_own_event k None s
-taken_own own.Cancelled k s = set_cancel_delivered k (set_own_event k None s)
+abbrev pub taken_own : TaskEvent → ℕ → Core → Core
+taken_own own.None k s = set_task_event k None s
+taken_own own.Cancelled k s = set_cancel_delivered k (set_task_event k None s)
 
 -- what is given is taken
-unfoldable pub taken : Gift → ℕ → Core → Core
-taken (OwnGift e) k s = taken_own e k s
-taken (MemberGift sub) k s = set_event sub None s
-taken NoGift k s = s
+unfoldable pub taken : PickedEvent → ℕ → Core → Core
+taken (PickedTaskEvent e) k s = taken_own e k s
+taken (PickedMember sub) k s = set_event sub None s
+taken NothingPicked k s = s
 
-abbrev pub given_own : OwnEvent → Given
+abbrev pub given_own : TaskEvent → Given
 given_own own.None = given.Nothing
 given_own own.Cancelled = given.Cancelled
 
 -- what is handed out for it, a member by the handle h; default: no event
-unfoldable pub given_for : Gift → ℕ → Core → Given
-given_for (OwnGift e) h s = given_own e
-given_for (MemberGift sub) h s = given.Subtask (unwrap_or (event_of sub s) status.Starting) h
-given_for NoGift h s = given.Nothing
+unfoldable pub given_for : PickedEvent → ℕ → Core → Given
+given_for (PickedTaskEvent e) h s = given_own e
+given_for (PickedMember sub) h s = given.Subtask (unwrap_or (event_of sub s) status.Starting) h
+given_for NothingPicked h s = given.Nothing
 
 -- a woken thread that takes the own event while a member is ready hands its wake on
-abbrev pub hands_on : ℕ → Gift → Core → Bool
-hands_on x (OwnGift e) s = has_ready_member x s
+abbrev pub hands_on : ℕ → PickedEvent → Core → Bool
+hands_on x (PickedTaskEvent e) s = has_ready_member x s
 hands_on x _ s = false
 
-unfoldable pub handed_on : ℕ → Gift → Option ℕ → Core → Core
+unfoldable pub handed_on : ℕ → PickedEvent → Option ℕ → Core → Core
 handed_on x g w s = if hands_on x g s then wake x w s else s
 
-unfoldable pub may_hand_on : ℕ → Gift → Option ℕ → Core → Bool
+unfoldable pub may_hand_on : ℕ → PickedEvent → Option ℕ → Core → Bool
 may_hand_on x g w s = if hands_on x g s then may_wake x w s else is_none w
 
 -- ---- Release

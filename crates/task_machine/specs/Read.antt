@@ -11,7 +11,7 @@ use Rattle.task_machine.specs.declared.words.Mark.{Mark}
 use Rattle.task_machine.specs.declared.words.Mark.TheVariants as mark
 use Rattle.task_machine.specs.declared.words.Status.{Status}
 use Rattle.task_machine.specs.declared.words.Status.TheVariants as status
-use Rattle.task_machine.specs.declared.words.OwnEvent.{OwnEvent}
+use Rattle.task_machine.specs.declared.words.TaskEvent.{TaskEvent}
 use Rattle.task_machine.specs.declared.words.Phase.{Phase}
 use Rattle.task_machine.specs.declared.words.Phase.TheVariants as phase
 use Rattle.task_machine.specs.declared.records.CallEnd.{CallEnd}
@@ -24,8 +24,8 @@ use Rattle.task_machine.specs.declared.records.Entry.{Entry}
 use Rattle.task_machine.specs.declared.records.Entry.TheVariants as entry
 use Rattle.task_machine.specs.declared.records.Goal.{Goal}
 use Rattle.task_machine.specs.declared.records.Goal.TheVariants as goal
-use Rattle.task_machine.specs.declared.records.HowFar.{HowFar}
-use Rattle.task_machine.specs.declared.records.HowFar.TheVariants as how_far
+use Rattle.task_machine.specs.declared.records.OpProgress.{OpProgress}
+use Rattle.task_machine.specs.declared.records.OpProgress.TheVariants as op_progress
 use Rattle.task_machine.specs.declared.records.Join.{Join}
 use Rattle.task_machine.specs.declared.records.Join.TheVariants as join
 use Rattle.task_machine.specs.declared.records.Named.{Named}
@@ -43,7 +43,7 @@ use Rattle.task_machine.specs.declared.records.Work.{Work}
 use Rattle.task_machine.specs.declared.records.WorkCaller.{WorkCaller}
 use Rattle.task_machine.specs.declared.records.WorkCaller.TheVariants as work_caller
 use Rattle.task_machine.specs.Maps.{Records, get, size, numbers}
-use Rattle.task_machine.specs.Core.{Core, Table}
+use Rattle.task_machine.specs.Core.{Core, NameTable}
 
 abbrev pub is_nil : {X : Type 0} → List X → Bool
 is_nil [] = true
@@ -60,8 +60,8 @@ register_of n r s = slice_index (registers_of n s) r
 abbrev pub position_of : ℕ → Core → ℕ
 position_of n s = option_map_or (λ t. t.position) (get s.threads n) 0
 
-abbrev pub how_far_of : ℕ → Core → HowFar
-how_far_of n s = option_map_or (λ t. t.how_far) (get s.threads n) how_far.Fresh
+abbrev pub op_progress_of : ℕ → Core → OpProgress
+op_progress_of n s = option_map_or (λ t. t.op_progress) (get s.threads n) op_progress.Fresh
 
 abbrev pub place_of : ℕ → Core → Option Place
 place_of n s = option_map (λ t. t.place) (get s.threads n)
@@ -114,8 +114,8 @@ has_ended k s = is_some (end_of k s)
 abbrev pub was_started : ℕ → Core → Bool
 was_started k s = option_map_or (λ c. c.started) (get s.calls k) false
 
-abbrev pub own_event_of : ℕ → Core → Option OwnEvent
-own_event_of k s = option_and_then (λ c. c.own_event) (get s.calls k)
+abbrev pub task_event_of : ℕ → Core → Option TaskEvent
+task_event_of k s = option_and_then (λ c. c.task_event) (get s.calls k)
 
 abbrev pub cancel_was_delivered : ℕ → Core → Bool
 cancel_was_delivered k s = option_map_or (λ c. c.cancel_delivered) (get s.calls k) false
@@ -201,7 +201,7 @@ is_aborted phase.AbortRequested = true
 is_aborted _ = false
 
 abbrev pub is_never : Course → Bool
-is_never (course.Goes (host_def.Settled polls value)) = is_none polls
+is_never (course.Continues (host_def.Settled polls value)) = is_none polls
 is_never _ = false
 
 abbrev pub is_open : HostDef → Bool
@@ -210,7 +210,7 @@ is_open (host_def.Settled polls value) = false
 
 -- nothing is known of what the work is still to do
 abbrev pub goes_open : Course → Bool
-goes_open (course.Goes host) = is_open host
+goes_open (course.Continues host) = is_open host
 goes_open _ = false
 
 -- ---- Subtasks, with the defaults "absent call" and "absent work"
@@ -274,7 +274,7 @@ abbrev pub word_of : ℕ → ℕ → Core → ℕ
 word_of i w s = option_map_or (λ r. slice_index r.words w) (get s.instances i) 0
 
 -- what a handle of this table names
-abbrev pub named_by : {X : Type 0} → Records (Table X) → ℕ → ℕ → Option X
+abbrev pub named_by : {X : Type 0} → Records (NameTable X) → ℕ → ℕ → Option X
 named_by tables i h = option_and_then (λ t. get t.live h) (get tables i)
 
 abbrev pub as_subtask : Named → Option Subtask
@@ -295,11 +295,11 @@ abbrev pub thread_at : ℕ → ℕ → Core → Option ℕ
 thread_at i h s = named_by s.thread_handles i h
 
 -- the handle freed last, else one more than all that were ever made there
-abbrev pub next_handle : {X : Type 0} → Table X → List ℕ → ℕ
+abbrev pub next_handle : {X : Type 0} → NameTable X → List ℕ → ℕ
 next_handle t [] = size t.live + 1
 next_handle t (h ∷ hs) = h
 
-abbrev pub handle_of_table : {X : Type 0} → Records (Table X) → ℕ → ℕ
+abbrev pub handle_of_table : {X : Type 0} → Records (NameTable X) → ℕ → ℕ
 handle_of_table tables i = option_map_or (λ t. next_handle t t.freed) (get tables i) 1
 
 -- the handle that the instance gives next
@@ -309,7 +309,7 @@ new_handle i s = handle_of_table s.handles i
 unfoldable pub new_thread_handle : ℕ → Core → ℕ
 new_thread_handle i s = handle_of_table s.thread_handles i
 
-abbrev pub live_in : {X : Type 0} → Records (Table X) → ℕ
+abbrev pub live_in : {X : Type 0} → Records (NameTable X) → ℕ
 live_in tables = sum_by (λ e. size e.1.live) tables.list
 
 -- the handles and thread handles that are live, in all instances
@@ -353,8 +353,8 @@ abbrev pub is_behind : Place → Bool
 is_behind (place.Behind n) = true
 is_behind _ = false
 
-abbrev pub is_yielded : HowFar → Bool
-is_yielded how_far.Yields = true
+abbrev pub is_yielded : OpProgress → Bool
+is_yielded op_progress.Yields = true
 is_yielded _ = false
 
 abbrev pub is_yield_delivery : Why → Bool
@@ -456,15 +456,15 @@ abbrev pub is_delivery_for : ℕ → Why → Bool
 is_delivery_for x (why.Delivery (delivery.Set y)) = x == y
 is_delivery_for x _ = false
 
-abbrev pub is_inside_wait : ℕ → HowFar → Bool
-is_inside_wait x (how_far.Waits y) = x == y
+abbrev pub is_inside_wait : ℕ → OpProgress → Bool
+is_inside_wait x (op_progress.Waits y) = x == y
 is_inside_wait x _ = false
 
 -- an entry for the set is queued or is held, or the thread goes on inside a wait on it
 abbrev pub is_woken_for : ℕ → Thread → Place → Bool
-is_woken_for x t (place.Ready m w) = is_delivery_for x w || (is_resumption w && is_inside_wait x t.how_far)
+is_woken_for x t (place.Ready m w) = is_delivery_for x w || (is_resumption w && is_inside_wait x t.op_progress)
 is_woken_for x t (place.Held w) = is_delivery_for x w
-is_woken_for x t place.Running = is_inside_wait x t.how_far
+is_woken_for x t place.Running = is_inside_wait x t.op_progress
 is_woken_for x t _ = false
 
 -- how many threads are woken for the set

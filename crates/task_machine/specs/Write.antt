@@ -1,16 +1,16 @@
 -- The words that change a core: each one field of one record, one record made or taken away, or one handle given or taken back.
 use Rattle.std.specs.Prelude.{ℕ, ◌+◌, Bool, true, false, List, [], ◌∷◌, ◌++◌, Option, Some, filter, not, ◌==◌, slice_set}
-use Rattle.task_machine.specs.declared.words.OwnEvent.{OwnEvent}
+use Rattle.task_machine.specs.declared.words.TaskEvent.{TaskEvent}
 use Rattle.task_machine.specs.declared.words.Phase.{Phase}
 use Rattle.task_machine.specs.declared.words.Status.{Status}
 use Rattle.task_machine.specs.declared.records.Call.{Call}
 use Rattle.task_machine.specs.declared.records.CallEnd.{CallEnd}
 use Rattle.task_machine.specs.declared.records.Course.{Course}
 use Rattle.task_machine.specs.declared.records.Entry.{Entry}
-use Rattle.task_machine.specs.declared.records.HowFar.{HowFar}
+use Rattle.task_machine.specs.declared.records.OpProgress.{OpProgress}
 use Rattle.task_machine.specs.declared.records.Instance.{Instance}
 use Rattle.task_machine.specs.declared.records.Join.{Join}
-use Rattle.task_machine.specs.declared.records.Made.{Made}
+use Rattle.task_machine.specs.declared.records.MadeCounts.{MadeCounts}
 use Rattle.task_machine.specs.declared.records.Named.{Named}
 use Rattle.task_machine.specs.declared.records.Place.{Place}
 use Rattle.task_machine.specs.declared.records.Script.{Script}
@@ -21,7 +21,7 @@ use Rattle.task_machine.specs.declared.records.Subtask.TheVariants as subtask
 use Rattle.task_machine.specs.declared.records.Thread.{Thread}
 use Rattle.task_machine.specs.declared.records.Work.{Work}
 use Rattle.task_machine.specs.Maps.{insert, remove, change}
-use Rattle.task_machine.specs.Core.{Core, Queues, Table}
+use Rattle.task_machine.specs.Core.{Core, Queues, NameTable}
 use Rattle.task_machine.specs.Read.{next_handle}
 
 -- ---- Threads
@@ -36,8 +36,8 @@ set_register n r v = on_thread n (λ t. record t { registers = slice_set t.regis
 unfoldable pub set_position : ℕ → ℕ → Core → Core
 set_position n p = on_thread n (λ t. record t { position = p })
 
-unfoldable pub set_how_far : ℕ → HowFar → Core → Core
-set_how_far n h = on_thread n (λ t. record t { how_far = h })
+unfoldable pub set_op_progress : ℕ → OpProgress → Core → Core
+set_op_progress n h = on_thread n (λ t. record t { op_progress = h })
 
 unfoldable pub set_script : ℕ → Script → Core → Core
 set_script n x = on_thread n (λ t. record t { script = x })
@@ -62,7 +62,7 @@ set_places (n ∷ ns) p s = set_places ns p (set_place n p s)
 unfoldable pub set_callers : ℕ → List ℕ → Core → Core
 set_callers n ns s = record s { callers = insert s.callers n ns }
 
-abbrev pub with_threads_made : ℕ → Made → Made
+abbrev pub with_threads_made : ℕ → MadeCounts → MadeCounts
 with_threads_made n m = record m { threads = n }
 
 -- a thread more, with the next number, and nobody behind it
@@ -98,8 +98,8 @@ set_starting_published k = on_call k (λ c. record c { starting_published = true
 unfoldable pub set_end : ℕ → CallEnd → Core → Core
 set_end k e = on_call k (λ c. record c { «end» = Some e })
 
-unfoldable pub set_own_event : ℕ → Option OwnEvent → Core → Core
-set_own_event k e = on_call k (λ c. record c { own_event = e })
+unfoldable pub set_task_event : ℕ → Option TaskEvent → Core → Core
+set_task_event k e = on_call k (λ c. record c { task_event = e })
 
 unfoldable pub set_cancel_delivered : ℕ → Core → Core
 set_cancel_delivered k = on_call k (λ c. record c { cancel_delivered = true })
@@ -118,7 +118,7 @@ set_result k v = on_call k (λ c. record c { result = v })
 unfoldable pub on_work : ℕ → (Work → Work) → Core → Core
 on_work i f s = record s { works = change i f s.works }
 
-abbrev pub with_works_made : ℕ → Made → Made
+abbrev pub with_works_made : ℕ → MadeCounts → MadeCounts
 with_works_made n m = record m { works = n }
 
 -- a host work has its number
@@ -159,7 +159,7 @@ set_subtask_handle (subtask.Host i) h s = on_work i (λ w. record w { handle = h
 
 -- ---- Sets
 
-abbrev pub with_sets_made : ℕ → Made → Made
+abbrev pub with_sets_made : ℕ → MadeCounts → MadeCounts
 with_sets_made n m = record m { sets = n }
 
 unfoldable pub add_set : Set → Core → Core
@@ -193,11 +193,11 @@ less_one [] = []
 less_one (h ∷ hs) = hs
 
 -- the table with its next handle given for x
-abbrev pub giving : {X : Type 0} → X → Table X → Table X
+abbrev pub giving : {X : Type 0} → X → NameTable X → NameTable X
 giving x t = record { live = insert t.live (next_handle t t.freed) x; freed = less_one t.freed }
 
 -- the table with the handle taken back
-abbrev pub taking : {X : Type 0} → ℕ → Table X → Table X
+abbrev pub taking : {X : Type 0} → ℕ → NameTable X → NameTable X
 taking h t = record { live = remove t.live h; freed = h ∷ t.freed }
 
 -- the instance's next handle names this
@@ -251,7 +251,7 @@ give_result k v s = record s { results = insert s.results k v }
 unfoldable pub take_result : ℕ → Core → Core
 take_result k s = record s { results = remove s.results k }
 
-abbrev pub with_groups_made : ℕ → Made → Made
+abbrev pub with_groups_made : ℕ → MadeCounts → MadeCounts
 with_groups_made n m = record m { groups = n }
 
 -- a group more, with the next number

@@ -4,7 +4,7 @@
 //! a label has 32 bytes; the others stand in the order in which they are printed.
 
 use crate::trap::Trap;
-use crate::words::{Given, Mark, OwnEvent, Phase};
+use crate::words::{Given, Mark, TaskEvent, Phase};
 
 /// One step of a run, by who speaks.
 #[derive(Clone, Copy)]
@@ -85,7 +85,7 @@ pub enum TakeLabel {
     /// `take M thread N event C H V`
     Event(Mark, Given, u64),
     /// `take M thread N event C 0 0 wakes W`: the task's own event was taken, and the wake handed on.
-    EventWakes(Mark, OwnEvent, u64, u64),
+    EventWakes(Mark, TaskEvent, u64, u64),
     /// `take M push I`
     Push(Mark, u64),
     /// `take M host I`
@@ -146,7 +146,7 @@ pub enum SetLabel {
     /// `thread N wait C H V`
     Wait(Given, u64),
     /// `thread N wait C 0 0 wakes W`: the task's own event was taken, and the wake handed on.
-    WaitWakes(OwnEvent, u64, u64),
+    WaitWakes(TaskEvent, u64, u64),
     /// `thread N poll C H V`
     Poll(Given, u64),
     /// `thread N join`

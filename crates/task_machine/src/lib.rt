@@ -20,10 +20,10 @@ pub use memory::NoMemory;
 pub use op::{CallOp, DataOp, Op, Operand, SetOp, TaskOp, ThreadOp};
 pub use outcome::Outcome;
 pub use records::{
-    Call, CallEnd, Caller, Course, Delivery, Entry, Goal, HowFar, Instance, Join, Made, Named,
+    Call, CallEnd, Caller, Course, Delivery, Entry, Goal, OpProgress, Instance, Join, MadeCounts, Named,
     Notice, NoticeKind, Place, Script, Set, Stage, Subtask, Thread, Turn, Why, Work, WorkCaller,
 };
 pub use scenario::{IdleLine, MainOpDef, NamesDef, ScenarioDef};
 pub use seq::Seq;
 pub use trap::Trap;
-pub use words::{Given, HostPoll, Mark, OwnEvent, Phase, Status};
+pub use words::{Given, HostPoll, Mark, TaskEvent, Phase, Status};

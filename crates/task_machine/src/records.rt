@@ -2,7 +2,7 @@
 //! sets and groups by numbers that are never given twice.
 
 use crate::component::{Callee, ExportKind, HostDef};
-use crate::words::{Mark, OwnEvent, Phase, Status};
+use crate::words::{Mark, TaskEvent, Phase, Status};
 
 /// What a thread may wait for, and what a handle of a subtask names.
 #[derive(Clone, Copy)]
@@ -71,7 +71,7 @@ pub enum Entry {
 
 /// How far the op at a thread's position has come.
 #[derive(Clone, Copy)]
-pub enum HowFar {
+pub enum OpProgress {
     /// It hasn't begun.
     Fresh,
     /// A wait on the set, which found nothing.
@@ -111,7 +111,7 @@ pub struct Thread {
     pub script: Script,
     /// The place in the script of the next op, from 0.
     pub position: u32,
-    pub how_far: HowFar,
+    pub op_progress: OpProgress,
     /// The thread's own handle; an implicit thread has one from its start on.
     pub handle: Option<u32>,
     /// `do_not_suspend` of its instance before its start, where it is of a sync export.
@@ -174,7 +174,7 @@ pub struct Call {
     pub end: Option<CallEnd>,
     /// The status that wasn't handed out yet.
     pub event: Option<Status>,
-    pub own_event: Option<OwnEvent>,
+    pub task_event: Option<TaskEvent>,
     /// A cancel request was delivered.
     pub cancel_delivered: bool,
     /// Its first thread has ended.
@@ -203,7 +203,7 @@ pub enum WorkCaller {
 #[derive(Clone, Copy)]
 pub enum Course {
     /// It goes on: the polls left, and what it ends with, or nothing of that.
-    Goes { host: HostDef },
+    Continues { host: HostDef },
     /// It ended with a value.
     Value { value: u64 },
     /// It was aborted.
@@ -257,7 +257,7 @@ pub struct Instance {
 
 /// How many threads, works, sets and groups were made.
 #[derive(Clone, Copy)]
-pub struct Made {
+pub struct MadeCounts {
     pub threads: u64,
     pub works: u64,
     pub sets: u64,

@@ -74,7 +74,7 @@ pub enum HostPoll {
 
 /// The event that a task has for itself.
 #[derive(Clone, Copy)]
-pub enum OwnEvent {
+pub enum TaskEvent {
     /// Its turn came again after a yield.
     None,
     /// It was asked to cancel.

@@ -14,7 +14,7 @@ use Rattle.task_machine.specs.declared.records.Call.{Call}
 use Rattle.task_moves.proofs.TellLemmas.{map_or_is}
 use Rattle.task_words.specs.Apart.{IsApart}
 use Rattle.task_moves.specs.Gone.{HasEnded, KeepsLive, lost_both}
-use Rattle.task_words.specs.Becomes.{BecomesBut}
+use Rattle.task_words.specs.BecomesRecord.{BecomesBut}
 use Rattle.task_words.specs.StateView.{KeepsBut, StateView, call_of, lost_call, lost_thread, on_core, set_number, thread_number, thread_of, work_number}
 
 exited_instance : (b : Bool) (k n : ℕ) (s : Core) → instance_of n (exited_if b k s) ≡ instance_of n s

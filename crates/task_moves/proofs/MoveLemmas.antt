@@ -8,9 +8,9 @@ use Rattle.task_machine.specs.Core.{Core}
 use Rattle.task_machine.specs.Maps.{get}
 use Rattle.task_machine.specs.Moves.{behind_one, has_entry, is_deletable, is_deletable_call, less, promoted, put_low, stand, unqueued, why_of}
 use Rattle.task_machine.specs.Read.{callers_of, has_thread}
-use Rattle.task_machine.specs.Write.{on_thread, push_low, set_callers, set_high, set_how_far, set_low, set_place, set_switch}
+use Rattle.task_machine.specs.Write.{on_thread, push_low, set_callers, set_high, set_op_progress, set_low, set_place, set_switch}
 use Rattle.task_machine.specs.declared.records.Entry.TheVariants as entry
-use Rattle.task_machine.specs.declared.records.HowFar.{HowFar}
+use Rattle.task_machine.specs.declared.records.OpProgress.{OpProgress}
 use Rattle.task_machine.specs.declared.records.Place.{Place}
 use Rattle.task_machine.specs.declared.records.Place.TheVariants as place
 use Rattle.task_machine.specs.declared.records.Why.{Why}
@@ -25,12 +25,12 @@ unfolding set_place on_thread
 unqueued_standing id p s t out e = subst (λ (v : StateView). IsUnqueued (thread_of v id) v.core) (sym e) (record { high = out.high; low = out.low })
 
 -- nor does how far a thread has come
-pub unqueued_at : (id : TableId ThreadKey) (p : Place) (h : HowFar) (s t : StateView) → IsUnqueued (thread_of s id) s.core → t ≡ on_core (λ c. set_how_far (thread_of s id) h (set_place (thread_of s id) p c)) s → IsUnqueued (thread_of t id) t.core
-unfolding set_how_far set_place on_thread
+pub unqueued_at : (id : TableId ThreadKey) (p : Place) (h : OpProgress) (s t : StateView) → IsUnqueued (thread_of s id) s.core → t ≡ on_core (λ c. set_op_progress (thread_of s id) h (set_place (thread_of s id) p c)) s → IsUnqueued (thread_of t id) t.core
+unfolding set_op_progress set_place on_thread
 unqueued_at id p h s t out e = subst (λ (v : StateView). IsUnqueued (thread_of v id) v.core) (sym e) (record { high = out.high; low = out.low })
 
-pub low_at : (id : TableId ThreadKey) (h : HowFar) (w : Why) (s t u : StateView) → t ≡ on_core (λ c. set_how_far (thread_of s id) h (set_place (thread_of s id) (place.Ready mark.Low w) c)) s → u ≡ on_core (push_low (entry.Thread (thread_of t id))) t → u ≡ on_core (λ c. set_how_far (thread_of s id) h (put_low (thread_of s id) w c)) s
-unfolding put_low push_low set_how_far set_place on_thread
+pub low_at : (id : TableId ThreadKey) (h : OpProgress) (w : Why) (s t u : StateView) → t ≡ on_core (λ c. set_op_progress (thread_of s id) h (set_place (thread_of s id) (place.Ready mark.Low w) c)) s → u ≡ on_core (push_low (entry.Thread (thread_of t id))) t → u ≡ on_core (λ c. set_op_progress (thread_of s id) h (put_low (thread_of s id) w c)) s
+unfolding put_low push_low set_op_progress set_place on_thread
 low_at id h w s t u e d = d ∙ ap (λ (v : StateView). on_core (push_low (entry.Thread (thread_of v id))) v) e
 
 pub unqueued_at_switch : (id : TableId ThreadKey) (m : Mark) (s t : StateView) → IsSwitchUnqueued s.core → t ≡ on_core (λ c. stand (thread_of s id) m (why_of (thread_of s id) c) c) s → Some (thread_of s id) ≡ s.core.queues.switch → IsUnqueued (thread_of t id) t.core

@@ -4,12 +4,12 @@ use Rattle.std.proofs.lemmas.Bool.Decides.{nat_tests}
 use Rattle.std.specs.Prelude.{Option, ℕ}
 use Rattle.task_machine.proofs.CommuteLemmas.{get-change}
 use Rattle.task_machine.specs.Core.{Core}
-use Rattle.task_machine.specs.Write.{give_result, give_thread_handle, on_call, on_instance, on_thread, on_work, set_end, set_event, set_own_event, set_register, set_result, set_started, set_starting_published, set_thread_handle}
+use Rattle.task_machine.specs.Write.{give_result, give_thread_handle, on_call, on_instance, on_thread, on_work, set_end, set_event, set_task_event, set_register, set_result, set_started, set_starting_published, set_thread_handle}
 use Rattle.task_machine.specs.declared.records.CallEnd.{CallEnd}
 use Rattle.task_machine.specs.declared.records.Instance.{Instance}
 use Rattle.task_machine.specs.declared.records.Subtask.{Subtask}
 use Rattle.task_machine.specs.declared.records.Subtask.TheVariants as subtask
-use Rattle.task_machine.specs.declared.words.OwnEvent.{OwnEvent}
+use Rattle.task_machine.specs.declared.words.TaskEvent.{TaskEvent}
 use Rattle.task_machine.specs.declared.words.Status.{Status}
 use Rattle.task_rules.proofs.StopLemmas.{Untouched}
 use Rattle.task_rules.specs.Calls.{with_thread_handle}
@@ -37,9 +37,9 @@ pub set_end_untouched : (k : ℕ) (e : CallEnd) (s : Core) → Untouched s (set_
 unfolding set_end on_call
 set_end_untouched k e s = record { places = λ k. refl; switch = λ k. refl; high = λ k. refl; low = λ k. refl; callers = refl; made = le_refl _ }
 
-pub set_own_event_untouched : (k : ℕ) (e : Option OwnEvent) (s : Core) → Untouched s (set_own_event k e s)
-unfolding set_own_event on_call
-set_own_event_untouched k e s = record { places = λ k. refl; switch = λ k. refl; high = λ k. refl; low = λ k. refl; callers = refl; made = le_refl _ }
+pub set_task_event_untouched : (k : ℕ) (e : Option TaskEvent) (s : Core) → Untouched s (set_task_event k e s)
+unfolding set_task_event on_call
+set_task_event_untouched k e s = record { places = λ k. refl; switch = λ k. refl; high = λ k. refl; low = λ k. refl; callers = refl; made = le_refl _ }
 
 pub set_started_untouched : (k : ℕ) (s : Core) → Untouched s (set_started k s)
 unfolding set_started on_call

@@ -7,7 +7,7 @@ use Rattle.task_wait.specs.declared.keys.SetKey.{SetKey}
 use Rattle.task_wait.specs.declared.keys.ThreadKey.{ThreadKey}
 use Rattle.task_machine.specs.Moves.{ended}
 use Rattle.task_machine.specs.Read.{task_of}
-use Rattle.task_words.specs.Becomes.{BecomesWith}
+use Rattle.task_words.specs.BecomesRecord.{BecomesWith}
 use Rattle.task_words.specs.StateView.{Lost, StateView, Tags, call_number, nothing_lost, set_number, thread_number, work_number}
 
 abbrev pub lost_both : ℕ → ℕ → Lost
@@ -23,7 +23,7 @@ pub record KeepsLive (lost : Lost) (old new : Tags) : Type 0 where
   pub sets : (id : TableId SetKey) → 0 < set_number old id → set_number new id ≡ set_number old id
   pub works : (id : TableId HostTaskKey) → 0 < work_number old id → work_number new id ≡ work_number old id
   pub gone : (id : TableId ThreadKey) → (thread_number old id ≡ 0) ⊎ (thread_number old id ≡ lost.thread) → thread_number new id ≡ 0
-  pub same : new.known ≡ old.known
+  pub same : new.tracked ≡ old.tracked
 
 -- The thread has ended, and what that settles is done; its ids and, if it is gone, those of its call name nothing.
 abbrev pub HasEnded : ℕ → StateView → StateView → Type 0

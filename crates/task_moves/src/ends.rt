@@ -7,21 +7,21 @@ ghost use Rattle.task_words.specs.Apart.{IsApart};
 ghost use Rattle.task_words.specs.StateView.{call_of, on_core, thread_of};
 
 use crate::settle::{settle_call, settle_interest};
-use task_words::{CallId, ThreadId, Words};
+use task_words::{CallId, ThreadId, Primitives};
 
 // Where the thread is the first of the call, which is there, the task has exited.
-fn exit_there<W: Words>(w: &mut W, explicit: bool, call: CallId)
+fn exit_there<W: Primitives>(w: &mut W, explicit: bool, call: CallId)
     requires { 0 < call_of (W.view w.old) call }
     ensures { W.view w.new ≡ on_core (exited_if explicit (call_of (W.view w.old) call)) (W.view w.old) }
 {
     if !explicit {
-        w.set_exited_there(call);
+        w.set_exited_unchecked(call);
     }
 }
 
 /// The thread of this call gives back its handle and is gone, and what that settles is done.
 #[inline(always)]
-pub fn end_thread_in<W: Words>(w: &mut W, thread: ThreadId, call: CallId)
+pub fn end_thread_in<W: Primitives>(w: &mut W, thread: ThreadId, call: CallId)
     requires live { 0 < thread_of (W.view w.old) thread }
     requires named { 0 < call_of (W.view w.old) call }
     requires call { call_of (W.view w.old) call ≡ task_of (thread_of (W.view w.old) thread) (W.view w.old).core }
@@ -34,7 +34,7 @@ pub fn end_thread_in<W: Words>(w: &mut W, thread: ThreadId, call: CallId)
 
 /// Does what `end_thread_in` does, where it is known whether the thread isn't the first of the call.
 #[inline(always)]
-pub fn end_known_in<W: Words>(w: &mut W, thread: ThreadId, call: CallId, explicit: bool)
+pub fn end_known_in<W: Primitives>(w: &mut W, thread: ThreadId, call: CallId, explicit: bool)
     requires live { 0 < thread_of (W.view w.old) thread }
     requires named { 0 < call_of (W.view w.old) call }
     requires call { call_of (W.view w.old) call ≡ task_of (thread_of (W.view w.old) thread) (W.view w.old).core }
@@ -50,7 +50,7 @@ pub fn end_known_in<W: Words>(w: &mut W, thread: ThreadId, call: CallId, explici
 
 /// The thread gives back its handle and is gone, and what that settles is done.
 #[inline(always)]
-pub fn end_thread<W: Words>(w: &mut W, thread: ThreadId)
+pub fn end_thread<W: Primitives>(w: &mut W, thread: ThreadId)
     requires live { 0 < thread_of (W.view w.old) thread }
     requires apart { IsApart (thread_of (W.view w.old) thread) (W.view w.old).core }
     ensures { HasEnded (thread_of (W.view w.old) thread) (W.view w.old) (W.view w.new) }

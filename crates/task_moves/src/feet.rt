@@ -3,12 +3,12 @@ ghost use Rattle.std.specs.Prelude.{◌≡◌, ◌<◌, None};
 ghost use Rattle.task_machine.specs.Read.{foot_of, under_of};
 ghost use Rattle.task_words.specs.StateView.{thread_of};
 
-use task_words::{ThreadId, Words};
+use task_words::{ThreadId, Primitives};
 
 // The way down a strand, out of line, since most threads are their strand's foot.
 #[tactic(auto, using(crate::proofs::FootLemmas::foot_at), unfolding(task_machine::specs::Read::foot_of))]
 #[inline(never)]
-fn way_down<W: Words>(w: &W, thread: ThreadId) -> ThreadId
+fn way_down<W: Primitives>(w: &W, thread: ThreadId) -> ThreadId
     requires { 0 < thread_of (W.view w.now) thread }
     ensures is { thread_of (W.view w.now) result ≡ foot_of (thread_of (W.view w.now) thread) (W.view w.now).core }
     ensures live { 0 < thread_of (W.view w.now) result }
@@ -27,7 +27,7 @@ fn way_down<W: Words>(w: &W, thread: ThreadId) -> ThreadId
 /// The foot of a thread's strand.
 #[tactic(auto, using(crate::proofs::FootLemmas::foot_at), unfolding(task_machine::specs::Read::foot_of))]
 #[inline(always)]
-pub fn foot_of<W: Words>(w: &W, thread: ThreadId) -> ThreadId
+pub fn foot_of<W: Primitives>(w: &W, thread: ThreadId) -> ThreadId
     requires { 0 < thread_of (W.view w.now) thread }
     ensures is { thread_of (W.view w.now) result ≡ foot_of (thread_of (W.view w.now) thread) (W.view w.now).core }
     ensures live { 0 < thread_of (W.view w.now) result }
@@ -40,7 +40,7 @@ pub fn foot_of<W: Words>(w: &W, thread: ThreadId) -> ThreadId
 
 /// The foot of the strand of a thread that nobody is under: the thread itself, with no look at its record.
 #[inline(always)]
-pub fn own_foot<W: Words>(w: &W, thread: ThreadId) -> ThreadId
+pub fn own_foot<W: Primitives>(w: &W, thread: ThreadId) -> ThreadId
     requires live { 0 < thread_of (W.view w.now) thread }
     requires bottom { under_of (thread_of (W.view w.now) thread) (W.view w.now).core ≡ None }
     ensures is { thread_of (W.view w.now) result ≡ foot_of (thread_of (W.view w.now) thread) (W.view w.now).core }

@@ -2,16 +2,16 @@
 ghost use Rattle.std.specs.Prelude.{◌≡◌, ◌<◌};
 ghost use Rattle.task_machine.specs.Moves.{checked, displaced, passes_check, promoted, promoted_unless, put_high, put_low, put_switch};
 ghost use Rattle.task_words.specs.Apart.{IsSwitchUnqueued, IsUnqueued};
-ghost use Rattle.task_machine.specs.Write.{set_how_far};
-ghost use Rattle.task_words.specs.Names.{how_far_in, why_in};
+ghost use Rattle.task_machine.specs.Write.{set_op_progress};
+ghost use Rattle.task_words.specs.Names.{op_progress_in, why_in};
 ghost use Rattle.task_words.specs.StateView.{on_core, thread_of};
 
 use task_machine::Mark;
-use task_words::{HowFarId, PlaceId, ThreadId, WhyId, Words};
+use task_words::{OpProgressId, PlaceId, ThreadId, WhyId, Primitives};
 
 /// A thread without an entry gets one at high.
 #[tactic(auto, unfolding(task_machine::specs::Moves::put_high))]
-pub fn put_high<W: Words>(w: &mut W, thread: ThreadId, why: WhyId)
+pub fn put_high<W: Primitives>(w: &mut W, thread: ThreadId, why: WhyId)
     requires live { 0 < thread_of (W.view w.old) thread }
     requires unqueued { IsUnqueued (thread_of (W.view w.old) thread) (W.view w.old).core }
     ensures { W.view w.new ≡ on_core (put_high (thread_of (W.view w.old) thread) (why_in (W.view w.old).tags why)) (W.view w.old) }
@@ -24,7 +24,7 @@ pub fn put_high<W: Words>(w: &mut W, thread: ThreadId, why: WhyId)
 /// A thread without an entry gets one at low.
 #[tactic(auto, unfolding(task_machine::specs::Moves::put_low))]
 #[inline(always)]
-pub fn put_low<W: Words>(w: &mut W, thread: ThreadId, why: WhyId)
+pub fn put_low<W: Primitives>(w: &mut W, thread: ThreadId, why: WhyId)
     requires live { 0 < thread_of (W.view w.old) thread }
     requires unqueued { IsUnqueued (thread_of (W.view w.old) thread) (W.view w.old).core }
     ensures { W.view w.new ≡ on_core (put_low (thread_of (W.view w.old) thread) (why_in (W.view w.old).tags why)) (W.view w.old) }
@@ -36,18 +36,18 @@ pub fn put_low<W: Words>(w: &mut W, thread: ThreadId, why: WhyId)
 
 /// Gives a thread without an entry one at low, and writes how far it has come in its op.
 #[inline(always)]
-pub fn put_low_at<W: Words>(w: &mut W, thread: ThreadId, why: WhyId, how_far: HowFarId)
+pub fn put_low_at<W: Primitives>(w: &mut W, thread: ThreadId, why: WhyId, op_progress: OpProgressId)
     requires live { 0 < thread_of (W.view w.old) thread }
     requires unqueued { IsUnqueued (thread_of (W.view w.old) thread) (W.view w.old).core }
-    ensures { W.view w.new ≡ on_core (λ s. set_how_far (thread_of (W.view w.old) thread) (how_far_in (W.view w.old).tags how_far) (put_low (thread_of (W.view w.old) thread) (why_in (W.view w.old).tags why) s)) (W.view w.old) }
+    ensures { W.view w.new ≡ on_core (λ s. set_op_progress (thread_of (W.view w.old) thread) (op_progress_in (W.view w.old).tags op_progress) (put_low (thread_of (W.view w.old) thread) (why_in (W.view w.old).tags why) s)) (W.view w.old) }
 {
     let mark = Mark::Low;
-    w.stand_at(thread, PlaceId::Ready { mark, why }, how_far);
+    w.stand_at(thread, PlaceId::Ready { mark, why }, op_progress);
     w.push_low(thread);
 }
 
 // What was at switch goes to the front of high.
-fn displace<W: Words>(w: &mut W)
+fn displace<W: Primitives>(w: &mut W)
     requires { IsSwitchUnqueued (W.view w.old).core }
     ensures { W.view w.new ≡ on_core (displaced (W.view w.old).core.queues.switch) (W.view w.old) }
 {
@@ -60,7 +60,7 @@ fn displace<W: Words>(w: &mut W)
 /// A thread without an entry gets the one at switch.
 #[tactic(auto, unfolding(task_machine::specs::Moves::put_switch))]
 #[inline(always)]
-pub fn put_switch<W: Words>(w: &mut W, thread: ThreadId, why: WhyId)
+pub fn put_switch<W: Primitives>(w: &mut W, thread: ThreadId, why: WhyId)
     requires live { 0 < thread_of (W.view w.old) thread }
     requires switch { IsSwitchUnqueued (W.view w.old).core }
     ensures { W.view w.new ≡ on_core (put_switch (thread_of (W.view w.old) thread) (why_in (W.view w.old).tags why)) (W.view w.old) }
@@ -74,7 +74,7 @@ pub fn put_switch<W: Words>(w: &mut W, thread: ThreadId, why: WhyId)
 /// The entry of a thread moves to switch, where none stands.
 #[tactic(auto, using(crate::proofs::MoveLemmas::promoted_is))]
 #[inline(always)]
-pub fn promote<W: Words>(w: &mut W, thread: ThreadId)
+pub fn promote<W: Primitives>(w: &mut W, thread: ThreadId)
     requires { 0 < thread_of (W.view w.old) thread }
     ensures { W.view w.new ≡ on_core (promoted (thread_of (W.view w.old) thread)) (W.view w.old) }
 {
@@ -85,7 +85,7 @@ pub fn promote<W: Words>(w: &mut W, thread: ThreadId)
 
 /// Moves the entry of a thread to switch, unless one is there already.
 #[tactic(auto, unfolding(task_machine::specs::Moves::promoted_unless))]
-pub fn promote_unless<W: Words>(w: &mut W, thread: ThreadId)
+pub fn promote_unless<W: Primitives>(w: &mut W, thread: ThreadId)
     requires { 0 < thread_of (W.view w.old) thread }
     ensures { W.view w.new ≡ on_core (promoted_unless (thread_of (W.view w.old) thread)) (W.view w.old) }
 {
@@ -96,7 +96,7 @@ pub fn promote_unless<W: Words>(w: &mut W, thread: ThreadId)
 
 /// Whether a check of the instance passes.
 #[tactic(auto, unfolding(task_machine::specs::Moves::passes_check))]
-pub fn passes_check<W: Words>(w: &W, instance: u32) -> bool
+pub fn passes_check<W: Primitives>(w: &W, instance: u32) -> bool
     ensures { result ≡ passes_check instance (W.view w.now).core }
 {
     !w.may_not_suspend(instance) || w.switch().is_some() || w.first_entry(instance).is_some()
@@ -105,7 +105,7 @@ pub fn passes_check<W: Words>(w: &W, instance: u32) -> bool
 /// A check that passes: where the instance may not block, its first entry moves to switch.
 #[tactic(auto, unfolding(task_machine::specs::Moves::checked))]
 #[inline(always)]
-pub fn check<W: Words>(w: &mut W, instance: u32)
+pub fn check<W: Primitives>(w: &mut W, instance: u32)
     ensures { W.view w.new ≡ on_core (checked instance) (W.view w.old) }
 {
     if !w.may_not_suspend(instance) || w.switch().is_some() {

@@ -9,11 +9,11 @@ ghost use Rattle.task_words.specs.StateView.{on_core, thread_of};
 
 use crate::wakes::{unblock, wake_chosen};
 use task_machine::Status;
-use task_words::{JoinId, SubtaskId, ThreadId, Words};
+use task_words::{JoinId, SubtaskId, ThreadId, Primitives};
 
 // A waiter of the set that is joined.
 #[tactic(auto, unfolding(task_machine::specs::Moves::may_wake))]
-fn waiter_of<W: Words>(w: &W, join: JoinId) -> Option<ThreadId>
+fn waiter_of<W: Primitives>(w: &W, join: JoinId) -> Option<ThreadId>
     requires { (x : ℕ) → join_in (W.view w.now).tags join ≡ joins.Set x → 0 < x }
     ensures choice { may_wake_joined (join_in (W.view w.now).tags join) (option_map (λ id. thread_of (W.view w.now) id) result) (W.view w.now).core ≡ true }
     ensures live { IfSome result (λ id. 0 < thread_of (W.view w.now) id) }
@@ -26,7 +26,7 @@ fn waiter_of<W: Words>(w: &W, join: JoinId) -> Option<ThreadId>
 }
 
 // The chosen waiter of the set that is joined is woken.
-fn wake_joined<W: Words>(w: &mut W, join: JoinId, waiter: Option<ThreadId>)
+fn wake_joined<W: Primitives>(w: &mut W, join: JoinId, waiter: Option<ThreadId>)
     requires live { IfSome waiter (λ id. 0 < thread_of (W.view w.old) id) }
     requires unqueued { IfSome waiter (λ id. IsUnqueued (thread_of (W.view w.old) id) (W.view w.old).core) }
     ensures { W.view w.new ≡ on_core (wake_joined (join_in (W.view w.old).tags join) (option_map (λ id. thread_of (W.view w.old) id) waiter)) (W.view w.old) }
@@ -38,7 +38,7 @@ fn wake_joined<W: Words>(w: &mut W, join: JoinId, waiter: Option<ThreadId>)
 
 /// The waiter that is woken where a status of the subtask is published now.
 #[tactic(auto, unfolding(task_machine::specs::Moves::may_publish))]
-pub fn publish_waiter<W: Words>(w: &W, subtask: SubtaskId) -> Option<ThreadId>
+pub fn publish_waiter<W: Primitives>(w: &W, subtask: SubtaskId) -> Option<ThreadId>
     requires { IsJoinThere (subtask_in (W.view w.now).tags subtask) (W.view w.now).core }
     ensures choice { may_publish (subtask_in (W.view w.now).tags subtask) (option_map (λ id. thread_of (W.view w.now) id) result) (W.view w.now).core ≡ true }
     ensures live { IfSome result (λ id. 0 < thread_of (W.view w.now) id) }
@@ -51,7 +51,7 @@ pub fn publish_waiter<W: Words>(w: &W, subtask: SubtaskId) -> Option<ThreadId>
 
 /// The subtask's event is replaced by the status. Who is blocked on it goes to high, and the chosen
 /// waiter of its set is woken.
-pub fn publish<W: Words>(w: &mut W, subtask: SubtaskId, status: Status, waiter: Option<ThreadId>)
+pub fn publish<W: Primitives>(w: &mut W, subtask: SubtaskId, status: Status, waiter: Option<ThreadId>)
     requires { CanPublish (subtask_in (W.view w.old).tags subtask) waiter (W.view w.old) }
     ensures { W.view w.new ≡ on_core (published (subtask_in (W.view w.old).tags subtask) status (option_map (λ id. thread_of (W.view w.old) id) waiter)) (W.view w.old) }
 {

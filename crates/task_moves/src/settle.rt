@@ -1,14 +1,14 @@
 //! What the end of a thread settles.
 ghost use Rattle.std.specs.Prelude.{◌≡◌, ◌<◌};
 ghost use Rattle.task_machine.specs.Moves.{call_settled, interest_settled};
-ghost use Rattle.task_words.specs.Becomes.{BecomesBut};
+ghost use Rattle.task_words.specs.BecomesRecord.{BecomesBut};
 ghost use Rattle.task_words.specs.StateView.{call_of, lost_call, on_core};
 
-use task_words::{CallId, Words};
+use task_words::{CallId, Primitives};
 
 /// A task that has exited and ended isn't interesting any more.
 #[tactic(auto, unfolding(task_machine::specs::Moves::interest_settled))]
-pub fn settle_interest<W: Words>(w: &mut W, call: CallId)
+pub fn settle_interest<W: Primitives>(w: &mut W, call: CallId)
     ensures { W.view w.new ≡ on_core (interest_settled (call_of (W.view w.old) call)) (W.view w.old) }
 {
     if w.is_finished(call) {
@@ -19,7 +19,7 @@ pub fn settle_interest<W: Words>(w: &mut W, call: CallId)
 /// The call is deleted, if nothing keeps it.
 #[tactic(auto, using(crate::proofs::MoveLemmas::no_thread_left, crate::proofs::MoveLemmas::keeps_all), unfolding(task_machine::specs::Moves::call_settled))]
 #[inline(always)]
-pub fn settle_call<W: Words>(w: &mut W, call: CallId)
+pub fn settle_call<W: Primitives>(w: &mut W, call: CallId)
     requires { 0 < call_of (W.view w.old) call }
     ensures { BecomesBut (lost_call (call_of (W.view w.old) call)) (call_settled (call_of (W.view w.old) call) (W.view w.old).core) (W.view w.old) (W.view w.new) }
 {

@@ -9,10 +9,10 @@ ghost use Rattle.task_words.specs.StateView.{on_core, thread_of};
 use crate::feet::foot_of;
 use crate::moves::{put_high, put_switch};
 use crate::wakes::put_behind;
-use task_words::{ThreadId, WhyId, Words};
+use task_words::{ThreadId, WhyId, Primitives};
 
 // The callers of a foot go to high, oldest first.
-fn resume_callers<W: Words>(w: &mut W, foot: ThreadId)
+fn resume_callers<W: Primitives>(w: &mut W, foot: ThreadId)
     requires live { 0 < thread_of (W.view w.old) foot }
     requires unqueued { AreCallersUnqueued (thread_of (W.view w.old) foot) (W.view w.old).core }
     ensures { W.view w.new ≡ on_core (resumed_from (thread_of (W.view w.old) foot)) (W.view w.old) }
@@ -23,7 +23,7 @@ fn resume_callers<W: Words>(w: &mut W, foot: ThreadId)
 }
 
 // The callers of a foot go behind another thread, oldest first.
-fn pass_callers<W: Words>(w: &mut W, foot: ThreadId, other: ThreadId)
+fn pass_callers<W: Primitives>(w: &mut W, foot: ThreadId, other: ThreadId)
     requires foot { 0 < thread_of (W.view w.old) foot }
     requires other { 0 < thread_of (W.view w.old) other }
     requires may { MayPass (thread_of (W.view w.old) foot) (thread_of (W.view w.old) other) (W.view w.old).core }
@@ -37,7 +37,7 @@ fn pass_callers<W: Words>(w: &mut W, foot: ThreadId, other: ThreadId)
 // The newest caller of a foot goes to switch. It is out of line, as most strands have no callers.
 #[cold]
 #[inline(never)]
-fn resume_newest<W: Words>(w: &mut W, newest: ThreadId)
+fn resume_newest<W: Primitives>(w: &mut W, newest: ThreadId)
     requires live { 0 < thread_of (W.view w.old) newest }
     requires switch { IsSwitchUnqueued (W.view w.old).core }
     ensures { W.view w.new ≡ on_core (put_switch (thread_of (W.view w.old) newest) whys.Resumption) (W.view w.old) }
@@ -47,7 +47,7 @@ fn resume_newest<W: Words>(w: &mut W, newest: ThreadId)
 
 /// The strand with this foot stops.
 #[inline(always)]
-pub fn stop<W: Words>(w: &mut W, foot: ThreadId)
+pub fn stop<W: Primitives>(w: &mut W, foot: ThreadId)
     requires live { 0 < thread_of (W.view w.old) foot }
     requires may { MayStop (thread_of (W.view w.old) foot) (W.view w.old).core }
     ensures { W.view w.new ≡ on_core (stopped (thread_of (W.view w.old) foot)) (W.view w.old) }

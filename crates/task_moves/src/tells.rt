@@ -10,10 +10,10 @@ ghost use Rattle.task_words.specs.StateView.{call_of, on_core, thread_of};
 
 use crate::publishes::{publish, publish_waiter};
 use task_machine::{CallEnd, Goal, Status};
-use task_words::{CallId, CallerId, SubtaskId, ThreadId, Words};
+use task_words::{CallId, CallerId, SubtaskId, ThreadId, Primitives};
 
 /// Whether the call's statuses are told to its caller.
-pub fn is_told<W: Words>(w: &W, call: CallId) -> bool
+pub fn is_told<W: Primitives>(w: &W, call: CallId) -> bool
     ensures { result ≡ is_told (call_of (W.view w.now) call) (W.view w.now).core }
 {
     match w.caller(call) {
@@ -25,7 +25,7 @@ pub fn is_told<W: Words>(w: &W, call: CallId) -> bool
 /// The waiter that is woken where a status of the call is told now.
 #[tactic(auto, unfolding(task_rules::specs::Ends::may_tell))]
 #[inline(always)]
-pub fn tell_waiter<W: Words>(w: &W, call: CallId) -> Option<ThreadId>
+pub fn tell_waiter<W: Primitives>(w: &W, call: CallId) -> Option<ThreadId>
     requires { IsJoinThere (subtasks.Guest (call_of (W.view w.now) call)) (W.view w.now).core }
     ensures choice { may_tell (call_of (W.view w.now) call) (option_map (λ id. thread_of (W.view w.now) id) result) (W.view w.now).core ≡ true }
     ensures live { IfSome result (λ id. 0 < thread_of (W.view w.now) id) }
@@ -40,7 +40,7 @@ pub fn tell_waiter<W: Words>(w: &W, call: CallId) -> Option<ThreadId>
 
 /// A status of the call is told to its caller, unless main or a thread under it made the call.
 #[tactic(auto, unfolding(task_rules::specs::Ends::told))]
-pub fn tell<W: Words>(w: &mut W, call: CallId, status: Status, waiter: Option<ThreadId>)
+pub fn tell<W: Primitives>(w: &mut W, call: CallId, status: Status, waiter: Option<ThreadId>)
     requires { CanPublish (subtasks.Guest (call_of (W.view w.old) call)) waiter (W.view w.old) }
     ensures { W.view w.new ≡ on_core (told (call_of (W.view w.old) call) status (option_map (λ id. thread_of (W.view w.old) id) waiter)) (W.view w.old) }
 {
@@ -50,7 +50,7 @@ pub fn tell<W: Words>(w: &mut W, call: CallId, status: Status, waiter: Option<Th
 }
 
 // The result goes where the call says.
-fn give_result<W: Words>(w: &mut W, goal: Goal, caller: CallerId, call: CallId, value: u64)
+fn give_result<W: Primitives>(w: &mut W, goal: Goal, caller: CallerId, call: CallId, value: u64)
     requires { goal ≡ goals.Main → goal_of (call_of (W.view w.old) call) (W.view w.old).core ≡ goals.Main }
     ensures { W.view w.new ≡ on_core (result_given goal (caller_in (W.view w.old).tags caller) (call_of (W.view w.old) call) value) (W.view w.old) }
 {
@@ -67,7 +67,7 @@ fn give_result<W: Words>(w: &mut W, goal: Goal, caller: CallerId, call: CallId, 
 /// The task ends as Returned with the value.
 #[tactic(auto, unfolding(task_rules::specs::Ends::returned))]
 #[inline(always)]
-pub fn return_value<W: Words>(w: &mut W, call: CallId, value: u64, waiter: Option<ThreadId>)
+pub fn return_value<W: Primitives>(w: &mut W, call: CallId, value: u64, waiter: Option<ThreadId>)
     requires { CanPublish (subtasks.Guest (call_of (W.view w.old) call)) waiter (W.view w.old) }
     ensures { W.view w.new ≡ on_core (returned (call_of (W.view w.old) call) value (option_map (λ id. thread_of (W.view w.old) id) waiter)) (W.view w.old) }
 {
@@ -81,7 +81,7 @@ pub fn return_value<W: Words>(w: &mut W, call: CallId, value: u64, waiter: Optio
 
 /// The task ends as ReturnCancelled.
 #[tactic(auto, unfolding(task_rules::specs::Ends::cancelled))]
-pub fn cancel_task<W: Words>(w: &mut W, call: CallId, waiter: Option<ThreadId>)
+pub fn cancel_task<W: Primitives>(w: &mut W, call: CallId, waiter: Option<ThreadId>)
     requires { CanPublish (subtasks.Guest (call_of (W.view w.old) call)) waiter (W.view w.old) }
     ensures { W.view w.new ≡ on_core (cancelled (call_of (W.view w.old) call) (option_map (λ id. thread_of (W.view w.old) id) waiter)) (W.view w.old) }
 {

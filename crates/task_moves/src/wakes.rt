@@ -1,18 +1,18 @@
 //! Wakes: who waits on a set, or is blocked on a subtask, gets an entry at high.
 ghost use Rattle.std.specs.Prelude.{◌≡◌, ◌<◌, IfSome, option_map, true};
-ghost use Rattle.task_machine.specs.Moves.{OwnGift, behind_one, handed_on, is_callback_waiter, may_hand_on, may_wake, unblocked, wake, waken_by};
+ghost use Rattle.task_machine.specs.Moves.{PickedTaskEvent, behind_one, handed_on, is_callback_waiter, may_hand_on, may_wake, unblocked, wake, waken_by};
 ghost use Rattle.task_machine.specs.Read.{blocked_on};
-ghost use Rattle.task_machine.specs.declared.words.OwnEvent.{OwnEvent};
+ghost use Rattle.task_machine.specs.declared.words.TaskEvent.{TaskEvent};
 ghost use Rattle.task_words.specs.Apart.{AreWaitersUnqueued, IsBehindNobody, IsBlockedUnqueued, IsUnqueued};
 ghost use Rattle.task_words.specs.Names.{number_in, subtask_in};
 ghost use Rattle.task_words.specs.StateView.{on_core, set_of, thread_of};
 
 use crate::moves::put_high;
 use task_machine::Place;
-use task_words::{DeliveryId, PlaceId, SetId, SubtaskId, ThreadId, WhyId, Words};
+use task_words::{DeliveryId, PlaceId, SetId, SubtaskId, ThreadId, WhyId, Primitives};
 
 // The waiter gets its entry at high.
-fn wake_waiter<W: Words>(w: &mut W, set: SetId, thread: ThreadId, by_callback: bool)
+fn wake_waiter<W: Primitives>(w: &mut W, set: SetId, thread: ThreadId, by_callback: bool)
     requires live { 0 < thread_of (W.view w.old) thread }
     requires unqueued { IsUnqueued (thread_of (W.view w.old) thread) (W.view w.old).core }
     ensures { W.view w.new ≡ on_core (waken_by by_callback (set_of (W.view w.old) set) (thread_of (W.view w.old) thread)) (W.view w.old) }
@@ -25,7 +25,7 @@ fn wake_waiter<W: Words>(w: &mut W, set: SetId, thread: ThreadId, by_callback: b
 }
 
 // Whether the thread waits by its callback.
-fn is_callback_waiter<W: Words>(w: &W, thread: ThreadId) -> bool
+fn is_callback_waiter<W: Primitives>(w: &W, thread: ThreadId) -> bool
     ensures { result ≡ is_callback_waiter (thread_of (W.view w.now) thread) (W.view w.now).core }
 {
     match w.place(thread) {
@@ -42,7 +42,7 @@ fn is_callback_waiter<W: Words>(w: &W, thread: ThreadId) -> bool
 /// The chosen waiter of the set is woken.
 #[tactic(auto, unfolding(task_machine::specs::Moves::wake))]
 #[inline(always)]
-pub fn wake_chosen<W: Words>(w: &mut W, set: SetId, waiter: Option<ThreadId>)
+pub fn wake_chosen<W: Primitives>(w: &mut W, set: SetId, waiter: Option<ThreadId>)
     requires live { IfSome waiter (λ id. 0 < thread_of (W.view w.old) id) }
     requires unqueued { IfSome waiter (λ id. IsUnqueued (thread_of (W.view w.old) id) (W.view w.old).core) }
     ensures { W.view w.new ≡ on_core (wake (set_of (W.view w.old) set) (option_map (λ id. thread_of (W.view w.old) id) waiter)) (W.view w.old) }
@@ -55,7 +55,7 @@ pub fn wake_chosen<W: Words>(w: &mut W, set: SetId, waiter: Option<ThreadId>)
 
 /// A waiter of the set is woken, if there is one, and is answered.
 #[tactic(auto, unfolding(task_machine::specs::Moves::may_wake))]
-pub fn wake<W: Words>(w: &mut W, set: SetId) -> Option<ThreadId>
+pub fn wake<W: Primitives>(w: &mut W, set: SetId) -> Option<ThreadId>
     requires named { 0 < set_of (W.view w.old) set }
     requires unqueued { AreWaitersUnqueued (set_of (W.view w.old) set) (W.view w.old).core }
     ensures choice { may_wake (set_of (W.view w.old) set) (option_map (λ id. thread_of (W.view w.old) id) result) (W.view w.old).core ≡ true }
@@ -69,11 +69,11 @@ pub fn wake<W: Words>(w: &mut W, set: SetId) -> Option<ThreadId>
 /// Who was woken for the set takes its task's own event: where a member is ready its wake goes on to
 /// another waiter, which is answered.
 #[tactic(auto, unfolding(task_machine::specs::Moves::may_hand_on, task_machine::specs::Moves::handed_on))]
-pub fn hand_wake_on<W: Words>(w: &mut W, set: SetId) -> Option<ThreadId>
+pub fn hand_wake_on<W: Primitives>(w: &mut W, set: SetId) -> Option<ThreadId>
     requires named { 0 < set_of (W.view w.old) set }
     requires unqueued { AreWaitersUnqueued (set_of (W.view w.old) set) (W.view w.old).core }
-    ensures choice { (event : OwnEvent) → may_hand_on (set_of (W.view w.old) set) (OwnGift event) (option_map (λ id. thread_of (W.view w.old) id) result) (W.view w.old).core ≡ true }
-    ensures new { (event : OwnEvent) → W.view w.new ≡ on_core (handed_on (set_of (W.view w.old) set) (OwnGift event) (option_map (λ id. thread_of (W.view w.old) id) result)) (W.view w.old) }
+    ensures choice { (event : TaskEvent) → may_hand_on (set_of (W.view w.old) set) (PickedTaskEvent event) (option_map (λ id. thread_of (W.view w.old) id) result) (W.view w.old).core ≡ true }
+    ensures new { (event : TaskEvent) → W.view w.new ≡ on_core (handed_on (set_of (W.view w.old) set) (PickedTaskEvent event) (option_map (λ id. thread_of (W.view w.old) id) result)) (W.view w.old) }
 {
     if w.has_ready_member(set) {
         wake(w, set)
@@ -83,7 +83,7 @@ pub fn hand_wake_on<W: Words>(w: &mut W, set: SetId) -> Option<ThreadId>
 }
 
 /// Who is blocked on the subtask goes to high.
-pub fn unblock<W: Words>(w: &mut W, subtask: SubtaskId)
+pub fn unblock<W: Primitives>(w: &mut W, subtask: SubtaskId)
     requires named { 0 < number_in (W.view w.old).tags subtask }
     requires unqueued { IsBlockedUnqueued (subtask_in (W.view w.old).tags subtask) (W.view w.old).core }
     ensures { W.view w.new ≡ on_core (unblocked (blocked_on (subtask_in (W.view w.old).tags subtask) (W.view w.old).core)) (W.view w.old) }
@@ -95,7 +95,7 @@ pub fn unblock<W: Words>(w: &mut W, subtask: SubtaskId)
 
 /// A thread that is behind nobody goes behind the foot of a strand.
 #[tactic(auto, using(crate::proofs::MoveLemmas::behind_is, crate::proofs::MoveLemmas::behind_nobody_standing))]
-pub fn put_behind<W: Words>(w: &mut W, foot: ThreadId, thread: ThreadId)
+pub fn put_behind<W: Primitives>(w: &mut W, foot: ThreadId, thread: ThreadId)
     requires foot { 0 < thread_of (W.view w.old) foot }
     requires thread { 0 < thread_of (W.view w.old) thread }
     requires apart { IsBehindNobody (thread_of (W.view w.old) thread) (W.view w.old).core }

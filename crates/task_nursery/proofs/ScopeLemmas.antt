@@ -8,7 +8,7 @@ use Rattle.task_machine.specs.declared.component.Component.{Component}
 use Rattle.task_machine.specs.declared.trap.Trap.{Trap}
 use Rattle.task_nursery.specs.Children.{is_open_call, thread_in}
 use Rattle.task_nursery.specs.Numbers.{count_where, numbered}
-use Rattle.task_nursery.specs.Scope.{Begins, Refuses, Scope, with_child}
+use Rattle.task_nursery.specs.Scope.{ScopeBegins, Refuses, Scope, with_child}
 use Rattle.task_nursery.specs.declared.children.Child.{Child}
 use Rattle.task_nursery.specs.declared.children.Kept.{Kept}
 use Rattle.task_nursery.specs.declared.children.Kept.TheVariants as kept
@@ -24,21 +24,21 @@ less_or (suc a) zero = inr (omega arith)
 less_or (suc a) (suc b) = ⊎_elim (λ lt. inl (omega (arith, lt))) (λ le. inr (omega (arith, le))) (less_or a b)
 
 module _ {T H G : Type 0} (c : Component) (f : Func) (words : List ℕ) (n : Scope) (s : Store T H G) (r : Result Child NurseryError) (m : Scope) (t : Store T H G) (refuses : Refuses n s r m t)
-    (begins : n.closed ≡ false → count_where is_open_call n.children < n.limit → Begins c f words n s r m t) where
+    (begins : n.closed ≡ false → count_where is_open_call n.children < n.limit → ScopeBegins c f words n s r m t) where
   -- The store was asked, or the scope refused it, and the store is as before.
-  came : (b : Bool) → n.closed ≡ b → Begins c f words n s r m t ⊎ (((r ≡ Err errors.Closed) ⊎ (r ≡ Err errors.Full)) × (t ≡ s))
-  came true is = let turned = refuses.closed is in inr (inl turned.0, turned.1)
-  came false is = ⊎_elim (λ lt. inl (begins is lt)) (λ le. let turned = refuses.full is le in inr (inr turned.0, turned.1)) (less_or (count_where is_open_call n.children) n.limit)
+  op_result : (b : Bool) → n.closed ≡ b → ScopeBegins c f words n s r m t ⊎ (((r ≡ Err errors.Closed) ⊎ (r ≡ Err errors.Full)) × (t ≡ s))
+  op_result true is = let turned = refuses.closed is in inr (inl turned.0, turned.1)
+  op_result false is = ⊎_elim (λ lt. inl (begins is lt)) (λ le. let turned = refuses.full is le in inr (inr turned.0, turned.1)) (less_or (count_where is_open_call n.children) n.limit)
 
-  pub begun : (r ≡ Err errors.Closed → ⊥) → (r ≡ Err errors.Full → ⊥) → Begins c f words n s r m t
-  begun closed full = ⊎_elim (λ b. b) (λ turned. absurd (⊎_elim closed full turned.0)) (came n.closed refl)
+  pub begun : (r ≡ Err errors.Closed → ⊥) → (r ≡ Err errors.Full → ⊥) → ScopeBegins c f words n s r m t
+  begun closed full = ⊎_elim (λ b. b) (λ turned. absurd (⊎_elim closed full turned.0)) (op_result n.closed refl)
 
-  pub left_alone : (Begins c f words n s r m t → ⊥) → t ≡ s
-  left_alone none = ⊎_elim (λ b. absurd (none b)) (λ turned. turned.1) (came n.closed refl)
+  pub left_alone : (ScopeBegins c f words n s r m t → ⊥) → t ≡ s
+  left_alone none = ⊎_elim (λ b. absurd (none b)) (λ turned. turned.1) (op_result n.closed refl)
 
 -- a start that is neither refused by the store nor in want of memory begins nothing
 pub begins_none : {T H G : Type 0} (c : Component) (f : Func) (words : List ℕ) (n : Scope) (s : Store T H G) (e : NurseryError) (m : Scope) (t : Store T H G) → ((why : Trap) → e ≡ errors.Trap why → ⊥) → (e ≡ errors.NoMemory → ⊥) →
-    Begins c f words n s (Err e) m t → ⊥
+    ScopeBegins c f words n s (Err e) m t → ⊥
 begins_none c f words n s errors.NoMemory m t trap memory begins = memory refl
 begins_none c f words n s errors.Closed m t trap memory begins = begins
 begins_none c f words n s errors.Full m t trap memory begins = begins

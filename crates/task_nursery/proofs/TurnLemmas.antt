@@ -2,7 +2,7 @@
 use Rattle.futures.specs.declared.task.Poll.TheVariants.{Ready}
 use Rattle.std.proofs.Common.{ap, arith, refl, subst, sym, ◌∙◌}
 use Rattle.std.specs.Prelude.{List, None, Option, Some, [], is_some, option_and_then, slice_get, slice_set, suc, true, unwrap_or, zero, ℕ, ◌-◌, ◌∷◌, ◌≡◌}
-use Rattle.task_calls.specs.Calls.{Finishes}
+use Rattle.task_calls.specs.MainCalls.{Finishes}
 use Rattle.task_loop.specs.declared.call.Func.{Func}
 use Rattle.task_loop.specs.declared.call.FuncCallConcurrent.{FuncCallConcurrent}
 use Rattle.task_machine.specs.Core.{Core}

@@ -2,10 +2,10 @@
 use Rattle.std.specs.Prelude.{Bool, Err, IfSome, IsSome, List, None, Ok, OnErr, Option, Result, Some, [], false, length, slice_get, slice_set, true, ℕ, ◌++◌, ◌+◌, ◌-◌, ◌<◌, ◌^◌, ◌∷◌, ◌≡◌, ◌≤◌, ◌⊎◌}
 use Rattle.state_calls.specs.declared.error.TaskError.{TaskError}
 use Rattle.state_calls.specs.declared.error.TaskError.TheVariants as faults
-use Rattle.task_calls.specs.Calls.{Starts}
+use Rattle.task_calls.specs.MainCalls.{Starts}
 use Rattle.group_notices.specs.Moves.{finishes}
-use Rattle.task_group.specs.Listeners.{AnsweredErr, Told}
-use Rattle.task_loop.specs.Calls.{callee_of}
+use Rattle.task_group.specs.Listeners.{AnsweredErr, ToldListeners}
+use Rattle.task_loop.specs.LoopCalls.{callee_of}
 use Rattle.task_loop.specs.declared.call.Func.{Func}
 use Rattle.task_loop.specs.declared.call.FuncCallConcurrent.{FuncCallConcurrent}
 use Rattle.task_machine.specs.Core.{Core}
@@ -25,7 +25,7 @@ use Rattle.task_rules.specs.Notices.{told_of}
 use Rattle.task_rules.specs.Scripts.{export_at}
 use Rattle.task_machine.specs.declared.records.Turn.{Turn}
 use Rattle.task_words.specs.Groups.{IsAsked, asked}
-use Rattle.task_turns.specs.Turn.{Sits}
+use Rattle.task_turns.specs.Turn.{CoreInOrder}
 use Rattle.task_store.specs.Spawns.{Spawns}
 use Rattle.task_store.specs.declared.spawn.SpawnHandle.{SpawnHandle}
 use Rattle.task_store.specs.declared.store.Store.{Store}
@@ -60,7 +60,7 @@ with_child k n = record n { children = n.children ++ k ∷ [] }
 -- It is in order at each turn at which it was, each group that has ended was told of, if so it was, and nothing but the state and what is
 -- held of works is changed.
 pub record KeepsRest {T H G : Type 0} (s t : Store T H G) : Type 0 where
-  pub order : (c : Component) (p : Turn) → Sits c p s.state.core → Sits c p t.state.core
+  pub order : (c : Component) (p : Turn) → CoreInOrder c p s.state.core → CoreInOrder c p t.state.core
   pub asked : IsAsked s.state → IsAsked t.state
   pub rest : t ≡ record s { state = t.state; works = t.works }
 
@@ -89,21 +89,21 @@ StopsCall c f words s why t =
     (t.state ≡ asked (on_core set_trapped s.state))
 
 -- Else the store starts the call, which is a child more, or refuses it; or memory is wanting.
-abbrev pub Begins : {T H G : Type 0} → Component → Func → List ℕ → Scope → Store T H G → Result Child NurseryError → Scope → Store T H G →
+abbrev pub ScopeBegins : {T H G : Type 0} → Component → Func → List ℕ → Scope → Store T H G → Result Child NurseryError → Scope → Store T H G →
     Type 0
-Begins c f words n s (Ok child) m t =
+ScopeBegins c f words n s (Ok child) m t =
     (call : FuncCallConcurrent) × (m ≡ with_child (kept.Call f call) n) × (child.number ≡ length m.children) ×
     StartsCall c f words s call.thread t
-Begins c f words n s (Err (errors.Trap why)) m t = StopsCall c f words s (faults.Trap why) t
-Begins c f words n s (Err errors.NoMemory) m t = (t ≡ s) ⊎ StopsCall c f words s faults.NoMemory t
-Begins c f words n s (Err _) m t = ⊥
+ScopeBegins c f words n s (Err (errors.Trap why)) m t = StopsCall c f words s (faults.Trap why) t
+ScopeBegins c f words n s (Err errors.NoMemory) m t = (t ≡ s) ⊎ StopsCall c f words s faults.NoMemory t
+ScopeBegins c f words n s (Err _) m t = ⊥
 
 -- what was told of it to who listens to the store's groups
 abbrev pub TellsStart : {T H G : Type 0} → Result Child NurseryError → Store T H G → Store T H G → Type 0
 TellsStart (Ok child) s t =
-    Told (told_of notice.Start (s.state.core.made.groups + 1) ∷ []) s.listeners t.listeners ×
+    ToldListeners (told_of notice.Start (s.state.core.made.groups + 1) ∷ []) s.listeners t.listeners ×
     (AnsweredErr s.listeners t.listeners → ⊥)
-TellsStart (Err (errors.Trap why)) s t = Told (finishes s.state.tags.known) s.listeners t.listeners
+TellsStart (Err (errors.Trap why)) s t = ToldListeners (finishes s.state.tags.tracked) s.listeners t.listeners
 TellsStart (Err _) s t = Unit {0}
 
 -- the component has the export, which takes as many words
@@ -114,7 +114,7 @@ TakesWords c f words = IsSome (export_at c (callee_of f)) × IfSome (export_at c
 pub record BeginsChild {T H G : Type 0} (c : Component) (f : Func) (words : List ℕ) (n : Scope) (s : Store T H G)
     (result : Result Child NurseryError) (m : Scope) (t : Store T H G) : Type 0 where
   pub refuses : Refuses n s result m t
-  pub begins : n.closed ≡ false → count_where is_open_call n.children < n.limit → Begins c f words n s result m t
+  pub begins : n.closed ≡ false → count_where is_open_call n.children < n.limit → ScopeBegins c f words n s result m t
   pub told : IsAsked s.state → TellsStart result s t
   pub of : IsOf m t.state
 

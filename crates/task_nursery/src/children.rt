@@ -7,13 +7,13 @@ ghost use Rattle.task_nursery.specs.Children.{WasSpawned, aborted_by, ended, has
 ghost use Rattle.task_store.specs.Changes.{ChangesCore};
 ghost use Rattle.task_words.specs.Groups.{IsAsked};
 ghost use Rattle.task_store.specs.Hosts.{HoldsHosts};
-ghost use Rattle.task_turns.specs.Turn.{Sits};
+ghost use Rattle.task_turns.specs.Turn.{CoreInOrder};
 ghost use Rattle.task_words.specs.StateView.{on_core};
 
 use futures::task::Poll;
 use task_loop::{Func, FuncCallConcurrent};
 use task_store::{HostWork, SpawnHandle, Store};
-use task_words::ResultWords;
+use task_words::ResultPrimitives;
 
 /// A child of a nursery, by its number, from 1 in the order in which they were made.
 #[derive(Clone, Copy)]
@@ -83,7 +83,7 @@ impl Kept {
         ensures kept { self.new ≡ ended store.old.state.core self.old }
         ensures state { store.new.state ≡ on_core (left_by self.old) store.old.state }
         ensures rest { store.new ≡ record store.old { state = store.new.state } }
-        ensures order { (c : Component) (p : Turn) → Sits c p store.old.state.core → Sits c p store.new.state.core }
+        ensures order { (c : Component) (p : Turn) → CoreInOrder c p store.old.state.core → CoreInOrder c p store.new.state.core }
         ensures groups { IsAsked store.old.state → IsAsked store.new.state }
         ensures hosts { (course : H → HostDef) → HoldsHosts course store.old → HoldsHosts course store.new }
     {
@@ -103,7 +103,7 @@ impl Kept {
         requires spawned { WasSpawned self.now store.old.state }
         requires hosts { HoldsHosts H.course store.old }
         ensures state { ChangesCore (aborted_by self.now) store.old store.new }
-        ensures order { (c : Component) (p : Turn) → Sits c p store.old.state.core → Sits c p store.new.state.core }
+        ensures order { (c : Component) (p : Turn) → CoreInOrder c p store.old.state.core → CoreInOrder c p store.new.state.core }
         ensures hosts { HoldsHosts H.course store.new }
     {
         if let Kept::Work(work) = self {

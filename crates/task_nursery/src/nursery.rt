@@ -10,7 +10,7 @@ ghost use Rattle.task_nursery.specs.Numbers.{first_among, first_where, numbered,
 ghost use Rattle.task_nursery.specs.Scope.{AreOf, BeginsChild, EndsChild, IsOf, KeepsRest, SpawnsChild, Tallies, TakesWords, aborted_at, all_aborted, refusal_of, those_aborted};
 ghost use Rattle.task_store.specs.Changes.{ChangesCore};
 ghost use Rattle.task_store.specs.Hosts.{HoldsHosts, WorksNumbered};
-ghost use Rattle.task_turns.specs.Turn.{Sits, given};
+ghost use Rattle.task_turns.specs.Turn.{CoreInOrder, given};
 ghost use Rattle.task_turns.specs.WellFormed.{IsWellFormed};
 ghost use Rattle.task_words.specs.Groups.{IsAsked};
 
@@ -21,7 +21,7 @@ use std::marker::Model;
 use task_loop::{Component, Func, TaskError};
 use task_machine::Trap;
 use task_store::{AccessorTask, HostWork, Store};
-use task_words::ResultWords;
+use task_words::ResultPrimitives;
 
 /// Why a nursery takes no further child.
 #[derive(Clone, Copy)]
@@ -155,7 +155,7 @@ fn abort_at<T, H: HostWork>(children: &[Kept], number: u32, store: &mut Store<T,
     requires hosts { HoldsHosts H.course store.old }
     ensures state { ChangesCore (aborted_at (numbered children.now number)) store.old store.new }
     ensures of { AreOf children.now store.new.state }
-    ensures order { (c : Component) (p : Turn) → Sits c p store.old.state.core → Sits c p store.new.state.core }
+    ensures order { (c : Component) (p : Turn) → CoreInOrder c p store.old.state.core → CoreInOrder c p store.new.state.core }
     ensures hosts { HoldsHosts H.course store.new }
 {
     match kept_at(children, number) {
@@ -170,7 +170,7 @@ fn abort_all<T, H: HostWork>(children: &[Kept], running: &[u32], store: &mut Sto
     requires hosts { HoldsHosts H.course store.old }
     ensures state { ChangesCore (those_aborted (numbered children.now) running.now) store.old store.new }
     ensures of { AreOf children.now store.new.state }
-    ensures order { (c : Component) (p : Turn) → Sits c p store.old.state.core → Sits c p store.new.state.core }
+    ensures order { (c : Component) (p : Turn) → CoreInOrder c p store.old.state.core → CoreInOrder c p store.new.state.core }
     ensures hosts { HoldsHosts H.course store.new }
 {
     let mut at = 0;
@@ -233,7 +233,7 @@ impl Nursery {
     ) -> Result<Child, NurseryError>
         requires covered { IsWellFormed component.now }
         requires takes { TakesWords component.now func (length params.now) }
-        requires order { (p : Turn) × Sits component.now p store.old.state.core }
+        requires order { (p : Turn) × CoreInOrder component.now p store.old.state.core }
         requires given { given store.old.state.core < 2 ^ 61 }
         requires few { length self.old.children < 4294967295 }
         requires of { IsOf self.old store.old.state }
@@ -294,7 +294,7 @@ impl Nursery {
         ensures closed { self.new ≡ record self.old { closed = true } }
         ensures state { ChangesCore (all_aborted self.old.children) store.old store.new }
         ensures of { IsOf self.new store.new.state }
-        ensures order { (c : Component) (p : Turn) → Sits c p store.old.state.core → Sits c p store.new.state.core }
+        ensures order { (c : Component) (p : Turn) → CoreInOrder c p store.old.state.core → CoreInOrder c p store.new.state.core }
         ensures groups { IsAsked store.old.state → IsAsked store.new.state }
         ensures hosts { HoldsHosts H.course store.new }
     {

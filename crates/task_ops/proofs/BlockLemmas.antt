@@ -32,7 +32,7 @@ use Rattle.task_machine.specs.declared.words.Mark.TheVariants as mark
 use Rattle.task_machine.specs.declared.words.Status.{Status}
 use Rattle.task_machine.specs.declared.words.Status.TheVariants as status
 use Rattle.task_moves.proofs.TellLemmas.{end_quiet, result_quiet}
-use Rattle.task_ops.specs.Wakes.{WaitersTogether, is_of, wakes_in}
+use Rattle.task_ops.specs.OpWakes.{WaitersTogether, is_of, wakes_in}
 use Rattle.task_rules.proofs.CheckLemmas.{blocking_check, enter_passes, given_keeps, put_passes, reopens_passes, returned_keeps, returned_told, same_passes}
 use Rattle.task_rules.proofs.Machine.{Move}
 use Rattle.task_rules.proofs.PlacingLemmas.{placing_shifted, shifted_instance}

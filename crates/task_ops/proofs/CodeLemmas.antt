@@ -8,30 +8,30 @@ use Rattle.task_wait.specs.declared.keys.SetKey.{SetKey}
 use Rattle.task_wait.specs.declared.keys.ThreadKey.{ThreadKey}
 use Rattle.task_machine.specs.Core.{Core}
 use Rattle.task_machine.specs.Moves.{checked, ended, put_high, put_low}
-use Rattle.task_machine.specs.Read.{foot_of, instance_of, own_event_of, set_at, task_of}
-use Rattle.task_machine.specs.Write.{set_own_event, set_place}
+use Rattle.task_machine.specs.Read.{foot_of, instance_of, task_event_of, set_at, task_of}
+use Rattle.task_machine.specs.Write.{set_task_event, set_place}
 use Rattle.task_machine.specs.declared.label.Label.{Label}
 use Rattle.task_machine.specs.declared.records.Delivery.TheVariants as delivery
 use Rattle.task_machine.specs.declared.records.Place.TheVariants as place
 use Rattle.task_machine.specs.declared.records.Why.TheVariants as why
 use Rattle.task_machine.specs.declared.trap.Trap.TheVariants as trap
-use Rattle.task_machine.specs.declared.words.OwnEvent.{OwnEvent}
-use Rattle.task_machine.specs.declared.words.OwnEvent.TheVariants as own_event
-use Rattle.task_ops.specs.Came.{Meets}
+use Rattle.task_machine.specs.declared.words.TaskEvent.{TaskEvent}
+use Rattle.task_machine.specs.declared.words.TaskEvent.TheVariants as task_event
+use Rattle.task_ops.specs.OpResult.{Implements}
 use Rattle.task_ops.specs.Reopens.{InSomeOrder}
 use Rattle.task_ops.specs.Running.{IsRunning}
-use Rattle.task_ops.specs.declared.came.Came.{Came}
-use Rattle.task_ops.specs.declared.came.Came.TheVariants as came
+use Rattle.task_ops.specs.declared.op_result.OpResult.{OpResult}
+use Rattle.task_ops.specs.declared.op_result.OpResult.TheVariants as op_result
 use Rattle.task_ops.proofs.ExitLemmas.{reopened_stand}
 use Rattle.task_ops.proofs.RunLemmas.{own_apart, own_unqueued, stands_on}
-use Rattle.task_moves.proofs.UntouchedLemmas.{set_own_event_untouched}
+use Rattle.task_moves.proofs.UntouchedLemmas.{set_task_event_untouched}
 use Rattle.task_ops.proofs.BesideLemmas.{checked_stand, quiet_stand, stopped_stand}
-use Rattle.task_rules.specs.Ends.{code_exits, code_finds, code_kind_row, code_row, code_stops, code_wait_row, code_waits, code_yields, has_event_for, held_by_flag, leaves_no_result, own_or_none, passes_after_stop}
+use Rattle.task_rules.specs.Ends.{code_exits, code_finds, code_kind_rule, code_rule, code_stops, code_wait_rule, code_waits, code_yields, has_event_for, held_by_flag, leaves_no_result, own_or_none, passes_after_stop}
 use Rattle.task_rules.specs.Progress.{Ordered, Progress, Stops, or_trap, trap_if}
 use Rattle.task_words.specs.Apart.{IsApart, IsUnqueued}
 use Rattle.task_words.specs.StateView.{StateView, call_of, on_core, set_of, thread_of}
 
-pub some_or_none : (o : Option OwnEvent) → Some (unwrap_or o own_event.None) ≡ own_or_none o
+pub some_or_none : (o : Option TaskEvent) → Some (unwrap_or o task_event.None) ≡ own_or_none o
 some_or_none None = refl
 some_or_none (Some e) = refl
 
@@ -56,12 +56,12 @@ module _ (n : TableId ThreadKey) where
       let run = reopened_stands r t (subst (λ (v : StateView). IsRunning (thread_of v n) v.core) (sym same) st) o in
       own_apart (thread_of u n) place.Running u.core (stands_on n place.Running (checked i) t u e (checked_stand (thread_of t n) place.Running i t.core run))
 
-  exit_row_is : (l : Label) (m rest : ℕ) (held : List ℕ) (c : Core) → passes_after_stop (instance_of m c) (foot_of m c) held c ≡ true → leaves_no_result m c ≡ false → code_kind_row l m held c zero rest ≡ Ordered held (λ order. Stops l (code_exits m order c))
-  exit_row_is l m rest held c passes leaves =
+  exit_rule_is : (l : Label) (m rest : ℕ) (held : List ℕ) (c : Core) → passes_after_stop (instance_of m c) (foot_of m c) held c ≡ true → leaves_no_result m c ≡ false → code_kind_rule l m held c zero rest ≡ Ordered held (λ order. Stops l (code_exits m order c))
+  exit_rule_is l m rest held c passes leaves =
       ap (λ b. trap_if (not b) trap.CannotBlockSyncTask (trap_if (leaves_no_result m c) trap.NoAsyncResult (Ordered held (λ order. Stops l (code_exits m order c))))) passes
       ∙ ap (λ b. trap_if b trap.NoAsyncResult (Ordered held (λ order. Stops l (code_exits m order c)))) leaves
 
-  pub code_exits_meets : (f i : ℕ) (l : Label) (b d : Bool) (s r t u x : StateView) → r ≡ s → i ≡ instance_of (thread_of s n) s.core → f ≡ foot_of (thread_of s n) s.core → b ≡ passes_after_stop i f (held_by_flag i s.core) s.core → b ≡ true → d ≡ leaves_no_result (thread_of r n) r.core → d ≡ false → Reopened n r t → u ≡ on_core (checked i) t → x.core ≡ ended (thread_of u n) u.core → (rest : ℕ) → Meets (code_kind_row l (thread_of s n) (held_by_flag (instance_of (thread_of s n) s.core) s.core) s.core zero rest) s.core (came.Stops l) x.core
+  pub code_exits_meets : (f i : ℕ) (l : Label) (b d : Bool) (s r t u x : StateView) → r ≡ s → i ≡ instance_of (thread_of s n) s.core → f ≡ foot_of (thread_of s n) s.core → b ≡ passes_after_stop i f (held_by_flag i s.core) s.core → b ≡ true → d ≡ leaves_no_result (thread_of r n) r.core → d ≡ false → Reopened n r t → u ≡ on_core (checked i) t → x.core ≡ ended (thread_of u n) u.core → (rest : ℕ) → Implements (code_kind_rule l (thread_of s n) (held_by_flag (instance_of (thread_of s n) s.core) s.core) s.core zero rest) s.core (op_result.Stops l) x.core
   unfolding code_exits
   code_exits_meets f i l b d s r t u x same at foot passes passed leaves left was e out rest =
       let N = thread_of s n in
@@ -70,26 +70,26 @@ module _ (n : TableId ThreadKey) where
       let passes_is = sym (ap₂ (λ (j g : ℕ). passes_after_stop j g (held_by_flag j s.core) s.core) at foot) ∙ (sym passes ∙ passed) in
       let leaves_is = ap (λ (v : StateView). leaves_no_result (thread_of v n) v.core) (sym same) ∙ (sym leaves ∙ left) in
       let core = out ∙ (ap (λ (v : StateView). ended (thread_of v n) v.core) e ∙ (ap (λ (v : StateView). ended (thread_of v n) (checked i v.core)) o.1.1 ∙ ap (λ (j : ℕ). ended N (checked j (code_stops N o.0 s.core))) at)) in
-      subst (λ (p : Progress). Meets p s.core (came.Stops l) x.core) (sym (exit_row_is l N rest (held_by_flag I s.core) s.core passes_is leaves_is)) (o.0, (o.1.0, (refl, core)))
+      subst (λ (p : Progress). Implements p s.core (op_result.Stops l) x.core) (sym (exit_rule_is l N rest (held_by_flag I s.core) s.core passes_is leaves_is)) (o.0, (o.1.0, (refl, core)))
 
   -- ---- Code 1
 
-  pub owned_unqueued : (k : ℕ) (e : Option OwnEvent) (s t u : StateView) → IsRunning (thread_of s n) s.core → Reopened n s t → u ≡ on_core (set_own_event k e) t → IsUnqueued (thread_of u n) u.core
+  pub owned_unqueued : (k : ℕ) (e : Option TaskEvent) (s t u : StateView) → IsRunning (thread_of s n) s.core → Reopened n s t → u ≡ on_core (set_task_event k e) t → IsUnqueued (thread_of u n) u.core
   owned_unqueued k e s t u st o d =
-      own_unqueued (thread_of u n) place.Running u.core (stands_on n place.Running (set_own_event k e) t u d (quiet_stand (thread_of t n) place.Running [] t.core _ (set_own_event_untouched k e t.core) (reopened_stands s t st o)))
+      own_unqueued (thread_of u n) place.Running u.core (stands_on n place.Running (set_task_event k e) t u d (quiet_stand (thread_of t n) place.Running [] t.core _ (set_task_event_untouched k e t.core) (reopened_stands s t st o)))
 
-  pub code_yields_meets : (k : TableId GuestTaskKey) (event : Option OwnEvent) (l : Label) (s t u x : StateView) → call_of s k ≡ task_of (thread_of s n) s.core → event ≡ own_or_none (own_event_of (call_of s k) s.core) → Reopened n s t → u ≡ on_core (set_own_event (call_of t k) event) t → x ≡ on_core (put_low (thread_of u n) (why.Delivery delivery.Yield)) u → (rest : ℕ) → Meets (code_kind_row l (thread_of s n) (held_by_flag (instance_of (thread_of s n) s.core) s.core) s.core (suc zero) rest) s.core (came.Stops l) x.core
+  pub code_yields_meets : (k : TableId GuestTaskKey) (event : Option TaskEvent) (l : Label) (s t u x : StateView) → call_of s k ≡ task_of (thread_of s n) s.core → event ≡ own_or_none (task_event_of (call_of s k) s.core) → Reopened n s t → u ≡ on_core (set_task_event (call_of t k) event) t → x ≡ on_core (put_low (thread_of u n) (why.Delivery delivery.Yield)) u → (rest : ℕ) → Implements (code_kind_rule l (thread_of s n) (held_by_flag (instance_of (thread_of s n) s.core) s.core) s.core (suc zero) rest) s.core (op_result.Stops l) x.core
   unfolding code_yields
   code_yields_meets k event l s t u x task own o e d rest =
       let N = thread_of s n in
       let w = why.Delivery delivery.Yield in
-      let core = ap (λ (v : StateView). v.core) d ∙ (ap (λ (v : StateView). put_low (thread_of v n) w v.core) e ∙ (ap (λ (v : StateView). put_low (thread_of v n) w (set_own_event (call_of v k) event v.core)) o.1.1
-      ∙ (ap (λ (y : Option OwnEvent). put_low N w (set_own_event (call_of s k) y (code_stops N o.0 s.core))) own ∙ ap (λ (j : ℕ). put_low N w (set_own_event j (own_or_none (own_event_of j s.core)) (code_stops N o.0 s.core))) task))) in
+      let core = ap (λ (v : StateView). v.core) d ∙ (ap (λ (v : StateView). put_low (thread_of v n) w v.core) e ∙ (ap (λ (v : StateView). put_low (thread_of v n) w (set_task_event (call_of v k) event v.core)) o.1.1
+      ∙ (ap (λ (y : Option TaskEvent). put_low N w (set_task_event (call_of s k) y (code_stops N o.0 s.core))) own ∙ ap (λ (j : ℕ). put_low N w (set_task_event j (own_or_none (task_event_of j s.core)) (code_stops N o.0 s.core))) task))) in
       (o.0, (o.1.0, (refl, core)))
 
   -- ---- Code 2
 
-  pub code_waits_meets : (k : TableId GuestTaskKey) (id : TableId SetKey) (i h : ℕ) (b finds : Bool) (l : Label) (new : ℕ → List ℕ → Core → Core) (s t x : StateView) → i ≡ instance_of (thread_of s n) s.core → Some (set_of s id) ≡ set_at i h s.core → call_of s k ≡ task_of (thread_of s n) s.core → b ≡ has_event_for (call_of s k) (set_of s id) s.core → b ≡ finds → ((y : ℕ) (held : List ℕ) (c : Core) → code_wait_row l (thread_of s n) y held c finds ≡ Ordered held (λ order. Stops l (new y order c))) → ((o : Reopened n s t) → x.core ≡ new (set_of s id) o.0 s.core) → Reopened n s t → Meets (code_kind_row l (thread_of s n) (held_by_flag (instance_of (thread_of s n) s.core) s.core) s.core (suc (suc zero)) h) s.core (came.Stops l) x.core
+  pub code_waits_meets : (k : TableId GuestTaskKey) (id : TableId SetKey) (i h : ℕ) (b finds : Bool) (l : Label) (new : ℕ → List ℕ → Core → Core) (s t x : StateView) → i ≡ instance_of (thread_of s n) s.core → Some (set_of s id) ≡ set_at i h s.core → call_of s k ≡ task_of (thread_of s n) s.core → b ≡ has_event_for (call_of s k) (set_of s id) s.core → b ≡ finds → ((y : ℕ) (held : List ℕ) (c : Core) → code_wait_rule l (thread_of s n) y held c finds ≡ Ordered held (λ order. Stops l (new y order c))) → ((o : Reopened n s t) → x.core ≡ new (set_of s id) o.0 s.core) → Reopened n s t → Implements (code_kind_rule l (thread_of s n) (held_by_flag (instance_of (thread_of s n) s.core) s.core) s.core (suc (suc zero)) h) s.core (op_result.Stops l) x.core
   code_waits_meets k id i h b finds l new s t x at names task event found row core o =
       let N = thread_of s n in
       let I = instance_of N s.core in
@@ -97,9 +97,9 @@ module _ (n : TableId ThreadKey) where
       let held = held_by_flag I s.core in
       let set = sym (ap (λ (j : ℕ). set_at j h s.core) at) ∙ sym names in
       let finds_is = sym (ap (λ (j : ℕ). has_event_for j X s.core) task) ∙ (sym event ∙ found) in
-      let row_is = ap (λ (y : Option ℕ). or_trap y trap.BadHandle (λ z. code_wait_row l N z held s.core (has_event_for (task_of N s.core) z s.core))) set
-      ∙ (ap (λ (c : Bool). code_wait_row l N X held s.core c) finds_is ∙ row X held s.core) in
-      subst (λ (p : Progress). Meets p s.core (came.Stops l) x.core) (sym row_is) (o.0, (o.1.0, (refl, core o)))
+      let row_is = ap (λ (y : Option ℕ). or_trap y trap.BadHandle (λ z. code_wait_rule l N z held s.core (has_event_for (task_of N s.core) z s.core))) set
+      ∙ (ap (λ (c : Bool). code_wait_rule l N X held s.core c) finds_is ∙ row X held s.core) in
+      subst (λ (p : Progress). Implements p s.core (op_result.Stops l) x.core) (sym row_is) (o.0, (o.1.0, (refl, core o)))
 
   pub finds_core : (id : TableId SetKey) (s t x : StateView) → x ≡ on_core (put_high (thread_of t n) (why.Delivery (delivery.Set (set_of t id)))) t → (o : Reopened n s t) → x.core ≡ code_finds (thread_of s n) (set_of s id) o.0 s.core
   unfolding code_finds
@@ -112,8 +112,8 @@ module _ (n : TableId ThreadKey) where
 below_bound : (code : ℕ) → code ≤ 4294967295 → nat_lt 4294967295 code ≡ false
 below_bound code small = grind (arith, nat_tests)
 
-pub by_code : (l : Label) (n code k : ℕ) (s t : Core) (r : Came) → code ≤ 4294967295 → code % 16 ≡ k → Meets (code_kind_row l n (held_by_flag (instance_of n s) s) s k (code / 16)) s r t → Meets (code_row l n s code) s r t
+pub by_code : (l : Label) (n code k : ℕ) (s t : Core) (r : OpResult) → code ≤ 4294967295 → code % 16 ≡ k → Implements (code_kind_rule l n (held_by_flag (instance_of n s) s) s k (code / 16)) s r t → Implements (code_rule l n s code) s r t
 by_code l n code k s t r small low h =
-    let row_is = ap (λ b. trap_if b trap.UnsupportedCallbackCode (code_kind_row l n (held_by_flag (instance_of n s) s) s (code % 16) (code / 16))) (below_bound code small)
-    ∙ ap (λ j. code_kind_row l n (held_by_flag (instance_of n s) s) s j (code / 16)) low in
-    subst (λ (p : Progress). Meets p s r t) (sym row_is) h
+    let row_is = ap (λ b. trap_if b trap.UnsupportedCallbackCode (code_kind_rule l n (held_by_flag (instance_of n s) s) s (code % 16) (code / 16))) (below_bound code small)
+    ∙ ap (λ j. code_kind_rule l n (held_by_flag (instance_of n s) s) s j (code / 16)) low in
+    subst (λ (p : Progress). Implements p s r t) (sym row_is) h

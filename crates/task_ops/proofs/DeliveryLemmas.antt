@@ -17,18 +17,18 @@ use Rattle.task_machine.specs.declared.records.Why.{Why}
 use Rattle.task_machine.specs.declared.records.Why.TheVariants as why
 use Rattle.task_machine.specs.declared.words.Given.{Given}
 use Rattle.task_machine.specs.declared.words.Mark.{Mark}
-use Rattle.task_ops.specs.Came.{Meets}
-use Rattle.task_ops.specs.Gifts.{gift_in, handle_in, member_in}
+use Rattle.task_ops.specs.OpResult.{Implements}
+use Rattle.task_ops.specs.PickedEvents.{picked_event_in, handle_in, member_in}
 use Rattle.task_ops.specs.Running.{IsTaken}
-use Rattle.task_ops.specs.declared.gifts.Gift.{Gift}
-use Rattle.task_ops.specs.declared.gifts.Gift.TheVariants as gifts
+use Rattle.task_ops.specs.declared.picked_events.PickedEvent.{PickedEvent}
+use Rattle.task_ops.specs.declared.picked_events.PickedEvent.TheVariants as picked_events
 use Rattle.task_ops.proofs.BesideLemmas.{stopped_stand}
-use Rattle.task_rules.specs.Progress.{Goes, Progress, may, or_never}
+use Rattle.task_rules.specs.Progress.{Continues, Progress, may, or_never}
 use Rattle.task_rules.specs.Takes.{activated, activated_woken, delivered, own_delivered, set_delivered, take_holds}
 use Rattle.task_words.specs.StateView.{StateView, Tags, on_core, thread_of, with_core}
 use Rattle.task_ops.specs.Shown.{goes_as}
 use Rattle.task_ops.specs.Steps.{label_of}
-use Rattle.task_ops.specs.declared.came.Came.{Came}
+use Rattle.task_ops.specs.declared.op_result.OpResult.{OpResult}
 
 why_kept : (n f : ℕ) (w : Why) (s : Core) → IsTaken n w s → why_of n (stopped f s) ≡ why_of n s
 why_kept n f w s taken = ap (λ (o : Option Place). option_map_or ready_why o why.Resumption) ((stopped_stand n (place.Ready taken.0 w) f s taken.1).here ∙ sym taken.1.here)
@@ -41,34 +41,34 @@ held_is n f w s t u taken foot e d =
     ∙ (ap (λ (v : Why). with_core (set_place N (place.Held v) (stopped (thread_of s f) s.core)) s) (why_kept N (thread_of s f) w s.core taken)
     ∙ ap (λ (g : ℕ). with_core (set_place N (place.Held (why_of N s.core)) (stopped g s.core)) s) foot))
 
-pub own_meets : (n : TableId ThreadKey) (m : Mark) (k j : ℕ) (r : Came) (g : Gift) (v : Given) (s t : StateView) → k ≡ task_of (thread_of s n) s.core → j ≡ thread_of s n → gift_in s.tags g ≡ moves.own_gift_only k s.core → handle_in g ≡ None → v ≡ moves.given_for (gift_in s.tags g) (unwrap_or (handle_in g) 0) s.core → r ≡ goes_as (event_label m j v None) j → t ≡ on_core (activated (thread_of s n) (gift_in s.tags g) v) s → Meets (own_delivered m (thread_of s n) s.core (moves.own_gift_only (task_of (thread_of s n) s.core) s.core)) s.core r t.core
+pub own_meets : (n : TableId ThreadKey) (m : Mark) (k j : ℕ) (r : OpResult) (g : PickedEvent) (v : Given) (s t : StateView) → k ≡ task_of (thread_of s n) s.core → j ≡ thread_of s n → picked_event_in s.tags g ≡ moves.picked_task_event_only k s.core → handle_in g ≡ None → v ≡ moves.given_for (picked_event_in s.tags g) (unwrap_or (handle_in g) 0) s.core → r ≡ goes_as (event_label m j v None) j → t ≡ on_core (activated (thread_of s n) (picked_event_in s.tags g) v) s → Implements (own_delivered m (thread_of s n) s.core (moves.picked_task_event_only (task_of (thread_of s n) s.core) s.core)) s.core r t.core
 own_meets n m k j r g v s t task number own none is shown e =
     let N = thread_of s n in
-    let G = moves.own_gift_only (task_of N s.core) s.core in
-    let gift_is = own ∙ ap (λ (q : ℕ). moves.own_gift_only q s.core) task in
-    let given = is ∙ (ap (λ (o : Option ℕ). moves.given_for (gift_in s.tags g) (unwrap_or o 0) s.core) none ∙ ap (λ (y : moves.Gift). moves.given_for y 0 s.core) gift_is) in (
+    let G = moves.picked_task_event_only (task_of N s.core) s.core in
+    let picked_event_is = own ∙ ap (λ (q : ℕ). moves.picked_task_event_only q s.core) task in
+    let given = is ∙ (ap (λ (o : Option ℕ). moves.given_for (picked_event_in s.tags g) (unwrap_or o 0) s.core) none ∙ ap (λ (y : moves.PickedEvent). moves.given_for y 0 s.core) picked_event_is) in (
       shown ∙ ap₂ (λ (q : ℕ) (y : Given). goes_as (event_label m q y None) q) number given,
-      ap (λ (y : StateView). y.core) e ∙ ap₂ (λ (y : moves.Gift) (z : Given). activated N y z s.core) gift_is given,
+      ap (λ (y : StateView). y.core) e ∙ ap₂ (λ (y : moves.PickedEvent) (z : Given). activated N y z s.core) picked_event_is given,
     )
 
 -- ---- A delivery for a set that wakes another waiter
 
-delivered_is : (m : Mark) (n x w : ℕ) (tags : Tags) (g : Gift) (v : Given) (s : Core) → moves.gift true (task_of n s) x (member_in tags g) s ≡ Some (gift_in tags g) → v ≡ moves.given_for (gift_in tags g) (unwrap_or (handle_in g) 0) s → may_hand_on x (gift_in tags g) (Some w) s ≡ true → delivered m n (choice_of (event_label m n v (Some w))) s (delivery.Set x) ≡ Goes (event_label m n v (Some w)) (activated_woken n x (Some w) (gift_in tags g) v s) n
+delivered_is : (m : Mark) (n x w : ℕ) (tags : Tags) (g : PickedEvent) (v : Given) (s : Core) → moves.picked_event true (task_of n s) x (member_in tags g) s ≡ Some (picked_event_in tags g) → v ≡ moves.given_for (picked_event_in tags g) (unwrap_or (handle_in g) 0) s → may_hand_on x (picked_event_in tags g) (Some w) s ≡ true → delivered m n (choice_of (event_label m n v (Some w))) s (delivery.Set x) ≡ Continues (event_label m n v (Some w)) (activated_woken n x (Some w) (picked_event_in tags g) v s) n
 unfolding may_hand_on
-delivered_is m n x w tags (gifts.Own e) v s given is hands =
+delivered_is m n x w tags (picked_events.Own e) v s given is hands =
     ap (λ o. or_never o (set_delivered m n x (choice_of (event_label m n v (Some w))) s)) given
-    ∙ (ap (λ b. may b (Goes (event_label m n (moves.given_for (moves.OwnGift e) 0 s) (Some w)) (activated_woken n x (Some w) (moves.OwnGift e) (moves.given_for (moves.OwnGift e) 0 s) s) n)) hands
-    ∙ ap (λ (y : Given). Goes (event_label m n y (Some w)) (activated_woken n x (Some w) (moves.OwnGift e) y s) n) (sym is))
-delivered_is m n x w tags (gifts.Member sub k) v s given is hands = absurd (subst T (sym hands) tt)
-delivered_is m n x w tags gifts.Nothing v s given is hands = absurd (subst T (sym hands) tt)
+    ∙ (ap (λ b. may b (Continues (event_label m n (moves.given_for (moves.PickedTaskEvent e) 0 s) (Some w)) (activated_woken n x (Some w) (moves.PickedTaskEvent e) (moves.given_for (moves.PickedTaskEvent e) 0 s) s) n)) hands
+    ∙ ap (λ (y : Given). Continues (event_label m n y (Some w)) (activated_woken n x (Some w) (moves.PickedTaskEvent e) y s) n) (sym is))
+delivered_is m n x w tags (picked_events.Member sub k) v s given is hands = absurd (subst T (sym hands) tt)
+delivered_is m n x w tags picked_events.Nothing v s given is hands = absurd (subst T (sym hands) tt)
 
-pub set_meets : (n : TableId ThreadKey) (m : Mark) (x k j w o : ℕ) (r : Came) (g : Gift) (v : Given) (s t u : StateView) → r ≡ goes_as (event_label m j v (Some o)) j → k ≡ task_of (thread_of s n) s.core → j ≡ thread_of s n → o ≡ w → moves.gift true k x (member_in s.tags g) s.core ≡ Some (gift_in s.tags g) → v ≡ moves.given_for (gift_in s.tags g) (unwrap_or (handle_in g) 0) s.core → may_hand_on x (gift_in s.tags g) (Some w) s.core ≡ true → t ≡ on_core (handed_on x (gift_in s.tags g) (Some w)) s → u ≡ on_core (activated (thread_of t n) (gift_in t.tags g) v) t → Meets (delivered m (thread_of s n) (choice_of (label_of (thread_of s n) r)) s.core (delivery.Set x)) s.core r u.core
+pub set_meets : (n : TableId ThreadKey) (m : Mark) (x k j w o : ℕ) (r : OpResult) (g : PickedEvent) (v : Given) (s t u : StateView) → r ≡ goes_as (event_label m j v (Some o)) j → k ≡ task_of (thread_of s n) s.core → j ≡ thread_of s n → o ≡ w → moves.picked_event true k x (member_in s.tags g) s.core ≡ Some (picked_event_in s.tags g) → v ≡ moves.given_for (picked_event_in s.tags g) (unwrap_or (handle_in g) 0) s.core → may_hand_on x (picked_event_in s.tags g) (Some w) s.core ≡ true → t ≡ on_core (handed_on x (picked_event_in s.tags g) (Some w)) s → u ≡ on_core (activated (thread_of t n) (picked_event_in t.tags g) v) t → Implements (delivered m (thread_of s n) (choice_of (label_of (thread_of s n) r)) s.core (delivery.Set x)) s.core r u.core
 unfolding activated_woken
 set_meets n m x k j w o r g v s t u shown task number woken given is hands e d =
     let N = thread_of s n in
-    let row = delivered_is m N x w s.tags g v s.core (ap (λ (q : ℕ). moves.gift true q x (member_in s.tags g) s.core) (sym task) ∙ given) is hands in
-    let core = ap (λ (y : StateView). y.core) d ∙ ap (λ (y : StateView). activated (thread_of y n) (gift_in y.tags g) v y.core) e in
-    subst (λ (y : Came). Meets (delivered m N (choice_of (label_of N y)) s.core (delivery.Set x)) s.core y u.core) (sym shown)
-    (subst (λ (q : ℕ). Meets (delivered m N (choice_of (event_label m q v (Some o))) s.core (delivery.Set x)) s.core (goes_as (event_label m q v (Some o)) q) u.core) (sym number)
-    (subst (λ (q : ℕ). Meets (delivered m N (choice_of (event_label m N v (Some q))) s.core (delivery.Set x)) s.core (goes_as (event_label m N v (Some q)) N) u.core) (sym woken)
-    (subst (λ (p : Progress). Meets p s.core (goes_as (event_label m N v (Some w)) N) u.core) (sym row) (refl, core))))
+    let row = delivered_is m N x w s.tags g v s.core (ap (λ (q : ℕ). moves.picked_event true q x (member_in s.tags g) s.core) (sym task) ∙ given) is hands in
+    let core = ap (λ (y : StateView). y.core) d ∙ ap (λ (y : StateView). activated (thread_of y n) (picked_event_in y.tags g) v y.core) e in
+    subst (λ (y : OpResult). Implements (delivered m N (choice_of (label_of N y)) s.core (delivery.Set x)) s.core y u.core) (sym shown)
+    (subst (λ (q : ℕ). Implements (delivered m N (choice_of (event_label m q v (Some o))) s.core (delivery.Set x)) s.core (goes_as (event_label m q v (Some o)) q) u.core) (sym number)
+    (subst (λ (q : ℕ). Implements (delivered m N (choice_of (event_label m N v (Some q))) s.core (delivery.Set x)) s.core (goes_as (event_label m N v (Some q)) N) u.core) (sym woken)
+    (subst (λ (p : Progress). Implements p s.core (goes_as (event_label m N v (Some w)) N) u.core) (sym row) (refl, core))))

@@ -14,7 +14,7 @@ pub mod TellingLemmas
 pub mod MainLemmas
 pub mod SwitchLemmas
 pub mod LeaveLemmas
-pub mod GiftLemmas
+pub mod PickedEventLemmas
 pub mod PollLemmas
 pub mod WaitLemmas
 pub mod DeliveryLemmas

@@ -1,28 +1,28 @@
 -- An op that meets its row is a step.
 use Rattle.std.proofs.Common.{refl, subst, sym}
 use Rattle.std.specs.Prelude.{Option, ℕ, ◌≡◌}
-use Rattle.task_ops.specs.Came.{Meets}
+use Rattle.task_ops.specs.OpResult.{Implements}
 use Rattle.task_ops.specs.Steps.{ActingIsStep, MeetingIsStep, TakingIsStep, core_after, label_of, main_after, main_label_of, turn_after}
-use Rattle.task_ops.specs.declared.came.Came.{Came}
+use Rattle.task_ops.specs.declared.op_result.OpResult.{OpResult}
 use Rattle.task_machine.specs.Core.{Core, Main, MainPlace, State}
 use Rattle.task_machine.specs.declared.records.Turn.{Turn}
 use Rattle.task_machine.specs.Labels.{choice_of}
-use Rattle.task_rules.specs.Progress.{Asks, Fails, Goes, Never, Ordered, Progress, Stops, Traps}
+use Rattle.task_rules.specs.Progress.{Asks, Fails, Continues, Never, Ordered, Progress, Stops, Traps}
 use Rattle.task_rules.specs.Step.{MainProgresses, MainStep, Progresses, ScriptStep, Step, TakeStep, TurnStep, did, entry_number}
-use Rattle.task_rules.specs.Takes.{popped, take_row}
+use Rattle.task_rules.specs.Takes.{popped, take_rule}
 use Rattle.task_rules.specs.Turns.{goes_to}
-use Rattle.task_rules.specs.MainOps.{Answers, Does, MainProgress, Pends, act_of, line_of, main_row}
-use Rattle.task_ops.specs.Acted.{MainMeets}
+use Rattle.task_rules.specs.MainOps.{Answers, Does, MainProgress, Pends, act_of, line_of, main_rule}
+use Rattle.task_ops.specs.Acted.{MainImplements}
 use Rattle.task_ops.specs.declared.mains.Acted.{Acted}
 use Rattle.task_machine.specs.declared.records.Entry.{Entry}
 use Rattle.task_machine.specs.declared.scenario.MainOpDef.{MainOpDef}
 use Rattle.task_machine.specs.declared.words.Mark.{Mark}
 
-came_as : (s : State) (base : Core) (n : ℕ) (p : Progress) (r q : Came) (t u : Core) → r ≡ q → t ≡ u → Progresses s base n p (label_of n q) (goes_to s (core_after n q u) (turn_after q)) → Progresses s base n p (label_of n r) (goes_to s (core_after n r t) (turn_after r))
-came_as s base n p r q t u e d h = subst (λ (v : Came). Progresses s base n p (label_of n v) (goes_to s (core_after n v t) (turn_after v))) (sym e) (subst (λ (v : Core). Progresses s base n p (label_of n q) (goes_to s (core_after n q v) (turn_after q))) (sym d) h)
+came_as : (s : State) (base : Core) (n : ℕ) (p : Progress) (r q : OpResult) (t u : Core) → r ≡ q → t ≡ u → Progresses s base n p (label_of n q) (goes_to s (core_after n q u) (turn_after q)) → Progresses s base n p (label_of n r) (goes_to s (core_after n r t) (turn_after r))
+came_as s base n p r q t u e d h = subst (λ (v : OpResult). Progresses s base n p (label_of n v) (goes_to s (core_after n v t) (turn_after v))) (sym e) (subst (λ (v : Core). Progresses s base n p (label_of n q) (goes_to s (core_after n q v) (turn_after q))) (sym d) h)
 
-meets_progresses : (s : State) (base : Core) (n : ℕ) (p : Progress) (r : Came) (t : Core) → Meets p base r t → Progresses s base n p (label_of n r) (goes_to s (core_after n r t) (turn_after r))
-meets_progresses s base n (Goes l new m) r t h = came_as s base n (Goes l new m) r _ t _ h.0 h.1 (refl, refl)
+meets_progresses : (s : State) (base : Core) (n : ℕ) (p : Progress) (r : OpResult) (t : Core) → Implements p base r t → Progresses s base n p (label_of n r) (goes_to s (core_after n r t) (turn_after r))
+meets_progresses s base n (Continues l new m) r t h = came_as s base n (Continues l new m) r _ t _ h.0 h.1 (refl, refl)
 meets_progresses s base n (Stops l new) r t h = came_as s base n (Stops l new) r _ t _ h.0 h.1 (refl, refl)
 meets_progresses s base n (Traps why) r t h = came_as s base n (Traps why) r _ t _ h.0 h.1 (refl, refl)
 meets_progresses s base n (Fails i) r t h = came_as s base n (Fails i) r _ t _ h.0 h.1 (refl, refl)
@@ -39,7 +39,7 @@ unfolding Step
 taking_is_step x s ended e r t at next h =
     let l = label_of (entry_number e.1) r in
     let u = goes_to s (core_after (entry_number e.1) r t) (turn_after r) in
-    let taken = meets_progresses s (popped e.0 s.core) (entry_number e.1) (take_row e.0 (choice_of l) (popped e.0 s.core) e.1) r t h in
+    let taken = meets_progresses s (popped e.0 s.core) (entry_number e.1) (take_rule e.0 (choice_of l) (popped e.0 s.core) e.1) r t h in
     subst (λ (y : Turn). TurnStep x s y l u) (sym at) (subst (λ (o : Option (Mark × Entry)). TakeStep x s o l u) (sym next) taken)
 
 -- ---- Main
@@ -47,7 +47,7 @@ taking_is_step x s ended e r t at next h =
 acted_as : (s : State) (p : MainPlace) (o : MainOpDef) (g : MainProgress) (r q : Acted) (t u : Core) → r ≡ q → t ≡ u → MainProgresses s p o g (main_label_of q) (main_after s p o q u) → MainProgresses s p o g (main_label_of r) (main_after s p o r t)
 acted_as s p o g r q t u e d h = subst (λ (v : Acted). MainProgresses s p o g (main_label_of v) (main_after s p o v t)) (sym e) (subst (λ (v : Core). MainProgresses s p o g (main_label_of q) (main_after s p o q v)) (sym d) h)
 
-acted_progresses : (s : State) (p : MainPlace) (o : MainOpDef) (g : MainProgress) (r : Acted) (t : Core) → MainMeets g s.core r t → MainProgresses s p o g (main_label_of r) (main_after s p o r t)
+acted_progresses : (s : State) (p : MainPlace) (o : MainOpDef) (g : MainProgress) (r : Acted) (t : Core) → MainImplements g s.core r t → MainProgresses s p o g (main_label_of r) (main_after s p o r t)
 acted_progresses s p o (Does l new) r t h = acted_as s p o (Does l new) r _ t _ h.0 h.1 (refl, refl)
 acted_progresses s p o Pends r t h = acted_as s p o Pends r _ t _ h.0 h.1 (refl, refl)
 acted_progresses s p o (Answers v) r t h = acted_as s p o (Answers v) r _ t _ h.0 h.1 (refl, refl)
@@ -57,4 +57,4 @@ unfolding Step
 acting_is_step x s p o r t at main op h =
     let l = main_label_of r in
     let u = main_after s p o r t in
-    subst (λ (y : Turn). TurnStep x s y l u) (sym at) (subst (λ (m : Main). MainStep x s m l u) (sym main) (subst (λ (q : Option MainOpDef). ScriptStep x s p q l u) (sym op) (acted_progresses s p o (main_row x.component (line_of p o) s.core (act_of p o)) r t h)))
+    subst (λ (y : Turn). TurnStep x s y l u) (sym at) (subst (λ (m : Main). MainStep x s m l u) (sym main) (subst (λ (q : Option MainOpDef). ScriptStep x s p q l u) (sym op) (acted_progresses s p o (main_rule x.component (line_of p o) s.core (act_of p o)) r t h)))

@@ -12,11 +12,11 @@ use Rattle.task_machine.specs.declared.label.Label.TheVariants as label
 use Rattle.task_machine.specs.declared.label.SetLabel.TheVariants as set_label
 use Rattle.task_machine.specs.declared.trap.Trap.TheVariants as trap
 use Rattle.task_machine.specs.declared.words.Given.{Given}
-use Rattle.task_ops.specs.Came.{Meets}
-use Rattle.task_ops.specs.Gifts.{AllMembersNamed, IsNamedIn, MembersNamed, gift_in, handle_in, member_in}
-use Rattle.task_ops.specs.declared.gifts.Gift.{Gift}
-use Rattle.task_ops.specs.declared.gifts.Gift.TheVariants as gifts
-use Rattle.task_rules.specs.Progress.{Goes, Progress, or_never, or_trap}
+use Rattle.task_ops.specs.OpResult.{Implements}
+use Rattle.task_ops.specs.PickedEvents.{AllMembersNamed, IsNamedIn, MembersNamed, picked_event_in, handle_in, member_in}
+use Rattle.task_ops.specs.declared.picked_events.PickedEvent.{PickedEvent}
+use Rattle.task_ops.specs.declared.picked_events.PickedEvent.TheVariants as picked_events
+use Rattle.task_rules.specs.Progress.{Continues, Progress, or_never, or_trap}
 use Rattle.task_rules.specs.Finish.{Doer, OneEvent, finish}
 use Rattle.task_rules.specs.Sets.{chosen, poll_rule, poll_takes_by, received_by}
 use Rattle.task_words.specs.StateView.{StateView, Tags, on_core, set_of, thread_of}
@@ -24,25 +24,25 @@ use Rattle.task_ops.specs.Shown.{goes_as}
 
 -- ---- What was chosen
 
-pub chosen_is : (n : ℕ) (tags : Tags) (g : Gift) (ch : Choice) (s : Core) → IsNamedIn (instance_of n s) tags g s → ch.member ≡ handle_in g → chosen n ch s ≡ member_in tags g
-chosen_is n tags (gifts.Own e) ch s named is = ap (option_and_then (λ h. subtask_at (instance_of n s) h s)) is
-chosen_is n tags (gifts.Member sub h) ch s named is = ap (option_and_then (λ h. subtask_at (instance_of n s) h s)) is ∙ named
-chosen_is n tags gifts.Nothing ch s named is = ap (option_and_then (λ h. subtask_at (instance_of n s) h s)) is
+pub chosen_is : (n : ℕ) (tags : Tags) (g : PickedEvent) (ch : Choice) (s : Core) → IsNamedIn (instance_of n s) tags g s → ch.member ≡ handle_in g → chosen n ch s ≡ member_in tags g
+chosen_is n tags (picked_events.Own e) ch s named is = ap (option_and_then (λ h. subtask_at (instance_of n s) h s)) is
+chosen_is n tags (picked_events.Member sub h) ch s named is = ap (option_and_then (λ h. subtask_at (instance_of n s) h s)) is ∙ named
+chosen_is n tags picked_events.Nothing ch s named is = ap (option_and_then (λ h. subtask_at (instance_of n s) h s)) is
 
-poll_is : (n : ℕ) (r : Doer) (h x : ℕ) (tags : Tags) (g : Gift) (v : Given) (ch : Choice) (s : Core) → set_at (instance_of n s) h s ≡ Some x → IsNamedIn (instance_of n s) tags g s → moves.gift false (task_of n s) x (member_in tags g) s ≡ Some (gift_in tags g) → ch.member ≡ handle_in g → v ≡ moves.given_for (gift_in tags g) (unwrap_or (handle_in g) 0) s → poll_rule r n h ch s ≡ Goes (label.Set (set_label.Poll v n)) (received_by r n (gift_in tags g) v s) n
+poll_is : (n : ℕ) (r : Doer) (h x : ℕ) (tags : Tags) (g : PickedEvent) (v : Given) (ch : Choice) (s : Core) → set_at (instance_of n s) h s ≡ Some x → IsNamedIn (instance_of n s) tags g s → moves.picked_event false (task_of n s) x (member_in tags g) s ≡ Some (picked_event_in tags g) → ch.member ≡ handle_in g → v ≡ moves.given_for (picked_event_in tags g) (unwrap_or (handle_in g) 0) s → poll_rule r n h ch s ≡ Continues (label.Set (set_label.Poll v n)) (received_by r n (picked_event_in tags g) v s) n
 poll_is n r h x tags g v ch s at named given member is =
-    ap (λ o. or_trap o trap.BadHandle (λ y. or_never (moves.gift false (task_of n s) y (chosen n ch s) s) (poll_takes_by r n ch s))) at
-    ∙ (ap (λ o. or_never (moves.gift false (task_of n s) x o s) (poll_takes_by r n ch s)) (chosen_is n tags g ch s named member)
+    ap (λ o. or_trap o trap.BadHandle (λ y. or_never (moves.picked_event false (task_of n s) y (chosen n ch s) s) (poll_takes_by r n ch s))) at
+    ∙ (ap (λ o. or_never (moves.picked_event false (task_of n s) x o s) (poll_takes_by r n ch s)) (chosen_is n tags g ch s named member)
     ∙ (ap (λ o. or_never o (poll_takes_by r n ch s)) given
-    ∙ ap (λ (w : Given). Goes (label.Set (set_label.Poll w n)) (received_by r n (gift_in tags g) w s) n) (ap (λ o. moves.given_for (gift_in tags g) (unwrap_or o 0) s) member ∙ sym is)))
+    ∙ ap (λ (w : Given). Continues (label.Set (set_label.Poll w n)) (received_by r n (picked_event_in tags g) w s) n) (ap (λ o. moves.given_for (picked_event_in tags g) (unwrap_or o 0) s) member ∙ sym is)))
 
-pub poll_meets : (n : TableId ThreadKey) (id : TableId SetKey) (r : Doer) (h i k m : ℕ) (g : Gift) (v : Given) (s t : StateView) → i ≡ instance_of (thread_of s n) s.core → k ≡ task_of (thread_of s n) s.core → m ≡ thread_of s n → Some (set_of s id) ≡ set_at i h s.core → IsNamedIn i s.tags g s.core → moves.gift false k (set_of s id) (member_in s.tags g) s.core ≡ Some (gift_in s.tags g) → handle_given v ≡ handle_in g → v ≡ moves.given_for (gift_in s.tags g) (unwrap_or (handle_in g) 0) s.core → t ≡ on_core (moves.taken (gift_in s.tags g) k) s → Meets (poll_rule r (thread_of s n) h (choice_of (label.Set (set_label.Poll v m))) s.core) s.core (goes_as (label.Set (set_label.Poll v m)) m) (finish r (thread_of s n) (OneEvent v) t.core)
+pub poll_meets : (n : TableId ThreadKey) (id : TableId SetKey) (r : Doer) (h i k m : ℕ) (g : PickedEvent) (v : Given) (s t : StateView) → i ≡ instance_of (thread_of s n) s.core → k ≡ task_of (thread_of s n) s.core → m ≡ thread_of s n → Some (set_of s id) ≡ set_at i h s.core → IsNamedIn i s.tags g s.core → moves.picked_event false k (set_of s id) (member_in s.tags g) s.core ≡ Some (picked_event_in s.tags g) → handle_given v ≡ handle_in g → v ≡ moves.given_for (picked_event_in s.tags g) (unwrap_or (handle_in g) 0) s.core → t ≡ on_core (moves.taken (picked_event_in s.tags g) k) s → Implements (poll_rule r (thread_of s n) h (choice_of (label.Set (set_label.Poll v m))) s.core) s.core (goes_as (label.Set (set_label.Poll v m)) m) (finish r (thread_of s n) (OneEvent v) t.core)
 poll_meets n id r h i k m g v s t at task is names named given member out e =
     let N = thread_of s n in
-    subst (λ (p : Progress). Meets p s.core (goes_as (label.Set (set_label.Poll v m)) m) (finish r N (OneEvent v) t.core))
-    (sym (poll_is N r h (set_of s id) s.tags g v (choice_of (label.Set (set_label.Poll v m))) s.core (sym (names ∙ ap (λ (j : ℕ). set_at j h s.core) at)) (subst (λ (j : ℕ). IsNamedIn j s.tags g s.core) at named) (ap (λ (j : ℕ). moves.gift false j (set_of s id) (member_in s.tags g) s.core) (sym task) ∙ given) member out)) (
+    subst (λ (p : Progress). Implements p s.core (goes_as (label.Set (set_label.Poll v m)) m) (finish r N (OneEvent v) t.core))
+    (sym (poll_is N r h (set_of s id) s.tags g v (choice_of (label.Set (set_label.Poll v m))) s.core (sym (names ∙ ap (λ (j : ℕ). set_at j h s.core) at)) (subst (λ (j : ℕ). IsNamedIn j s.tags g s.core) at named) (ap (λ (j : ℕ). moves.picked_event false j (set_of s id) (member_in s.tags g) s.core) (sym task) ∙ given) member out)) (
       ap (λ (j : ℕ). goes_as (label.Set (set_label.Poll v j)) j) is,
-      ap (λ (y : StateView). finish r N (OneEvent v) y.core) e ∙ ap (λ (j : ℕ). finish r N (OneEvent v) (moves.taken (gift_in s.tags g) j s.core)) task,
+      ap (λ (y : StateView). finish r N (OneEvent v) y.core) e ∙ ap (λ (j : ℕ). finish r N (OneEvent v) (moves.taken (picked_event_in s.tags g) j s.core)) task,
     )
 
 -- the members of the set that was named are named

@@ -3,7 +3,7 @@ use Rattle.std.proofs.Common.{ap, ap₂, arith, cond, refl, subst, sym, ◌∙�
 use Rattle.std.proofs.lemmas.Bool.Decides.{nat_tests}
 use Rattle.std.proofs.lemmas.List.Sorted.{IsPermutation-refl}
 use Rattle.std.specs.Prelude.{◌&&◌, Bool, IsPermutation, List, [], false, filter, None, Option, option_and_then, Some, suc, true, zero, ℕ, ◌+◌, ◌-◌, ◌==◌, ◌<◌, ◌≡◌, ◌∷◌}
-use Rattle.task_laws.specs.Wakes.{NoneAdmitted}
+use Rattle.task_laws.specs.WakeLaw.{NoneAdmitted}
 use Rattle.task_table.specs.declared.id.TableId.{TableId}
 use Rattle.task_wait.specs.declared.keys.ThreadKey.{ThreadKey}
 use Rattle.task_machine.proofs.CommuteLemmas.{get-change}
@@ -18,7 +18,7 @@ use Rattle.task_machine.specs.declared.records.Place.{Place}
 use Rattle.task_machine.specs.declared.records.Place.TheVariants as place
 use Rattle.task_machine.specs.declared.records.Why.{Why}
 use Rattle.task_machine.specs.declared.records.Why.TheVariants as why
-use Rattle.task_ops.specs.Came.{Meets}
+use Rattle.task_ops.specs.OpResult.{Implements}
 use Rattle.task_ops.proofs.RunLemmas.{stands_on}
 use Rattle.task_moves.proofs.UntouchedLemmas.{on_instance_untouched}
 use Rattle.task_ops.proofs.BesideLemmas.{all_of, quiet_stand}
@@ -94,23 +94,23 @@ released_none i s none = ([], (subst (λ l. IsPermutation l []) (sym none) (IsPe
 same_came : (m n : ℕ) → m ≡ n → goes_as (label.Task (task_label.BpDec m)) m ≡ goes_as (label.Task (task_label.BpDec n)) n
 same_came m n e = ap (λ (k : ℕ). goes_as (label.Task (task_label.BpDec k)) k) e
 
-opening_is : (d : Doer) (n m : ℕ) (order : List ℕ) (s : Core) → backpressure_of (instance_of n s) s ≡ 1 → IsPermutation (held_by_counter (instance_of n s) s) order → m ≡ n → Meets (dec_rule d n s) s (goes_as (label.Task (task_label.BpDec m)) m) (finish d n NoAnswer (pressure_gone n order s))
-opening_is d n m order s one held is = subst (λ (b : ℕ). Meets (dec_by d n s b) s (goes_as (label.Task (task_label.BpDec m)) m) (finish d n NoAnswer (pressure_gone n order s))) (sym one) (order, (held, (same_came m n is, refl)))
+opening_is : (d : Doer) (n m : ℕ) (order : List ℕ) (s : Core) → backpressure_of (instance_of n s) s ≡ 1 → IsPermutation (held_by_counter (instance_of n s) s) order → m ≡ n → Implements (dec_rule d n s) s (goes_as (label.Task (task_label.BpDec m)) m) (finish d n NoAnswer (pressure_gone n order s))
+opening_is d n m order s one held is = subst (λ (b : ℕ). Implements (dec_by d n s b) s (goes_as (label.Task (task_label.BpDec m)) m) (finish d n NoAnswer (pressure_gone n order s))) (sym one) (order, (held, (same_came m n is, refl)))
 
-pub opening_meets : (n : TableId ThreadKey) (f : Doer) (i c k m : ℕ) (s t u : StateView) → i ≡ instance_of (thread_of s n) s.core → c ≡ backpressure_of i s.core → c ≡ 1 → k ≡ 0 → m ≡ thread_of s n → t ≡ on_core (set_backpressure i k) s → Opened i t u → Meets (dec_rule f (thread_of s n) s.core) s.core (goes_as (label.Task (task_label.BpDec m)) m) (finish f (thread_of s n) NoAnswer u.core)
+pub opening_meets : (n : TableId ThreadKey) (f : Doer) (i c k m : ℕ) (s t u : StateView) → i ≡ instance_of (thread_of s n) s.core → c ≡ backpressure_of i s.core → c ≡ 1 → k ≡ 0 → m ≡ thread_of s n → t ≡ on_core (set_backpressure i k) s → Opened i t u → Implements (dec_rule f (thread_of s n) s.core) s.core (goes_as (label.Task (task_label.BpDec m)) m) (finish f (thread_of s n) NoAnswer u.core)
 unfolding pressure_gone held_by_counter
 opening_meets n f i c k m s t u at count one none is e o =
     let N = thread_of s n in
     let I = instance_of N s.core in
     let held = ap (λ (w : StateView). admitted_held i w.core) e ∙ ap₂ (λ (j b : ℕ). admitted_held j (set_backpressure j b s.core)) at none in
     let core = ap (λ (w : StateView). finish f N NoAnswer w.core) o.1.1 ∙ (ap (λ (w : StateView). finish f N NoAnswer (released o.0 w.core)) e ∙ ap₂ (λ (j b : ℕ). finish f N NoAnswer (released o.0 (set_backpressure j b s.core))) at none) in
-    subst (λ (x : Core). Meets (dec_rule f N s.core) s.core (goes_as (label.Task (task_label.BpDec m)) m) x) (sym core)
+    subst (λ (x : Core). Implements (dec_rule f N s.core) s.core (goes_as (label.Task (task_label.BpDec m)) m) x) (sym core)
     (opening_is f N m o.0 s.core (ap (λ (j : ℕ). backpressure_of j s.core) (sym at) ∙ (sym count ∙ one)) (subst (λ (l : List ℕ). IsPermutation l o.0) held o.1.0) is)
 
-lowering_is : (d : Doer) (n m c : ℕ) (s : Core) → backpressure_of (instance_of n s) s ≡ suc (suc c) → m ≡ n → Meets (dec_rule d n s) s (goes_as (label.Task (task_label.BpDec m)) m) (finish d n NoAnswer (pressure_lowered n s))
-lowering_is d n m c s more is = subst (λ (b : ℕ). Meets (dec_by d n s b) s (goes_as (label.Task (task_label.BpDec m)) m) (finish d n NoAnswer (pressure_lowered n s))) (sym more) (same_came m n is, refl)
+lowering_is : (d : Doer) (n m c : ℕ) (s : Core) → backpressure_of (instance_of n s) s ≡ suc (suc c) → m ≡ n → Implements (dec_rule d n s) s (goes_as (label.Task (task_label.BpDec m)) m) (finish d n NoAnswer (pressure_lowered n s))
+lowering_is d n m c s more is = subst (λ (b : ℕ). Implements (dec_by d n s b) s (goes_as (label.Task (task_label.BpDec m)) m) (finish d n NoAnswer (pressure_lowered n s))) (sym more) (same_came m n is, refl)
 
-pub lowering_meets : (n : TableId ThreadKey) (f : Doer) (i c m : ℕ) (s t : StateView) → i ≡ instance_of (thread_of s n) s.core → c ≡ backpressure_of i s.core → (c ≡ 0 → ⊥) → (c ≡ 1 → ⊥) → m ≡ thread_of s n → t ≡ on_core (set_backpressure i (c - 1)) s → Meets (dec_rule f (thread_of s n) s.core) s.core (goes_as (label.Task (task_label.BpDec m)) m) (finish f (thread_of s n) NoAnswer t.core)
+pub lowering_meets : (n : TableId ThreadKey) (f : Doer) (i c m : ℕ) (s t : StateView) → i ≡ instance_of (thread_of s n) s.core → c ≡ backpressure_of i s.core → (c ≡ 0 → ⊥) → (c ≡ 1 → ⊥) → m ≡ thread_of s n → t ≡ on_core (set_backpressure i (c - 1)) s → Implements (dec_rule f (thread_of s n) s.core) s.core (goes_as (label.Task (task_label.BpDec m)) m) (finish f (thread_of s n) NoAnswer t.core)
 unfolding pressure_lowered
 lowering_meets n f i zero m s t at count some more is e = absurd (some refl)
 lowering_meets n f i (suc zero) m s t at count some more is e = absurd (more refl)
@@ -118,4 +118,4 @@ lowering_meets n f i (suc (suc c)) m s t at count some more is e =
     let N = thread_of s n in
     let here : backpressure_of (instance_of N s.core) s.core ≡ suc (suc c) = ap (λ (j : ℕ). backpressure_of j s.core) (sym at) ∙ sym count in
     let core = ap (λ (w : StateView). finish f N NoAnswer w.core) e ∙ ap₂ (λ (j b : ℕ). finish f N NoAnswer (set_backpressure j (b - 1) s.core)) at (sym here) in
-    subst (λ (x : Core). Meets (dec_rule f N s.core) s.core (goes_as (label.Task (task_label.BpDec m)) m) x) (sym core) (lowering_is f N m c s.core here is)
+    subst (λ (x : Core). Implements (dec_rule f N s.core) s.core (goes_as (label.Task (task_label.BpDec m)) m) x) (sym core) (lowering_is f N m c s.core here is)

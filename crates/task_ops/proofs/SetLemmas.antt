@@ -10,9 +10,9 @@ use Rattle.task_machine.specs.declared.label.Label.TheVariants as label
 use Rattle.task_machine.specs.declared.label.SetLabel.TheVariants as set_label
 use Rattle.task_machine.specs.declared.records.Named.TheVariants as named
 use Rattle.task_machine.specs.declared.trap.Trap.TheVariants as trap
-use Rattle.task_ops.specs.Came.{Meets}
+use Rattle.task_ops.specs.OpResult.{Implements}
 use Rattle.task_rules.specs.Finish.{Doer, NoAnswer, OneNumber, finish}
-use Rattle.task_rules.specs.Progress.{Goes, Progress, or_trap, trap_if}
+use Rattle.task_rules.specs.Progress.{Continues, Progress, or_trap, trap_if}
 use Rattle.task_rules.specs.Sets.{set_closed, set_drop_by, set_drop_rule, set_new_rule, set_opened}
 use Rattle.task_ops.specs.Works.{KeepsTold}
 use Rattle.task_words.specs.StateView.{KeepsBut, StateView, lost_set, thread_of}
@@ -26,19 +26,19 @@ with_set i s = give_handle i (named.Set (s.made.sets + 1)) (add_set (record { in
 abbrev set_made : Doer → ℕ → Core → Core
 set_made d n s = finish d n (OneNumber (new_handle (instance_of n s) s)) (set_opened n s)
 
-new_row_is : (d : Doer) (n : ℕ) (s : Core) → fits 1 s ≡ true → at_handle_limit s ≡ false → set_new_rule d n s ≡ Goes (label.Set (set_label.New (new_handle (instance_of n s) s) n)) (set_made d n s) n
-new_row_is d n s room limit =
-    ap (λ b. trap_if (not b) trap.TableFull (trap_if (at_handle_limit s) trap.HandleLimit (Goes (label.Set (set_label.New (new_handle (instance_of n s) s) n)) (set_made d n s) n))) room
-    ∙ ap (λ b. trap_if b trap.HandleLimit (Goes (label.Set (set_label.New (new_handle (instance_of n s) s) n)) (set_made d n s) n)) limit
+new_rule_is : (d : Doer) (n : ℕ) (s : Core) → fits 1 s ≡ true → at_handle_limit s ≡ false → set_new_rule d n s ≡ Continues (label.Set (set_label.New (new_handle (instance_of n s) s) n)) (set_made d n s) n
+new_rule_is d n s room limit =
+    ap (λ b. trap_if (not b) trap.TableFull (trap_if (at_handle_limit s) trap.HandleLimit (Continues (label.Set (set_label.New (new_handle (instance_of n s) s) n)) (set_made d n s) n))) room
+    ∙ ap (λ b. trap_if b trap.HandleLimit (Continues (label.Set (set_label.New (new_handle (instance_of n s) s) n)) (set_made d n s) n)) limit
 
-pub set_new_meets : (n : TableId ThreadKey) (r : Doer) (i h m : ℕ) (s t : StateView) → fits 1 s.core ≡ true → at_handle_limit s.core ≡ false → i ≡ instance_of (thread_of s n) s.core → h ≡ new_handle i s.core → m ≡ thread_of s n → t.core ≡ with_set i s.core → Meets (set_new_rule r (thread_of s n) s.core) s.core (goes_as (label.Set (set_label.New h m)) m) (finish r (thread_of s n) (OneNumber h) t.core)
+pub set_new_meets : (n : TableId ThreadKey) (r : Doer) (i h m : ℕ) (s t : StateView) → fits 1 s.core ≡ true → at_handle_limit s.core ≡ false → i ≡ instance_of (thread_of s n) s.core → h ≡ new_handle i s.core → m ≡ thread_of s n → t.core ≡ with_set i s.core → Implements (set_new_rule r (thread_of s n) s.core) s.core (goes_as (label.Set (set_label.New h m)) m) (finish r (thread_of s n) (OneNumber h) t.core)
 unfolding set_opened
 set_new_meets n r i h m s t room limit at handle is e =
     let N = thread_of s n in
     let I = instance_of N s.core in
     let core = ap (λ (c : Core). finish r N (OneNumber h) c) e ∙ ap₂ (λ (j g : ℕ). finish r N (OneNumber g) (with_set j s.core)) at (handle ∙ ap (λ (j : ℕ). new_handle j s.core) at) in
     let label_is = ap₂ (λ (k g : ℕ). goes_as (label.Set (set_label.New g k)) k) is (handle ∙ ap (λ (j : ℕ). new_handle j s.core) at) in
-    subst (λ (p : Progress). Meets p s.core (goes_as (label.Set (set_label.New h m)) m) (finish r N (OneNumber h) t.core)) (sym (new_row_is r N s.core room limit)) (label_is, core)
+    subst (λ (p : Progress). Implements p s.core (goes_as (label.Set (set_label.New h m)) m) (finish r N (OneNumber h) t.core)) (sym (new_rule_is r N s.core room limit)) (label_is, core)
 
 -- ---- A set dropped
 
@@ -54,17 +54,17 @@ works_kept x s t keeps = (λ id live. keeps.works id (λ e. absurd (none (subst 
     none : ◌<◌ 0 0 → ⊥
     none h = omega (arith, h)
 
-drop_row_is : (d : Doer) (n h x : ℕ) (s : Core) → set_at (instance_of n s) h s ≡ Some x → has_waiters x s ≡ false → has_member x s ≡ false → set_drop_rule d n h s ≡ Goes (label.Set (set_label.Drop n)) (finish d n NoAnswer (set_closed n h x s)) n
-drop_row_is d n h x s at waiters members =
+drop_rule_is : (d : Doer) (n h x : ℕ) (s : Core) → set_at (instance_of n s) h s ≡ Some x → has_waiters x s ≡ false → has_member x s ≡ false → set_drop_rule d n h s ≡ Continues (label.Set (set_label.Drop n)) (finish d n NoAnswer (set_closed n h x s)) n
+drop_rule_is d n h x s at waiters members =
     ap (λ (o : Option ℕ). or_trap o trap.BadHandle (set_drop_by d n h s)) at
-    ∙ (ap (λ b. trap_if b trap.WaitableSetDropHasWaiters (trap_if (has_member x s) trap.TableHasChildren (Goes (label.Set (set_label.Drop n)) (finish d n NoAnswer (set_closed n h x s)) n))) waiters
-    ∙ ap (λ b. trap_if b trap.TableHasChildren (Goes (label.Set (set_label.Drop n)) (finish d n NoAnswer (set_closed n h x s)) n)) members)
+    ∙ (ap (λ b. trap_if b trap.WaitableSetDropHasWaiters (trap_if (has_member x s) trap.TableHasChildren (Continues (label.Set (set_label.Drop n)) (finish d n NoAnswer (set_closed n h x s)) n))) waiters
+    ∙ ap (λ b. trap_if b trap.TableHasChildren (Continues (label.Set (set_label.Drop n)) (finish d n NoAnswer (set_closed n h x s)) n)) members)
 
-pub set_drop_meets : (n : TableId ThreadKey) (d : Doer) (i h x m : ℕ) (s t : StateView) → i ≡ instance_of (thread_of s n) s.core → Some x ≡ set_at i h s.core → has_waiters x s.core ≡ false → has_member x s.core ≡ false → m ≡ thread_of s n → t.core ≡ remove_set x (free_handle i h s.core) → Meets (set_drop_rule d (thread_of s n) h s.core) s.core (goes_as (label.Set (set_label.Drop m)) m) (finish d (thread_of s n) NoAnswer t.core)
+pub set_drop_meets : (n : TableId ThreadKey) (d : Doer) (i h x m : ℕ) (s t : StateView) → i ≡ instance_of (thread_of s n) s.core → Some x ≡ set_at i h s.core → has_waiters x s.core ≡ false → has_member x s.core ≡ false → m ≡ thread_of s n → t.core ≡ remove_set x (free_handle i h s.core) → Implements (set_drop_rule d (thread_of s n) h s.core) s.core (goes_as (label.Set (set_label.Drop m)) m) (finish d (thread_of s n) NoAnswer t.core)
 unfolding set_closed
 set_drop_meets n d i h x m s t at names waiters members is e =
     let N = thread_of s n in
     let core = ap (λ (c : Core). finish d N NoAnswer c) e ∙ ap (λ (j : ℕ). finish d N NoAnswer (remove_set x (free_handle j h s.core))) at in
-    subst (λ (p : Progress). Meets p s.core (goes_as (label.Set (set_label.Drop m)) m) (finish d N NoAnswer t.core))
-    (sym (drop_row_is d N h x s.core (ap (λ (j : ℕ). set_at j h s.core) (sym at) ∙ sym names) waiters members))
+    subst (λ (p : Progress). Implements p s.core (goes_as (label.Set (set_label.Drop m)) m) (finish d N NoAnswer t.core))
+    (sym (drop_rule_is d N h x s.core (ap (λ (j : ℕ). set_at j h s.core) (sym at) ∙ sym names) waiters members))
     (ap (λ (k : ℕ). goes_as (label.Set (set_label.Drop k)) k) is, core)

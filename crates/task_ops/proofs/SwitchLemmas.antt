@@ -8,7 +8,7 @@ use Rattle.task_machine.specs.Core.{Core}
 use Rattle.task_machine.specs.Write.{add_thread}
 use Rattle.task_machine.specs.Maps.{get}
 use Rattle.task_machine.specs.Moves.{promoted_unless, put_switch}
-use Rattle.task_machine.specs.Read.{at_handle_limit, call_instance, fits, how_far_of, instance_of, is_explicit, is_ready_to_resume, is_yielded, new_thread_handle, place_of, task_of, thread_at}
+use Rattle.task_machine.specs.Read.{at_handle_limit, call_instance, fits, op_progress_of, instance_of, is_explicit, is_ready_to_resume, is_yielded, new_thread_handle, place_of, task_of, thread_at}
 use Rattle.task_machine.specs.declared.seq.Seq.{Seq}
 use Rattle.task_machine.specs.declared.component.Slot.{Slot}
 use Rattle.task_machine.specs.declared.component.Slot.TheVariants as slot
@@ -24,12 +24,12 @@ use Rattle.task_machine.specs.declared.records.Why.{Why}
 use Rattle.task_machine.specs.declared.trap.Trap.{Trap}
 use Rattle.task_machine.specs.declared.trap.Trap.TheVariants as trap
 use Rattle.task_machine.specs.declared.words.Mark.{Mark}
-use Rattle.task_ops.specs.Came.{Meets}
+use Rattle.task_ops.specs.OpResult.{Implements}
 use Rattle.task_ops.specs.Ended.{ended}
 use Rattle.task_ops.specs.Halting.{ComesFirst, First, GoesFirst, Refused, StaysBehind, halts_then, or_refused, promoted_first, promoted_found, promoted_if, refused_if, resumed_first, resumed_found}
 use Rattle.task_ops.specs.Running.{IsRunning}
-use Rattle.task_ops.specs.declared.came.Came.{Came}
-use Rattle.task_ops.specs.declared.came.Came.TheVariants as came
+use Rattle.task_ops.specs.declared.op_result.OpResult.{OpResult}
+use Rattle.task_ops.specs.declared.op_result.OpResult.TheVariants as op_result
 use Rattle.task_rules.specs.Calls.{new_thread, next_thread, with_thread_handle}
 use Rattle.task_rules.specs.Finish.{Doer, OneNumber, SomeHost, finish}
 use Rattle.task_rules.specs.Scripts.{registers_for}
@@ -37,8 +37,8 @@ use Rattle.task_ops.proofs.BesideLemmas.{promoted_unless_stand, put_switch_good}
 use Rattle.task_rules.proofs.MoveLemmas.{is_parked}
 use Rattle.task_rules.proofs.StandLemmas.{by_number}
 use Rattle.task_rules.specs.Cancels.{pauses}
-use Rattle.task_rules.specs.Progress.{Goes, Progress, Stops, or_trap, trap_if}
-use Rattle.task_rules.specs.Threads.{Halt, halt_rule, halted, halted_promoting, halted_resuming, has_yielded, resume_at, resume_why, then_promote_by, then_promote_found_by, then_promote_rule, then_resume_found, then_resume_row, thread_added, thread_new_label, thread_new_rule}
+use Rattle.task_rules.specs.Progress.{Continues, Progress, Stops, or_trap, trap_if}
+use Rattle.task_rules.specs.Threads.{Halt, halt_rule, halted, halted_promoting, halted_resuming, has_yielded, resume_at, resume_why, then_promote_by, then_promote_found_by, then_promote_rule, then_resume_found, then_resume_rule, thread_added, thread_new_label, thread_new_rule}
 use Rattle.task_words.specs.Live.{kept_in, live_thread}
 use Rattle.task_words.specs.StateView.{StateView, on_core, thread_of}
 use Rattle.task_ops.specs.Shown.{goes_as}
@@ -75,7 +75,7 @@ yielded_ready b (Some (place.Held v)) e = absurd (subst T (sym e) tt)
 promoted_stands : (n m : ℕ) (s : Core) → IsRunning n s → has_yielded m s ≡ true → IsRunning n (promoted_unless m s)
 unfolding has_yielded
 promoted_stands n m s st e =
-    let r = yielded_ready (is_yielded (how_far_of m s)) (place_of m s) e in
+    let r = yielded_ready (is_yielded (op_progress_of m s)) (place_of m s) e in
     let apart = by_number m n ((m == n) ≡ false) (λ same. absurd (both (sym st.here ∙ (ap (λ (k : ℕ). place_of k s) (sym same) ∙ r.1.1)))) (λ d. d) in
     promoted_unless_stand n place.Running m s apart r st
   where
@@ -86,7 +86,7 @@ promoted_stands n m s st e =
 
 gone_yields : (m : ℕ) (s : Core) → get s.threads m ≡ None → has_yielded m s ≡ false
 unfolding has_yielded
-gone_yields m s e = ap (λ (o : Option Thread). option_map_or is_ready_to_resume (option_map (λ (t : Thread). t.place) o) false && is_yielded (how_far_of m s)) e
+gone_yields m s e = ap (λ (o : Option Thread). option_map_or is_ready_to_resume (option_map (λ (t : Thread). t.place) o) false && is_yielded (op_progress_of m s)) e
 
 pub yielded_live : (m : ℕ) (s : Core) → get s.threads 0 ≡ None → has_yielded m s ≡ true → 0 < m
 yielded_live m s zero e = by_number m 0 (0 < m) (λ same. absurd (both (sym e ∙ (ap (λ (k : ℕ). has_yielded k s) same ∙ gone_yields 0 s zero)))) (λ d. positive m d)
@@ -213,7 +213,7 @@ comes_same StaysBehind s t r h = (ap (λ (v : StateView). v.tags) h.1, ap (λ (v
 comes_same (Refused why) s t r h = (ap (λ (v : StateView). v.tags) h.1, ap (λ (v : StateView). v.current) h.1)
 
 -- the rows of the ops that let another thread go first
-resume_halts : (x : Halt) (n h : ℕ) (l : Label) (s : Core) → then_resume_row x n h s ≡ halts_then SomeHost x n l s (resumed_first n h s)
+resume_halts : (x : Halt) (n h : ℕ) (l : Label) (s : Core) → then_resume_rule x n h s ≡ halts_then SomeHost x n l s (resumed_first n h s)
 unfolding halted_resuming
 resume_halts x n h l s = at (thread_at (instance_of n s) h s)
   where
@@ -247,31 +247,31 @@ promote_halts d x n h l s = at (thread_at (instance_of n s) h s)
 
 -- an op that lets another thread go first, by what became of that
 module _ (d : Doer) (x : Halt) (l : Label) (id : TableId ThreadKey) (f : First) (s t u : StateView) where
-  refused_is : (why : Trap) → ComesFirst f s (Err why) t → Meets (halts_then d x (thread_of s id) l s.core f) s.core (came.Traps why) t.core
+  refused_is : (why : Trap) → ComesFirst f s (Err why) t → Implements (halts_then d x (thread_of s id) l s.core f) s.core (op_result.Traps why) t.core
   refused_is why h = by f h
     where
-      by : (f : First) → ComesFirst f s (Err why) t → Meets (halts_then d x (thread_of s id) l s.core f) s.core (came.Traps why) t.core
+      by : (f : First) → ComesFirst f s (Err why) t → Implements (halts_then d x (thread_of s id) l s.core f) s.core (op_result.Traps why) t.core
       by (GoesFirst new) h = absurd (let e = h.0 in cc)
       by StaysBehind h = absurd (let e = h.0 in cc)
       by (Refused t) h = let e = h.0 in (cc, ap (λ (v : StateView). v.core) h.1)
 
-  stops_is : (k : ℕ) → k ≡ thread_of s id → ComesFirst f s (Ok true) t → u ≡ on_core (halted x (thread_of t id)) t → Meets (halts_then d x (thread_of s id) l s.core f) s.core (came.Stops (label.Thread (thread_label.Pauses k))) u.core
+  stops_is : (k : ℕ) → k ≡ thread_of s id → ComesFirst f s (Ok true) t → u ≡ on_core (halted x (thread_of t id)) t → Implements (halts_then d x (thread_of s id) l s.core f) s.core (op_result.Stops (label.Thread (thread_label.Pauses k))) u.core
   stops_is k number h e = by f h
     where
-      by : (f : First) → ComesFirst f s (Ok true) t → Meets (halts_then d x (thread_of s id) l s.core f) s.core (came.Stops (label.Thread (thread_label.Pauses k))) u.core
+      by : (f : First) → ComesFirst f s (Ok true) t → Implements (halts_then d x (thread_of s id) l s.core f) s.core (op_result.Stops (label.Thread (thread_label.Pauses k))) u.core
       by (GoesFirst new) h = (
-        ap (λ (j : ℕ). came.Stops (label.Thread (thread_label.Pauses j))) number,
+        ap (λ (j : ℕ). op_result.Stops (label.Thread (thread_label.Pauses j))) number,
         ap (λ (v : StateView). v.core) e ∙ ap (λ (v : StateView). halted x (thread_of v id) v.core) h.1,
       )
       by StaysBehind h = absurd (let e = h.0 in cc)
       by (Refused t) h = absurd (let e = h.0 in cc)
 
-  plain_is : (r : Came) → ComesFirst f s (Ok false) t → Meets (halt_rule d x (thread_of t id) l t.core) t.core r (ended d (thread_of t id) r u.core) → Meets (halts_then d x (thread_of s id) l s.core f) s.core r (ended d (thread_of s id) r u.core)
+  plain_is : (r : OpResult) → ComesFirst f s (Ok false) t → Implements (halt_rule d x (thread_of t id) l t.core) t.core r (ended d (thread_of t id) r u.core) → Implements (halts_then d x (thread_of s id) l s.core f) s.core r (ended d (thread_of s id) r u.core)
   plain_is r h m = by f h
     where
-      by : (f : First) → ComesFirst f s (Ok false) t → Meets (halts_then d x (thread_of s id) l s.core f) s.core r (ended d (thread_of s id) r u.core)
+      by : (f : First) → ComesFirst f s (Ok false) t → Implements (halts_then d x (thread_of s id) l s.core f) s.core r (ended d (thread_of s id) r u.core)
       by (GoesFirst new) h = absurd (let e = h.0 in cc)
-      by StaysBehind h = subst (λ (v : StateView). Meets (halt_rule d x (thread_of v id) l v.core) v.core r (ended d (thread_of v id) r u.core)) h.1 m
+      by StaysBehind h = subst (λ (v : StateView). Implements (halt_rule d x (thread_of v id) l v.core) v.core r (ended d (thread_of v id) r u.core)) h.1 m
       by (Refused t) h = absurd (let e = h.0 in cc)
 
 -- one that is resumed goes first, or that is refused
@@ -291,33 +291,33 @@ resumed_is n h s t b comes = at (thread_at (instance_of n s.core) h s.core) come
     at (Some m) h = own m (m == n) h
 
 module _ (x : Halt) (l : Label) (id : TableId ThreadKey) (h : ℕ) (s t u : StateView) where
-  pub resume_refused : (why : Trap) → ComesFirst (resumed_first (thread_of s id) h s.core) s (Err why) t → Meets (then_resume_row x (thread_of s id) h s.core) s.core (came.Traps why) t.core
+  pub resume_refused : (why : Trap) → ComesFirst (resumed_first (thread_of s id) h s.core) s (Err why) t → Implements (then_resume_rule x (thread_of s id) h s.core) s.core (op_result.Traps why) t.core
   resume_refused why comes =
       let n = thread_of s id in
-      subst (λ (p : Progress). Meets p s.core (came.Traps why) t.core) (sym (resume_halts x n h l s.core)) (refused_is SomeHost x l id (resumed_first n h s.core) s t u why comes)
+      subst (λ (p : Progress). Implements p s.core (op_result.Traps why) t.core) (sym (resume_halts x n h l s.core)) (refused_is SomeHost x l id (resumed_first n h s.core) s t u why comes)
 
-  pub resume_stops : (k : ℕ) (b : Bool) → k ≡ thread_of s id → ComesFirst (resumed_first (thread_of s id) h s.core) s (Ok b) t → u ≡ on_core (halted x (thread_of t id)) t → Meets (then_resume_row x (thread_of s id) h s.core) s.core (came.Stops (label.Thread (thread_label.Pauses k))) u.core
+  pub resume_stops : (k : ℕ) (b : Bool) → k ≡ thread_of s id → ComesFirst (resumed_first (thread_of s id) h s.core) s (Ok b) t → u ≡ on_core (halted x (thread_of t id)) t → Implements (then_resume_rule x (thread_of s id) h s.core) s.core (op_result.Stops (label.Thread (thread_label.Pauses k))) u.core
   resume_stops k b number comes e =
       let n = thread_of s id in
       let f = resumed_first n h s.core in
       let goes = subst (λ (a : Bool). ComesFirst f s (Ok a) t) (resumed_is n h s t b comes) comes in
-      subst (λ (p : Progress). Meets p s.core (came.Stops (label.Thread (thread_label.Pauses k))) u.core) (sym (resume_halts x n h l s.core)) (stops_is SomeHost x l id f s t u k number goes e)
+      subst (λ (p : Progress). Implements p s.core (op_result.Stops (label.Thread (thread_label.Pauses k))) u.core) (sym (resume_halts x n h l s.core)) (stops_is SomeHost x l id f s t u k number goes e)
 
 module _ (d : Doer) (x : Halt) (l : Label) (id : TableId ThreadKey) (h : ℕ) (s t u : StateView) where
-  pub promote_refused : (why : Trap) → ComesFirst (promoted_first (thread_of s id) h s.core) s (Err why) t → Meets (then_promote_rule d x (thread_of s id) h l s.core) s.core (came.Traps why) t.core
+  pub promote_refused : (why : Trap) → ComesFirst (promoted_first (thread_of s id) h s.core) s (Err why) t → Implements (then_promote_rule d x (thread_of s id) h l s.core) s.core (op_result.Traps why) t.core
   promote_refused why comes =
       let n = thread_of s id in
-      subst (λ (p : Progress). Meets p s.core (came.Traps why) t.core) (sym (promote_halts d x n h l s.core)) (refused_is d x l id (promoted_first n h s.core) s t u why comes)
+      subst (λ (p : Progress). Implements p s.core (op_result.Traps why) t.core) (sym (promote_halts d x n h l s.core)) (refused_is d x l id (promoted_first n h s.core) s t u why comes)
 
-  pub promote_stops : (k : ℕ) → k ≡ thread_of s id → ComesFirst (promoted_first (thread_of s id) h s.core) s (Ok true) t → u ≡ on_core (halted x (thread_of t id)) t → Meets (then_promote_rule d x (thread_of s id) h l s.core) s.core (came.Stops (label.Thread (thread_label.Pauses k))) u.core
+  pub promote_stops : (k : ℕ) → k ≡ thread_of s id → ComesFirst (promoted_first (thread_of s id) h s.core) s (Ok true) t → u ≡ on_core (halted x (thread_of t id)) t → Implements (then_promote_rule d x (thread_of s id) h l s.core) s.core (op_result.Stops (label.Thread (thread_label.Pauses k))) u.core
   promote_stops k number comes e =
       let n = thread_of s id in
-      subst (λ (p : Progress). Meets p s.core (came.Stops (label.Thread (thread_label.Pauses k))) u.core) (sym (promote_halts d x n h l s.core)) (stops_is d x l id (promoted_first n h s.core) s t u k number comes e)
+      subst (λ (p : Progress). Implements p s.core (op_result.Stops (label.Thread (thread_label.Pauses k))) u.core) (sym (promote_halts d x n h l s.core)) (stops_is d x l id (promoted_first n h s.core) s t u k number comes e)
 
-  pub promote_plain : (r : Came) → ComesFirst (promoted_first (thread_of s id) h s.core) s (Ok false) t → Meets (halt_rule d x (thread_of t id) l t.core) t.core r (ended d (thread_of t id) r u.core) → Meets (then_promote_rule d x (thread_of s id) h l s.core) s.core r (ended d (thread_of s id) r u.core)
+  pub promote_plain : (r : OpResult) → ComesFirst (promoted_first (thread_of s id) h s.core) s (Ok false) t → Implements (halt_rule d x (thread_of t id) l t.core) t.core r (ended d (thread_of t id) r u.core) → Implements (then_promote_rule d x (thread_of s id) h l s.core) s.core r (ended d (thread_of s id) r u.core)
   promote_plain r comes m =
       let n = thread_of s id in
-      subst (λ (p : Progress). Meets p s.core r (ended d n r u.core)) (sym (promote_halts d x n h l s.core)) (plain_is d x l id (promoted_first n h s.core) s t u r comes m)
+      subst (λ (p : Progress). Implements p s.core r (ended d n r u.core)) (sym (promote_halts d x n h l s.core)) (plain_is d x l id (promoted_first n h s.core) s t u r comes m)
 
 -- ---- A thread more
 
@@ -328,16 +328,16 @@ with_thread i k x v s = with_thread_handle i (next_thread s) (add_thread (new_th
 abbrev thread_made : Doer → ℕ → ℕ → ℕ → Core → Core
 thread_made d n x v s = finish d n (OneNumber (new_thread_handle (instance_of n s) s)) (thread_added n x v s)
 
-new_row_is : (d : Doer) (n x v : ℕ) (ops : Seq Op) (s : Core) → fits 2 s ≡ true → at_handle_limit s ≡ false → thread_new_rule d n x v s (slot.Script ops) ≡ Goes (thread_new_label n s) (thread_made d n x v s) n
-new_row_is d n x v ops s room limit =
-    ap (λ b. trap_if (not b) trap.TableFull (trap_if (at_handle_limit s) trap.HandleLimit (Goes (thread_new_label n s) (thread_made d n x v s) n))) room
-    ∙ ap (λ b. trap_if b trap.HandleLimit (Goes (thread_new_label n s) (thread_made d n x v s) n)) limit
+new_rule_is : (d : Doer) (n x v : ℕ) (ops : Seq Op) (s : Core) → fits 2 s ≡ true → at_handle_limit s ≡ false → thread_new_rule d n x v s (slot.Script ops) ≡ Continues (thread_new_label n s) (thread_made d n x v s) n
+new_rule_is d n x v ops s room limit =
+    ap (λ b. trap_if (not b) trap.TableFull (trap_if (at_handle_limit s) trap.HandleLimit (Continues (thread_new_label n s) (thread_made d n x v s) n))) room
+    ∙ ap (λ b. trap_if b trap.HandleLimit (Continues (thread_new_label n s) (thread_made d n x v s) n)) limit
 
-pub thread_new_meets : (n : TableId ThreadKey) (r : Doer) (x v k h m o : ℕ) (line : Slot) (ops : Seq Op) (s t : StateView) → line ≡ slot.Script ops → fits 2 s.core ≡ true → at_handle_limit s.core ≡ false → k ≡ task_of (thread_of s n) s.core → h ≡ new_thread_handle (instance_of (thread_of s n) s.core) s.core → m ≡ thread_of s n → o ≡ next_thread s.core → t.core ≡ with_thread (call_instance k s.core) k x v s.core → Meets (thread_new_rule r (thread_of s n) x v s.core line) s.core (goes_as (label.Thread (thread_label.New h m o)) m) (finish r (thread_of s n) (OneNumber h) t.core)
+pub thread_new_meets : (n : TableId ThreadKey) (r : Doer) (x v k h m o : ℕ) (line : Slot) (ops : Seq Op) (s t : StateView) → line ≡ slot.Script ops → fits 2 s.core ≡ true → at_handle_limit s.core ≡ false → k ≡ task_of (thread_of s n) s.core → h ≡ new_thread_handle (instance_of (thread_of s n) s.core) s.core → m ≡ thread_of s n → o ≡ next_thread s.core → t.core ≡ with_thread (call_instance k s.core) k x v s.core → Implements (thread_new_rule r (thread_of s n) x v s.core line) s.core (goes_as (label.Thread (thread_label.New h m o)) m) (finish r (thread_of s n) (OneNumber h) t.core)
 unfolding thread_added
 thread_new_meets n r x v k h m o line ops s t is room limit task handle number other e =
     let N = thread_of s n in
     let I = instance_of N s.core in
     let core = ap (λ (c : Core). finish r N (OneNumber h) c) e ∙ ap₂ (λ (j g : ℕ). finish r N (OneNumber g) (with_thread (call_instance j s.core) j x v s.core)) task handle in
     let came_is = ap₂ (λ (g j : ℕ). goes_as (label.Thread (thread_label.New g j o)) j) handle number ∙ ap (λ (j : ℕ). goes_as (label.Thread (thread_label.New (new_thread_handle I s.core) N j)) N) other in
-    subst (λ (p : Progress). Meets p s.core (goes_as (label.Thread (thread_label.New h m o)) m) (finish r N (OneNumber h) t.core)) (sym (ap (thread_new_rule r N x v s.core) is ∙ new_row_is r N x v ops s.core room limit)) (came_is, core)
+    subst (λ (p : Progress). Implements p s.core (goes_as (label.Thread (thread_label.New h m o)) m) (finish r N (OneNumber h) t.core)) (sym (ap (thread_new_rule r N x v s.core) is ∙ new_rule_is r N x v ops s.core room limit)) (came_is, core)

@@ -9,10 +9,10 @@ use Rattle.task_rules.specs.MainOps.{Answers, Does, MainProgress, Pends}
 use Rattle.task_words.specs.StateView.{Keeps, KeepsWith, StateView}
 
 -- The op that began in s did what the row says, and the core is t.
-abbrev pub MainMeets : MainProgress → Core → Acted → Core → Type 0
-MainMeets (Does l new) s r t = (r ≡ acted.Does l) × (t ≡ new)
-MainMeets Pends s r t = (r ≡ acted.Pends) × (t ≡ s)
-MainMeets (Answers v) s r t = (r ≡ acted.Answers v) × (t ≡ s)
+abbrev pub MainImplements : MainProgress → Core → Acted → Core → Type 0
+MainImplements (Does l new) s r t = (r ≡ acted.Does l) × (t ≡ new)
+MainImplements Pends s r t = (r ≡ acted.Pends) × (t ≡ s)
+MainImplements (Answers v) s r t = (r ≡ acted.Answers v) × (t ≡ s)
 
 -- Each id names what it named; a start that was made has made a group, which is known.
 abbrev pub KeepsStarted : Result Acted NoMemory → StateView → StateView → Type 0

@@ -2,11 +2,11 @@
 use Rattle.std.specs.Prelude.{Err, Ok, Result, ℕ}
 use Rattle.task_machine.specs.declared.label.Label.{Label}
 use Rattle.task_machine.specs.declared.trap.Trap.{Trap}
-use Rattle.task_ops.specs.declared.came.Came.{Came}
-use Rattle.task_ops.specs.declared.came.Came.TheVariants as came
+use Rattle.task_ops.specs.declared.op_result.OpResult.{OpResult}
+use Rattle.task_ops.specs.declared.op_result.OpResult.TheVariants as op_result
 use Rattle.task_ops.specs.Shown.{goes_as}
 
 -- the thread of the number goes on, unless there is why it traps
-abbrev pub goes_by : Label → Result ℕ Trap → Came
+abbrev pub goes_by : Label → Result ℕ Trap → OpResult
 goes_by l (Ok n) = goes_as l n
-goes_by l (Err why) = came.Traps why
+goes_by l (Err why) = op_result.Traps why

@@ -2,12 +2,12 @@
 use Rattle.std.specs.Prelude.{ℕ, ◌≡◌}
 use Rattle.task_machine.specs.Core.{Core}
 use Rattle.task_machine.specs.Labels.{Choice, choice_of}
-use Rattle.task_ops.specs.Came.{Meets}
+use Rattle.task_ops.specs.OpResult.{Implements}
 use Rattle.task_ops.specs.Ended.{ended}
 use Rattle.task_ops.specs.Stays.{StaysAfter}
 use Rattle.task_ops.specs.Steps.{label_of}
 use Rattle.task_ops.specs.Works.{KeepsTold}
-use Rattle.task_ops.specs.declared.came.Came.{Came}
+use Rattle.task_ops.specs.declared.op_result.OpResult.{OpResult}
 use Rattle.task_rules.specs.Finish.{Doer}
 use Rattle.task_rules.specs.Progress.{Progress}
 use Rattle.task_table.specs.declared.id.TableId.{TableId}
@@ -20,9 +20,9 @@ Rule = Doer → ℕ → Choice → Core → Progress
 
 -- The op that began in s came to what its rule says, whoever has it done: its core is the rule's once the op is ended with what it answers.
 -- A trap has changed nothing, and of the names that much is kept.
-pub record DoesRule (AreKept : StateView → StateView → Type 0) (rule : Rule) (id : TableId ThreadKey) (s : StateView) (r : Came)
+pub record DoesRule (AreKept : StateView → StateView → Type 0) (rule : Rule) (id : TableId ThreadKey) (s : StateView) (r : OpResult)
     (t : StateView) : Type 0 where
-  pub meets : (d : Doer) → Meets (rule d (thread_of s id) (choice_of (label_of (thread_of s id) r)) s.core) s.core r
+  pub meets : (d : Doer) → Implements (rule d (thread_of s id) (choice_of (label_of (thread_of s id) r)) s.core) s.core r
       (ended d (thread_of s id) r t.core)
   pub stays : StaysAfter r s t
   pub kept : AreKept s t

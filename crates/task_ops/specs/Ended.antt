@@ -1,10 +1,10 @@
 -- How an op ends that has answered: whoever had it done gets the answer.
 use Rattle.std.specs.Prelude.{Bool, false, true, ℕ}
 use Rattle.task_machine.specs.Core.{Core}
-use Rattle.task_ops.specs.declared.came.Came.{Came}
-use Rattle.task_ops.specs.declared.came.Came.TheVariants as came
-use Rattle.task_ops.specs.declared.came.OpAnswer.{OpAnswer}
-use Rattle.task_ops.specs.declared.came.OpAnswer.TheVariants as op_answer
+use Rattle.task_ops.specs.declared.op_result.OpResult.{OpResult}
+use Rattle.task_ops.specs.declared.op_result.OpResult.TheVariants as op_result
+use Rattle.task_ops.specs.declared.op_result.OpAnswer.{OpAnswer}
+use Rattle.task_ops.specs.declared.op_result.OpAnswer.TheVariants as op_answer
 use Rattle.task_rules.specs.Finish.{Doer, NoAnswer, OneEvent, OneNumber, finish}
 
 -- the op of n has answered so, and is ended by whoever had it done; where no answer is due nothing is left to do
@@ -17,8 +17,8 @@ answered_to d n (op_answer.Entered m) t = t
 answered_to d n op_answer.NoneDue t = t
 
 -- the same of what the op came to
-abbrev pub ended : Doer → ℕ → Came → Core → Core
-ended d n (came.Goes l m said) t = answered_to d n said t
+abbrev pub ended : Doer → ℕ → OpResult → Core → Core
+ended d n (op_result.Continues l m said) t = answered_to d n said t
 ended d n _ t = t
 
 -- an answer is due
@@ -27,8 +27,8 @@ is_due (op_answer.Entered m) = false
 is_due op_answer.NoneDue = false
 is_due _ = true
 
-abbrev pub ends_op : Came → Bool
-ends_op (came.Goes l m said) = is_due said
+abbrev pub ends_op : OpResult → Bool
+ends_op (op_result.Continues l m said) = is_due said
 ends_op _ = false
 
 -- it is an event
@@ -36,6 +36,6 @@ abbrev pub is_event : OpAnswer → Bool
 is_event (op_answer.Event g) = true
 is_event _ = false
 
-abbrev pub gives_event : Came → Bool
-gives_event (came.Goes l m said) = is_event said
+abbrev pub gives_event : OpResult → Bool
+gives_event (op_result.Continues l m said) = is_event said
 gives_event _ = false

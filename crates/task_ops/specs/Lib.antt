@@ -1,4 +1,4 @@
-pub mod Came
+pub mod OpResult
 pub mod Steps
 pub mod Running
 pub mod Halting
@@ -6,9 +6,9 @@ pub mod Reopens
 pub mod Acted
 pub mod Answered
 pub mod Stays
-pub mod Gifts
-pub mod Polled
-pub mod Wakes
+pub mod PickedEvents
+pub mod PolledWorks
+pub mod OpWakes
 pub mod Works
 pub mod Ended
 pub mod Does

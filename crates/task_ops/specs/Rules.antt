@@ -1,13 +1,13 @@
 -- The rules of ops, by what their contracts name.
 use Rattle.std.specs.Prelude.{ℕ}
 use Rattle.task_machine.specs.declared.component.Slot.{Slot}
-use Rattle.task_machine.specs.declared.records.HowFar.{HowFar}
+use Rattle.task_machine.specs.declared.records.OpProgress.{OpProgress}
 use Rattle.task_ops.specs.Does.{Rule}
 use Rattle.task_rules.specs.Sets.{wait_rule}
 use Rattle.task_rules.specs.Threads.{thread_new_rule}
 
 -- a wait on the set of this handle, that has come so far
-abbrev pub waits_from : HowFar → (handle : ℕ) → Rule
+abbrev pub waits_from : OpProgress → (handle : ℕ) → Rule
 waits_from f h d n ch s = wait_rule d n h ch s f
 
 -- a new thread of the slot x, in which this stands, with the value in its first register

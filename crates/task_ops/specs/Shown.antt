@@ -11,10 +11,10 @@ use Rattle.task_machine.specs.declared.label.TaskLabel.{TaskLabel}
 use Rattle.task_machine.specs.declared.label.TaskLabel.TheVariants as task_label
 use Rattle.task_machine.specs.declared.label.ThreadLabel.{ThreadLabel}
 use Rattle.task_machine.specs.declared.label.ThreadLabel.TheVariants as thread_label
-use Rattle.task_ops.specs.declared.came.Came.{Came}
-use Rattle.task_ops.specs.declared.came.Came.TheVariants as came
-use Rattle.task_ops.specs.declared.came.OpAnswer.{OpAnswer}
-use Rattle.task_ops.specs.declared.came.OpAnswer.TheVariants as op_answer
+use Rattle.task_ops.specs.declared.op_result.OpResult.{OpResult}
+use Rattle.task_ops.specs.declared.op_result.OpResult.TheVariants as op_result
+use Rattle.task_ops.specs.declared.op_result.OpAnswer.{OpAnswer}
+use Rattle.task_ops.specs.declared.op_result.OpAnswer.TheVariants as op_answer
 
 abbrev pub shown_set : SetLabel → OpAnswer
 shown_set (set_label.New h n) = op_answer.Number h
@@ -57,5 +57,5 @@ shown (label.CallSyncPolls n v i) = op_answer.Value v
 shown _ = op_answer.NoneDue
 
 -- the thread m goes on, and what is answered is what the label shows
-abbrev pub goes_as : Label → ℕ → Came
-goes_as l m = came.Goes l m (shown l)
+abbrev pub goes_as : Label → ℕ → OpResult
+goes_as l m = op_result.Continues l m (shown l)

@@ -1,11 +1,11 @@
 -- What a trap leaves.
 use Rattle.std.specs.Prelude.{◌≡◌}
-use Rattle.task_ops.specs.declared.came.Came.{Came}
-use Rattle.task_ops.specs.declared.came.Came.TheVariants as came
+use Rattle.task_ops.specs.declared.op_result.OpResult.{OpResult}
+use Rattle.task_ops.specs.declared.op_result.OpResult.TheVariants as op_result
 use Rattle.task_words.specs.StateView.{StateView}
 
 -- an op that trapped, or whose host work failed, has changed nothing
-abbrev pub StaysAfter : Came → StateView → StateView → Type 0
-StaysAfter (came.Traps why) s t = t ≡ s
-StaysAfter (came.Fails i) s t = t ≡ s
+abbrev pub StaysAfter : OpResult → StateView → StateView → Type 0
+StaysAfter (op_result.Traps why) s t = t ≡ s
+StaysAfter (op_result.Fails i) s t = t ≡ s
 StaysAfter _ s t = Unit {0}

@@ -16,8 +16,8 @@ NamesWorks s t =
 
 -- The first, and the same groups are known.
 abbrev pub KeepsTold : StateView → StateView → Type 0
-KeepsTold s t = KeepsWorks s t × (t.tags.known ≡ s.tags.known)
+KeepsTold s t = KeepsWorks s t × (t.tags.tracked ≡ s.tags.tracked)
 
 -- The second, and the same groups are known.
 abbrev pub NamesTold : StateView → StateView → Type 0
-NamesTold s t = NamesWorks s t × (t.tags.known ≡ s.tags.known)
+NamesTold s t = NamesWorks s t × (t.tags.tracked ≡ s.tags.tracked)

@@ -3,17 +3,17 @@ ghost use Rattle.std.specs.Prelude.{◌≡◌, ◌+◌, ◌<◌, length, min};
 ghost use Rattle.task_machine.specs.Read.{position_of};
 ghost use Rattle.task_machine.specs.declared.component.Component.{Component};
 ghost use Rattle.task_machine.specs.declared.op.DataOp.TheVariants as data_ops;
-ghost use Rattle.task_ops.specs.Came.{Meets};
-ghost use Rattle.task_rules.specs.Data.{data_row};
+ghost use Rattle.task_ops.specs.OpResult.{Implements};
+ghost use Rattle.task_rules.specs.Data.{data_rule};
 ghost use Rattle.task_rules.specs.Scripts.{script_of, value_of};
 ghost use Rattle.task_words.specs.StateView.{thread_of};
 
-use crate::came::{Came, OpAnswer};
+use crate::op_result::{OpResult, OpAnswer};
 use task_machine::{DataLabel, DataOp, Label, Operand};
-use task_words::{ThreadId, Words};
+use task_words::{ThreadId, Primitives};
 
 /// An operand's value for the thread.
-pub fn value_of<W: Words>(w: &W, thread: ThreadId, operand: Operand) -> u64
+pub fn value_of<W: Primitives>(w: &W, thread: ThreadId, operand: Operand) -> u64
     ensures { result ≡ value_of (thread_of (W.view w.now) thread) (W.view w.now).core operand }
 {
     match operand {
@@ -24,16 +24,16 @@ pub fn value_of<W: Words>(w: &W, thread: ThreadId, operand: Operand) -> u64
 
 // `skip_eq X Y N`: so many ops past the next one where the operands are equal, at most the script's end.
 #[tactic(auto, unfolding(task_rules::specs::Data::skipped))]
-fn skip_equal<W: Words>(
+fn skip_equal<W: Primitives>(
     w: &mut W,
     thread: ThreadId,
     left: Operand,
     right: Operand,
     ops: u32,
     end: u32,
-) -> Came
+) -> OpResult
     requires { position_of (thread_of (W.view w.old) thread) (W.view w.old).core < end }
-    ensures meets { (c : Component) → length (script_of c (thread_of (W.view w.old) thread) (W.view w.old).core) ≡ end → Meets (data_row c (thread_of (W.view w.old) thread) (W.view w.old).core (data_ops.SkipEq left right ops)) (W.view w.old).core result (W.view w.new).core }
+    ensures meets { (c : Component) → length (script_of c (thread_of (W.view w.old) thread) (W.view w.old).core) ≡ end → Implements (data_rule c (thread_of (W.view w.old) thread) (W.view w.old).core (data_ops.SkipEq left right ops)) (W.view w.old).core result (W.view w.new).core }
     ensures tags { (W.view w.new).tags ≡ (W.view w.old).tags }
     ensures current { (W.view w.new).current ≡ (W.view w.old).current }
 {
@@ -44,7 +44,7 @@ fn skip_equal<W: Words>(
     } else {
         w.advance(thread);
     }
-    Came::Goes(
+    OpResult::Continues(
         Label::Data(DataLabel::SkipEq(number)),
         number,
         OpAnswer::NoneDue,
@@ -53,9 +53,9 @@ fn skip_equal<W: Words>(
 
 // `store W X`
 #[tactic(auto, using(crate::proofs::PositionLemmas::position_word), unfolding(task_rules::specs::Data::stored))]
-fn store<W: Words>(w: &mut W, thread: ThreadId, word: u8, value: Operand, end: u32) -> Came
+fn store<W: Primitives>(w: &mut W, thread: ThreadId, word: u8, value: Operand, end: u32) -> OpResult
     requires { position_of (thread_of (W.view w.old) thread) (W.view w.old).core < end }
-    ensures meets { (c : Component) → length (script_of c (thread_of (W.view w.old) thread) (W.view w.old).core) ≡ end → Meets (data_row c (thread_of (W.view w.old) thread) (W.view w.old).core (data_ops.Store word value)) (W.view w.old).core result (W.view w.new).core }
+    ensures meets { (c : Component) → length (script_of c (thread_of (W.view w.old) thread) (W.view w.old).core) ≡ end → Implements (data_rule c (thread_of (W.view w.old) thread) (W.view w.old).core (data_ops.Store word value)) (W.view w.old).core result (W.view w.new).core }
     ensures tags { (W.view w.new).tags ≡ (W.view w.old).tags }
     ensures current { (W.view w.new).current ≡ (W.view w.old).current }
 {
@@ -63,7 +63,7 @@ fn store<W: Words>(w: &mut W, thread: ThreadId, word: u8, value: Operand, end: u
     let answer = value_of(w, thread, value);
     w.set_word(w.instance_of(thread), word, answer);
     w.advance(thread);
-    Came::Goes(
+    OpResult::Continues(
         Label::Data(DataLabel::Store(number, answer)),
         number,
         OpAnswer::NoneDue,
@@ -72,9 +72,9 @@ fn store<W: Words>(w: &mut W, thread: ThreadId, word: u8, value: Operand, end: u
 
 /// An op on registers and words, of a script that ends at `end`.
 #[tactic(auto, using(crate::proofs::PositionLemmas::position_word))]
-pub fn compute<W: Words>(w: &mut W, thread: ThreadId, op: DataOp, end: u32) -> Came
+pub fn compute<W: Primitives>(w: &mut W, thread: ThreadId, op: DataOp, end: u32) -> OpResult
     requires { position_of (thread_of (W.view w.old) thread) (W.view w.old).core < end }
-    ensures meets { (c : Component) → length (script_of c (thread_of (W.view w.old) thread) (W.view w.old).core) ≡ end → Meets (data_row c (thread_of (W.view w.old) thread) (W.view w.old).core op) (W.view w.old).core result (W.view w.new).core }
+    ensures meets { (c : Component) → length (script_of c (thread_of (W.view w.old) thread) (W.view w.old).core) ≡ end → Implements (data_rule c (thread_of (W.view w.old) thread) (W.view w.old).core op) (W.view w.old).core result (W.view w.new).core }
     ensures tags { (W.view w.new).tags ≡ (W.view w.old).tags }
     ensures current { (W.view w.new).current ≡ (W.view w.old).current }
 {
@@ -107,5 +107,5 @@ pub fn compute<W: Words>(w: &mut W, thread: ThreadId, op: DataOp, end: u32) -> C
             return skip_equal(w, thread, left, right, ops, end);
         }
     };
-    Came::Goes(Label::Data(label), number, OpAnswer::NoneDue)
+    OpResult::Continues(Label::Data(label), number, OpAnswer::NoneDue)
 }

@@ -6,27 +6,27 @@ ghost use Rattle.task_machine.specs.declared.records.Place.TheVariants as places
 ghost use Rattle.task_machine.specs.declared.records.Subtask.TheVariants as subtasks;
 ghost use Rattle.task_moves.specs.Idle.{CanPublish, IsJoinThere};
 ghost use Rattle.task_ops.specs.Answered.{goes_by};
-ghost use Rattle.task_ops.specs.Came.{IsCurrent, Meets};
+ghost use Rattle.task_ops.specs.OpResult.{IsCurrent, Implements};
 ghost use Rattle.task_ops.specs.Running.{IsRunning};
 ghost use Rattle.task_ops.specs.Stays.{StaysAfter};
 ghost use Rattle.task_ops.specs.Steps.{label_of};
-ghost use Rattle.task_ops.specs.Wakes.{WaitersTogether, is_of, wakes_in};
+ghost use Rattle.task_ops.specs.OpWakes.{WaitersTogether, is_of, wakes_in};
 ghost use Rattle.task_ops.specs.Works.{KeepsTold};
-ghost use Rattle.task_rules.specs.Ends.{blocking_exit_row, blocking_exits, direct_exit_row, direct_exits, exit_restores, held_by_flag, may_tell, passes_after_return, sync_exit_row, sync_exits};
+ghost use Rattle.task_rules.specs.Ends.{blocking_exit_rule, blocking_exits, direct_exit_rule, direct_exits, exit_restores, held_by_flag, may_tell, passes_after_return, sync_exit_rule, sync_exits};
 ghost use Rattle.task_words.specs.StateView.{call_of, on_core, thread_of};
 
-use crate::came::{Came, OpAnswer};
-use crate::exits::{has_held, reopen, stop_and_end};
+use crate::op_result::{OpResult, OpAnswer};
+use crate::exit_ops::{has_held, reopen, stop_and_end};
 use task_machine::{CallEnd, ExportKind, Label, TaskLabel, Trap};
 use task_moves::{
     check, end_known_in, end_thread, foot_of, is_told, passes_check, return_value, stop,
     tell_waiter,
 };
-use task_words::{CallId, HowFarId, PlaceId, SubtaskId, ThreadId, Words};
+use task_words::{CallId, OpProgressId, PlaceId, SubtaskId, ThreadId, Primitives};
 
 // The flag of the instance that the thread's start saved is written back.
 #[tactic(auto, unfolding(task_rules::specs::Ends::exit_restores))]
-fn restore<W: Words>(w: &mut W, thread: ThreadId)
+fn restore<W: Primitives>(w: &mut W, thread: ThreadId)
     ensures { W.view w.new ≡ on_core (exit_restores (thread_of (W.view w.old) thread)) (W.view w.old) }
 {
     let instance = w.instance_of(thread);
@@ -35,7 +35,7 @@ fn restore<W: Words>(w: &mut W, thread: ThreadId)
 }
 
 // A sync export's task returns r0, and its thread ends.
-fn leave<W: Words>(w: &mut W, thread: ThreadId, waiter: Option<ThreadId>)
+fn leave<W: Primitives>(w: &mut W, thread: ThreadId, waiter: Option<ThreadId>)
     requires live { 0 < thread_of (W.view w.old) thread }
     requires running { IsRunning (thread_of (W.view w.old) thread) (W.view w.old).core }
     requires can { CanPublish (subtasks.Guest (task_of (thread_of (W.view w.old) thread) (W.view w.old).core)) waiter (W.view w.old) }
@@ -53,11 +53,11 @@ fn leave<W: Words>(w: &mut W, thread: ThreadId, waiter: Option<ThreadId>)
 }
 
 /// The exit of a sync export that was not called directly.
-pub fn exit_sync<W: Words>(w: &mut W, thread: ThreadId) -> Came
+pub fn exit_sync<W: Primitives>(w: &mut W, thread: ThreadId) -> OpResult
     requires live { 0 < thread_of (W.view w.old) thread }
     requires running { IsRunning (thread_of (W.view w.old) thread) (W.view w.old).core }
     requires there { IsJoinThere (subtasks.Guest (task_of (thread_of (W.view w.old) thread) (W.view w.old).core)) (W.view w.old).core }
-    ensures meets { Meets (sync_exit_row (thread_of (W.view w.old) thread) (choice_of (label_of (thread_of (W.view w.old) thread) result)).woken (W.view w.old).core) (W.view w.old).core result (W.view w.new).core }
+    ensures meets { Implements (sync_exit_rule (thread_of (W.view w.old) thread) (choice_of (label_of (thread_of (W.view w.old) thread) result)).woken (W.view w.old).core) (W.view w.old).core result (W.view w.new).core }
     ensures stays { StaysAfter result (W.view w.old) (W.view w.new) }
     ensures current { (W.view w.new).current ≡ (W.view w.old).current }
     ensures works { KeepsTold (W.view w.old) (W.view w.new) }
@@ -67,12 +67,12 @@ pub fn exit_sync<W: Words>(w: &mut W, thread: ThreadId) -> Came
     match tell_waiter(w, call) {
         None => {
             leave(w, thread, None);
-            Came::Stops(Label::Task(TaskLabel::Exit(number)))
+            OpResult::Stops(Label::Task(TaskLabel::Exit(number)))
         }
         Some(waiter) => {
             let woken = w.number(waiter);
             leave(w, thread, Some(waiter));
-            Came::Stops(Label::Task(TaskLabel::ExitWakes(number, woken)))
+            OpResult::Stops(Label::Task(TaskLabel::ExitWakes(number, woken)))
         }
     }
 }
@@ -80,7 +80,7 @@ pub fn exit_sync<W: Words>(w: &mut W, thread: ThreadId) -> Came
 // A direct call's task returns the value, and the thread under it goes on.
 #[tactic(auto, unfolding(task_rules::specs::Ends::direct_exits))]
 #[inline(always)]
-fn leave_to<W: Words>(
+fn leave_to<W: Primitives>(
     w: &mut W,
     thread: ThreadId,
     call: CallId,
@@ -100,39 +100,39 @@ fn leave_to<W: Words>(
     ensures named { thread_of (W.view w.new) below ≡ thread_of (W.view w.old) below }
     ensures works { KeepsTold (W.view w.old) (W.view w.new) }
 {
-    w.set_end_there(call, CallEnd::Returned);
+    w.set_end_unchecked(call, CallEnd::Returned);
     end_known_in(w, thread, call, explicit);
-    w.stand_at(below, PlaceId::Running, HowFarId::Answered(value));
+    w.stand_at(below, PlaceId::Running, OpProgressId::Answered(value));
     w.set_current(Some(below));
 }
 
 // The exit of the first thread of this direct call: the number of the thread under it, which is current from then on, or
 // why it traps.
 #[inline(never)]
-fn leave_direct<W: Words>(w: &mut W, thread: ThreadId, call: CallId) -> Result<u64, Trap>
+fn leave_direct<W: Primitives>(w: &mut W, thread: ThreadId, call: CallId) -> Result<u64, Trap>
     requires live { 0 < thread_of (W.view w.old) thread }
     requires running { IsRunning (thread_of (W.view w.old) thread) (W.view w.old).core }
     requires named { 0 < call_of (W.view w.old) call }
     requires call { call_of (W.view w.old) call ≡ task_of (thread_of (W.view w.old) thread) (W.view w.old).core }
     requires under { IsSome (under_of (thread_of (W.view w.old) thread) (W.view w.old).core) }
-    ensures meets { Meets (direct_exit_row (thread_of (W.view w.old) thread) (W.view w.old).core) (W.view w.old).core (goes_by (exit_label (thread_of (W.view w.old) thread) None) result) (W.view w.new).core }
+    ensures meets { Implements (direct_exit_rule (thread_of (W.view w.old) thread) (W.view w.old).core) (W.view w.old).core (goes_by (exit_label (thread_of (W.view w.old) thread) None) result) (W.view w.new).core }
     ensures stays { StaysAfter (goes_by (exit_label (thread_of (W.view w.old) thread) None) result) (W.view w.old) (W.view w.new) }
     ensures current { IsCurrent (goes_by (exit_label (thread_of (W.view w.old) thread) None) result) (W.view w.new) }
     ensures works { KeepsTold (W.view w.old) (W.view w.new) }
 {
-    let value = w.register_there(thread, 0);
-    let explicit = w.explicit_there(thread);
-    let kind = w.kind_there(call);
+    let value = w.register_unchecked(thread, 0);
+    let explicit = w.explicit_unchecked(thread);
+    let kind = w.kind_unchecked(call);
     let Some(below) = w.under(thread) else {
         unreachable!()
     };
-    let to = w.number_there(below);
+    let to = w.number_unchecked(below);
     if matches!(kind, ExportKind::Sync) {
         restore(w, thread);
         leave_to(w, thread, call, explicit, below, value);
         return Ok(to);
     }
-    let instance = w.instance_there(thread);
+    let instance = w.instance_unchecked(thread);
     if !passes_check(w, instance) {
         return Err(Trap::CannotBlockSyncTask);
     }
@@ -143,26 +143,26 @@ fn leave_direct<W: Words>(w: &mut W, thread: ThreadId, call: CallId) -> Result<u
 
 /// The exit of the first thread of this direct call, with a thread under it, which is current from then on.
 #[inline(always)]
-pub fn exit_direct<W: Words>(w: &mut W, thread: ThreadId, call: CallId) -> Came
+pub fn exit_direct<W: Primitives>(w: &mut W, thread: ThreadId, call: CallId) -> OpResult
     requires live { 0 < thread_of (W.view w.old) thread }
     requires running { IsRunning (thread_of (W.view w.old) thread) (W.view w.old).core }
     requires named { 0 < call_of (W.view w.old) call }
     requires call { call_of (W.view w.old) call ≡ task_of (thread_of (W.view w.old) thread) (W.view w.old).core }
     requires under { IsSome (under_of (thread_of (W.view w.old) thread) (W.view w.old).core) }
-    ensures meets { Meets (direct_exit_row (thread_of (W.view w.old) thread) (W.view w.old).core) (W.view w.old).core result (W.view w.new).core }
+    ensures meets { Implements (direct_exit_rule (thread_of (W.view w.old) thread) (W.view w.old).core) (W.view w.old).core result (W.view w.new).core }
     ensures stays { StaysAfter result (W.view w.old) (W.view w.new) }
     ensures current { IsCurrent result (W.view w.new) }
     ensures works { KeepsTold (W.view w.old) (W.view w.new) }
 {
-    let number = w.number_there(thread);
+    let number = w.number_unchecked(thread);
     match leave_direct(w, thread, call) {
-        Ok(to) => Came::Goes(Label::Task(TaskLabel::Exit(number)), to, OpAnswer::NoneDue),
-        Err(trap) => Came::Traps(trap),
+        Ok(to) => OpResult::Continues(Label::Task(TaskLabel::Exit(number)), to, OpAnswer::NoneDue),
+        Err(trap) => OpResult::Traps(trap),
     }
 }
 
 // The thread, if there is one, is of the instance.
-fn is_of<W: Words>(w: &W, thread: Option<ThreadId>, instance: u32) -> bool
+fn is_of<W: Primitives>(w: &W, thread: Option<ThreadId>, instance: u32) -> bool
     ensures { result ≡ is_of instance (option_map (λ id. thread_of (W.view w.now) id) thread) (W.view w.now).core }
 {
     match thread {
@@ -172,7 +172,7 @@ fn is_of<W: Words>(w: &W, thread: Option<ThreadId>, instance: u32) -> bool
 }
 
 // A thread of the instance is given an entry where an end of the call is told, and this waiter is woken.
-fn wakes_in<W: Words>(w: &W, call: CallId, waiter: Option<ThreadId>, instance: u32) -> bool
+fn wakes_in<W: Primitives>(w: &W, call: CallId, waiter: Option<ThreadId>, instance: u32) -> bool
     requires { 0 < call_of (W.view w.now) call }
     ensures { result ≡ wakes_in instance (call_of (W.view w.now) call) (option_map (λ id. thread_of (W.view w.now) id) waiter) (W.view w.now).core }
 {
@@ -182,7 +182,7 @@ fn wakes_in<W: Words>(w: &W, call: CallId, waiter: Option<ThreadId>, instance: u
 
 // A check of the instance passes once its held threads are released and the task has returned.
 #[tactic(auto, using(crate::proofs::BlockLemmas::passes_before))]
-fn passes_after_return<W: Words>(w: &mut W, thread: ThreadId, waiter: Option<ThreadId>) -> bool
+fn passes_after_return<W: Primitives>(w: &mut W, thread: ThreadId, waiter: Option<ThreadId>) -> bool
     requires live { 0 < thread_of (W.view w.old) thread }
     requires choice { may_tell (task_of (thread_of (W.view w.old) thread) (W.view w.old).core) (option_map (λ id. thread_of (W.view w.old) id) waiter) (W.view w.old).core ≡ true }
     ensures passes { result ≡ passes_after_return (thread_of (W.view w.old) thread) (option_map (λ id. thread_of (W.view w.old) id) waiter) (W.view w.old).core }
@@ -196,7 +196,7 @@ fn passes_after_return<W: Words>(w: &mut W, thread: ThreadId, waiter: Option<Thr
 }
 
 // The instance lets entries in, the task returns r0, and after a check the thread leaves.
-fn leave_open<W: Words>(w: &mut W, thread: ThreadId, waiter: Option<ThreadId>)
+fn leave_open<W: Primitives>(w: &mut W, thread: ThreadId, waiter: Option<ThreadId>)
     requires live { 0 < thread_of (W.view w.old) thread }
     requires running { IsRunning (thread_of (W.view w.old) thread) (W.view w.old).core }
     requires can { CanPublish (subtasks.Guest (task_of (thread_of (W.view w.old) thread) (W.view w.old).core)) waiter (W.view w.old) }
@@ -213,12 +213,12 @@ fn leave_open<W: Words>(w: &mut W, thread: ThreadId, waiter: Option<ThreadId>)
 }
 
 /// The exit of a blocking export that was not called directly.
-pub fn exit_blocking<W: Words>(w: &mut W, thread: ThreadId) -> Came
+pub fn exit_blocking<W: Primitives>(w: &mut W, thread: ThreadId) -> OpResult
     requires live { 0 < thread_of (W.view w.old) thread }
     requires running { IsRunning (thread_of (W.view w.old) thread) (W.view w.old).core }
     requires there { IsJoinThere (subtasks.Guest (task_of (thread_of (W.view w.old) thread) (W.view w.old).core)) (W.view w.old).core }
     requires together { WaitersTogether (W.view w.old).core }
-    ensures meets { Meets (blocking_exit_row (thread_of (W.view w.old) thread) (choice_of (label_of (thread_of (W.view w.old) thread) result)).woken (W.view w.old).core) (W.view w.old).core result (W.view w.new).core }
+    ensures meets { Implements (blocking_exit_rule (thread_of (W.view w.old) thread) (choice_of (label_of (thread_of (W.view w.old) thread) result)).woken (W.view w.old).core) (W.view w.old).core result (W.view w.new).core }
     ensures stays { StaysAfter result (W.view w.old) (W.view w.new) }
     ensures current { (W.view w.new).current ≡ (W.view w.old).current }
     ensures works { KeepsTold (W.view w.old) (W.view w.new) }
@@ -227,17 +227,17 @@ pub fn exit_blocking<W: Words>(w: &mut W, thread: ThreadId) -> Came
     let call = w.task_of(thread);
     let waiter = tell_waiter(w, call);
     if !passes_after_return(w, thread, waiter) {
-        return Came::Traps(Trap::CannotBlockSyncTask);
+        return OpResult::Traps(Trap::CannotBlockSyncTask);
     }
     match waiter {
         None => {
             leave_open(w, thread, None);
-            Came::Stops(Label::Task(TaskLabel::Exit(number)))
+            OpResult::Stops(Label::Task(TaskLabel::Exit(number)))
         }
         Some(waiter) => {
             let woken = w.number(waiter);
             leave_open(w, thread, Some(waiter));
-            Came::Stops(Label::Task(TaskLabel::ExitWakes(number, woken)))
+            OpResult::Stops(Label::Task(TaskLabel::ExitWakes(number, woken)))
         }
     }
 }

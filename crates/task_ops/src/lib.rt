@@ -2,49 +2,49 @@
 //! order, then makes the moves in the order of the row's new core.
 #![tactic(auto)]
 
-mod came;
+mod op_result;
 mod codes;
 mod data;
 mod deliveries;
-mod exits;
-mod gifts;
+mod exit_ops;
+mod picked_events;
 mod leaves;
 mod mains;
 mod names;
-mod polls;
+mod poll_ops;
 mod pressure;
-mod sets;
+mod set_ops;
 mod starts;
-mod strikes;
+mod unwinds;
 mod switches;
-mod tasks;
-mod threads;
-mod waits;
-mod works;
+mod task_end_ops;
+mod thread_ops;
+mod wait_ops;
+mod work_ops;
 
 ghost use Rattle.task_ops.specs.Steps.{ActingIsStep, MeetingIsStep, TakingIsStep};
 
-pub use came::{Came, OpAnswer};
+pub use op_result::{OpResult, OpAnswer};
 pub use codes::end_activation;
 pub use data::{compute, value_of};
 pub use deliveries::{deliver_own, deliver_set, hold_delivery, resume};
-pub use exits::exit_thread;
+pub use exit_ops::exit_thread;
 pub use leaves::{exit_blocking, exit_direct, exit_sync};
 pub use mains::{Acted, abort, answer, await_spawn, deadlock, finish, quiet, ready, spawn, start};
 pub use names::set_named;
-pub use polls::poll;
+pub use poll_ops::poll;
 pub use pressure::{lower, raise};
-pub use sets::{set_drop, set_new};
+pub use set_ops::{set_drop, set_new};
 pub use starts::take_start;
-pub use strikes::strike;
+pub use unwinds::strike;
 pub use switches::{
     halt_then_promote, halt_then_resume, has_yielded, promote_first, resume_first, thread_index,
     thread_new,
 };
-pub use tasks::{ret, ret_bad, task_cancel};
-pub use threads::{halt, resume_later};
-pub use waits::{begin_wait, go_on_waiting};
-pub use works::{Polled, Told, poll_work, take_push};
+pub use task_end_ops::{ret, ret_bad, task_cancel};
+pub use thread_ops::{halt, resume_later};
+pub use wait_ops::{begin_wait, go_on_waiting};
+pub use work_ops::{Polled, PollNews, poll_work, take_push};
 
 /// An op that meets its row is a step of the machine; so is a taking, and an op of main's script.
 #[tactic(auto, using(crate::proofs::MeetLemmas::meeting_is_step, crate::proofs::MeetLemmas::taking_is_step, crate::proofs::MeetLemmas::acting_is_step))]

@@ -5,9 +5,9 @@ ghost use Rattle.task_machine.specs.Maps.{get};
 ghost use Rattle.task_machine.specs.Write.{set_trapped};
 ghost use Rattle.task_machine.specs.declared.component.Component.{Component};
 ghost use Rattle.task_machine.specs.declared.label.LoopLabel.TheVariants as loop_labels;
-ghost use Rattle.task_ops.specs.Acted.{KeepsStarted, MainMeets};
+ghost use Rattle.task_ops.specs.Acted.{KeepsStarted, MainImplements};
 ghost use Rattle.task_rules.specs.Cancels.{aborted_phase};
-ghost use Rattle.task_rules.specs.MainOps.{Abort, Answer, Await, Finish, Quiet, Ready, Spawn, Start, main_row, start_refusal};
+ghost use Rattle.task_rules.specs.MainOps.{Abort, Answer, Await, Finish, Quiet, Ready, Spawn, Start, main_rule, start_refusal};
 ghost use Rattle.task_rules.specs.Places.{Placed};
 ghost use Rattle.task_rules.specs.Scripts.{export_kind, host_at};
 ghost use Rattle.task_rules.specs.Stalled.{deadlock_trap};
@@ -15,7 +15,7 @@ ghost use Rattle.task_words.specs.StateView.{Keeps, on_core, work_of};
 
 use task_machine::{Callee, ExportKind, Goal, HostDef, LoopLabel, MainLabel, Phase, Trap};
 use task_moves::put_high;
-use task_words::{NoMemory, WhyId, Words, WorkId};
+use task_words::{NoMemory, WhyId, Primitives, WorkId};
 
 /// What an op of main came to.
 #[derive(Clone, Copy)]
@@ -27,7 +27,7 @@ pub enum Acted {
 
 // Why a start by main is refused.
 #[tactic(auto, unfolding(task_rules::specs::MainOps::start_refusal))]
-fn start_refusal<W: Words>(w: &W) -> Option<Trap>
+fn start_refusal<W: Primitives>(w: &W) -> Option<Trap>
     ensures { result ≡ start_refusal (W.view w.now).core }
 {
     if w.trapped() {
@@ -41,7 +41,7 @@ fn start_refusal<W: Words>(w: &W) -> Option<Trap>
 
 /// `start F X*`, the start of this line. Where memory is wanting, all is as before.
 #[tactic(auto, unfolding(task_rules::specs::MainOps::main_started, task_rules::specs::MainOps::start_refusal))]
-pub fn start<W: Words>(
+pub fn start<W: Primitives>(
     w: &mut W,
     line: u32,
     callee: Callee,
@@ -53,7 +53,7 @@ pub fn start<W: Words>(
     requires words { length words.now ≤ 16 }
     requires few { (W.view w.old).core.made.threads + 1 < 2 ^ 64 }
     requires groups { (W.view w.old).core.made.groups + 1 < 2 ^ 64 }
-    ensures meets { IfOk result (λ acted. (c : Component) → export_kind c callee ≡ kind → MainMeets (main_row c line (W.view w.old).core (Start callee words.now)) (W.view w.old).core acted (W.view w.new).core) }
+    ensures meets { IfOk result (λ acted. (c : Component) → export_kind c callee ≡ kind → MainImplements (main_rule c line (W.view w.old).core (Start callee words.now)) (W.view w.old).core acted (W.view w.new).core) }
     ensures tags { KeepsStarted result (W.view w.old) (W.view w.new) }
     ensures current { (W.view w.new).current ≡ (W.view w.old).current }
     ensures asked { OnErr result (start_refusal (W.view w.old).core ≡ None) }
@@ -69,8 +69,8 @@ pub fn start<W: Words>(
 }
 
 /// `finish K R`, of the start that made this call, or was refused.
-pub fn finish<W: Words>(w: &mut W, line: u32, call: u64) -> Acted
-    ensures meets { (c : Component) → MainMeets (main_row c line (W.view w.old).core (Finish (Began call))) (W.view w.old).core result (W.view w.new).core }
+pub fn finish<W: Primitives>(w: &mut W, line: u32, call: u64) -> Acted
+    ensures meets { (c : Component) → MainImplements (main_rule c line (W.view w.old).core (Finish (Began call))) (W.view w.old).core result (W.view w.new).core }
     ensures tags { (W.view w.new).tags ≡ (W.view w.old).tags }
     ensures current { (W.view w.new).current ≡ (W.view w.old).current }
 {
@@ -85,9 +85,9 @@ pub fn finish<W: Words>(w: &mut W, line: u32, call: u64) -> Acted
 
 /// `spawn H`. Where memory is wanting, all is as before.
 #[tactic(auto, unfolding(task_rules::specs::MainOps::main_spawned))]
-pub fn spawn<W: Words>(w: &mut W, line: u32, host: HostDef) -> Result<Acted, NoMemory>
+pub fn spawn<W: Primitives>(w: &mut W, line: u32, host: HostDef) -> Result<Acted, NoMemory>
     requires few { (W.view w.old).core.made.works + 1 < 2 ^ 64 }
-    ensures meets { IfOk result (λ acted. (c : Component) → (h : ℕ) → host_at c h ≡ host → MainMeets (main_row c line (W.view w.old).core (Spawn h)) (W.view w.old).core acted (W.view w.new).core) }
+    ensures meets { IfOk result (λ acted. (c : Component) → (h : ℕ) → host_at c h ≡ host → MainImplements (main_rule c line (W.view w.old).core (Spawn h)) (W.view w.old).core acted (W.view w.new).core) }
     ensures tags { Keeps (W.view w.old).tags (W.view w.new).tags }
     ensures current { (W.view w.new).current ≡ (W.view w.old).current }
     ensures err { OnErr result (W.view w.new ≡ W.view w.old) }
@@ -108,8 +108,8 @@ fn aborted(phase: Phase) -> Phase
 
 /// `abort K`, of the spawn that made this work.
 #[tactic(auto, unfolding(task_rules::specs::MainOps::main_aborted))]
-pub fn abort<W: Words>(w: &mut W, line: u32, work: WorkId) -> Acted
-    ensures meets { (c : Component) → MainMeets (main_row c line (W.view w.old).core (Abort (work_of (W.view w.old) work))) (W.view w.old).core result (W.view w.new).core }
+pub fn abort<W: Primitives>(w: &mut W, line: u32, work: WorkId) -> Acted
+    ensures meets { (c : Component) → MainImplements (main_rule c line (W.view w.old).core (Abort (work_of (W.view w.old) work))) (W.view w.old).core result (W.view w.new).core }
     ensures tags { (W.view w.new).tags ≡ (W.view w.old).tags }
     ensures current { (W.view w.new).current ≡ (W.view w.old).current }
 {
@@ -119,8 +119,8 @@ pub fn abort<W: Words>(w: &mut W, line: u32, work: WorkId) -> Acted
 }
 
 /// `await K`, of the spawn that made this work.
-pub fn await_spawn<W: Words>(w: &W, line: u32, work: WorkId) -> Acted
-    ensures { (c : Component) → MainMeets (main_row c line (W.view w.now).core (Await (work_of (W.view w.now) work))) (W.view w.now).core result (W.view w.now).core }
+pub fn await_spawn<W: Primitives>(w: &W, line: u32, work: WorkId) -> Acted
+    ensures { (c : Component) → MainImplements (main_rule c line (W.view w.now).core (Await (work_of (W.view w.now) work))) (W.view w.now).core result (W.view w.now).core }
 {
     if matches!(w.phase(work), Phase::Complete) {
         Acted::Does(MainLabel::Await(line))
@@ -130,8 +130,8 @@ pub fn await_spawn<W: Words>(w: &W, line: u32, work: WorkId) -> Acted
 }
 
 /// `quiet`
-pub fn quiet<W: Words>(w: &W) -> Acted
-    ensures { (c : Component) → (k : ℕ) → MainMeets (main_row c k (W.view w.now).core Quiet) (W.view w.now).core result (W.view w.now).core }
+pub fn quiet<W: Primitives>(w: &W) -> Acted
+    ensures { (c : Component) → (k : ℕ) → MainImplements (main_rule c k (W.view w.now).core Quiet) (W.view w.now).core result (W.view w.now).core }
 {
     if w.has_interesting() {
         Acted::Pends
@@ -142,8 +142,8 @@ pub fn quiet<W: Words>(w: &W) -> Acted
 
 /// `ready F`, of an export of this instance.
 #[tactic(auto, unfolding(task_rules::specs::MainOps::is_ready_for_call))]
-pub fn ready<W: Words>(w: &W, instance: u32) -> Acted
-    ensures { (c : Component) → (k : ℕ) → MainMeets (main_row c k (W.view w.now).core (Ready instance)) (W.view w.now).core result (W.view w.now).core }
+pub fn ready<W: Primitives>(w: &W, instance: u32) -> Acted
+    ensures { (c : Component) → (k : ℕ) → MainImplements (main_rule c k (W.view w.now).core (Ready instance)) (W.view w.now).core result (W.view w.now).core }
 {
     if w.may_not_enter(instance) || w.backpressure(instance) != 0 {
         Acted::Pends
@@ -153,15 +153,15 @@ pub fn ready<W: Words>(w: &W, instance: u32) -> Acted
 }
 
 /// `answer X`
-pub fn answer<W: Words>(w: &W, value: u64) -> Acted
-    ensures { (c : Component) → (k : ℕ) → MainMeets (main_row c k (W.view w.now).core (Answer value)) (W.view w.now).core result (W.view w.now).core }
+pub fn answer<W: Primitives>(w: &W, value: u64) -> Acted
+    ensures { (c : Component) → (k : ℕ) → MainImplements (main_rule c k (W.view w.now).core (Answer value)) (W.view w.now).core result (W.view w.now).core }
 {
     let _state = w;
     Acted::Answers(value)
 }
 
 /// Nothing can go on, and main waits: the store is trapped, and all groups are finished.
-pub fn deadlock<W: Words>(w: &mut W) -> LoopLabel
+pub fn deadlock<W: Primitives>(w: &mut W) -> LoopLabel
     ensures label { result ≡ loop_labels.Deadlock (deadlock_trap (W.view w.old).core) }
     ensures new { W.view w.new ≡ on_core set_trapped (W.view w.old) }
 {

@@ -4,10 +4,10 @@ ghost use Rattle.task_machine.specs.Read.{set_at};
 ghost use Rattle.task_ops.specs.Running.{SetsThere};
 ghost use Rattle.task_words.specs.StateView.{set_of};
 
-use task_words::{SetId, Words};
+use task_words::{SetId, Primitives};
 
 /// The set that a handle names, where each such set is there.
-pub fn set_named<W: Words>(w: &W, instance: u32, handle: u64) -> Option<SetId>
+pub fn set_named<W: Primitives>(w: &W, instance: u32, handle: u64) -> Option<SetId>
     requires { SetsThere (W.view w.now).core }
     ensures is { option_map (λ id. set_of (W.view w.now) id) result ≡ set_at instance handle (W.view w.now).core }
     ensures live { IfSome result (λ id. 0 < set_of (W.view w.now) id) }

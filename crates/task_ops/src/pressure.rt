@@ -1,27 +1,27 @@
 //! Backpressure.
-ghost use Rattle.task_laws.specs.Wakes.{NoneAdmitted};
+ghost use Rattle.task_laws.specs.WakeLaw.{NoneAdmitted};
 ghost use Rattle.task_ops.specs.Does.{DoesRule, SameNames};
 ghost use Rattle.task_ops.specs.Running.{IsRunning};
 ghost use Rattle.task_rules.specs.Task.{dec_rule, inc_rule};
 ghost use Rattle.task_words.specs.StateView.{thread_of};
 
-use crate::came::{Came, OpAnswer};
+use crate::op_result::{OpResult, OpAnswer};
 use task_machine::{Label, TaskLabel, Trap};
-use task_words::{ThreadId, Words};
+use task_words::{ThreadId, Primitives};
 
 /// `bp_inc`
 #[tactic(auto, unfolding(task_rules::specs::Task::pressure_raised))]
-pub fn raise<W: Words>(w: &mut W, thread: ThreadId) -> Came
+pub fn raise<W: Primitives>(w: &mut W, thread: ThreadId) -> OpResult
     ensures does { DoesRule SameNames (λ d n ch s. inc_rule d n s) thread (W.view w.old) result (W.view w.new) }
 {
     let instance = w.instance_of(thread);
     let count = w.backpressure(instance);
     if count == 65535 {
-        return Came::Traps(Trap::BackpressureOverflow);
+        return OpResult::Traps(Trap::BackpressureOverflow);
     }
     w.set_backpressure(instance, count + 1);
     let number = w.number(thread);
-    Came::Goes(
+    OpResult::Continues(
         Label::Task(TaskLabel::BpInc(number)),
         number,
         OpAnswer::Nothing,
@@ -29,7 +29,7 @@ pub fn raise<W: Words>(w: &mut W, thread: ThreadId) -> Came
 }
 
 /// `bp_dec`. Where the instance keeps entries out, none of its held threads is admitted, and these aren't looked at.
-pub fn lower<W: Words>(w: &mut W, thread: ThreadId) -> Came
+pub fn lower<W: Primitives>(w: &mut W, thread: ThreadId) -> OpResult
     requires running { IsRunning (thread_of (W.view w.old) thread) (W.view w.old).core }
     requires held { NoneAdmitted (W.view w.old).core }
     ensures does { DoesRule SameNames (λ d n ch s. dec_rule d n s) thread (W.view w.old) result (W.view w.new) }
@@ -37,17 +37,17 @@ pub fn lower<W: Words>(w: &mut W, thread: ThreadId) -> Came
     let instance = w.instance_of(thread);
     let count = w.backpressure(instance);
     if count == 0 {
-        return Came::Traps(Trap::BackpressureOverflow);
+        return OpResult::Traps(Trap::BackpressureOverflow);
     }
     let number = w.number(thread);
     let label = Label::Task(TaskLabel::BpDec(number));
     w.set_backpressure(instance, count - 1);
     if count == 1 {
         if w.may_not_enter(instance) {
-            return Came::Goes(label, number, OpAnswer::Nothing);
+            return OpResult::Continues(label, number, OpAnswer::Nothing);
         }
         w.release(instance);
-        return Came::Goes(label, number, OpAnswer::Nothing);
+        return OpResult::Continues(label, number, OpAnswer::Nothing);
     }
-    Came::Goes(label, number, OpAnswer::Nothing)
+    OpResult::Continues(label, number, OpAnswer::Nothing)
 }

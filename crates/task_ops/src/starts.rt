@@ -5,29 +5,29 @@ ghost use Rattle.task_machine.specs.Read.{admits, at_handle_limit, task_of, unde
 ghost use Rattle.task_machine.specs.declared.records.Subtask.TheVariants as subtasks;
 ghost use Rattle.task_machine.specs.declared.records.Why.TheVariants as whys;
 ghost use Rattle.task_moves.specs.Idle.{CanPublish, IsJoinThere, IsWaiting};
-ghost use Rattle.task_ops.specs.Came.{Meets};
+ghost use Rattle.task_ops.specs.OpResult.{Implements};
 ghost use Rattle.task_ops.specs.Running.{IsStartTaken};
 ghost use Rattle.task_ops.specs.Shown.{goes_as};
 ghost use Rattle.task_ops.specs.Steps.{label_of};
-ghost use Rattle.task_rules.specs.Takes.{may_tell_starting, start_begins, start_holds, start_row, start_sets_flags, starting_is_published, starting_told};
+ghost use Rattle.task_rules.specs.Takes.{may_tell_starting, start_begins, start_holds, start_rule, start_sets_flags, starting_is_published, starting_told};
 ghost use Rattle.task_words.specs.StateView.{call_of, on_core, thread_of};
 
-use crate::came::{Came, OpAnswer};
+use crate::op_result::{OpResult, OpAnswer};
 use task_machine::{ExportKind, Label, Mark, Status, TakeLabel, Trap};
 use task_moves::{own_foot, stop, tell, tell_waiter};
-use task_words::{CallId, NoMemory, PlaceId, ThreadId, WhyId, Words};
+use task_words::{CallId, NoMemory, PlaceId, ThreadId, WhyId, Primitives};
 
 // The taken thread goes on, and this one was woken.
-fn goes_on(mark: Mark, thread: u64, woken: Option<u64>) -> Came
+fn goes_on(mark: Mark, thread: u64, woken: Option<u64>) -> OpResult
     ensures { result ≡ goes_as (take_label mark thread woken) thread }
 {
     match woken {
-        None => Came::Goes(
+        None => OpResult::Continues(
             Label::Take(TakeLabel::Thread(mark, thread)),
             thread,
             OpAnswer::NoneDue,
         ),
-        Some(woken) => Came::Goes(
+        Some(woken) => OpResult::Continues(
             Label::Take(TakeLabel::ThreadWakes(mark, thread, woken)),
             thread,
             OpAnswer::NoneDue,
@@ -45,7 +45,7 @@ fn held_label(mark: Mark, thread: u64, woken: Option<u64>) -> Label
     }
 }
 
-fn woken_number<W: Words>(w: &W, waiter: Option<ThreadId>) -> Option<u64>
+fn woken_number<W: Primitives>(w: &W, waiter: Option<ThreadId>) -> Option<u64>
     ensures { result ≡ option_map (λ id. thread_of (W.view w.now) id) waiter }
 {
     match waiter {
@@ -55,7 +55,7 @@ fn woken_number<W: Words>(w: &W, waiter: Option<ThreadId>) -> Option<u64>
 }
 
 // A sync export saves and sets `do_not_suspend`; a blocking one and a callback set `do_not_enter`.
-fn set_flags<W: Words>(w: &mut W, thread: ThreadId, kind: ExportKind)
+fn set_flags<W: Primitives>(w: &mut W, thread: ThreadId, kind: ExportKind)
     ensures { W.view w.new ≡ on_core (start_sets_flags (thread_of (W.view w.old) thread) kind) (W.view w.old) }
 {
     let instance = w.instance_of(thread);
@@ -71,7 +71,7 @@ fn set_flags<W: Words>(w: &mut W, thread: ThreadId, kind: ExportKind)
 }
 
 // Whether a start of the thread, which is there, may begin.
-fn admits_start<W: Words>(w: &W, thread: ThreadId) -> bool
+fn admits_start<W: Primitives>(w: &W, thread: ThreadId) -> bool
     requires { 0 < thread_of (W.view w.now) thread }
     ensures { result ≡ admits (thread_of (W.view w.now) thread) (W.view w.now).core whys.Start }
 {
@@ -84,7 +84,7 @@ fn admits_start<W: Words>(w: &W, thread: ThreadId) -> bool
 
 // The call's first thread has its handle, Started is told, and the flags of its kind are set.
 #[tactic(auto, unfolding(task_rules::specs::Takes::start_begins))]
-fn begin<W: Words>(w: &mut W, thread: ThreadId, waiter: Option<ThreadId>) -> Result<(), NoMemory>
+fn begin<W: Primitives>(w: &mut W, thread: ThreadId, waiter: Option<ThreadId>) -> Result<(), NoMemory>
     requires live { 0 < thread_of (W.view w.old) thread }
     requires can { CanPublish (subtasks.Guest (task_of (thread_of (W.view w.old) thread) (W.view w.old).core)) waiter (W.view w.old) }
     requires limit { at_handle_limit (W.view w.old).core ≡ false }
@@ -103,7 +103,7 @@ fn begin<W: Words>(w: &mut W, thread: ThreadId, waiter: Option<ThreadId>) -> Res
 
 // The waiter that is woken where Starting is told now, if it wasn't told before.
 #[tactic(auto, unfolding(task_rules::specs::Takes::may_tell_starting))]
-fn starting_waiter<W: Words>(w: &W, call: CallId, told: bool) -> Option<ThreadId>
+fn starting_waiter<W: Primitives>(w: &W, call: CallId, told: bool) -> Option<ThreadId>
     requires there { IsJoinThere (subtasks.Guest (call_of (W.view w.now) call)) (W.view w.now).core }
     requires told { told ≡ starting_is_published (call_of (W.view w.now) call) (W.view w.now).core }
     ensures choice { may_tell_starting (call_of (W.view w.now) call) (option_map (λ id. thread_of (W.view w.now) id) result) (W.view w.now).core ≡ true }
@@ -115,7 +115,7 @@ fn starting_waiter<W: Words>(w: &W, call: CallId, told: bool) -> Option<ThreadId
 
 // Starting is told once.
 #[tactic(auto, unfolding(task_rules::specs::Takes::starting_told))]
-fn tell_starting<W: Words>(w: &mut W, call: CallId, waiter: Option<ThreadId>, told: bool)
+fn tell_starting<W: Primitives>(w: &mut W, call: CallId, waiter: Option<ThreadId>, told: bool)
     requires told { told ≡ starting_is_published (call_of (W.view w.old) call) (W.view w.old).core }
     requires can { CanPublish (subtasks.Guest (call_of (W.view w.old) call)) waiter (W.view w.old) }
     ensures { W.view w.new ≡ on_core (starting_told (call_of (W.view w.old) call) (option_map (λ id. thread_of (W.view w.old) id) waiter)) (W.view w.old) }
@@ -128,7 +128,7 @@ fn tell_starting<W: Words>(w: &mut W, call: CallId, waiter: Option<ThreadId>, to
 
 // Starting is told, if it wasn't before, the thread of the call is held with its entry, and its strand stops.
 #[tactic(auto, unfolding(task_rules::specs::Takes::start_holds, task_rules::specs::Takes::take_holds))]
-fn hold_start<W: Words>(
+fn hold_start<W: Primitives>(
     w: &mut W,
     thread: ThreadId,
     call: CallId,
@@ -151,12 +151,12 @@ fn hold_start<W: Words>(
 
 /// A start that was taken from the mark, of a thread that nobody is under. Where memory is wanting, all is as before.
 #[tactic(auto, unfolding(task_rules::specs::Takes::running))]
-pub fn take_start<W: Words>(w: &mut W, mark: Mark, thread: ThreadId) -> Result<Came, NoMemory>
+pub fn take_start<W: Primitives>(w: &mut W, mark: Mark, thread: ThreadId) -> Result<OpResult, NoMemory>
     requires live { 0 < thread_of (W.view w.old) thread }
     requires taken { IsStartTaken (thread_of (W.view w.old) thread) (W.view w.old).core }
     requires bottom { under_of (thread_of (W.view w.old) thread) (W.view w.old).core ≡ None }
     requires there { IsJoinThere (subtasks.Guest (task_of (thread_of (W.view w.old) thread) (W.view w.old).core)) (W.view w.old).core }
-    ensures meets { IfOk result (λ came. Meets (start_row mark (thread_of (W.view w.old) thread) (choice_of (label_of (thread_of (W.view w.old) thread) came)).woken (W.view w.old).core (admits (thread_of (W.view w.old) thread) (W.view w.old).core whys.Start)) (W.view w.old).core came (W.view w.new).core) }
+    ensures meets { IfOk result (λ op_result. Implements (start_rule mark (thread_of (W.view w.old) thread) (choice_of (label_of (thread_of (W.view w.old) thread) op_result)).woken (W.view w.old).core (admits (thread_of (W.view w.old) thread) (W.view w.old).core whys.Start)) (W.view w.old).core op_result (W.view w.new).core) }
     ensures tags { (W.view w.new).tags ≡ (W.view w.old).tags }
     ensures current { (W.view w.new).current ≡ (W.view w.old).current }
     ensures err { OnErr result (W.view w.new ≡ W.view w.old) }
@@ -168,14 +168,14 @@ pub fn take_start<W: Words>(w: &mut W, mark: Mark, thread: ThreadId) -> Result<C
         let waiter = starting_waiter(w, call, told);
         let woken = woken_number(w, waiter);
         hold_start(w, thread, call, waiter, told);
-        return Ok(Came::Stops(held_label(mark, number, woken)));
+        return Ok(OpResult::Stops(held_label(mark, number, woken)));
     }
     if w.is_explicit(thread) {
         w.set_place(thread, PlaceId::Running);
         return Ok(goes_on(mark, number, None));
     }
     if w.at_handle_limit() {
-        return Ok(Came::Traps(Trap::HandleLimit));
+        return Ok(OpResult::Traps(Trap::HandleLimit));
     }
     let waiter = tell_waiter(w, call);
     let woken = woken_number(w, waiter);

@@ -1,5 +1,5 @@
 -- Nobody runs but the thread whose turn it is, along the words of a step.
-use Rattle.task_places.proofs.Laws.{after_placing, after_word, along, ap, arith, behind_one, by_number, Collapses, Core, Enter, false, get, get-change, get-remove, GoBehind, GoesBack, inl, InPlace, inr, is_none, IsBeside, IsFirst, IsGone, IsRunner, IsSame, Label, Lands, LandsAt, Mark, MayLand, MayMove, Move, Moved, nat_tests, on_thread, Op, Option, option_map, Place, place_of, Places, Placing, placing_shifted, Promote, promoted_shifted, push_high, push_low, Put, put_high, put_low, put_shifted, Quits, Remains, remove_thread, RemoveThread, runner_at, RunsAlone, Scene, scene_as, set_callers, set_how_far, set_place, Setting, settle_threads, settled_turn, Settles, Some, State, Stay, Stays, stays_allowed, Stop, stopped_shifted, sym, Thread, thread_came, ThreadAfter, Trip, true, Turn, WalkedAs, Word, ℕ, ⊎_elim, ◌==◌, ◌∙◌, ◌≡◌, ◌⊎◌}
+use Rattle.task_places.proofs.Laws.{after_placing, after_primitive, along, ap, arith, behind_one, by_number, Collapses, Core, Enter, false, get, get-change, get-remove, GoBehind, GoesBack, inl, InPlace, inr, is_none, IsBeside, IsFirst, IsGone, IsRunner, IsSame, Label, Lands, LandsAt, Mark, MayLand, MayMove, Move, Moved, nat_tests, on_thread, Op, Option, option_map, Place, place_of, Places, Placing, placing_shifted, Promote, promoted_shifted, push_high, push_low, Put, put_high, put_low, put_shifted, Quits, Remains, remove_thread, RemoveThread, runner_at, RunsAlone, Scene, scene_as, set_callers, set_op_progress, set_place, Setting, settle_threads, settled_turn, Settles, Some, State, Stay, Stays, stays_allowed, Stop, stopped_shifted, sym, Thread, thread_came, ThreadAfter, Trip, true, Turn, WalkedAs, Primitive, ℕ, ⊎_elim, ◌==◌, ◌∙◌, ◌≡◌, ◌⊎◌}
 use Rattle.task_places.proofs.{PlaceLaw.Frame, PlaceLaw.yield_leaves, PlaceSteps.Withdrawable, PlaceSteps.step_by}
 
 abbrev Runs : ℕ → Core → Type 0
@@ -15,7 +15,7 @@ shift_runs a (Stop f) s ok k is = moved_runs _ _ (stopped_shifted (λ j v. Unit 
 shift_runs a x s (inl ok) k is = absurd ok
 shift_runs a x s (inr ok) k is = absurd ok
 
-word_runs : (a : Scene) (w : Word) (s : Core) → Stays a w s → (k : ℕ) → Runs k (after_word w s) → Runs k s
+word_runs : (a : Scene) (w : Primitive) (s : Core) → Stays a w s → (k : ℕ) → Runs k (after_primitive w s) → Runs k s
 word_runs a w s ok k is = go (thread_came w s (stays_allowed a w s ok) k)
   where
     go : ThreadAfter a w s k → Runs k s
@@ -75,17 +75,17 @@ module _ {a : Scene} {b : Core} {n : ℕ} {q : Option Place} (f : Frame a b n q)
   none_landed s k c (inr (is, (j, (inr (to, (m, (runs, gone))), other)))) =
       let one = f.one k (runner k (stay_runs c k is)) in let same = f.one m runs in absurd (grind arith)
 
-  landed : (s : Core) (x : Placing) → Stay a b s → MayLand a x s → (k : ℕ) → Runs k (after_word (Places x) s) → a.next ≡ Turn.Run k
+  landed : (s : Core) (x : Placing) → Stay a b s → MayLand a x s → (k : ℕ) → Runs k (after_primitive (Places x) s) → a.next ≡ Turn.Run k
   landed s x c ok k is = none_landed s k c (land_runs a x s ok k (sym (ap (λ (t : Core). place_of k t) (placing_shifted x s).only) ∙ is))
 
   -- who runs isn't the one that is gone
-  none_left : (s t : Core) (j k : ℕ) {A : Type 0} → Stay a b s → IsRunner a j → Settles (after_word (RemoveThread j) s) t → Runs k t → A
+  none_left : (s t : Core) (j k : ℕ) {A : Type 0} → Stay a b s → IsRunner a j → Settles (after_primitive (RemoveThread j) s) t → Runs k t → A
   none_left s t j k c runs d is =
       let r = removed_runs k j s (settled_runs d k is) in
       let one = f.one k (runner k (stay_runs c k r.1)) in let same = f.one j runs in absurd (grind (arith, nat_tests))
 
   trip_alone : {t : Core} → Trip a b t → (a.next ≡ Turn.Over → ⊥) → (k : ℕ) → Runs k t → a.next ≡ Turn.Run k
-  unfolding set_how_far on_thread set_place
+  unfolding set_op_progress on_thread set_place
   trip_alone (Remains t c still on) open_at k is = on k (runner k (stay_runs c k is))
   trip_alone (Lands s x c ok fit halts) open_at k is = landed s x c ok k is
   trip_alone (LandsAt s x m h c ok fit comes halts) open_at k is = landed s x c ok k (grind (arith, nat_tests, get-change))

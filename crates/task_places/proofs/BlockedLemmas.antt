@@ -1,5 +1,5 @@
 -- No thread is blocked on a subtask that has an end as its event: along the words of a step.
-use Rattle.task_places.proofs.Laws.{along, ap, arith, at_place, AwaitsEvent, base_at, Blocks, Bool, Call, CallsTold, cancelled_by, cancelled_call, Coming, coming_word, Component, Core, course_of, course_value, EndTells, EndWords, event_of, false, get, HasCome, Holds, host_status, host_taken, how_far_of, HowFar, inl, InOrderFor, inr, is_async_work, is_ended_work, is_inside, is_stage_ended, is_told, IsRunner, Label, LoopLabel, MayMove, nat_tests, no_way, None, NoneBlockedOnEnd, Op, Option, option_map, option_map_or, Place, plain, plain_as, refl, Runs, said_plain, Scene, scene_as, Setting, Some, Stage, stage_of, State, Status, status_of_end, Steady, subst, Subtask, subtask_ended, subtask_handle, subtask_under_way, Suspends, sym, TellingGoes, TellsEnd, TellsLater, TellsNever, TellsNone, TellsNow, Thread, true, Turn, Unblocking, Uncovers, undelivered_end, Waits, WaitsAgain, Walk, WalkedAs, Work, work_caller_of, WorksTold, Writes, WritesAtOnce, WritesCall, WritesNever, WritesPolled, written_as, written_at, ℕ, ⊎_elim, ◌∙◌, ◌≡◌, ◌≤◌, ◌⊎◌}
+use Rattle.task_places.proofs.Laws.{along, ap, arith, at_place, AwaitsEvent, base_at, Blocks, Bool, Call, CallsTold, cancelled_by, cancelled_call, Coming, coming_word, Component, Core, course_of, course_value, EndTells, EndPrimitives, event_of, false, get, HasCome, Holds, host_status, host_taken, op_progress_of, OpProgress, inl, InOrderFor, inr, is_async_work, is_ended_work, is_inside, is_stage_ended, is_told, IsRunner, Label, LoopLabel, MayMove, nat_tests, no_way, None, NoneBlockedOnEnd, Op, Option, option_map, option_map_or, Place, plain, plain_as, refl, Runs, said_plain, Scene, scene_as, Setting, Some, Stage, stage_of, State, Status, status_of_end, Steady, subst, Subtask, subtask_ended, subtask_handle, subtask_under_way, Suspends, sym, TellingGoes, TellsEnd, TellsLater, TellsNever, TellsNone, TellsNow, Thread, true, Turn, Unblocking, Uncovers, undelivered_end, Waits, WaitsAgain, Walk, WalkedAs, Work, work_caller_of, WorksTold, Writes, WritesAtOnce, WritesCall, WritesNever, WritesPolled, written_as, written_at, ℕ, ⊎_elim, ◌∙◌, ◌≡◌, ◌≤◌, ◌⊎◌}
 use Rattle.task_places.proofs.{HostsAwaited.Asked, PlaceSteps.Withdrawable, PlaceSteps.step_by, RestLemmas.Rests, RestLemmas.rests_stay, RestLemmas.rests_walk, RestLemmas.runs_free, RestLemmas.trip_rests}
 
 -- the thread is blocked on the subtask
@@ -47,7 +47,7 @@ abbrev IsTold : Subtask → Core → Type 0
 IsTold (Subtask.Guest k) s = is_told k s ≡ true
 IsTold (Subtask.Host i) s = (w : Work) × (get s.works i ≡ Some w)
 
-pub inside_of : (sub : Subtask) (f : HowFar) → is_inside (Place.Blocked sub) f ≡ true → (f ≡ HowFar.Calls sub) ⊎ (f ≡ HowFar.AwaitsEnd sub)
+pub inside_of : (sub : Subtask) (f : OpProgress) → is_inside (Place.Blocked sub) f ≡ true → (f ≡ OpProgress.Calls sub) ⊎ (f ≡ OpProgress.AwaitsEnd sub)
 inside_of sub f h = grind (arith, nat_tests)
 
 call_of_told : (k : ℕ) (s : Core) → is_told k s ≡ true → (c : Call) × (get s.calls k ≡ Some c)
@@ -58,14 +58,14 @@ call_of_told k s told = by (get s.calls k) refl
     by (Some c) is = (c, is)
 
 module _ {g : Bool} {ops : ℕ → Op} {c : Component} {s : State} (h : InOrderFor g ops c s) where
-  called_once : (n m k : ℕ) → is_told k s.core ≡ true → how_far_of n s.core ≡ HowFar.Calls (Subtask.Guest k) →
-      how_far_of m s.core ≡ HowFar.Calls (Subtask.Guest k) → n ≡ m
+  called_once : (n m k : ℕ) → is_told k s.core ≡ true → op_progress_of n s.core ≡ OpProgress.Calls (Subtask.Guest k) →
+      op_progress_of m s.core ≡ OpProgress.Calls (Subtask.Guest k) → n ≡ m
   called_once n m k told at too =
       let r = call_of_told k s.core told in
       let mine = (h.names.called n k at r.0 r.1).0 in let other = (h.names.called m k too r.0 r.1).0 in grind arith
 
-  awaited_once : (n m : ℕ) (sub : Subtask) → IsTold sub s.core → how_far_of n s.core ≡ HowFar.AwaitsEnd sub →
-      how_far_of m s.core ≡ HowFar.AwaitsEnd sub → n ≡ m
+  awaited_once : (n m : ℕ) (sub : Subtask) → IsTold sub s.core → op_progress_of n s.core ≡ OpProgress.AwaitsEnd sub →
+      op_progress_of m s.core ≡ OpProgress.AwaitsEnd sub → n ≡ m
   awaited_once n m (Subtask.Guest k) told at too =
       let r = call_of_told k s.core told in let there = r.1 in
       let mine = h.watched n (Subtask.Guest k) (ap cancelled_by at) in let other = h.watched m (Subtask.Guest k) (ap cancelled_by too) in
@@ -76,17 +76,17 @@ module _ {g : Bool} {ops : ℕ → Op} {c : Component} {s : State} (h : InOrderF
       grind (arith, nat_tests)
 
   -- what a thread cancels isn't the work of a sync call
-  cancels_async : (n i : ℕ) → how_far_of n s.core ≡ HowFar.AwaitsEnd (Subtask.Host i) → is_async_work (work_caller_of i s.core) ≡ true
+  cancels_async : (n i : ℕ) → op_progress_of n s.core ≡ OpProgress.AwaitsEnd (Subtask.Host i) → is_async_work (work_caller_of i s.core) ≡ true
   cancels_async n i at =
       let named = h.cancelled n (Subtask.Host i) (ap cancelled_by at) in
       let r = at_place (λ (g : ℕ). true) (subtask_handle (Subtask.Host i) s.core) (grind (arith, named)) in
       h.works_known.async r.0 i r.1.0
 
-  no_sync : {A : Type 0} (n m i : ℕ) → how_far_of n s.core ≡ HowFar.Calls (Subtask.Host i) → how_far_of m s.core ≡ HowFar.AwaitsEnd (Subtask.Host i) → A
+  no_sync : {A : Type 0} (n m i : ℕ) → op_progress_of n s.core ≡ OpProgress.Calls (Subtask.Host i) → op_progress_of m s.core ≡ OpProgress.AwaitsEnd (Subtask.Host i) → A
   no_sync n m i at too = let async = cancels_async m i too in let own = (h.works_known.called n i at).1 in absurd (grind arith)
 
-  both_inside : (n m : ℕ) (sub : Subtask) → IsTold sub s.core → (how_far_of n s.core ≡ HowFar.Calls sub) ⊎ (how_far_of n s.core ≡ HowFar.AwaitsEnd sub) →
-      (how_far_of m s.core ≡ HowFar.Calls sub) ⊎ (how_far_of m s.core ≡ HowFar.AwaitsEnd sub) → n ≡ m
+  both_inside : (n m : ℕ) (sub : Subtask) → IsTold sub s.core → (op_progress_of n s.core ≡ OpProgress.Calls sub) ⊎ (op_progress_of n s.core ≡ OpProgress.AwaitsEnd sub) →
+      (op_progress_of m s.core ≡ OpProgress.Calls sub) ⊎ (op_progress_of m s.core ≡ OpProgress.AwaitsEnd sub) → n ≡ m
   both_inside n m sub told (inr at) (inr too) = awaited_once n m sub told at too
   both_inside n m (Subtask.Guest k) told (inl at) (inl too) = called_once n m k told at too
   both_inside n m (Subtask.Guest k) told (inl at) (inr too) = absurd (h.calls.apart n m k at (ap cancelled_call too))
@@ -97,8 +97,8 @@ module _ {g : Bool} {ops : ℕ → Op} {c : Component} {s : State} (h : InOrderF
 
   stuck_once : (n m : ℕ) (sub : Subtask) → IsTold sub s.core → IsStuck sub n s.core → IsStuck sub m s.core → n ≡ m
   stuck_once n m sub told at too =
-      both_inside n m sub told (inside_of sub (how_far_of n s.core) (h.inside n (Place.Blocked sub) at))
-      (inside_of sub (how_far_of m s.core) (h.inside m (Place.Blocked sub) too))
+      both_inside n m sub told (inside_of sub (op_progress_of n s.core) (h.inside n (Place.Blocked sub) at))
+      (inside_of sub (op_progress_of m s.core) (h.inside m (Place.Blocked sub) too))
 
 -- ---- A step
 
@@ -122,8 +122,8 @@ module _ {ops : ℕ → Op} (x : Setting) (s : State) (l : Label) (t : State) (w
     λ on m sub at. ⊎_elim (λ e. inl (sym (f.home m) ∙ e)) (λ r. inr (same_open sub r.0 u r.1.1.0 r.1.1.1 (move_opens c m sub r.0 r.1.0))) (trip_rests f d on m (Place.Blocked sub) refl at),
   )))
 
-  words : EndWords a t.core
-  words = plain {ops = ops} x s l w.next (λ b. EndWords b t.core) w.ends.says
+  words : EndPrimitives a t.core
+  words = plain {ops = ops} x s l w.next (λ b. EndPrimitives b t.core) w.ends.says
 
   -- who is blocked and was so before isn't the one that is freed
   freed : (n : ℕ) (sub : Subtask) → IsTold sub s.core → IsStuck sub n s.core → IsStuck sub n t.core → Unblocking a t.core sub → ⊥
@@ -163,17 +163,17 @@ module _ {ops : ℕ → Op} (x : Setting) (s : State) (l : Label) (t : State) (w
   was_stuck : (n : ℕ) (sub : Subtask) (e : Status) → IsStuck sub n s.core → IsStuck sub n t.core → undelivered_end (event_of sub t.core) ≡ Some e → ⊥
   was_stuck n (Subtask.Guest k) e at still is =
       let none = blocked.events n (Subtask.Guest k) at in
-      let far = inside_of (Subtask.Guest k) (how_far_of n s.core) (h.inside n (Place.Blocked (Subtask.Guest k)) at) in
+      let far = inside_of (Subtask.Guest k) (op_progress_of n s.core) (h.inside n (Place.Blocked (Subtask.Guest k)) at) in
       let below = (h.calls_named.by_op n k (⊎_elim (λ f. ap subtask_under_way f) (λ f. ap subtask_under_way f) far)).number in
       ⊎_elim (λ same. absurd (grind arith)) (λ now. guest_stuck n k e at still now) (told.ends k e below is)
   was_stuck n (Subtask.Host i) e at still is =
       let none = blocked.events n (Subtask.Host i) at in
-      let far = inside_of (Subtask.Host i) (how_far_of n s.core) (h.inside n (Place.Blocked (Subtask.Host i)) at) in
+      let far = inside_of (Subtask.Host i) (op_progress_of n s.core) (h.inside n (Place.Blocked (Subtask.Host i)) at) in
       let below = h.works_named.by_op n i (⊎_elim (λ f. ap subtask_under_way f) (λ f. ap subtask_under_way f) far) in
       ⊎_elim (λ same. absurd (grind arith)) (λ taken. freed n (Subtask.Host i) (live_work n i at) at still (words.takes i taken).unblocks) (hosts i e is)
 
   -- the work of the runner's own sync call has ended
-  ended_asked : (m i : ℕ) → IsRunner a m → how_far_of m a.base ≡ HowFar.Calls (Subtask.Host i) → is_stage_ended (stage_of i a.base) ≡ true
+  ended_asked : (m i : ℕ) → IsRunner a m → op_progress_of m a.base ≡ OpProgress.Calls (Subtask.Host i) → is_stage_ended (stage_of i a.base) ≡ true
   ended_asked m i is far = (asked m i is far).1
 
   ended_here : (i : ℕ) → i ≤ s.core.made.works → is_stage_ended (stage_of i t.core) ≡ true → HasCome a ended_asked i
@@ -187,9 +187,9 @@ module _ {ops : ℕ → Op} (x : Setting) (s : State) (l : Label) (t : State) (w
       ⊎_elim (λ calls. by (Subtask.Host i) refl calls (words.writes (Subtask.Host i) (host_status (course_value (course_of i t.core)))
       (ap (λ y. written_as ops a.base y t.core) shows)))
       (λ awaits. let async = cancels_async h n i awaits in absurd (grind arith))
-      (inside_of (Subtask.Host i) (how_far_of n s.core) (h.inside n (Place.Blocked (Subtask.Host i)) at))
+      (inside_of (Subtask.Host i) (op_progress_of n s.core) (h.inside n (Place.Blocked (Subtask.Host i)) at))
     where
-      by : (sub : Subtask) → sub ≡ Subtask.Host i → how_far_of n s.core ≡ HowFar.Calls (Subtask.Host i) → Writes a t.core sub → ⊥
+      by : (sub : Subtask) → sub ≡ Subtask.Host i → op_progress_of n s.core ≡ OpProgress.Calls (Subtask.Host i) → Writes a t.core sub → ⊥
       by _ same calls (WritesPolled j label polled ends frees) =
           let one : j ≡ i = cc in
           freed n (Subtask.Host i) (live_work n i at) at still
@@ -200,7 +200,7 @@ module _ {ops : ℕ → Op} (x : Setting) (s : State) (l : Label) (t : State) (w
 
   was_unended : (n i : ℕ) → IsStuck (Subtask.Host i) n s.core → IsStuck (Subtask.Host i) n t.core → is_stage_ended (stage_of i t.core) ≡ true → ⊥
   was_unended n i at still is =
-      let far = inside_of (Subtask.Host i) (how_far_of n s.core) (h.inside n (Place.Blocked (Subtask.Host i)) at) in
+      let far = inside_of (Subtask.Host i) (op_progress_of n s.core) (h.inside n (Place.Blocked (Subtask.Host i)) at) in
       let below = h.works_named.by_op n i (⊎_elim (λ f. ap subtask_under_way f) (λ f. ap subtask_under_way f) far) in
       let live = blocked.works n (Subtask.Host i) at in
       ⊎_elim (λ was. absurd (grind (arith, live, was)))

@@ -1,5 +1,5 @@
 -- Callers go on: along the words of a step.
-use Rattle.task_places.proofs.Laws.{[], after_word, along, ap, arith, Bool, by_number, Core, false, foot_from, foot_of, get, Halted, inl, inr, is_fresh, is_some, is_there, made_threads_word, Mark, nat_tests, None, Option, option_map, option_map_or, Place, place_of, Places, placing_shifted, refl, Scene, Some, Stand, Stay, Stop, stopped, subst, suc, sym, Thread, true, Turn, under_of, under_place, Why, why_of, zero, ℕ, ⊎_elim, ◌+◌, ◌==◌, ◌∙◌, ◌≡◌, ◌≤◌, ◌⊎◌}
+use Rattle.task_places.proofs.Laws.{[], after_primitive, along, ap, arith, Bool, by_number, Core, false, foot_from, foot_of, get, Halted, inl, inr, is_fresh, is_some, is_there, made_threads_word, Mark, nat_tests, None, Option, option_map, option_map_or, Place, place_of, Places, placing_shifted, refl, Scene, Some, Stand, Stay, Stop, stopped, subst, suc, sym, Thread, true, Turn, under_of, under_place, Why, why_of, zero, ℕ, ⊎_elim, ◌+◌, ◌==◌, ◌∙◌, ◌≡◌, ◌≤◌, ◌⊎◌}
 use Rattle.task_places.proofs.{PlaceLaw.Follows, PlaceLaw.covered_still, PlaceLaw.stay_word, PlaceLaw.watch, StayMoves.Born, StayMoves.Early, StayMoves.Gone, StayMoves.Kept, StayMoves.Marked, StayMoves.Moves, StayMoves.Passed, StayMoves.Resumed, StayMoves.Woken, StayMoves.behind_called, StayMoves.called_behind, StayMoves.stay_moves, StayMoves.stops, StayMoves.switch_ready, StrandFeet.Below, StrandFeet.Down, StrandFeet.Here, StrandFeet.Rising, StrandFeet.down_further, StrandFeet.foot_bottom, StrandFeet.last_under, StrandFeet.lowest}
 
 -- The thread comes, through those that it is behind or under, to one that is ready or runs and isn't left out.
@@ -275,7 +275,7 @@ module _ {a : Scene} {b : Core} {n : ℕ} {q : Option Place} (f : Follows a b n 
   pub walk_calling : (out : ℕ → Bool) → ((j : ℕ) → (j == n) ≡ false → out j ≡ false) → {s t : Core} → Stay a s t → Both out s → Both out t
   walk_calling out ok c first = along (Both out) (λ w u may h. (
     stay_word f w u may h.0,
-    calling_next base u (after_word w u) (stay_moves f u h.0 w may) (λ j g at. ok j (behind_apart u h.0 j g at))
+    calling_next base u (after_primitive w u) (stay_moves f u h.0 w may) (λ j g at. ok j (behind_apart u h.0 j g at))
         (λ m is. ok m (switch_ready a h.0 m is).1) h.1 (made_threads_word a w u),
   )) first c
 
@@ -295,7 +295,7 @@ module _ {a : Scene} {b : Core} {n : ℕ} {q : Option Place} (f : Follows a b n 
     foot = foot_of n h.at
 
     abbrev stop : Core
-    stop = after_word (Places (Stop foot)) h.before
+    stop = after_primitive (Places (Stop foot)) h.before
 
     moves : (j : ℕ) → Moves a h.before stop j
     moves = stay_moves f h.before before.0 (Places (Stop foot)) (inr to)

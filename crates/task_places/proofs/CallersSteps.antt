@@ -1,5 +1,5 @@
 -- Callers go on: each step keeps it.
-use Rattle.task_places.proofs.Laws.{ap, arith, AwaitsEvent, BehindFeet, Blocks, Bool, CallersGoOn, Collapses, Core, Enter, false, get, GoBehind, goes_on_at, goes_on_within, GoesBack, HasPlace, Holds, inl, InOrderFor, inr, is_fresh, is_some, is_take, is_there, IsRunner, Label, Lands, LandsAt, le_refl, Made, Mark, MayLand, MayMove, Move, nat_tests, next_entry, None, Op, Option, option_map, Place, place_of, Placing, Put, Quits, refl, Remains, runner_at, Runs, Scene, scene_as, Setting, Some, StartsFree, State, subst, suc, Suspends, sym, Thread, Trip, true, Turn, Uncovers, Waits, WaitsAgain, WalkedAs, Why, zero, ℕ, ⊎_elim, ◌∙◌, ◌≡◌, ◌≤◌, ◌⊎◌}
+use Rattle.task_places.proofs.Laws.{ap, arith, AwaitsEvent, BehindFeet, Blocks, Bool, CallersGoOn, Collapses, Core, Enter, false, get, GoBehind, goes_on_at, goes_on_within, GoesBack, HasPlace, Holds, inl, InOrderFor, inr, is_fresh, is_some, is_take, is_there, IsRunner, Label, Lands, LandsAt, le_refl, MadeCounts, Mark, MayLand, MayMove, Move, nat_tests, next_entry, None, Op, Option, option_map, Place, place_of, Placing, Put, Quits, refl, Remains, runner_at, Runs, Scene, scene_as, Setting, Some, StartsFree, State, subst, suc, Suspends, sym, Thread, Trip, true, Turn, Uncovers, Waits, WaitsAgain, WalkedAs, Why, zero, ℕ, ⊎_elim, ◌∙◌, ◌≡◌, ◌≤◌, ◌⊎◌}
 use Rattle.task_places.proofs.{CallersLemmas.AtMark, CallersLemmas.AtWork, CallersLemmas.Back, CallersLemmas.Begins, CallersLemmas.Calling, CallersLemmas.Goes, CallersLemmas.Up, CallersTrips.Called, CallersTrips.all_in, CallersTrips.goes_as, CallersTrips.is_held_on, CallersTrips.trip_called, PlaceLaw.yield_leaves, PlaceSteps.Reads, PlaceSteps.Withdrawable, PlaceSteps.settled_run, PlaceSteps.step_by}
 
 -- ---- By the number of threads on the way
@@ -74,9 +74,9 @@ module _ {ops : ℕ → Op} (x : Setting) (s : State) (l : Label) (t : State) (w
         home = f.home;
         covers = λ j m at. ⊎_elim (λ none. inl (e m ∙ none)) (λ old. inr (ap is_fresh (e m) ∙ old)) (free.under j m (sym (e j) ∙ at));
         early = λ m runs j k at. early c.base base m (sym is ∙ runs) j k at;
-        made = ap (λ (y : Made). y.threads) (first.1.1 ∙ sym base.1.1);
+        made = ap (λ (y : MadeCounts). y.threads) (first.1.1 ∙ sym base.1.1);
         rising = λ j m at. h.strands.below j m (sym (e j) ∙ at);
-        given = λ j m at. subst (λ (y : Made). m ≤ y.threads) (sym first.1.1) (h.strands.made j m (sym (e j) ∙ at));
+        given = λ j m at. subst (λ (y : MadeCounts). m ≤ y.threads) (sym first.1.1) (h.strands.made j m (sym (e j) ∙ at));
         alone = λ j k m at too. h.strands.alone j k m (sym (e j) ∙ at) (sym (e k) ∙ too);
       } in
       let own : Calling c b all_in b = record {

@@ -1,5 +1,5 @@
 -- Callers go on where a step has brought its thread.
-use Rattle.task_places.proofs.Laws.{[], after_placing, after_word, along, ap, arith, AwaitsEvent, behind_one, Blocks, Bool, by_number, Collapses, Core, Enter, eq_refl, false, foot_from, foot_of, get, get-change, get-remove, GoBehind, GoesBack, Halted, Halts, Holds, HowFar, if◌then◌else◌, inl, inr, is_for_start, is_fresh, is_none, is_some, IsFoot, IsRunner, Lands, LandsAt, Leaves, leaving, Mark, MayLand, MayMove, MayYield, Move, nat_tests, None, on_thread, Option, option_map, option_map_or, Place, place_kept, place_of, place_written, Places, Placing, placing_shifted, push_high, push_low, Put, put_high, put_low, Quits, refl, Remains, remove_thread, RemoveThread, Runs, Scene, set_callers, set_how_far, set_place, set_place_is, SetHowFar, settle_threads, Settles, Some, Stand, Stay, subst, suc, Suspends, sym, Thread, Trip, true, Turn, Uncovers, under_of, under_place, Waits, WaitsAgain, Why, why_of, zero, ℕ, ⊎_elim, ◌==◌, ◌∙◌, ◌≡◌, ◌≤◌, ◌⊎◌}
+use Rattle.task_places.proofs.Laws.{[], after_placing, after_primitive, along, ap, arith, AwaitsEvent, behind_one, Blocks, Bool, by_number, Collapses, Core, Enter, eq_refl, false, foot_from, foot_of, get, get-change, get-remove, GoBehind, GoesBack, Halted, Halts, Holds, OpProgress, if◌then◌else◌, inl, inr, is_for_start, is_fresh, is_none, is_some, IsFoot, IsRunner, Lands, LandsAt, Leaves, leaving, Mark, MayLand, MayMove, MayYield, Move, nat_tests, None, on_thread, Option, option_map, option_map_or, Place, place_kept, place_of, place_written, Places, Placing, placing_shifted, push_high, push_low, Put, put_high, put_low, Quits, refl, Remains, remove_thread, RemoveThread, Runs, Scene, set_callers, set_op_progress, set_place, set_place_is, SetOpProgress, settle_threads, Settles, Some, Stand, Stay, subst, suc, Suspends, sym, Thread, Trip, true, Turn, Uncovers, under_of, under_place, Waits, WaitsAgain, Why, why_of, zero, ℕ, ⊎_elim, ◌==◌, ◌∙◌, ◌≡◌, ◌≤◌, ◌⊎◌}
 use Rattle.task_places.proofs.{CallersLemmas.AtMark, CallersLemmas.AtWork, CallersLemmas.Back, CallersLemmas.Begins, CallersLemmas.Both, CallersLemmas.Calling, CallersLemmas.Goes, CallersLemmas.Up, CallersLemmas.halted_both, CallersLemmas.walk_calling, PlaceLaw.Frame, PlaceLaw.beside, PlaceLaw.covered_still, PlaceLaw.move_runner, PlaceLaw.runner_there, PlaceLaw.stands, PlaceLaw.watch, StayMoves.switch_ready, StrandFeet.foot_bottom, StrandFeet.foot_place}
 
 -- What is so of callers after the words from b on.
@@ -340,19 +340,19 @@ module _ {a : Scene} {b : Core} {n : ℕ} {o : Option Place} (f : Frame a b n o)
   lands_called x s ok c halts = absurd (grind arith)
 
   -- the thread is gone, and others stay
-  left_places : (k : ℕ) (s t : Core) → Settles (after_word (RemoveThread k) s) t → (j : ℕ) → place_of j t ≡ (if j == k then None else place_of j s)
+  left_places : (k : ℕ) (s t : Core) → Settles (after_primitive (RemoveThread k) s) t → (j : ℕ) → place_of j t ≡ (if j == k then None else place_of j s)
   unfolding remove_thread
   left_places k s t d j =
       along (λ (u : Core). place_of j u ≡ (if j == k then None else place_of j s))
       (λ w u ok e. ap (λ m. option_map (λ (r : Thread). r.place) (get m j)) (settle_threads w u ok) ∙ e) (grind (arith, nat_tests, get-remove)) d
 
-  quits_called : (k : ℕ) (s t : Core) → Stay a b s → Leaves a k → Settles (after_word (RemoveThread k) s) t → Halted a b k s → Called a b t
+  quits_called : (k : ℕ) (s t : Core) → Stay a b s → Leaves a k → Settles (after_primitive (RemoveThread k) s) t → Halted a b k s → Called a b t
   quits_called k s t c leave d h =
       leaves_at k s t leave.0 c h leave.1.0 (λ j other. let e = left_places k s t d j in grind (arith, other))
       (λ p at. absurd (let e = left_places k s t d k in grind (arith, nat_tests))) (inl (let e = left_places k s t d k in grind (arith, nat_tests)))
 
   -- a direct callee is gone, and the thread under it goes on
-  goes_back_called : (k m : ℕ) (s t : Core) → Stay a b s → IsRunner a k → place_of m a.base ≡ Some (Place.Under k) → Settles (after_word (RemoveThread k) s) t →
+  goes_back_called : (k m : ℕ) (s t : Core) → Stay a b s → IsRunner a k → place_of m a.base ≡ Some (Place.Under k) → Settles (after_primitive (RemoveThread k) s) t →
       Called a b (set_place m Place.Running t)
   goes_back_called k m s t c is under d = record {
     goes = λ j g at. on j (q.goes j g (was_behind j g at)) (by_number j k _ (λ e. absurd (grind (arith, e, gone))) (λ other. other));
@@ -415,20 +415,20 @@ module _ {a : Scene} {b : Core} {n : ℕ} {o : Option Place} (f : Frame a b n o)
           (λ other. Back j g (kept j apart other ∙ at) (on g y (by_number g k _
           (λ e. absurd (q.feet j m k (at ∙ ap (λ (y : ℕ). Some (Place.Behind y)) e) low)) (λ no. no))))
 
-  far_same : (m : ℕ) (h : HowFar) (s : Core) (j : ℕ) → place_of j (after_word (SetHowFar m h) s) ≡ place_of j s
-  unfolding set_how_far on_thread
+  far_same : (m : ℕ) (h : OpProgress) (s : Core) (j : ℕ) → place_of j (after_primitive (SetOpProgress m h) s) ≡ place_of j s
+  unfolding set_op_progress on_thread
   far_same m h s j = grind (arith, nat_tests, get-change)
 
-  word_same : (x : Placing) (s : Core) (j : ℕ) → place_of j (after_word (Places x) s) ≡ place_of j (after_placing x s)
+  word_same : (x : Placing) (s : Core) (j : ℕ) → place_of j (after_primitive (Places x) s) ≡ place_of j (after_placing x s)
   word_same x s j = ap (λ (t : Core). place_of j t) (placing_shifted x s).only
 
   pub trip_called : {t : Core} → Trip a b t → (a.next ≡ Turn.Over → ⊥) → Called a b t
   trip_called (Remains t c still on) live = calling_called base (stay_both c).1
   trip_called (Lands s x c ok fit halts) live = called_as (after_placing x s) _ (word_same x s) (lands_called x s ok c halts)
   trip_called (LandsAt s x m h c ok fit comes halts) live =
-      called_as (after_placing x s) _ (λ j. far_same m h (after_word (Places x) s) j ∙ word_same x s j) (lands_called x s ok c halts)
+      called_as (after_placing x s) _ (λ j. far_same m h (after_primitive (Places x) s) j ∙ word_same x s j) (lands_called x s ok c halts)
   trip_called (Quits s t k c leave d h) live = quits_called k s t c leave d h
   trip_called (GoesBack s t k m v c is runs to under back d ok) live =
-      called_as (set_place m Place.Running t) _ (λ j. far_same m (HowFar.Answered v) (after_word (Places (Move m Place.Running)) t) j ∙ word_same (Move m Place.Running) t j)
+      called_as (set_place m Place.Running t) _ (λ j. far_same m (OpProgress.Answered v) (after_primitive (Places (Move m Place.Running)) t) j ∙ word_same (Move m Place.Running) t j)
       (goes_back_called k m s t c is under d)
   trip_called (Collapses t over c) live = absurd (live over)

@@ -1,5 +1,5 @@
 -- A thread whose turn comes as the one on top of it is gone is inside of no call.
-use Rattle.task_places.proofs.Laws.{after_word, arith, Collapses, Core, Enter, false, get, get-change, GoesBack, how_far_of, HowFar, is_none, IsRunner, Lands, LandsAt, MayLand, MayMove, Move, nat_tests, None, not_main, on_thread, one_runner, Option, Place, place_of, Places, Placing, Quits, Remains, Scene, set_how_far, Some, Stay, subtask_under_way, sym, Trip, Turn, ℕ, ◌∙◌, ◌≡◌}
+use Rattle.task_places.proofs.Laws.{after_primitive, arith, Collapses, Core, Enter, false, get, get-change, GoesBack, op_progress_of, OpProgress, is_none, IsRunner, Lands, LandsAt, MayLand, MayMove, Move, nat_tests, None, not_main, on_thread, one_runner, Option, Place, place_of, Places, Placing, Quits, Remains, Scene, set_op_progress, Some, Stay, subtask_under_way, sym, Trip, Turn, ℕ, ◌∙◌, ◌≡◌}
 use Rattle.task_places.proofs.PlaceLaw.{covered_still, Frame, no_cover, runner_there, stay_stand}
 
 -- who comes to a place and runs on is the runner, where that is there
@@ -7,8 +7,8 @@ move_next : {a : Scene} (j : ℕ) (r : Place) (s : Core) (k : ℕ) → a.next �
     ((i : ℕ) → IsRunner a i → is_none (get s.threads i) ≡ false) → IsRunner a k
 move_next j r s k to ok there = grind (arith, there)
 
-answered_apart : (n k v : ℕ) (s : Core) → n ≡ k → subtask_under_way (how_far_of k (set_how_far n (HowFar.Answered v) s)) ≡ None
-unfolding set_how_far on_thread
+answered_apart : (n k v : ℕ) (s : Core) → n ≡ k → subtask_under_way (op_progress_of k (set_op_progress n (OpProgress.Answered v) s)) ≡ None
+unfolding set_op_progress on_thread
 answered_apart n k v s same = grind (arith, nat_tests, get-change)
 
 module _ {a : Scene} {b : Core} {n : ℕ} {q : Option Place} (f : Frame a b n q) (k m : ℕ) (at : place_of k a.base ≡ Some (Place.Under m))
@@ -25,12 +25,12 @@ module _ {a : Scene} {b : Core} {n : ℕ} {q : Option Place} (f : Frame a b n q)
       let still = covered_still a (stay_stand f.follows c) k m at in absurd (grind arith)
   lands_apart p s ok c = absurd (grind arith)
 
-  pub back_apart : {t : Core} → Trip a b t → subtask_under_way (how_far_of k t) ≡ None
+  pub back_apart : {t : Core} → Trip a b t → subtask_under_way (op_progress_of k t) ≡ None
   back_apart (Remains t c still on) =
       let r = f.running k (still k to) in let home = f.home k in let here = f.follows.start.here in absurd (grind arith)
   back_apart (Lands s p c ok fit halts) = absurd (lands_apart p s ok c)
   back_apart (LandsAt s p j h c ok fit comes halts) = absurd (lands_apart p s ok c)
   back_apart (Quits s t j c leave d halts) = not_main k (sym leave.1.0 ∙ to)
   back_apart (GoesBack s t j i v c is runs next under back d ok) =
-      answered_apart i k v (after_word (Places (Move i Place.Running)) t) (one_runner i k (sym next ∙ to))
+      answered_apart i k v (after_primitive (Places (Move i Place.Running)) t) (one_runner i k (sym next ∙ to))
   back_apart (Collapses t over c) = absurd (grind arith)

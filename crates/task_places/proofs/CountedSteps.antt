@@ -1,6 +1,6 @@
 -- Wakes are counted: each step keeps it.
-use Rattle.task_places.proofs.Laws.{admits, along, and_parts, any_at, any_found, ap, arith, at_turn, AwaitsEvent, base_at, Blocks, Bool, by_number, Call, Came, came_word, Choice, choice_of, chosen, Comes, Component, Core, Delivery, delivery_row, Doer, EndTells, EndTold, EndWords, Entry, event_of, false, Frees, Gains, get, get-change, gift, goes_to, has_ready_member, has_waiter, Holds, host_taken, HostTold, how_far_of, HowFar, in_set_is, inl, InOrderFor, inr, is_callback_waiter, is_delivery_for, is_for_start, is_in_set, is_inside_wait, is_join, is_open, is_ready_member, is_some, is_wait, is_waiter, is_waiting_on, is_woken_at, is_woken_for, IsRunner, Join, join_of, join_rule, JoinsSet, keep_stay, Label, Mark, MayMove, MayPut, MayStand, member_same, nat_tests, next_entry, None, none_ready, now_joined, on_thread, Op, op_in, op_of, op_rule, Operand, Option, option_and_then, option_map, option_map_or, or_never, Place, place_of, plain, plain_as, popped, popped_is, popped_threads, Progress, Progresses, Queues, ready_same, Records, refl, runner_at, running, Runs, RunsAlone, said_plain, same_subtask, Scene, scene_as, script_of, set_place, SetOp, Setting, shift_keeps, shifted_calls, shifted_works, Shifts, shifts_shifted, Some, start_row, StartTold, State, Status, status_of_end, StepAs, subst, Subtask, SubtaskEnd, Suspends, sym, take_label, TakeStep, task_of, TellsLater, TellsNever, TellsNone, TellsNow, Thread, thread_of_entry, thread_taken, thread_taken_for, true, Turn, Turned, Turns, TurnStepAs, Uncovers, unwrap_or, value_of, wait_goes_on, wait_goes_on_by, wait_rule, waiting_of, Waits, WaitsAgain, wake_why, WakesCounted, WakesOne, Walk, WalkedAs, WasReady, weaken, Why, woken_at, woken_place, written_as, written_at, ℕ, ⊎_elim, ◌==◌, ◌∙◌, ◌≡◌, ◌⊎◌}
-use Rattle.task_places.proofs.{Balance.Balance, Balance.Bare, Balance.Gained, Balance.Passed, Balance.Quiet, Balance.Took, Balance.balanced, Balance.bare_le, Balance.ready_le, Balance.same_is, Balance.same_self, Balance.woken_le, Entries.next_first, Entries.popped_cleared, PlaceLaw.ReadyAt, PlaceLaw.entry_ready, PlaceLaw.yield_leaves, PlaceSteps.Withdrawable, PlaceSteps.step_by, RestLemmas.ComesTo, RestLemmas.Rests, RestLemmas.is_rest, RestLemmas.rests_stay, RestLemmas.rests_walk, RestLemmas.runs_free, RestLemmas.trip_rests, WaitsKept.wait_op, WakeRows.HandedOn, WakeRows.IsSilent, WakeRows.NobodyWaits, WakeRows.NoneReady, WakeRows.Spends, WakeRows.StartTells, WakeRows.StaysWoken, WakeRows.TookMember, WakeRows.WokeOne, WakeRows.WokeThis, WakeRows.delivery_spends, WakeRows.is_past, WakeRows.join_rule_tells, WakeRows.moved_past, WakeRows.start_tells, WakeRows.wait_spends, WakeRows.woken_is_past, WokenTrips.ReadyFor, WokenTrips.Wends, WokenTrips.is_wending, WokenTrips.trip_on}
+use Rattle.task_places.proofs.Laws.{admits, along, and_parts, any_at, any_found, ap, arith, at_turn, AwaitsEvent, base_at, Blocks, Bool, by_number, Call, Came, came_word, Choice, choice_of, chosen, Comes, Component, Core, Delivery, delivery_rule, Doer, EndTells, EndTold, EndPrimitives, Entry, event_of, false, Frees, Gains, get, get-change, picked_event, goes_to, has_ready_member, has_waiter, Holds, host_taken, HostTold, op_progress_of, OpProgress, in_set_is, inl, InOrderFor, inr, is_callback_waiter, is_delivery_for, is_for_start, is_in_set, is_inside_wait, is_join, is_open, is_ready_member, is_some, is_wait, is_waiter, is_waiting_on, is_woken_at, is_woken_for, IsRunner, Join, join_of, join_rule, JoinsSet, keep_stay, Label, Mark, MayMove, MayPut, MayStand, member_same, nat_tests, next_entry, None, none_ready, now_joined, on_thread, Op, op_in, op_of, op_rule, Operand, Option, option_and_then, option_map, option_map_or, or_never, Place, place_of, plain, plain_as, popped, popped_is, popped_threads, Progress, Progresses, Queues, ready_same, Records, refl, runner_at, running, Runs, RunsAlone, said_plain, same_subtask, Scene, scene_as, script_of, set_place, SetOp, Setting, shift_keeps, shifted_calls, shifted_works, Shifts, shifts_shifted, Some, start_rule, StartTold, State, Status, status_of_end, StepAs, subst, Subtask, SubtaskEnd, Suspends, sym, take_label, TakeStep, task_of, TellsLater, TellsNever, TellsNone, TellsNow, Thread, thread_of_entry, thread_taken, thread_taken_for, true, Turn, Turned, Turns, TurnStepAs, Uncovers, unwrap_or, value_of, wait_goes_on, wait_goes_on_by, wait_rule, waiting_of, Waits, WaitsAgain, wake_why, WakesCounted, WakesOne, Walk, WalkedAs, WasReady, weaken, Why, woken_at, woken_place, written_as, written_at, ℕ, ⊎_elim, ◌==◌, ◌∙◌, ◌≡◌, ◌⊎◌}
+use Rattle.task_places.proofs.{Balance.Balance, Balance.Bare, Balance.Gained, Balance.Passed, Balance.Quiet, Balance.Took, Balance.balanced, Balance.bare_le, Balance.ready_le, Balance.same_is, Balance.same_self, Balance.woken_le, Entries.next_first, Entries.popped_cleared, PlaceLaw.ReadyAt, PlaceLaw.entry_ready, PlaceLaw.yield_leaves, PlaceSteps.Withdrawable, PlaceSteps.step_by, RestLemmas.ComesTo, RestLemmas.Rests, RestLemmas.is_rest, RestLemmas.rests_stay, RestLemmas.rests_walk, RestLemmas.runs_free, RestLemmas.trip_rests, WaitsKept.wait_op, WakeRules.HandedOn, WakeRules.IsSilent, WakeRules.NobodyWaits, WakeRules.NoneReady, WakeRules.Spends, WakeRules.StartTells, WakeRules.StaysWoken, WakeRules.TookMember, WakeRules.WokeOne, WakeRules.WokeThis, WakeRules.delivery_spends, WakeRules.is_past, WakeRules.join_rule_tells, WakeRules.moved_past, WakeRules.start_tells, WakeRules.wait_spends, WakeRules.woken_is_past, WokenTrips.ReadyFor, WokenTrips.Wends, WokenTrips.is_wending, WokenTrips.trip_on}
 
 -- ---- Walks
 
@@ -48,23 +48,23 @@ join_same (Subtask.Host i) s t calls works = grind (arith, works)
 waits_at : (y : ℕ) (c : Bool) (o : Option Place) → o ≡ Some (Place.Waiting y c) → option_map_or (is_waiting_on y) o false ≡ true
 waits_at y c o at = grind (arith, nat_tests)
 
-inside_is : (y : ℕ) (far : HowFar) → is_inside_wait y far ≡ true → far ≡ HowFar.Waits y
+inside_is : (y : ℕ) (far : OpProgress) → is_inside_wait y far ≡ true → far ≡ OpProgress.Waits y
 inside_is y far h = grind (arith, nat_tests)
 
-wending_ready : (y : ℕ) (m : Mark) (w : Why) (far : HowFar) → woken_place y (Some (Place.Ready m w)) far ≡ true → is_wending (Place.Ready m w) ≡ true
+wending_ready : (y : ℕ) (m : Mark) (w : Why) (far : OpProgress) → woken_place y (Some (Place.Ready m w)) far ≡ true → is_wending (Place.Ready m w) ≡ true
 wending_ready y m w far h = grind arith
 
-wending_held : (y : ℕ) (w : Why) (far : HowFar) → woken_place y (Some (Place.Held w)) far ≡ true → is_wending (Place.Held w) ≡ true
+wending_held : (y : ℕ) (w : Why) (far : OpProgress) → woken_place y (Some (Place.Held w)) far ≡ true → is_wending (Place.Held w) ≡ true
 wending_held y w far h = grind arith
 
-ready_on : (y : ℕ) (w : Why) (p : Option Place) (f g : HowFar) → ReadyFor w p → g ≡ f → woken_place y (Some (Place.Ready Mark.High w)) f ≡ true → woken_place y p g ≡ true
+ready_on : (y : ℕ) (w : Why) (p : Option Place) (f g : OpProgress) → ReadyFor w p → g ≡ f → woken_place y (Some (Place.Ready Mark.High w)) f ≡ true → woken_place y p g ≡ true
 ready_on y w p f g r far on = let at = r.1 in grind (arith, at, far, on)
 
-held_on : (y : ℕ) (w : Why) (p : Option Place) (f g : HowFar) → (p ≡ Some (Place.Held w)) ⊎ ReadyFor w p → is_delivery_for y w ≡ true → woken_place y p g ≡ true
+held_on : (y : ℕ) (w : Why) (p : Option Place) (f g : OpProgress) → (p ≡ Some (Place.Held w)) ⊎ ReadyFor w p → is_delivery_for y w ≡ true → woken_place y p g ≡ true
 held_on y w p f g (inl at) on = grind (arith, at, on)
 held_on y w p f g (inr r) on = let at = r.1 in grind (arith, at, on)
 
-woke_on : (y : ℕ) (c : Bool) (p : Option Place) (f g : HowFar) → ReadyFor (wake_why y c) p → g ≡ f → (c ≡ false → is_inside_wait y f ≡ true) → woken_place y p g ≡ true
+woke_on : (y : ℕ) (c : Bool) (p : Option Place) (f g : OpProgress) → ReadyFor (wake_why y c) p → g ≡ f → (c ≡ false → is_inside_wait y f ≡ true) → woken_place y p g ≡ true
 woke_on y true p f g r far inside = let at = r.1 in grind (arith, nat_tests, at)
 woke_on y false p f g r far inside = let at = r.1 in let in_wait = inside refl in grind (arith, nat_tests, at, far, in_wait)
 
@@ -97,19 +97,19 @@ spends_base z y n s t (TookMember sub on gone) =
 spends_base z y n s t (HandedOn woke) = HandedOn (woke_base z y s t woke)
 spends_base z y n s t (NoneReady none) = NoneReady (sym (ready_same y s (popped z s) (ap (λ (c : Core). c.calls) (popped_is z s)) (ap (λ (c : Core). c.works) (popped_is z s))) ∙ none)
 
-did_wait : (d : Doer) (o : Op) (c : Component) (n : ℕ) (s : Core) (ch : Choice) (r : ℕ) (v : Operand) (y : ℕ) → o ≡ Op.Set (SetOp.Wait r v) → how_far_of n s ≡ HowFar.Waits y →
-    op_rule d c n s ch o ≡ or_never (gift false (task_of n s) y (chosen n ch s) s) (wait_goes_on_by d n y ch s)
-did_wait d o c n s ch r v y op far = ap (λ (o : Op). op_rule d c n s ch o) op ∙ ap (λ (f : HowFar). wait_rule d n (value_of n s v) ch s f) far
+did_wait : (d : Doer) (o : Op) (c : Component) (n : ℕ) (s : Core) (ch : Choice) (r : ℕ) (v : Operand) (y : ℕ) → o ≡ Op.Set (SetOp.Wait r v) → op_progress_of n s ≡ OpProgress.Waits y →
+    op_rule d c n s ch o ≡ or_never (picked_event false (task_of n s) y (chosen n ch s) s) (wait_goes_on_by d n y ch s)
+did_wait d o c n s ch r v y op far = ap (λ (o : Op). op_rule d c n s ch o) op ∙ ap (λ (f : OpProgress). wait_rule d n (value_of n s v) ch s f) far
 
 did_join : (d : Doer) (o : Op) (c : Component) (n : ℕ) (s : Core) (ch : Choice) (v u : Operand) → o ≡ Op.Set (SetOp.Join v u) →
     op_rule d c n s ch o ≡ join_rule d n (value_of n s v) (value_of n s u) ch.woken s
 did_join d o c n s ch v u op = ap (λ (o : Op). op_rule d c n s ch o) op
 
-run_woken : (y n : ℕ) (b : Core) → is_some (place_of n b) ≡ true → is_woken_at y n (running n b) ≡ is_inside_wait y (how_far_of n b)
+run_woken : (y n : ℕ) (b : Core) → is_some (place_of n b) ≡ true → is_woken_at y n (running n b) ≡ is_inside_wait y (op_progress_of n b)
 unfolding running set_place on_thread
 run_woken y n b there = grind (arith, nat_tests, get-change, there)
 
-resumed_woken : (y : ℕ) (m : Mark) (far : HowFar) → woken_place y (Some (Place.Ready m Why.Resumption)) far ≡ true → is_inside_wait y far ≡ true
+resumed_woken : (y : ℕ) (m : Mark) (far : OpProgress) → woken_place y (Some (Place.Ready m Why.Resumption)) far ≡ true → is_inside_wait y far ≡ true
 resumed_woken y m far h = grind (arith, h)
 
 pub move_none : (a : Scene) (n y : ℕ) (c : Bool) (u : Core) → MayMove a n (Place.Waiting y c) u → has_ready_member y u ≡ false
@@ -122,7 +122,7 @@ waiter_any y j s on = any_found (λ (u : Thread). is_waiting_on y u.place) j s.t
 -- what is kept of the places of those that don't run, and who comes to wait
 abbrev Goes : Scene → Core → Type 0
 Goes c u = ((n : ℕ) (q : Place) → is_rest q ≡ true → Rests q n u → Rests q n c.base ⊎ ComesTo c n q u) ×
-    (((j : ℕ) (q : Place) → is_wending q ≡ true → place_of j c.base ≡ Some q → (IsRunner c j → ⊥) → Wends q (place_of j u) × (how_far_of j u ≡ how_far_of j c.base)) ×
+    (((j : ℕ) (q : Place) → is_wending q ≡ true → place_of j c.base ≡ Some q → (IsRunner c j → ⊥) → Wends q (place_of j u) × (op_progress_of j u ≡ op_progress_of j c.base)) ×
     ((m : ℕ) (q : Place) → is_rest q ≡ true → IsRunner c m → Rests q m c.base → ⊥))
 
 module _ (by_whom : Op → Doer) {ops : ℕ → Op} (x : Setting) (s : State) (l : Label) (t : State) (step : StepAs by_whom ops x s l t) (w : WalkedAs ops x s l t) {g : Bool} (h : InOrderFor g ops x.component s)
@@ -146,7 +146,7 @@ module _ (by_whom : Op → Doer) {ops : ℕ → Op} (x : Setting) (s : State) (l
     λ m p kind at. ⊎_elim (λ e. inl (sym (f.home m) ∙ e)) inr (trip_rests f d live m p kind at),
     (
       λ j p kind at other. let r = trip_on f j p kind (f.home j ∙ at) other d live in
-          (r.0, r.1 ∙ ap (λ (m : Records Thread). option_map_or (λ (r : Thread). r.how_far) (get m j) HowFar.Fresh) (first.0 ∙ sym base.0)),
+          (r.0, r.1 ∙ ap (λ (m : Records Thread). option_map_or (λ (r : Thread). r.op_progress) (get m j) OpProgress.Fresh) (first.0 ∙ sym base.0)),
       λ m p kind is at. runs_free f m p kind is (f.home m ∙ at),
     ),
   ))) live
@@ -154,8 +154,8 @@ module _ (by_whom : Op → Doer) {ops : ℕ → Op} (x : Setting) (s : State) (l
   walk : Walk a s.core t.core
   walk = plain x s l w.next (λ c. Walk c s.core t.core) w.walk
 
-  words : EndWords a t.core
-  words = plain x s l w.next (λ c. EndWords c t.core) w.ends.says
+  words : EndPrimitives a t.core
+  words = plain x s l w.next (λ c. EndPrimitives c t.core) w.ends.says
 
   -- the runner is one
   one_runner : (m n : ℕ) → IsRunner a m → IsRunner a n → m ≡ n
@@ -175,15 +175,15 @@ module _ (by_whom : Op → Doer) {ops : ℕ → Op} (x : Setting) (s : State) (l
   stays_woken : (y j : ℕ) → (IsRunner a j → ⊥) → is_woken_at y j s.core ≡ true → is_woken_at y j t.core ≡ true
   stays_woken y j other on = by (place_of j s.core) refl (sym (woken_at y j s.core) ∙ on)
     where
-      by : (o : Option Place) → place_of j s.core ≡ o → woken_place y (place_of j s.core) (how_far_of j s.core) ≡ true → is_woken_at y j t.core ≡ true
+      by : (o : Option Place) → place_of j s.core ≡ o → woken_place y (place_of j s.core) (op_progress_of j s.core) ≡ true → is_woken_at y j t.core ≡ true
       by (Some (Place.Ready m v)) at was =
-          let here : woken_place y (Some (Place.Ready m v)) (how_far_of j s.core) ≡ true = sym (ap (λ (o : Option Place). woken_place y o (how_far_of j s.core)) at) ∙ was in
-          let r = goes.1.0 j (Place.Ready m v) (wending_ready y m v (how_far_of j s.core) here) at other in
-          woken_at y j t.core ∙ ready_on y v (place_of j t.core) (how_far_of j s.core) (how_far_of j t.core) r.0 r.1 here
+          let here : woken_place y (Some (Place.Ready m v)) (op_progress_of j s.core) ≡ true = sym (ap (λ (o : Option Place). woken_place y o (op_progress_of j s.core)) at) ∙ was in
+          let r = goes.1.0 j (Place.Ready m v) (wending_ready y m v (op_progress_of j s.core) here) at other in
+          woken_at y j t.core ∙ ready_on y v (place_of j t.core) (op_progress_of j s.core) (op_progress_of j t.core) r.0 r.1 here
       by (Some (Place.Held v)) at was =
-          let here : woken_place y (Some (Place.Held v)) (how_far_of j s.core) ≡ true = sym (ap (λ (o : Option Place). woken_place y o (how_far_of j s.core)) at) ∙ was in
-          let r = goes.1.0 j (Place.Held v) (wending_held y v (how_far_of j s.core) here) at other in
-          woken_at y j t.core ∙ held_on y v (place_of j t.core) (how_far_of j s.core) (how_far_of j t.core) r.0 here
+          let here : woken_place y (Some (Place.Held v)) (op_progress_of j s.core) ≡ true = sym (ap (λ (o : Option Place). woken_place y o (op_progress_of j s.core)) at) ∙ was in
+          let r = goes.1.0 j (Place.Held v) (wending_held y v (op_progress_of j s.core) here) at other in
+          woken_at y j t.core ∙ held_on y v (place_of j t.core) (op_progress_of j s.core) (op_progress_of j t.core) r.0 here
       by (Some Place.Running) at was = absurd (other (ap (λ u. runner_at u s.core) (alone j at)))
       by o at was = absurd (grind arith)
 
@@ -192,11 +192,11 @@ module _ (by_whom : Op → Doer) {ops : ℕ → Op} (x : Setting) (s : State) (l
   woke_now y m waits past =
       let c = waiting_of y (place_of m s.core) waits in
       let r = goes.1.0 m (Place.Waiting y c.0) refl c.1 (idle m y waits) in
-      (woken_at y m s.core ∙ ap (λ (o : Option Place). woken_place y o (how_far_of m s.core)) c.1, by c.0 c.1 r.0 r.1)
+      (woken_at y m s.core ∙ ap (λ (o : Option Place). woken_place y o (op_progress_of m s.core)) c.1, by c.0 c.1 r.0 r.1)
     where
-      by : (c : Bool) → place_of m s.core ≡ Some (Place.Waiting y c) → Wends (Place.Waiting y c) (place_of m t.core) → how_far_of m t.core ≡ how_far_of m s.core → is_woken_at y m t.core ≡ true
+      by : (c : Bool) → place_of m s.core ≡ Some (Place.Waiting y c) → Wends (Place.Waiting y c) (place_of m t.core) → op_progress_of m t.core ≡ op_progress_of m s.core → is_woken_at y m t.core ≡ true
       by c at (inl still) far = absurd (grind arith)
-      by c at (inr (inl r)) far = woken_at y m t.core ∙ woke_on y c (place_of m t.core) (how_far_of m s.core) (how_far_of m t.core) r far
+      by c at (inr (inl r)) far = woken_at y m t.core ∙ woke_on y c (place_of m t.core) (op_progress_of m s.core) (op_progress_of m t.core) r far
           (λ is. h.inside m (Place.Waiting y false) (at ∙ ap (λ (b : Bool). Some (Place.Waiting y b)) is))
       by c at (inr (inr r)) far = absurd (let now = r.1 in grind arith)
 
@@ -370,9 +370,9 @@ module _ (by_whom : Op → Doer) {ops : ℕ → Op} (x : Setting) (s : State) (l
 
         waits : is_woken_at y n s.core ≡ true → Balance y s.core t.core
         waits on =
-            let far : how_far_of n s.core ≡ HowFar.Waits y = inside_is y (how_far_of n s.core) (sym (ap (λ (o : Option Place). woken_place y o (how_far_of n s.core)) runs) ∙ (sym (woken_at y n s.core) ∙ on)) in
+            let far : op_progress_of n s.core ≡ OpProgress.Waits y = inside_is y (op_progress_of n s.core) (sym (ap (λ (o : Option Place). woken_place y o (op_progress_of n s.core)) runs) ∙ (sym (woken_at y n s.core) ∙ on)) in
             let o = wait_is (ops n) (wait_op ops x.component s.core h.fits n y far) in
-            let r = wait_spends s t l n y (by_whom (ops n)) (choice_of l) (unwaiting n y is) (gift false (task_of n s.core) y (chosen n (choice_of l) s.core) s.core) refl
+            let r = wait_spends s t l n y (by_whom (ops n)) (choice_of l) (unwaiting n y is) (picked_event false (task_of n s.core) y (chosen n (choice_of l) s.core) s.core) refl
             (subst (λ (p : Progress). Progresses s s.core n p l t) (did_wait (by_whom (ops n)) (ops n) x.component n s.core (choice_of l) o.0 o.1.0 y o.1.1 far) progress) in
             spent n is (silent_gains r.0 start (join (ap is_join o.1.1))) r.1
 
@@ -412,8 +412,8 @@ module _ (by_whom : Op → Doer) {ops : ℕ → Op} (x : Setting) (s : State) (l
         place_same : place_of n base ≡ place_of n s.core
         place_same = ap (λ (r : Records Thread). option_map (λ (u : Thread). u.place) (get r n)) (popped_threads z s.core)
 
-        far_same : how_far_of n base ≡ how_far_of n s.core
-        far_same = ap (λ (r : Records Thread). option_map_or (λ (u : Thread). u.how_far) (get r n) HowFar.Fresh) (popped_threads z s.core)
+        far_same : op_progress_of n base ≡ op_progress_of n s.core
+        far_same = ap (λ (r : Records Thread). option_map_or (λ (u : Thread). u.op_progress) (get r n) OpProgress.Fresh) (popped_threads z s.core)
 
         progress : Progresses s base n (thread_taken z n (choice_of l) base (place_of n base)) l t
         progress = subst (λ (o : Option (Mark × Entry)). TakeStep x s o l t) at (row (Turn.Take e) turn)
@@ -437,11 +437,11 @@ module _ (by_whom : Op → Doer) {ops : ℕ → Op} (x : Setting) (s : State) (l
         other : (w : Why) → place_of n s.core ≡ Some (Place.Ready ready.0 w) → is_for_start w ≡ false → NoStart
         other w here kind m who was = absurd (let same = one_runner m n who is in let start = was.1 in grind arith)
 
-        asleep : (w : Why) → place_of n s.core ≡ Some (Place.Ready ready.0 w) → woken_place y (Some (Place.Ready Mark.High w)) (how_far_of n s.core) ≡ false →
+        asleep : (w : Why) → place_of n s.core ≡ Some (Place.Ready ready.0 w) → woken_place y (Some (Place.Ready Mark.High w)) (op_progress_of n s.core) ≡ false →
             (m : ℕ) → is_woken_at y m s.core ≡ true → is_woken_at y m t.core ≡ true
         asleep w here off = kept_if (λ m who was. absurd (let same = one_runner m n who is in let woken = woken_at y n s.core in grind arith))
 
-        starts : place_of n s.core ≡ Some (Place.Ready ready.0 Why.Start) → Progresses s base n (start_row z n (choice_of l).woken base (admits n base Why.Start)) l t → Balance y s.core t.core
+        starts : place_of n s.core ≡ Some (Place.Ready ready.0 Why.Start) → Progresses s base n (start_rule z n (choice_of l).woken base (admits n base Why.Start)) l t → Balance y s.core t.core
         starts here row =
             let r = start_tells s t l base z n over (choice_of l).woken free (admits n base Why.Start) row in
             gain_or_quiet (Subtask.Guest (task_of n base)) (others r.0) (asleep Why.Start here refl) (λ now off. tells now off r.1)
@@ -469,7 +469,7 @@ module _ (by_whom : Op → Doer) {ops : ℕ → Op} (x : Setting) (s : State) (l
                 (told y (join_same sub s.core base calls_same works_same ∙ was))
 
         delivers : (v : ℕ) → place_of n s.core ≡ Some (Place.Ready ready.0 (Why.Delivery (Delivery.Set v))) →
-            Progresses s base n (delivery_row z n (choice_of l) base (Delivery.Set v) (admits n base (Why.Delivery (Delivery.Set v)))) l t → Balance y s.core t.core
+            Progresses s base n (delivery_rule z n (choice_of l) base (Delivery.Set v) (admits n base (Why.Delivery (Delivery.Set v)))) l t → Balance y s.core t.core
         delivers v here row =
             let r = delivery_spends s t l base z n v (choice_of l) (free v) there (admits n base (Why.Delivery (Delivery.Set v))) row in
             let none = silent_gains r.0 (other (Why.Delivery (Delivery.Set v)) here refl) join in
@@ -480,8 +480,8 @@ module _ (by_whom : Op → Doer) {ops : ℕ → Op} (x : Setting) (s : State) (l
         resumes here row =
             fallback (other Why.Resumption here refl) join (kept_if (λ m who was.
             let same = one_runner m n who is in
-            ap (λ (i : ℕ). is_woken_at y i t.core) same ∙ (ap (λ (v : State). is_woken_at y n v.core) row.1 ∙ (run_woken y n base there ∙ (ap (λ (f : HowFar). is_inside_wait y f) far_same ∙
-            resumed_woken y ready.0 (how_far_of n s.core) (sym (ap (λ (o : Option Place). woken_place y o (how_far_of n s.core)) here) ∙ (sym (woken_at y n s.core) ∙ (ap (λ (i : ℕ). is_woken_at y i s.core) (sym same) ∙ was))))))))
+            ap (λ (i : ℕ). is_woken_at y i t.core) same ∙ (ap (λ (v : State). is_woken_at y n v.core) row.1 ∙ (run_woken y n base there ∙ (ap (λ (f : OpProgress). is_inside_wait y f) far_same ∙
+            resumed_woken y ready.0 (op_progress_of n s.core) (sym (ap (λ (o : Option Place). woken_place y o (op_progress_of n s.core)) here) ∙ (sym (woken_at y n s.core) ∙ (ap (λ (i : ℕ). is_woken_at y i s.core) (sym same) ∙ was))))))))
 
         by : (w : Why) → place_of n s.core ≡ Some (Place.Ready ready.0 w) → Progresses s base n (thread_taken_for z n (choice_of l) base w) l t → Balance y s.core t.core
         by Why.Start here row = starts here row

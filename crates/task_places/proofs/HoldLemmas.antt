@@ -1,5 +1,5 @@
 -- However many instances there are, one holding entry of an instance runs at a time: without an instance there is no call, so no entry begins.
-use Rattle.task_places.proofs.Laws.{[], act_of, after_word, Allowed, along, ap, arith, Asked, begun_holder, Bool, Call, call_came, CallAfter, Callee, callee_of_op, CalleesAre, Caller, CallsThere, Choice, choice_of, component_of, Core, DeadlockStep, Does, EmptyFor, Ends, Entry, entry_number, FailsNow, false, fresh, FuturesStep, get, get-empty, Grown, has_moving_work, history, holds_one, host_label, InOrder, is_unended_take, Label, less_holder, line_of, List, Main, main_row, MainOpDef, MainPlace, MainProgress, MainProgresses, MainStep, Mark, may, may_deadlock, NewCall, next_entry, next_polled, NoCall, None, Op, op_at, op_callee, op_in, op_of, opening, OpeningInOrder, ops_plain, Option, option_map, Pends, Place, place_of, plain, plain_scene, Poll, poll_of, Polled, popped, popped_threads, Progresses, refl, RestStep, returned_holder, Run, runs_hold_one, SameMain, Scene, Scripted, ScriptStep, Setting, Some, some_none, State, Step, step_walks, StillPends, Stops, subst, sym, take_row, TakeStep, Thread, thread_taken, true, Turn, TurnStep, Unscripted, Walk, Walked, Word, ℕ, ◌<◌, ◌∙◌, ◌∷◌, ◌≡◌}
+use Rattle.task_places.proofs.Laws.{[], act_of, after_primitive, Allowed, along, ap, arith, Asked, begun_holder, Bool, Call, call_came, CallAfter, Callee, callee_of_op, CalleesAre, Caller, CallsThere, Choice, choice_of, component_of, Core, DeadlockStep, Does, EmptyFor, Ends, Entry, entry_number, FailsNow, false, fresh, FuturesStep, get, get-empty, Grown, has_moving_work, history, holds_one, host_label, InOrder, is_unended_take, Label, less_holder, line_of, List, Main, main_rule, MainOpDef, MainPlace, MainProgress, MainProgresses, MainStep, Mark, may, may_deadlock, NewCall, next_entry, next_polled, NoCall, None, Op, op_at, op_callee, op_in, op_of, opening, OpeningInOrder, ops_plain, Option, option_map, Pends, Place, place_of, plain, plain_scene, Poll, poll_of, Polled, popped, popped_threads, Progresses, refl, RestStep, returned_holder, Run, runs_hold_one, SameMain, Scene, Scripted, ScriptStep, Setting, Some, some_none, State, Step, step_walks, StillPends, Stops, subst, sym, take_rule, TakeStep, Thread, thread_taken, true, Turn, TurnStep, Unscripted, Walk, Walked, Primitive, ℕ, ◌<◌, ◌∙◌, ◌∷◌, ◌≡◌}
 use Rattle.task_places.proofs.OrderLemmas.{opening_in_order, step_in_order}
 use Rattle.task_places.specs.Once.{ScriptsHoldOne}
 use Rattle.task_rules.specs.MainOps.{Answers}
@@ -32,11 +32,11 @@ none_called a none main here f e group s (may.ByProgram words m takes is same) =
 none_called a none main here f e group s (may.ByThread n r callee is same) =
     none_below (op_callee (component_of a) (λ e. e.instance < 0) none.calls n a.base e (subst (λ (o : Op). callee_of_op o ≡ Some e) (here n) callee))
 
-none_word : (a : Scene) → NoCallees a.setting → IsScripted a.main → OpsHere a → (w : Word) (s : Core) → Allowed a w s → NoCalls s →
-    NoCalls (after_word w s)
+none_word : (a : Scene) → NoCallees a.setting → IsScripted a.main → OpsHere a → (w : Primitive) (s : Core) → Allowed a w s → NoCalls s →
+    NoCalls (after_primitive w s)
 none_word a none main here w s ok q k = by (call_came w s ok k)
   where
-    by : CallAfter a w s k → get (after_word w s).calls k ≡ None
+    by : CallAfter a w s k → get (after_primitive w s).calls k ≡ None
     by (Grown c d is to goes) = some_none (sym is ∙ q k)
     by (NoCall gone why) = gone
     by (NewCall f e x g group is few m new) = absurd (none_called a none main here f e group s m.0)
@@ -72,7 +72,7 @@ module _ (x : Setting) (s : State) (l : Label) (t : State) where
 
   script_quiet : (p : MainPlace) (o : Option MainOpDef) → ScriptStep x s p o l t → IsQuiet s.core l
   script_quiet p None h = shows s.core h.0 refl
-  script_quiet p (Some o) h = main_quiet p o (main_row x.component (line_of p o) s.core (act_of p o)) h
+  script_quiet p (Some o) h = main_quiet p o (main_rule x.component (line_of p o) s.core (act_of p o)) h
 
   main_step : (m : Main) → IsScripted m → MainStep x s m l t → IsQuiet s.core l
   main_step (Scripted p) scripted h = script_quiet p (op_at x.script p) h
@@ -115,7 +115,7 @@ module _ (x : Setting) (s : State) (l : Label) (t : State) where
   thread_quiet base m n ch (Some p) none h = some_none none
 
   entry_quiet : (base : Core) (m : Mark) (e : Entry) → ((n : ℕ) → place_of n base ≡ None) →
-      Progresses s base (entry_number e) (take_row m (choice_of l) base e) l t → IsQuiet s.core l
+      Progresses s base (entry_number e) (take_rule m (choice_of l) base e) l t → IsQuiet s.core l
   entry_quiet base m (Entry.Thread n) none h = thread_quiet base m n (choice_of l) (place_of n base) (none n) h
   entry_quiet base m (Entry.Push i) none h = shows s.core h.0 refl
   entry_quiet base m (Entry.Host i) none h = host_quiet base m i (choice_of l).woken _ _ h

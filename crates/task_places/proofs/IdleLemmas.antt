@@ -1,7 +1,7 @@
 -- An idle state in order that has the facts on wakes is stalled.
 use Rattle.task_places.proofs.Laws.{[], any_found, any_thread, ap, arith, at_number, Bool, CallersGoOn, Core, Course, course_of, false, found_any, found_ready, get, goes_on_at, goes_on_within, has_end, has_ready_member, has_waiter, HasPlace, inl, InOrder, inr, is_behind, is_blocked_on_end, is_ended_work, is_finishing, is_held_for, is_host_of, is_late, is_passed_over, is_stage_ended, is_stalled, is_unended_take, is_woken_for, List, list_any, Mark, next_entry, None, NoneBlockedOnEnd, numbers, one_counted, one_if, Option, option_map, option_map_or, Place, place_of, Placed, ready_counts, refl, RunsAlone, Setting, Some, Stage, stands, State, Subtask, suc, sym, Thread, true, Turn, WakesCounted, Why, woken, Work, WorksQueued, WorksTold, zero, ℕ, ◌∙◌, ◌∷◌, ◌≡◌, ◌⊎◌}
 use Rattle.task_places.proofs.{OrderLemmas.reached_in_order, WakeLines.none_of}
-use Rattle.task_places.specs.{Kept.ReachedInOrder, Wakes.BlockedByWorks, Wakes.IdleIsStalled, Wakes.ReachedCounted, Wakes.ReachedGoOn, Wakes.ReachedUnblocked}
+use Rattle.task_places.specs.{KeptPlaces.ReachedInOrder, PlaceWakes.BlockedByWorks, PlaceWakes.IdleIsStalled, PlaceWakes.ReachedCounted, PlaceWakes.ReachedGoOn, PlaceWakes.ReachedUnblocked}
 use Rattle.task_rules.specs.Stalled.{is_idle}
 
 -- a thread that passes, by its number

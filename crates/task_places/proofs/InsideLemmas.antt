@@ -1,12 +1,12 @@
 -- Who waits or is blocked is inside the op that says so, along the words of a step.
-use Rattle.task_places.proofs.Laws.{[], after_placing, after_word, Allowed, along, ap, arith, behind_shifted, Bool, by_number, Collapses, Core, Enter, false, get, get-change, get-remove, GoBehind, GoesBack, how_far_of, HowFar, inl, InPlace, inr, InsideOps, is_inside, IsBeside, IsFall, IsFirst, IsGone, IsRunner, IsSame, Label, land_allowed, Lands, lands_alone, lands_inside, LandsAt, Mark, MayCome, MayLand, MayMove, Move, Moved, nat_tests, on_thread, Op, Option, Place, place_of, Places, Placing, placing_shifted, Pop, popped, Promote, promoted_shifted, Put, put_shifted, Quits, refl, Remains, remove_thread, RemoveThread, Scene, scene_as, set_high, set_how_far, set_low, set_place, set_switch, set_trapped, SetHowFar, Setting, settle_threads, Settles, SetTrapped, shifted_far, Some, Stand, State, Stay, Stays, stays_allowed, Stop, stopped_shifted, sym, Thread, thread_came, ThreadAfter, Trip, true, WalkedAs, Word, ℕ, ⊎_elim, ◌==◌, ◌∙◌, ◌≡◌, ◌⊎◌}
+use Rattle.task_places.proofs.Laws.{[], after_placing, after_primitive, Allowed, along, ap, arith, behind_shifted, Bool, by_number, Collapses, Core, Enter, false, get, get-change, get-remove, GoBehind, GoesBack, op_progress_of, OpProgress, inl, InPlace, inr, InsideOps, is_inside, IsBeside, IsUnwind, IsFirst, IsGone, IsRunner, IsSame, Label, land_allowed, Lands, lands_alone, lands_inside, LandsAt, Mark, MayCome, MayLand, MayMove, Move, Moved, nat_tests, on_thread, Op, Option, Place, place_of, Places, Placing, placing_shifted, Pop, popped, Promote, promoted_shifted, Put, put_shifted, Quits, refl, Remains, remove_thread, RemoveThread, Scene, scene_as, set_high, set_op_progress, set_low, set_place, set_switch, set_trapped, SetOpProgress, Setting, settle_threads, Settles, SetTrapped, shifted_far, Some, Stand, State, Stay, Stays, stays_allowed, Stop, stopped_shifted, sym, Thread, thread_came, ThreadAfter, Trip, true, WalkedAs, Primitive, ℕ, ⊎_elim, ◌==◌, ◌∙◌, ◌≡◌, ◌⊎◌}
 use Rattle.task_places.proofs.{PlaceLaw.Frame, PlaceLaw.covered_still, PlaceLaw.stay_stand, PlaceLaw.stay_word, PlaceLaw.watch, PlaceSteps.Withdrawable, PlaceSteps.step_by}
 
 -- a place that says nothing of the op there
 abbrev is_loose : Place → Bool
-is_loose p = is_inside p HowFar.Fresh
+is_loose p = is_inside p OpProgress.Fresh
 
-loose_inside : (p : Place) (h : HowFar) → is_loose p ≡ true → is_inside p h ≡ true
+loose_inside : (p : Place) (h : OpProgress) → is_loose p ≡ true → is_inside p h ≡ true
 loose_inside p h loose = grind arith
 
 alone_loose : (k : ℕ) (p : Place) → lands_alone (Move k p) ≡ true → is_loose p ≡ true
@@ -40,13 +40,13 @@ placing_came (Enter n m) s k p at =
 -- ---- One word
 
 abbrev Inside : ℕ → Core → Type 0
-Inside k s = (p : Place) → place_of k s ≡ Some p → is_inside p (how_far_of k s) ≡ true
+Inside k s = (p : Place) → place_of k s ≡ Some p → is_inside p (op_progress_of k s) ≡ true
 
 -- an op comes further of the runner, or of one that the runner was on top of
-pub come_who : (a : Scene) (k : ℕ) (h : HowFar) (s : Core) → MayCome a k h s → IsRunner a k ⊎ ((m : ℕ) × (place_of k a.base ≡ Some (Place.Under m)))
+pub come_who : (a : Scene) (k : ℕ) (h : OpProgress) (s : Core) → MayCome a k h s → IsRunner a k ⊎ ((m : ℕ) × (place_of k a.base ≡ Some (Place.Under m)))
 come_who a k h s ok = grind arith
 
-come_far : (a : Scene) (k : ℕ) (h : HowFar) (s : Core) → MayCome a k h s → IsRunner a k ⊎ ((v : ℕ) × (h ≡ HowFar.Answered v))
+come_far : (a : Scene) (k : ℕ) (h : OpProgress) (s : Core) → MayCome a k h s → IsRunner a k ⊎ ((v : ℕ) × (h ≡ OpProgress.Answered v))
 come_far a k h s ok = grind arith
 
 move_who : (a : Scene) (k : ℕ) (p : Place) (s : Core) → MayMove a k p s → IsRunner a k ⊎ (is_loose p ≡ true)
@@ -56,17 +56,17 @@ move_who a k p s ok = grind arith
 abbrev Loose : Scene → ℕ → Core → Type 0
 Loose a k s = IsRunner a k ⊎ ((m : ℕ) × (place_of k a.base ≡ Some (Place.Under m))) → (p : Place) → place_of k s ≡ Some p → is_loose p ≡ true
 
-inside_word : (a : Scene) (w : Word) (s : Core) → Allowed a w s → (k : ℕ) → Loose a k s →
-    ((x : Placing) → w ≡ Places x → (p : Place) → place_of k (after_word w s) ≡ Some p → (is_loose p ≡ true) ⊎ (place_of k s ≡ Some p)) →
-    Inside k s → Inside k (after_word w s)
+inside_word : (a : Scene) (w : Primitive) (s : Core) → Allowed a w s → (k : ℕ) → Loose a k s →
+    ((x : Placing) → w ≡ Places x → (p : Place) → place_of k (after_primitive w s) ≡ Some p → (is_loose p ≡ true) ⊎ (place_of k s ≡ Some p)) →
+    Inside k s → Inside k (after_primitive w s)
 inside_word a w s ok k loose moves q p at = go (thread_came w s ok k)
   where
-    stays : (r u : Thread) → get s.threads k ≡ Some r → get (after_word w s).threads k ≡ Some u → place_of k s ≡ Some p →
-        (u.how_far ≡ r.how_far) ⊎ MayCome a k u.how_far s → is_inside p (how_far_of k (after_word w s)) ≡ true
+    stays : (r u : Thread) → get s.threads k ≡ Some r → get (after_primitive w s).threads k ≡ Some u → place_of k s ≡ Some p →
+        (u.op_progress ≡ r.op_progress) ⊎ MayCome a k u.op_progress s → is_inside p (op_progress_of k (after_primitive w s)) ≡ true
     stays r u e f here (inl same) = let i = q p here in grind arith
-    stays r u e f here (inr come) = loose_inside p _ (loose (come_who a k u.how_far s come) p here)
+    stays r u e f here (inr come) = loose_inside p _ (loose (come_who a k u.op_progress s come) p here)
 
-    go : ThreadAfter a w s k → is_inside p (how_far_of k (after_word w s)) ≡ true
+    go : ThreadAfter a w s k → is_inside p (op_progress_of k (after_primitive w s)) ≡ true
     go (IsSame r u e f c y far (inl same) z) = stays r u e f (grind arith) far
     go (IsSame r u e f c y far (inr x) z) = ⊎_elim (λ l. loose_inside p _ l) (λ here. stays r u e f here far) (moves x.0 x.1 p at)
     go (IsGone e) = absurd (cc)
@@ -80,15 +80,15 @@ removed_inside : (k : ℕ) (s : Core) → InsideOps s → InsideOps (remove_thre
 unfolding remove_thread
 removed_inside k s q n p at = grind (arith, nat_tests, get-remove, q n p)
 
-falls_inside : (a : Scene) (w : Word) (s : Core) → IsFall a w s → InsideOps s → InsideOps (after_word w s)
+falls_inside : (a : Scene) (w : Primitive) (s : Core) → IsUnwind a w s → InsideOps s → InsideOps (after_primitive w s)
 unfolding set_trapped
 falls_inside a (RemoveThread k) s ok h = removed_inside k s h
 falls_inside a SetTrapped s ok h = same_threads s (set_trapped s) refl h
 falls_inside a _ s ok h = absurd ok
 
 -- the thread runs on, and its call is answered
-goes_back : (m v : ℕ) (t : Core) → InsideOps t → InsideOps (after_word (SetHowFar m (HowFar.Answered v)) (after_word (Places (Move m Place.Running)) t))
-unfolding set_how_far set_place on_thread
+goes_back : (m v : ℕ) (t : Core) → InsideOps t → InsideOps (after_primitive (SetOpProgress m (OpProgress.Answered v)) (after_primitive (Places (Move m Place.Running)) t))
+unfolding set_op_progress set_place on_thread
 goes_back m v t q k p at = by_number k m _ (λ e. grind (arith, nat_tests, get-change)) (λ other. grind (arith, nat_tests, get-change, q k p))
 
 -- ---- Trips
@@ -98,7 +98,7 @@ module _ {a : Scene} {b : Core} {n : ℕ} {q : Option Place} (f : Frame a b n q)
   loose s st k (inl is) p at = let busy = f.follows.busy in let one = f.one k is in let here = st.here in grind arith
   loose s st k (inr under) p at = let still = covered_still a st k under.0 under.1 in grind arith
 
-  shifts : (w : Word) (s : Core) → Stays a w s → (k : ℕ) (x : Placing) → w ≡ Places x → (p : Place) → place_of k (after_word w s) ≡ Some p → (is_loose p ≡ true) ⊎ (place_of k s ≡ Some p)
+  shifts : (w : Primitive) (s : Core) → Stays a w s → (k : ℕ) (x : Placing) → w ≡ Places x → (p : Place) → place_of k (after_primitive w s) ≡ Some p → (is_loose p ≡ true) ⊎ (place_of k s ≡ Some p)
   shifts w s ok k x is p at = ⊎_elim inl (⊎_elim inr (λ e. absurd (no_move x (rw is at ok) e))) (placing_came x s k p (sym (ap (λ t. place_of k t) (placing_shifted x s).only) ∙ rw is at at))
     where
       no_move : (y : Placing) → Stays a (Places y) s → y ≡ Move k p → ⊥
@@ -111,21 +111,21 @@ module _ {a : Scene} {b : Core} {n : ℕ} {q : Option Place} (f : Frame a b n q)
       (f.follows.start, first) c).1
 
   settled : {s t : Core} → InsideOps s → Settles s t → InsideOps t
-  settled first d = along InsideOps (λ w s ok h. same_threads s (after_word w s) (settle_threads w s ok) h) first d
+  settled first d = along InsideOps (λ w s ok h. same_threads s (after_primitive w s) (settle_threads w s ok) h) first d
 
-  landed : (s : Core) (x : Placing) → Stay a b s → (k : ℕ) (p : Place) → place_of k (after_word (Places x) s) ≡ Some p → Came x s k p
+  landed : (s : Core) (x : Placing) → Stay a b s → (k : ℕ) (p : Place) → place_of k (after_primitive (Places x) s) ≡ Some p → Came x s k p
   landed s x c k p at = placing_came x s k p (sym (ap (λ t. place_of k t) (placing_shifted x s).only) ∙ at)
 
-  landed_at : (s : Core) (x : Placing) (m : ℕ) (h : HowFar) → Stay a b s → InsideOps s → MayLand a x s → lands_inside x h ≡ true →
-      MayCome a m h (after_word (Places x) s) → InsideOps (after_word (SetHowFar m h) (after_word (Places x) s))
-  unfolding set_how_far on_thread
+  landed_at : (s : Core) (x : Placing) (m : ℕ) (h : OpProgress) → Stay a b s → InsideOps s → MayLand a x s → lands_inside x h ≡ true →
+      MayCome a m h (after_primitive (Places x) s) → InsideOps (after_primitive (SetOpProgress m h) (after_primitive (Places x) s))
+  unfolding set_op_progress on_thread
   landed_at s x m h c q ok fit come k p at =
       let here : place_of k u ≡ Some p = grind (arith, nat_tests, get-change) in
       by_number k m _ (λ e. let i = own e (landed s x c k p here) in grind (arith, nat_tests, get-change))
       (λ other. let i = rest other (landed s x c k p here) in let far = shifted_far (placing_shifted x s) k in grind (arith, nat_tests, get-change))
     where
       u : Core
-      u = after_word (Places x) s
+      u = after_primitive (Places x) s
 
       own : k ≡ m → Came x s k p → is_inside p h ≡ true
       own e came = ⊎_elim (loose_inside p h) (⊎_elim
@@ -138,7 +138,7 @@ module _ {a : Scene} {b : Core} {n : ℕ} {q : Option Place} (f : Frame a b n q)
           ⊎_elim (λ runs. ⊎_elim (λ is. let one = f.one k runs in let same = f.one m is in absurd (grind (arith, nat_tests)))
           (λ v. grind arith) (come_far a m h u come)) (λ l. l) (move_who a k p s to)
 
-      rest : (k == m) ≡ false → Came x s k p → is_inside p (how_far_of k s) ≡ true
+      rest : (k == m) ≡ false → Came x s k p → is_inside p (op_progress_of k s) ≡ true
       rest other came = ⊎_elim (loose_inside p _) (⊎_elim (q k p) (λ moves. loose_inside p _ (moved other moves))) came
 
   trip_inside : {t : Core} → InsideOps b → Trip a b t → InsideOps t

@@ -15,7 +15,7 @@ pub mod HoldLemmas
 pub mod WakeLines
 pub mod IdleLemmas
 pub mod RestLemmas
-pub mod WakeRows
+pub mod WakeRules
 pub mod Balance
 pub mod CountedSteps
 pub mod BlockedLemmas

@@ -1,5 +1,5 @@
 -- Each step owes of the ends what it should, and so each run has each end once.
-use Rattle.task_places.proofs.Laws.{[], abort_kept, AbortsOwn, along, Answered, ap, arith, base_at, base_is, CallsFound, codes_at, Core, Due, due_over, ends_go, ends_once, EndStep, EndsTold, first_works, fresh, get, get-empty, HasValue, how_far_of, HowFar, InOrder, instance_of, is_some, is_spawn, is_sync_work, Label, le_refl, Main, main_opening, MainPlace, MayAbort, MayBeAborted, named_other, of_base, opening, opening_ends_told, opening_works, OpeningInOrder, Over, ProgramAborts, refl, return_step, runner_there, SameMain, Scene, scene_of, ScriptAborts, Scripted, Setting, slice_get, Some, spawned_at, State, Status, Step, step_ends, step_walks, subst, Subtask, subtask_at, suc, sym, task_of, Thread, true, Unscripted, unwrap_or, Walked, work_caller_of, WorkCaller, works_word, WorksGo, WorksHold, zero, ℕ, ⊎_elim, ◌-◌, ◌≡◌}
+use Rattle.task_places.proofs.Laws.{[], abort_kept, AbortsOwn, along, Answered, ap, arith, base_at, base_is, CallsFound, codes_at, Core, Due, due_over, ends_go, ends_once, EndStep, EndsTold, first_works, fresh, get, get-empty, HasValue, op_progress_of, OpProgress, InOrder, instance_of, is_some, is_spawn, is_sync_work, Label, le_refl, Main, main_opening, MainPlace, MayAbort, MayBeAborted, named_other, of_base, opening, opening_ends_told, opening_works, OpeningInOrder, Over, ProgramAborts, refl, return_step, runner_there, SameMain, Scene, scene_of, ScriptAborts, Scripted, Setting, slice_get, Some, spawned_at, State, Status, Step, step_ends, step_walks, subst, Subtask, subtask_at, suc, sym, task_of, Thread, true, Unscripted, unwrap_or, Walked, work_caller_of, WorkCaller, works_word, WorksGo, WorksHold, zero, ℕ, ⊎_elim, ◌-◌, ◌≡◌}
 use Rattle.task_places.proofs.OrderLemmas.{asked, held_of, opening_in_order, step_in_order}
 use Rattle.task_places.specs.Once.{IsUnbegun, RunsAreOnce}
 
@@ -62,8 +62,8 @@ module _ (x : Setting) (s : State) (l : Label) (t : State) (k : Known x s) (step
           (λ spawn. spawn_is works_after.0.holds (spawned_at q j) spawn) (same j))
       by m was n is same = absurd (grind arith)
 
-  called : (n i : ℕ) → how_far_of n a.base ≡ HowFar.Calls (Subtask.Host i) → work_caller_of i a.base ≡ WorkCaller.Sync n
-  called = to_base (λ c. (n i : ℕ) → how_far_of n c ≡ HowFar.Calls (Subtask.Host i) → work_caller_of i c ≡ WorkCaller.Sync n)
+  called : (n i : ℕ) → op_progress_of n a.base ≡ OpProgress.Calls (Subtask.Host i) → work_caller_of i a.base ≡ WorkCaller.Sync n
+  called = to_base (λ c. (n i : ℕ) → op_progress_of n c ≡ OpProgress.Calls (Subtask.Host i) → work_caller_of i c ≡ WorkCaller.Sync n)
       (λ n i far. (k.order.works_known.called n i far).1)
 
   answered : Answered a

@@ -1,7 +1,7 @@
 -- A state in order: each opening state is, and each step leads from one to one.
-use Rattle.task_places.proofs.Laws.{[], after_word, AllFit, Allowed, along, ap, apart_after, arith, at_place, Awake, base_at, Bool, ByHandle, ByOp, Call, callee_of, calls_begin, calls_told_word, CallsAwaited, CallsGo, CallsHold, CallsInside, CallsNamed, CallsThere, CallsTold, can_come, cancelled_call, cancels_word, CancelsGo, CancelsWatched, Codes, codes_at, codes_plain, CodesAt, Component, Core, did, directs_word, DirectsOnTop, DirectsRun, Doer, empty, EndWords, event_of, false, few_word, first_waits, fits_word, FitsAs, fresh, Gains, get, get-empty, has_waiter, HasNotRun, HasSubtask, held_word, Homed, homed_word, host_event_word, host_taken, HostsAwaited, housed_word, how_far_of, HowFar, inl, InOrder, InOrderAs, InOrderFor, InPlace, inr, Inside, inside_word, InsideThere, instance_of, is_awaited, is_fresh, is_open, is_ready_member, is_some, is_sync_call, is_there, IsRunner, joins_word, JoinsNamed, KnownCancels, KnownHome, Label, Layered, layered_word, le_refl, le_trans, length, List, made_works_word, MakesFew, member_same, names_go_word, NamesGo, NamesHold, next_thread, None, NoneAdmitted, Numbered, of_base, OfBase, Op, op_at_place, op_of, op_same, op_there, opening, opening_holds, opening_joins, opening_named, opening_names_known, opening_sets, opening_works_known, opening_works_named, OpeningInOrder, ops_of, option_map, option_map_or, own_script, Place, place_of, Placed, plain, plain_as, plain_scene, queued_handle, queued_watched, ready_goes_word, ReadyGoes, refl, Run, runner_there, RunnerHoused, said_plain, SameOp, Scene, scene_as, script_in, sets_named_word, SetsNamed, Setting, Some, starts_word, StartsAwaited, StartsFirst, StartsGo, StartsThere, State, Status, Steady, steady, Step, step_over, step_walks, StepAs, StepInOrder, StepsMakeFew, Strands, subst, Subtask, subtask_under_way, sym, task_of, telling_word, TellingGoes, Thread, Traced, traced_word, true, Turn, TurnStep, TurnStepAs, Unbegun, unbegun_word, undelivered_end, Waited, WaitsAtHome, WaitsPlaced, WakesCounted, Walk, Walked, walked_goes, WalkedAs, was_started, WasCall, watched_word, Word, word_goes, Work, works_go, works_hold, works_named_word, works_said_word, works_told, WorksKnown, WorksNamed, WorksQueued, WorksSaid, WorksTold, writes_over, written_at, ℕ, ⊎_elim, ◌∙◌, ◌∷◌, ◌≡◌, ◌≤◌, ◌⊎◌}
+use Rattle.task_places.proofs.Laws.{[], after_primitive, AllFit, Allowed, along, ap, apart_after, arith, at_place, Awake, base_at, Bool, ByHandle, ByOp, Call, callee_of, calls_begin, calls_told_word, CallsAwaited, CallsGo, CallsHold, CallsInside, CallsNamed, CallsThere, CallsTold, can_come, cancelled_call, cancels_word, CancelsGo, CancelsWatched, Codes, codes_at, codes_plain, CodesAt, Component, Core, did, directs_word, DirectsOnTop, DirectsRun, Doer, empty, EndPrimitives, event_of, false, few_word, first_waits, fits_word, FitsAs, fresh, Gains, get, get-empty, has_waiter, HasNotRun, HasSubtask, held_word, Homed, homed_word, host_event_word, host_taken, HostsAwaited, housed_word, op_progress_of, OpProgress, inl, InOrder, InOrderAs, InOrderFor, InPlace, inr, Inside, inside_word, InsideThere, instance_of, is_awaited, is_fresh, is_open, is_ready_member, is_some, is_sync_call, is_there, IsRunner, joins_word, JoinsNamed, KnownCancels, KnownHome, Label, Layered, layered_word, le_refl, le_trans, length, List, made_works_word, MakesFew, member_same, names_go_word, NamesGo, NamesHold, next_thread, None, NoneAdmitted, Numbered, of_base, OfBase, Op, op_at_place, op_of, op_same, op_there, opening, opening_holds, opening_joins, opening_named, opening_names_known, opening_sets, opening_works_known, opening_works_named, OpeningInOrder, ops_of, option_map, option_map_or, own_script, Place, place_of, Placed, plain, plain_as, plain_scene, queued_handle, queued_watched, ready_goes_word, ReadyGoes, refl, Run, runner_there, RunnerHoused, said_plain, SameOp, Scene, scene_as, script_in, sets_named_word, SetsNamed, Setting, Some, starts_word, StartsAwaited, StartsFirst, StartsGo, StartsThere, State, Status, Steady, steady, Step, step_over, step_walks, StepAs, StepInOrder, StepsMakeFew, Strands, subst, Subtask, subtask_under_way, sym, task_of, telling_word, TellingGoes, Thread, Traced, traced_word, true, Turn, TurnStep, TurnStepAs, Unbegun, unbegun_word, undelivered_end, Waited, WaitsAtHome, WaitsPlaced, WakesCounted, Walk, Walked, walked_goes, WalkedAs, was_started, WasCall, watched_word, Primitive, word_goes, Work, works_go, works_hold, works_named_word, works_said_word, works_told, WorksKnown, WorksNamed, WorksQueued, WorksSaid, WorksTold, writes_over, written_at, ℕ, ⊎_elim, ◌∙◌, ◌∷◌, ◌≡◌, ◌≤◌, ◌⊎◌}
 use Rattle.task_places.proofs.{AloneLemmas.step_alone, BlockedLemmas.step_blocked, CallersSteps.callers_kept, CallersSteps.feet_kept, CallersSteps.free_kept, CallsBack.back_apart, CountedSteps.step_counted, Directs.directs_on_top, HostsAwaited.Asked, HostsAwaited.step_asked, HostsAwaited.step_works, InsideLemmas.step_inside, PlaceLaw.Arrives, PlaceSteps.Withdrawable, PlaceSteps.settled_run, PlaceSteps.step_arrives, PlaceSteps.step_by, WaitsKept.AtWaits, WaitsKept.far_waits, WaitsKept.step_waits, WaitsKept.wait_op, WorksQueued.stands_of}
-use Rattle.task_places.specs.Kept.{ReachedInOrder, ReachedInPlace, StepsKeepPlaces}
+use Rattle.task_places.specs.KeptPlaces.{ReachedInOrder, ReachedInPlace, StepsKeepPlaces}
 
 -- ---- Starts
 
@@ -94,7 +94,7 @@ module _ {ops : ℕ → Op} (x : Setting) (s : State) (l : Label) (t : State) {g
   watching_first : Watching s.core
   watching_first = (record { was = λ k q. assumption; named = h.calls_named }, (le_refl _, (h.works_named, h.watched)))
 
-  watching_word : (v : Word) (m : Core) → Allowed a v m → Watching m → Watching (after_word v m)
+  watching_word : (v : Primitive) (m : Core) → Allowed a v m → Watching m → Watching (after_primitive v m)
   watching_word v m ok q = (
     traced_word a known m q.0 v ok,
     (
@@ -154,7 +154,7 @@ module _ {ops : ℕ → Op} (x : Setting) (s : State) (l : Label) (t : State) {g
   inside_there n k runs far =
       ⊎_elim (λ under. let at = h.in_place.runs n runs in absurd (grind arith)) (λ awaited. grind arith) (h.calls.inside n k far)
 
-  least : (m k : ℕ) → cancelled_call (how_far_of m a.base) ≡ Some k → k ≤ a.base.made.threads
+  least : (m k : ℕ) → cancelled_call (op_progress_of m a.base) ≡ Some k → k ≤ a.base.made.threads
   least m k e = (known.by_op m k (grind arith)).number
 
   -- what handles and ops name, and the calls that are direct or that ops are inside of
@@ -181,13 +181,13 @@ module _ {ops : ℕ → Op} (x : Setting) (s : State) (l : Label) (t : State) {g
     apart = apart_after a names_base calls_base unbegun_base numbered_base least t.core called.1.0 called.1.1;
   }
     where
-      back : (n k : ℕ) → place_of n s.core ≡ Some (Place.Under k) → a.next ≡ Turn.Run n → subtask_under_way (how_far_of n t.core) ≡ None
+      back : (n k : ℕ) → place_of n s.core ≡ Some (Place.Under k) → a.next ≡ Turn.Run n → subtask_under_way (op_progress_of n t.core) ≡ None
       back n k at to = step_by x s l t w h.in_place withdrawable
-          (λ c u. place_of n c.base ≡ Some (Place.Under k) → c.next ≡ Turn.Run n → subtask_under_way (how_far_of n u) ≡ None)
+          (λ c u. place_of n c.base ≡ Some (Place.Under k) → c.next ≡ Turn.Run n → subtask_under_way (op_progress_of n u) ≡ None)
           (λ c b m q u base first same f d ends at to. back_apart f n k at to d)
           (of_base (λ b. place_of n b ≡ Some (Place.Under k)) s.turn s.core at) to
 
-      inside : (n k : ℕ) → how_far_of n t.core ≡ HowFar.Calls (Subtask.Guest k) → Inside a n k t.core →
+      inside : (n k : ℕ) → op_progress_of n t.core ≡ OpProgress.Calls (Subtask.Guest k) → Inside a n k t.core →
           (place_of n t.core ≡ Some (Place.Under k)) ⊎ (option_map_or is_awaited (get t.core.calls k) false ≡ true)
       inside n k far (inl under) =
           ⊎_elim inl (λ gone. absurd (⊎_elim (λ to. let y = back n k under to in grind arith) (λ none. grind arith) gone.1))
@@ -274,7 +274,7 @@ module _ {ops : ℕ → Op} (x : Setting) (s : State) (l : Label) (t : State) {g
   starts_after : StartsThere s.core → is_open t.turn ≡ true → StartsThere t.core
   starts_after first live k now = let q = starts_last first in ⊎_elim (λ there. there)
       (⊎_elim (λ over. absurd (let to = w.turn in grind arith)) (λ drawn. absurd (writes_over a t.core h.calls_told k drawn.0 (q.was k now)
-      (Subtask.Guest k) refl ((plain x s l w.next (λ c. EndWords c t.core) w.ends.says).writes (Subtask.Guest k) Status.StartCancelled
+      (Subtask.Guest k) refl ((plain x s l w.next (λ c. EndPrimitives c t.core) w.ends.says).writes (Subtask.Guest k) Status.StartCancelled
       (written_at ops s.core (base_at s.turn s.core).queues t.core l _ (said_plain ops x s l w.next t.core k Status.StartCancelled drawn.1))) now))) (q.there k now)
 
   -- ---- Events
@@ -326,7 +326,7 @@ module _ {ops : ℕ → Op} (x : Setting) (s : State) (l : Label) (t : State) {g
         script = let home = λ (e : r.explicit ≡ true). ap (λ c. c.instance) (same (f.call e)) in let script = f.script in grind arith;
         position = ⊎_elim (λ zero. omega (arith, zero))
             (λ b. subst (λ e. r.position ≤ length (script_in x.component e r.script)) (sym (same b.0)) b.1) f.position;
-        op = ⊎_elim (λ fresh. ap (can_come (now_ops n)) fresh) (λ e. at_op (λ o. can_come o r.how_far) e) f.op;
+        op = ⊎_elim (λ fresh. ap (can_come (now_ops n)) fresh) (λ e. at_op (λ o. can_come o r.op_progress) e) f.op;
         under = λ d. at_op is_sync_call (f.under d).0;
         first = f.first;
       }
@@ -392,7 +392,7 @@ module _ {ops : ℕ → Op} (x : Setting) (s : State) (l : Label) (t : State) {g
       homes = λ to i y q. assumption;
       by_place = λ n y e. (h.waits.by_place n y e, grind arith);
       by_op = λ n y e. (h.waits.by_op n y e, grind arith);
-      far = λ n y e. inr (far_waits (how_far_of n s.core) y e);
+      far = λ n y e. inr (far_waits (op_progress_of n s.core) y e);
     }
 
     sets_last : (SetsNamed t.core × JoinsNamed t.core) × Homed a t.core

@@ -1,5 +1,5 @@
 -- Where each thread is along the words of a step: each has its place, and one that waits for its start still does, or its call has begun.
-use Rattle.task_places.proofs.Laws.{[], add_call, add_group, add_set, add_work, Adds, adds_all, after_placing, after_word, all_of, along, ap, arith, at_place, Awaits, AwaitsEvent, behind_adds, blocked_place, Blocks, Bool, by_number, ByHandle, call_made, Collapses, Core, count_work, Covered, Departs, EndsOver, Enter, entries, entries-append, Entry, Falls, false, foot_there, free_handle, free_thread_handle, get, get-change, give_handle, give_result, give_thread_handle, given_there, GoBehind, GoesBack, gone_place, has_entry, HasPlace, HasSubtask, Holds, HowFar, idle_loose, if◌then◌else◌, inl, inr, is_at_high, is_at_low, is_at_switch, is_begun, is_busy, is_done_host, is_explicit, is_for_start, is_free, is_fresh, is_idle, is_none, is_parked, is_so, is_some, is_there, is_under, is_watched, IsFall, IsFoot, IsRunner, IsSettling, Lands, LandsAt, LastWords, Leaves, Loose, loose_idle, MakeCall, MakeThread, Mark, MayGo, MayLand, MayMove, MayPut, MayWithdraw, MayYield, Move, nat_tests, new_thread, next_thread, no_time, nobody, None, not_main, Nothing, on_call, on_instance, on_thread, on_work, one_runner, one_time, Option, option_map_or, Place, place_kept, place_of, place_written, Placed, Places, Placing, placing_shifted, poll_pends, Promote, push_high, Put, put_high_adds, put_low_adds, put_stand, quiet_placed, quiet_stand, Quits, refl, registers_for, Remains, remove_call, remove_group, remove_set, remove_thread, remove_work, removed_all, removed_gone, removed_is, removed_loose, removed_placed, RemoveThread, Runs, says, Scene, Script, set_backpressure, set_cancel_delivered, set_cancelled, set_course, set_do_not_enter, set_do_not_suspend, set_end, set_event, set_exited, set_how_far, set_join, set_own_event, set_phase, set_place, set_place_adds, set_place_is, set_position, set_register, set_result, set_saved_callee, set_saved_own, set_script, set_stage, set_started, set_starting_published, set_subtask_handle, set_thread_handle, set_trapped, set_uninteresting, set_word, Settles, SetTrapped, SetUninteresting, Some, Stand, stand_of, Stay, Stays, stays_put, Stop, stopped_stand, Stuck, subst, Subtask, Suspends, switch_entries, switch_there, sym, T, take_result, TakeHost, TakePush, task_of, Thread, Trip, true, Turn, Uncovers, Untouched, Waits, WaitsAgain, was_started, Watch, watching, Why, with_handle, with_thread_handle, Withdraw, withdraws, Word, work_queued, ℕ, ⊎_elim, ◌+◌, ◌==◌, ◌||◌, ◌∙◌, ◌≡◌, ◌≤◌, ◌⊎◌}
+use Rattle.task_places.proofs.Laws.{[], add_call, add_group, add_set, add_work, Adds, adds_all, after_placing, after_primitive, all_of, along, ap, arith, at_place, Awaits, AwaitsEvent, behind_adds, blocked_place, Blocks, Bool, by_number, ByHandle, call_made, Collapses, Core, count_work, Covered, Departs, EndsOver, Enter, entries, entries-append, Entry, Unwinds, false, foot_there, free_handle, free_thread_handle, get, get-change, give_handle, give_result, give_thread_handle, given_unchecked, GoBehind, GoesBack, gone_place, has_entry, HasPlace, HasSubtask, Holds, OpProgress, idle_loose, if◌then◌else◌, inl, inr, is_at_high, is_at_low, is_at_switch, is_begun, is_busy, is_done_host, is_explicit, is_for_start, is_free, is_fresh, is_idle, is_none, is_parked, is_so, is_some, is_there, is_under, is_watched, IsUnwind, IsFoot, IsRunner, IsSettling, Lands, LandsAt, LastPrimitives, Leaves, Loose, loose_idle, MakeCall, MakeThread, Mark, MayGo, MayLand, MayMove, MayPut, MayWithdraw, MayYield, Move, nat_tests, new_thread, next_thread, no_time, nobody, None, not_main, Nothing, on_call, on_instance, on_thread, on_work, one_runner, one_time, Option, option_map_or, Place, place_kept, place_of, place_written, Placed, Places, Placing, placing_shifted, poll_pends, Promote, push_high, Put, put_high_adds, put_low_adds, put_stand, quiet_placed, quiet_stand, Quits, refl, registers_for, Remains, remove_call, remove_group, remove_set, remove_thread, remove_work, removed_all, removed_gone, removed_is, removed_loose, removed_placed, RemoveThread, Runs, says, Scene, Script, set_backpressure, set_cancel_delivered, set_cancelled, set_course, set_do_not_enter, set_do_not_suspend, set_end, set_event, set_exited, set_op_progress, set_join, set_task_event, set_phase, set_place, set_place_adds, set_place_is, set_position, set_register, set_result, set_saved_callee, set_saved_own, set_script, set_stage, set_started, set_starting_published, set_subtask_handle, set_thread_handle, set_trapped, set_uninteresting, set_word, Settles, SetTrapped, SetUninteresting, Some, Stand, stand_of, Stay, Stays, stays_put, Stop, stopped_stand, Stuck, subst, Subtask, Suspends, switch_entries, switch_there, sym, T, take_result, TakeHost, TakePush, task_of, Thread, Trip, true, Turn, Uncovers, Untouched, Waits, WaitsAgain, was_started, Watch, watching, Why, with_handle, with_thread_handle, Withdraw, withdraws, Primitive, work_queued, ℕ, ⊎_elim, ◌+◌, ◌==◌, ◌||◌, ◌∙◌, ◌≡◌, ◌≤◌, ◌⊎◌}
 use Rattle.task_places.proofs.Entries.{added_stand, flipped, has_stands, next_first, popped_quiet, promoted_stand, removed_fresh, withdrawn_stand}
 use Rattle.task_rules.proofs.StandLemmas.{Given}
 
@@ -84,7 +84,7 @@ module _ {a : Scene} {b : Core} {n : ℕ} {q : Option Place} (f : Follows a b n 
   not_here m s st differs = by_number m n _ (λ e. absurd (differs (ap (λ (j : ℕ). place_of j s) e ∙ st.here))) (λ e. e)
 
   -- what is watched of a thread stays so where it is put
-  abbrev Puts : (ℕ → Watch) → Word → Core → Type 0
+  abbrev Puts : (ℕ → Watch) → Primitive → Core → Type 0
   Puts P w s = (x : Mark) (m : ℕ) (v : Why) → w ≡ Places (Put x m v) → is_watched (P m) ≡ true → is_so (P m) (place_of m s) ≡ true →
       is_so (P m) (Some (Place.Ready x v)) ≡ true
 
@@ -105,10 +105,10 @@ module _ {a : Scene} {b : Core} {n : ℕ} {q : Option Place} (f : Follows a b n 
   keeps_placing p s (inl ok) puts st = absurd ok
   keeps_placing p s (inr ok) puts st = absurd ok
 
-  keeps_word : {P : ℕ → Watch} (w : Word) (s : Core) → Stays a w s → Puts P w s →
+  keeps_word : {P : ℕ → Watch} (w : Primitive) (s : Core) → Stays a w s → Puts P w s →
       ((k : ℕ) → w ≡ Withdraw k → is_fresh (place_of k s) ≡ true) →
-      Stand P n q [] s → Stand P n q [] (after_word w s)
-  unfolding add_call add_group add_set add_work count_work free_handle free_thread_handle give_handle give_result give_thread_handle on_call on_instance on_work push_high remove_call remove_group remove_set remove_work set_backpressure set_cancel_delivered set_cancelled set_course set_do_not_enter set_do_not_suspend set_end set_event set_exited set_how_far set_join set_own_event set_phase set_position set_register set_result set_saved_callee set_saved_own set_script set_stage set_started set_starting_published set_subtask_handle set_thread_handle set_trapped set_uninteresting set_word take_result call_made with_handle with_thread_handle work_queued poll_pends on_thread
+      Stand P n q [] s → Stand P n q [] (after_primitive w s)
+  unfolding add_call add_group add_set add_work count_work free_handle free_thread_handle give_handle give_result give_thread_handle on_call on_instance on_work push_high remove_call remove_group remove_set remove_work set_backpressure set_cancel_delivered set_cancelled set_course set_do_not_enter set_do_not_suspend set_end set_event set_exited set_op_progress set_join set_task_event set_phase set_position set_register set_result set_saved_callee set_saved_own set_script set_stage set_started set_starting_published set_subtask_handle set_thread_handle set_trapped set_uninteresting set_word take_result call_made with_handle with_thread_handle work_queued poll_pends on_thread
   keeps_word {P = P} (Places p) s ok puts fresh st =
       subst (λ (t : Core). Stand P n q [] t) (sym (placing_shifted p s).only) (keeps_placing p s ok puts st)
   keeps_word (MakeThread t) s ok puts fresh st =
@@ -130,9 +130,9 @@ module _ {a : Scene} {b : Core} {n : ℕ} {q : Option Place} (f : Follows a b n 
   pub withdraws_waits : (k : ℕ) (s : Core) → MayWithdraw a k s → waits a k ≡ true
   withdraws_waits k s may = let g = may.1.1.0 in f.withdraws g.0 k g.1.1.0 (ByHandle g.1.0 g.1.1.1) may.1.1.1.1.1.1
 
-  pub stay_word : (w : Word) (s : Core) → Stays a w s → Stand (watch a) n q [] s → Stand (watch a) n q [] (after_word w s)
-  stay_word w s ok st = keeps_word w s ok (λ x m v e g so. puts x m v (subst (λ (y : Word). Stays a y s) e ok) so)
-      (λ k e. waiting k (subst (λ (y : Word). Stays a y s) e ok)) st
+  pub stay_word : (w : Primitive) (s : Core) → Stays a w s → Stand (watch a) n q [] s → Stand (watch a) n q [] (after_primitive w s)
+  stay_word w s ok st = keeps_word w s ok (λ x m v e g so. puts x m v (subst (λ (y : Primitive). Stays a y s) e ok) so)
+      (λ k e. waiting k (subst (λ (y : Primitive). Stays a y s) e ok)) st
     where
       puts : (x : Mark) (m : ℕ) (v : Why) → Stays a (Places (Put x m v)) s → is_so (watch a m) (place_of m s) ≡ true →
           is_so (watch a m) (Some (Place.Ready x v)) ≡ true
@@ -145,12 +145,12 @@ module _ {a : Scene} {b : Core} {n : ℕ} {q : Option Place} (f : Follows a b n 
       waiting k may = fresh_still a st k (withdraws_waits k s may.0)
 
   -- what is so of a thread's place stays so by a word that, where it puts the thread, puts it so
-  pub watched_word : (v : Watch) (m : ℕ) (w : Word) (s : Core) → Stays a w s → Stand (watch a) n q [] s →
+  pub watched_word : (v : Watch) (m : ℕ) (w : Primitive) (s : Core) → Stays a w s → Stand (watch a) n q [] s →
       ((x : Mark) (u : Why) → MayPut m u s → is_so v (Some (Place.Ready x u)) ≡ true) → is_watched v ≡ true →
-      is_so v (place_of m s) ≡ true → is_so v (place_of m (after_word w s)) ≡ true
+      is_so v (place_of m s) ≡ true → is_so v (place_of m (after_primitive w s)) ≡ true
   watched_word v m w s ok st puts is at =
-      let kept = (keeps_word w s ok (λ x k u e g so. put x k u (subst (λ (y : Word). Stays a y s) e ok) g)
-      (λ k e. fresh_still a st k (withdraws_waits k s (subst (λ (y : Word). Stays a y s) e ok).0)) before).kept m in
+      let kept = (keeps_word w s ok (λ x k u e g so. put x k u (subst (λ (y : Primitive). Stays a y s) e ok) g)
+      (λ k e. fresh_still a st k (withdraws_waits k s (subst (λ (y : Primitive). Stays a y s) e ok).0)) before).kept m in
       grind (arith, nat_tests)
     where
       only : ℕ → Watch
@@ -164,16 +164,16 @@ module _ {a : Scene} {b : Core} {n : ℕ} {q : Option Place} (f : Follows a b n 
       put x k u may g = by_number k m _ (λ e. let so = puts x u (rw (← e) (stays_put a x k u s may)) in grind (arith, nat_tests)) (λ e. absurd (grind arith))
 
   -- a thread that is blocked stays so, but where its host's work is done
-  pub stuck_word : (m : ℕ) (sub : Subtask) (w : Word) (s : Core) → Stays a w s → Stand (watch a) n q [] s →
-      place_of m s ≡ Some (Place.Blocked sub) → (place_of m (after_word w s) ≡ Some (Place.Blocked sub)) ⊎ (is_done_host sub s ≡ true)
+  pub stuck_word : (m : ℕ) (sub : Subtask) (w : Primitive) (s : Core) → Stays a w s → Stand (watch a) n q [] s →
+      place_of m s ≡ Some (Place.Blocked sub) → (place_of m (after_primitive w s) ≡ Some (Place.Blocked sub)) ⊎ (is_done_host sub s ≡ true)
   stuck_word m sub w s ok st at = by_done (is_done_host sub s) refl
     where
-      by_done : (b : Bool) → is_done_host sub s ≡ b → (place_of m (after_word w s) ≡ Some (Place.Blocked sub)) ⊎ (is_done_host sub s ≡ true)
+      by_done : (b : Bool) → is_done_host sub s ≡ b → (place_of m (after_primitive w s) ≡ Some (Place.Blocked sub)) ⊎ (is_done_host sub s ≡ true)
       by_done true done = inr done
       by_done false undone =
           let still = watched_word (Stuck sub) m w s ok st (λ x u may. no_way (sym undone ∙ put_blocked m sub u s may at)) refl
           (grind (arith, nat_tests)) in
-          inl (blocked_place sub (place_of m (after_word w s)) still)
+          inl (blocked_place sub (place_of m (after_primitive w s)) still)
 
   pub stay_stand : {t : Core} → Stay a b t → Stand (watch a) n q [] t
   stay_stand c = along (λ (t : Core). Stand (watch a) n q [] t) stay_word f.start c
@@ -194,10 +194,10 @@ pub record Arrives (a : Scene) (t : Core) : Type 0 where
       ((place_of m t ≡ None) × ((a.next ≡ Turn.Run k) ⊎ (place_of k t ≡ None)))
   pub entered : (m : ℕ) → place_of m a.base ≡ None → a.next ≡ Turn.Run m → (n : ℕ) × (IsRunner a n × (place_of n t ≡ Some (Place.Under m)))
 
-far_arrives : (a : Scene) (n : ℕ) (h : HowFar) (s : Core) → Arrives a s → Arrives a (set_how_far n h s)
-unfolding set_how_far on_thread
+far_arrives : (a : Scene) (n : ℕ) (h : OpProgress) (s : Core) → Arrives a s → Arrives a (set_op_progress n h s)
+unfolding set_op_progress on_thread
 far_arrives a n h s r =
-    let u : Untouched s (set_how_far n h s) = grind (arith, nat_tests, get-change) in
+    let u : Untouched s (set_op_progress n h s) = grind (arith, nat_tests, get-change) in
     record {
       placed = λ k. quiet_placed k s _ u (r.placed k);
       runs = λ m to. u.places m ∙ r.runs m to;
@@ -289,10 +289,10 @@ module _ {a : Scene} {b : Core} {n : ℕ} {p : Place} (h : Beside a b n p) {s : 
       apart = let new = ok.1.1.1.0 in let here = stands.here in let busy = h.follows.busy in grind (arith, nat_tests)
 
   foot_given : (g : ℕ) → IsFoot a g s → Given g s
-  foot_given g (inl switch) = given_there n (Some p) [] s stands g (switch_there n (Some p) [] s stands g switch.0)
+  foot_given g (inl switch) = given_unchecked n (Some p) [] s stands g (switch_there n (Some p) [] s stands g switch.0)
   foot_given g (inr m) =
       let there = switch_there n (Some p) [] s stands m.0 m.1.0 in
-      given_there n (Some p) [] s stands g (ap (λ (j : ℕ). is_there j s) m.1.1 ∙ foot_there m.0 s there)
+      given_unchecked n (Some p) [] s stands g (ap (λ (j : ℕ). is_there j s) m.1.1 ∙ foot_there m.0 s there)
 
 -- ---- The thread is gone
 
@@ -300,7 +300,7 @@ settles_quiet : {s t : Core} → Settles s t → Untouched s t
 unfolding set_uninteresting on_call remove_call remove_group
 settles_quiet {s = s} c = along (Untouched s) settle_quiet (grind arith) c
   where
-    settle_quiet : (w : Word) (u : Core) → IsSettling w u → Untouched s u → Untouched s (after_word w u)
+    settle_quiet : (w : Primitive) (u : Core) → IsSettling w u → Untouched s u → Untouched s (after_primitive w u)
     settle_quiet (SetUninteresting k) u ok q = grind arith
     settle_quiet w u ok q = first_of (assumption, grind arith)
 
@@ -321,7 +321,7 @@ pub record Frame (a : Scene) (b : Core) (n : ℕ) (q : Option Place) : Type 0 wh
   pub there : (m : ℕ) → IsRunner a m → (p : Place) × ((q ≡ Some p) × (is_under_place (Some p) ≡ false))
   pub own : (p : Place) → q ≡ Some p → IsRunner a n
   pub running : (m : ℕ) → a.turn ≡ Turn.Run m → (m ≡ n) × (q ≡ Some Place.Running)
-  pub rests : (t : Core) → LastWords a t → (is_idle (place_of n a.base) ≡ true → is_idle (place_of n t) ≡ true) →
+  pub rests : (t : Core) → LastPrimitives a t → (is_idle (place_of n a.base) ≡ true → is_idle (place_of n t) ≡ true) →
       is_idle (place_of n t) ≡ true
 
 module _ {a : Scene} {b : Core} {n : ℕ} {q : Option Place} (f : Frame a b n q) where
@@ -374,7 +374,7 @@ module _ {a : Scene} {b : Core} {n : ℕ} {q : Option Place} (f : Frame a b n q)
   lands (Enter k m) s ok c = enters (beside k ok.0).1 c m ok
   lands x s ok c = absurd ok
 
-  fall_word : (w : Word) (s : Core) → IsFall a w s → Falling a n s → Falling a n (after_word w s)
+  fall_word : (w : Primitive) (s : Core) → IsUnwind a w s → Falling a n s → Falling a n (after_primitive w s)
   unfolding set_trapped
   fall_word (RemoveThread j) s ok h = record {
     others = λ k e. by_number k j _ (λ g. subst (λ (i : ℕ). HasPlace i (remove_thread j s)) (sym g) (removed_gone j s (loose ok)))
@@ -390,8 +390,8 @@ module _ {a : Scene} {b : Core} {n : ℕ} {q : Option Place} (f : Frame a b n q)
       above : (m : ℕ) → place_of j a.base ≡ Some (Place.Under m) → MayGo a j s → place_of m (remove_thread j s) ≡ None
       above m at (Departs l) = no_cover j m l.0 at
       above m at (EndsOver i is runs to under) = no_cover j m is at
-      above m at (Falls over (inl i)) = no_cover j m i at
-      above m at (Falls over (inr u)) = grind (arith, nat_tests, removed_is m j s)
+      above m at (Unwinds over (inl i)) = no_cover j m i at
+      above m at (Unwinds over (inr u)) = grind (arith, nat_tests, removed_is m j s)
 
       loose_runner : IsRunner a j → Loose j s
       loose_runner is = subst (λ (m : ℕ). Loose m s) (sym (f.one j is)) h.own
@@ -399,8 +399,8 @@ module _ {a : Scene} {b : Core} {n : ℕ} {q : Option Place} (f : Frame a b n q)
       loose : MayGo a j s → Loose j s
       loose (Departs l) = loose_runner l.0
       loose (EndsOver m is runs to under) = loose_runner is
-      loose (Falls over (inl is)) = loose_runner is
-      loose (Falls over (inr u)) = by_number j n _ (λ e. subst (λ (m : ℕ). Loose m s) (sym e) h.own)
+      loose (Unwinds over (inl is)) = loose_runner is
+      loose (Unwinds over (inr u)) = by_number j n _ (λ e. subst (λ (m : ℕ). Loose m s) (sym e) h.own)
           (λ e. idle_loose j (place_of j s) s refl (h.idle j (ap is_idle u.1.0)) (h.others j e))
   fall_word SetTrapped s ok h =
       record { others = λ k e. let p = h.others k e in assumption; own = assumption; idle = h.idle; fresh = h.fresh; covered = h.covered }
@@ -418,7 +418,7 @@ module _ {a : Scene} {b : Core} {n : ℕ} {q : Option Place} (f : Frame a b n q)
       }
 
   -- the thread exits
-  pub exits : (k : ℕ) (s t : Core) → IsRunner a k → Stay a b s → Settles (after_word (RemoveThread k) s) t →
+  pub exits : (k : ℕ) (s t : Core) → IsRunner a k → Stay a b s → Settles (after_primitive (RemoveThread k) s) t →
       Placed t × (((j : ℕ) → waits a j ≡ true → is_fresh (place_of j t) ≡ true) ×
       ((j m : ℕ) → place_of j a.base ≡ Some (Place.Under m) → place_of j t ≡ Some (Place.Under m)))
   exits k s t is c d =
@@ -435,7 +435,7 @@ module _ {a : Scene} {b : Core} {n : ℕ} {q : Option Place} (f : Frame a b n q)
 
   -- and the one under it goes on
   goes_back : (s t : Core) (k m : ℕ) → Stay a b s → IsRunner a k → a.turn ≡ Turn.Run k → a.next ≡ Turn.Run m →
-      place_of m a.base ≡ Some (Place.Under k) → Settles (after_word (RemoveThread k) s) t → Arrives a (set_place m Place.Running t)
+      place_of m a.base ≡ Some (Place.Under k) → Settles (after_primitive (RemoveThread k) s) t → Arrives a (set_place m Place.Running t)
   goes_back s t k m c is runs to under d =
       let e = exits k s t is c d in
       let at : place_of m t ≡ Some (Place.Under k) = e.1.1 m k under in
@@ -451,7 +451,7 @@ module _ {a : Scene} {b : Core} {n : ℕ} {q : Option Place} (f : Frame a b n q)
         entered = λ j none next. let one = one_runner j m (sym next ∙ to) in absurd (cc);
       }
 
-  pub trip_arrives : {t : Core} → Trip a b t → LastWords a t → Arrives a t
+  pub trip_arrives : {t : Core} → Trip a b t → LastPrimitives a t → Arrives a t
   trip_arrives (Remains t c still on) w =
       let st = stay_stand f.follows c in
       let here = st.here in
@@ -477,7 +477,7 @@ module _ {a : Scene} {b : Core} {n : ℕ} {q : Option Place} (f : Frame a b n q)
         entered = λ m none to. not_main m (sym leave.1.0 ∙ to);
       }
   trip_arrives (GoesBack s t k m v c is runs to under back d ok) w =
-      far_arrives a m (HowFar.Answered v) _
+      far_arrives a m (OpProgress.Answered v) _
       (subst (λ (u : Core). Arrives a u) (sym (placing_shifted (Move m Place.Running) t).only) (goes_back s t k m c is runs to under d))
   trip_arrives (Collapses t over c) w =
       let h = along (Falling a n) fall_word falling c in

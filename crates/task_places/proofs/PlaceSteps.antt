@@ -1,5 +1,5 @@
 -- Where each thread is after a step.
-use Rattle.task_places.proofs.Laws.{ap, arith, base_at, base_without, Bool, by_number, Core, Entry, false, get, HasSubtask, InPlace, inr, is_behind_of, is_idle, is_so, is_take, IsRunner, Label, LastWords, left_placed, Loose, Mark, nat_tests, next_entry, no_time, None, Op, Option, option_map, Place, place_of, Placed, placing_works, Pop, popped, refl, runner_at, SameWorks, says, Scene, scene_as, set_high, set_low, set_switch, Setting, settled_turn, Some, stand_of, start_of, State, subst, Subtask, sym, Thread, thread_of_entry, Trip, true, Turn, WalkedAs, was_started, zero_one, ℕ, ◌+◌, ◌∙◌, ◌≡◌}
+use Rattle.task_places.proofs.Laws.{ap, arith, base_at, base_without, Bool, by_number, Core, Entry, false, get, HasSubtask, InPlace, inr, is_behind_of, is_idle, is_so, is_take, IsRunner, Label, LastPrimitives, left_placed, Loose, Mark, nat_tests, next_entry, no_time, None, Op, Option, option_map, Place, place_of, Placed, placing_works, Pop, popped, refl, runner_at, SameWorks, says, Scene, scene_as, set_high, set_low, set_switch, Setting, settled_turn, Some, stand_of, start_of, State, subst, Subtask, sym, Thread, thread_of_entry, Trip, true, Turn, WalkedAs, was_started, zero_one, ℕ, ◌+◌, ◌∙◌, ◌≡◌}
 use Rattle.task_places.proofs.{Entries.Cleared, Entries.next_first, Entries.popped_cleared, PlaceLaw.Arrives, PlaceLaw.Frame, PlaceLaw.ReadyAt, PlaceLaw.entry_ready, PlaceLaw.is_run, PlaceLaw.so_self, PlaceLaw.trip_arrives, PlaceLaw.waits, PlaceLaw.watch}
 
 -- a start that the running thread may withdraw is awaited, or its thread is gone
@@ -96,7 +96,7 @@ taken_frame a n s is idle take c r made may all = (
 -- what holds of each trip with such a frame
 abbrev pub OfTrips : Core → (Scene → Core → Type 0) → Type 0
 OfTrips s C = (a : Scene) (b : Core) (n : ℕ) (q : Option Place) (t : Core) → Reads s a.base → Reads s b → SameWorks s b → Frame a b n q →
-    Trip a b t → LastWords a t → C a t
+    Trip a b t → LastPrimitives a t → C a t
 
 -- holds of the step
 module _ (ops : ℕ → Op) (x : Setting) (s : State) (l : Label) (next : Turn) (h : InPlace s) (C : Scene → Core → Type 0) (goes : OfTrips s.core C) where
@@ -104,7 +104,7 @@ module _ (ops : ℕ → Op) (x : Setting) (s : State) (l : Label) (next : Turn) 
   at u base o = record { setting = x; main = s.main; turn = u; base = base; runner = o; label = l; next = next; ops = ops }
 
   abbrev OfStep : Scene → Type 0
-  OfStep a = (t : Core) → Withdrawable a → Trip a (start_of a s.core) t → LastWords a t → C a t
+  OfStep a = (t : Core) → Withdrawable a → Trip a (start_of a s.core) t → LastPrimitives a t → C a t
 
   same : Reads s.core s.core
   same = (refl, (refl, refl))

@@ -1,7 +1,7 @@
 -- The lines of Stalled that the facts on wakes give.
 use Rattle.task_places.proofs.Laws.{[], admitted_held, All, arith, Bool, Core, false, filter_passes, held_why, Instance, is_held_admitted, is_nil, List, list_any, NoneAdmitted, not, numbers, option_and_then, place_of, refl, true, ℕ, ◌∷◌, ◌≡◌}
 use Rattle.task_places.proofs.OrderLemmas.{reached_in_order}
-use Rattle.task_places.specs.{Kept.ReachedInOrder, Wakes.ReachedHoldBack}
+use Rattle.task_places.specs.{KeptPlaces.ReachedInOrder, PlaceWakes.ReachedHoldBack}
 
 none_passes : (test : ℕ → Bool) (ns : List ℕ) → All (λ n. test n ≡ true) ns → ((n : ℕ) → test n ≡ true → ⊥) → is_nil ns ≡ true
 none_passes test [] all none = refl

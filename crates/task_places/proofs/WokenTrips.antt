@@ -1,5 +1,5 @@
 -- Where a thread that doesn't run comes to in a step, of those that wait, are held or have an entry.
-use Rattle.task_places.proofs.Laws.{[], after_placing, after_word, along, ap, arith, behind_one, Bool, by_number, Collapses, Core, Delivery, Enter, false, get, get-change, get-remove, GoBehind, GoesBack, how_far_of, HowFar, inl, inr, is_for_start, is_some, is_there, IsBeside, IsFirst, IsGone, IsRunner, IsSame, Lands, LandsAt, Mark, MayCome, MayLand, MayPut, Move, nat_tests, no_time, not, on_thread, Option, Place, place_kept, place_of, Places, Placing, placing_shifted, push_high, push_low, Put, put_high, put_low, Quits, refl, Remains, remove_thread, RemoveThread, Scene, set_callers, set_how_far, set_place, SetHowFar, settle_threads, Settles, shifted_far, Some, Stand, Stay, Stays, stays_allowed, subst, sym, thread_came, ThreadAfter, Trip, true, Turn, wake_why, Why, Word, ℕ, ⊎_elim, ◌==◌, ◌∙◌, ◌≡◌, ◌≤◌, ◌⊎◌}
+use Rattle.task_places.proofs.Laws.{[], after_placing, after_primitive, along, ap, arith, behind_one, Bool, by_number, Collapses, Core, Delivery, Enter, false, get, get-change, get-remove, GoBehind, GoesBack, op_progress_of, OpProgress, inl, inr, is_for_start, is_some, is_there, IsBeside, IsFirst, IsGone, IsRunner, IsSame, Lands, LandsAt, Mark, MayCome, MayLand, MayPut, Move, nat_tests, no_time, not, on_thread, Option, Place, place_kept, place_of, Places, Placing, placing_shifted, push_high, push_low, Put, put_high, put_low, Quits, refl, Remains, remove_thread, RemoveThread, Scene, set_callers, set_op_progress, set_place, SetOpProgress, settle_threads, Settles, shifted_far, Some, Stand, Stay, Stays, stays_allowed, subst, sym, thread_came, ThreadAfter, Trip, true, Turn, wake_why, Why, Primitive, ℕ, ⊎_elim, ◌==◌, ◌∙◌, ◌≡◌, ◌≤◌, ◌⊎◌}
 use Rattle.task_places.proofs.{InsideLemmas.come_who, PlaceLaw.Frame, PlaceLaw.move_runner, PlaceLaw.runner_there, PlaceLaw.stay_word, PlaceLaw.watch, PlaceLaw.yield_leaves, StayMoves.Born, StayMoves.Gone, StayMoves.Kept, StayMoves.Marked, StayMoves.Moves, StayMoves.Passed, StayMoves.Resumed, StayMoves.Woken, StayMoves.stay_moves}
 
 abbrev pub ReadyFor : Why → Option Place → Type 0
@@ -105,23 +105,23 @@ module _ {a : Scene} {b : Core} {n : ℕ} {o : Option Place} (f : Frame a b n o)
 
   -- on the way
   abbrev On : Core → Type 0
-  On s = Wends q (place_of j s) × (how_far_of j s ≡ how_far_of j b)
+  On s = Wends q (place_of j s) × (op_progress_of j s ≡ op_progress_of j b)
 
-  far_word : (w : Word) (s : Core) → Stays a w s → j ≤ s.made.threads → is_there j (after_word w s) ≡ true → how_far_of j (after_word w s) ≡ how_far_of j s
+  far_word : (w : Primitive) (s : Core) → Stays a w s → j ≤ s.made.threads → is_there j (after_primitive w s) ≡ true → op_progress_of j (after_primitive w s) ≡ op_progress_of j s
   far_word w s ok low there = go (thread_came w s (stays_allowed a w s ok) j)
     where
-      go : ThreadAfter a w s j → how_far_of j (after_word w s) ≡ how_far_of j s
+      go : ThreadAfter a w s j → op_progress_of j (after_primitive w s) ≡ op_progress_of j s
       go (IsSame r u e f c y (inl same) m z) = grind arith
-      go (IsSame r u e f c y (inr come) m z) = absurd (⊎_elim other (λ under. free under.0 under.1) (come_who a j u.how_far s come))
+      go (IsSame r u e f c y (inr come) m z) = absurd (⊎_elim other (λ under. free under.0 under.1) (come_who a j u.op_progress s come))
       go (IsGone e) = absurd (grind arith)
       go (IsBeside u new l same m e) = absurd (omega (arith, new, low))
       go (IsFirst u new l there y z far fresh e x) = absurd (omega (arith, new, low))
 
-  on_word : (w : Word) (s : Core) → Stays a w s → Stand (watch a) n o [] s × On s → Stand (watch a) n o [] (after_word w s) × On (after_word w s)
+  on_word : (w : Primitive) (s : Core) → Stays a w s → Stand (watch a) n o [] s × On s → Stand (watch a) n o [] (after_primitive w s) × On (after_primitive w s)
   on_word w s ok h =
       let now = wends_moves q kind (stay_moves f.follows s h.0 w ok j) h.1.0 in
       let low = (h.0.placed j (no_time j n beside_own)).number (wends_there q (place_of j s) kind h.1.0) in
-      (stay_word f.follows w s ok h.0, (now, far_word w s ok low (wends_there q (place_of j (after_word w s)) kind now) ∙ h.1.1))
+      (stay_word f.follows w s ok h.0, (now, far_word w s ok low (wends_there q (place_of j (after_primitive w s)) kind now) ∙ h.1.1))
 
   stay_on : {s : Core} → Stay a b s → On s
   stay_on c = (along (λ (u : Core). Stand (watch a) n o [] u × On u) on_word
@@ -129,7 +129,7 @@ module _ {a : Scene} {b : Core} {n : ℕ} {o : Option Place} (f : Frame a b n o)
 
   -- another thread comes to a place
   abbrev Same : Core → Core → Type 0
-  Same s t = (place_of j t ≡ place_of j s) × (how_far_of j t ≡ how_far_of j s)
+  Same s t = (place_of j t ≡ place_of j s) × (op_progress_of j t ≡ op_progress_of j s)
 
   on_same : (s t : Core) → Same s t → On s → On t
   on_same s t same h = (subst (λ (p : Option Place). Wends q p) (sym same.0) h.0, same.1 ∙ h.1)
@@ -145,40 +145,40 @@ module _ {a : Scene} {b : Core} {n : ℕ} {o : Option Place} (f : Frame a b n o)
       ∙ place_kept j m _ s (by_number j m _ (λ e. absurd (wends_old q (place_of j s) kind (stay_on c).0 (ap (λ (i : ℕ). place_of i s) e ∙ ok.1.1.1.0))) (λ e. e))
   land_same x s ok c = absurd (grind arith)
 
-  lands_on : (x : Placing) (s : Core) → MayLand a x s → Stay a b s → On (after_word (Places x) s)
+  lands_on : (x : Placing) (s : Core) → MayLand a x s → Stay a b s → On (after_primitive (Places x) s)
   lands_on x s ok c =
-      on_same s (after_word (Places x) s) (
+      on_same s (after_primitive (Places x) s) (
         ap (λ (t : Core). place_of j t) (placing_shifted x s).only ∙ land_same x s ok c,
-        ap (λ (t : Core). how_far_of j t) (placing_shifted x s).only ∙ shifted_far (placing_shifted x s) j,
+        ap (λ (t : Core). op_progress_of j t) (placing_shifted x s).only ∙ shifted_far (placing_shifted x s) j,
       ) (stay_on c)
 
-  far_on : (m : ℕ) (h : HowFar) (s : Core) → (j == m) ≡ false → On s → On (after_word (SetHowFar m h) s)
-  unfolding set_how_far on_thread
-  far_on m h s other on = on_same s (set_how_far m h s) (grind (arith, nat_tests, get-change), grind (arith, nat_tests, get-change, other)) on
+  far_on : (m : ℕ) (h : OpProgress) (s : Core) → (j == m) ≡ false → On s → On (after_primitive (SetOpProgress m h) s)
+  unfolding set_op_progress on_thread
+  far_on m h s other on = on_same s (set_op_progress m h s) (grind (arith, nat_tests, get-change), grind (arith, nat_tests, get-change, other)) on
 
-  come_apart : (m : ℕ) (h : HowFar) (s : Core) → MayCome a m h s → (j == m) ≡ false
+  come_apart : (m : ℕ) (h : OpProgress) (s : Core) → MayCome a m h s → (j == m) ≡ false
   come_apart m h s ok = by_number j m _ (λ e. absurd (⊎_elim other (λ under. free under.0 under.1)
       (come_who a j h s (subst (λ (i : ℕ). MayCome a i h s) (sym e) ok)))) (λ e. e)
 
-  gone_same : (k : ℕ) (s t : Core) → IsRunner a k → Settles (after_word (RemoveThread k) s) t → get t.threads j ≡ get s.threads j
+  gone_same : (k : ℕ) (s t : Core) → IsRunner a k → Settles (after_primitive (RemoveThread k) s) t → get t.threads j ≡ get s.threads j
   unfolding remove_thread
   gone_same k s t is d =
       let other = apart k is in
       along (λ (u : Core). get u.threads j ≡ get s.threads j) (λ w v ok h. ap (λ m. get m j) (settle_threads w v ok) ∙ h) (grind (arith, nat_tests, get-remove, other)) d
 
-  quits_on : (k : ℕ) (s t : Core) → Stay a b s → IsRunner a k → Settles (after_word (RemoveThread k) s) t → On t
+  quits_on : (k : ℕ) (s t : Core) → Stay a b s → IsRunner a k → Settles (after_primitive (RemoveThread k) s) t → On t
   quits_on k s t c is d = let same = gone_same k s t is d in on_same s t (grind arith, grind arith) (stay_on c)
 
   pub trip_on : {t : Core} → Trip a b t → (a.next ≡ Turn.Over → ⊥) → On t
   trip_on (Remains t c still on) live = stay_on c
   trip_on (Lands s x c ok fit halts) live = lands_on x s ok c
-  trip_on (LandsAt s x m h c ok fit comes halts) live = far_on m h (after_word (Places x) s) (come_apart m h (after_word (Places x) s) comes.0) (lands_on x s ok c)
+  trip_on (LandsAt s x m h c ok fit comes halts) live = far_on m h (after_primitive (Places x) s) (come_apart m h (after_primitive (Places x) s) comes.0) (lands_on x s ok c)
   trip_on (Quits s t k c leave d halts) live = quits_on k s t c leave.0 d
   trip_on (GoesBack s t k m v c is runs to under back d ok) live =
       let low : (j == m) ≡ false = by_number j m _ (λ e. absurd (free k (ap (λ (i : ℕ). place_of i a.base) e ∙ under))) (λ e. e) in
-      far_on m (HowFar.Answered v) (after_word (Places (Move m Place.Running)) t) low
-      (on_same t (after_word (Places (Move m Place.Running)) t) (
+      far_on m (OpProgress.Answered v) (after_primitive (Places (Move m Place.Running)) t) low
+      (on_same t (after_primitive (Places (Move m Place.Running)) t) (
         ap (λ (u : Core). place_of j u) (placing_shifted (Move m Place.Running) t).only ∙ place_kept j m Place.Running t low,
-        ap (λ (u : Core). how_far_of j u) (placing_shifted (Move m Place.Running) t).only ∙ shifted_far (placing_shifted (Move m Place.Running) t) j,
+        ap (λ (u : Core). op_progress_of j u) (placing_shifted (Move m Place.Running) t).only ∙ shifted_far (placing_shifted (Move m Place.Running) t) j,
       ) (quits_on k s t c is d))
   trip_on (Collapses t over c) live = absurd (live over)

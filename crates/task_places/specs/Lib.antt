@@ -1,3 +1,3 @@
-pub mod Kept
+pub mod KeptPlaces
 pub mod Once
-pub mod Wakes
+pub mod PlaceWakes

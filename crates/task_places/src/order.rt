@@ -1,5 +1,5 @@
 ghost use Rattle.task_laws.specs.Order.{OpeningInOrder, StepInOrder, StepsMakeFew};
-ghost use Rattle.task_places.specs.Kept.{ReachedInOrder};
+ghost use Rattle.task_places.specs.KeptPlaces.{ReachedInOrder};
 
 /// Each opening state of a component is in order.
 #[tactic(auto, using(crate::proofs::OrderLemmas::opening_in_order))]

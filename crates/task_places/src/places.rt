@@ -1,4 +1,4 @@
-ghost use Rattle.task_places.specs.Kept.{ReachedInPlace, StepsKeepPlaces};
+ghost use Rattle.task_places.specs.KeptPlaces.{ReachedInPlace, StepsKeepPlaces};
 
 /// In each reached state each thread is at exactly one place, with an entry exactly where its
 /// place says so, and a thread whose turn it is runs.

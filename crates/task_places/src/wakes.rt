@@ -1,4 +1,4 @@
-ghost use Rattle.task_places.specs.Wakes.{IdleIsStalled, ReachedCounted, ReachedGoOn, ReachedHoldBack, ReachedUnblocked};
+ghost use Rattle.task_places.specs.PlaceWakes.{IdleIsStalled, ReachedCounted, ReachedGoOn, ReachedHoldBack, ReachedUnblocked};
 
 /// In each state that a run comes to no held thread is admitted: a flag or a counter that kept it
 /// out falls only together with its release.

@@ -1,6 +1,6 @@
 -- A record is the only one that passes a test where one passes in all.
-use Rattle.task_records.proofs.Core.{[], ap, arith, Bool, cond, eq-eqb, eq_by_cmp_equiv, false, filter, get, has_thread, is_last_thread, IsSound, item_at, item_of, List, list_any, nat_cmp_total, nat_le, nat_lt, None, not, Ok, one_if_passes, option_map_or, other_than, passing, passing-with_at, Records, refl, remove, seen, Some, sym, TableId, task_of, Thread, thread_of, ThreadKey, threads_of, true, unsigned_tied, ℕ, ◌&&◌, ◌+◌, ◌==◌, ◌||◌, ◌∙◌, ◌∷◌, ◌≡◌}
-use Rattle.task_records.specs.declared.{parts.CoreParts.CoreParts, threads.GuestThread.GuestThread}
+use Rattle.task_records.proofs.Core.{[], ap, arith, Bool, cond, eq-eqb, eq_by_cmp_equiv, false, filter, get, has_thread, is_last_thread, IsSoundCore, item_at, item_of, List, list_any, nat_cmp_total, nat_le, nat_lt, None, not, Ok, one_if_passes, option_map_or, other_than, passing, passing-with_at, Records, refl, remove, seen, Some, sym, TableId, task_of, Thread, thread_of, ThreadKey, threads_of, true, unsigned_tied, ℕ, ◌&&◌, ◌+◌, ◌==◌, ◌||◌, ◌∙◌, ◌∷◌, ◌≡◌}
+use Rattle.task_records.specs.declared.{parts.CoreParts.CoreParts, thread_records.GuestThread.GuestThread}
 use Rattle.task_records.proofs.HomeLemmas.{thread_home, thread_task}
 use Rattle.task_records.proofs.KeptLemmas.{any_passing, no_thread}
 use Rattle.task_records.proofs.ReadLemmas.{thread_read}
@@ -48,7 +48,7 @@ at_most_one k = grind arith
 
 -- ---- The last thread of a call
 
-module _ (a : CoreParts) (sound : IsSound a) (id : TableId ThreadKey) where
+module _ (a : CoreParts) (sound : IsSoundCore a) (id : TableId ThreadKey) where
   -- its call counts one thread
   pub last_of_call : (g : GuestThread) → Ok g ≡ item_at item_of a.threads id.rep id.serial → (c : ℕ) → c ≡ threads_of (task_of (thread_of (seen a) id) (seen a).core) (seen a).core → nat_le c 1 ≡ is_last_thread (thread_of (seen a) id) (seen a).core
   unfolding is_last_thread

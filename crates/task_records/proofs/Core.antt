@@ -1,8 +1,8 @@
 -- The words of std, of the machine, of the crates below and of the records that the proofs of the core cite, in one place.
 pub use Rattle.std.specs.declared.{cmp.Ordering.Ordering}
-pub use Rattle.task_handles.specs.declared.{counter.HandleCounter.HandleCounter, kinds.HandleError.HandleError, kinds.HandleKind.HandleKind, kinds.Held.Held, kinds.Rep.Rep, kinds.WaitableKind.WaitableKind}
+pub use Rattle.task_handles.specs.declared.{counter.HandleCounter.HandleCounter, kinds.HandleError.HandleError, kinds.HandleKind.HandleKind, kinds.HeldItem.HeldItem, kinds.Rep.Rep, kinds.WaitableKind.WaitableKind}
 pub use Rattle.task_links.specs.declared.{links.Node.Node}
-pub use Rattle.task_machine.specs.declared.{component.Callee.Callee, component.ExportKind.ExportKind, records.Call.Call, records.Caller.Caller, records.Delivery.Delivery, records.Entry.Entry, records.Goal.Goal, records.HowFar.HowFar, records.Instance.Instance, records.Join.Join, records.Made.Made, records.Named.Named, records.Place.Place, records.Script.Script, records.Set.Set, records.Stage.Stage, records.Subtask.Subtask, records.Thread.Thread, records.Why.Why, records.Work.Work, words.Mark.Mark, words.Status.Status}
+pub use Rattle.task_machine.specs.declared.{component.Callee.Callee, component.ExportKind.ExportKind, records.Call.Call, records.Caller.Caller, records.Delivery.Delivery, records.Entry.Entry, records.Goal.Goal, records.OpProgress.OpProgress, records.Instance.Instance, records.Join.Join, records.MadeCounts.MadeCounts, records.Named.Named, records.Place.Place, records.Script.Script, records.Set.Set, records.Stage.Stage, records.Subtask.Subtask, records.Thread.Thread, records.Why.Why, records.Work.Work, words.Mark.Mark, words.Status.Status}
 pub use Rattle.task_table.specs.declared.{error.ResourceTableError.ResourceTableError, id.TableId.TableId}
 pub use Rattle.task_wait.specs.declared.{keys.GroupKey.GroupKey, keys.GuestTaskKey.GuestTaskKey, keys.HostTaskKey.HostTaskKey, keys.SetKey.SetKey, keys.ThreadKey.ThreadKey}
 pub use Rattle.task_words.specs.declared.{names.SubtaskId.SubtaskId}
@@ -25,7 +25,7 @@ pub use Rattle.std.specs.Vec.{with_item}
 pub use Rattle.task_handles.specs.Counted.{Inserts, Removes}
 pub use Rattle.task_handles.specs.Counter.{Counter}
 pub use Rattle.task_handles.specs.Handles.{Handles, held_by, with_held}
-pub use Rattle.task_handles.specs.Held.{set_in, subtask_of}
+pub use Rattle.task_handles.specs.HeldItem.{set_in, subtask_of}
 pub use Rattle.task_index.proofs.Counts.{passing-with_at}
 pub use Rattle.task_index.proofs.Entries.{IsIndex-pushed, IsIndex-with_entry, IsIndex-with_entry_same}
 pub use Rattle.task_index.proofs.Indexes.{filed_held, IsIndex-made, IsIndex-nothing, IsIndex-rechained, IsIndex-same, IsIndex-same_chains, link_says, new_for_chains}
@@ -58,19 +58,19 @@ unfoldable pub use Rattle.task_machine.specs.Moves.{first_entry, group_settled, 
 pub use Rattle.task_machine.specs.Read.{admits, as_set, as_subtask, call_group, call_instance, callers_of, entry_thread, first_at, first_in, first_of, goal_of, held_why, instance_of, is_aborted, is_blocked_on, is_delivery_for, is_entry_in, is_entry_of, is_held_admitted, is_host_call, is_in_set, is_inside_wait, is_live, is_member, is_never, is_nil, is_ready_member, is_resumption, is_stage_live, is_sync, is_under, is_waiter, is_waiting_on, join_of, keeps_set, live_in, may_not_suspend, named_by, next_handle, no_callee, or_first, or_high, place_of, position_of, same_subtask, set_at, stage_of, subtask_at, subtasks, task_of, thread_at, thread_handle_of}
 unfoldable pub use Rattle.task_machine.specs.Read.{admitted_held, at_handle_limit, blocked_on, fits, has_member, has_ready_member, has_thread, has_waiter, has_waiters, is_last_thread, live_count, new_handle, new_thread_handle, next_entry, table_use, under_of}
 pub use Rattle.task_machine.specs.Write.{giving, less_one, taking, with_works_made}
-unfoldable pub use Rattle.task_machine.specs.Write.{add_call, add_group, add_set, add_thread, add_work, count_work, free_handle, free_thread_handle, give_handle, give_result, give_thread_handle, on_call, on_instance, on_thread, on_work, push_high, push_high_first, push_low, remove_call, remove_group, remove_set, remove_thread, remove_work, set_backpressure, set_callers, set_cancel_delivered, set_cancelled, set_course, set_do_not_enter, set_do_not_suspend, set_end, set_event, set_exited, set_high, set_how_far, set_join, set_low, set_own_event, set_phase, set_place, set_position, set_register, set_result, set_saved_callee, set_saved_own, set_script, set_stage, set_started, set_starting_published, set_subtask_handle, set_switch, set_thread_handle, set_trapped, set_uninteresting, set_word, take_result}
-pub use Rattle.task_records.specs.Image.{callers_in, chained, core_of, given_results, HasRoom, image, known_in, Parts, tag_of, tags_in, trimmed, with_first, with_given}
+unfoldable pub use Rattle.task_machine.specs.Write.{add_call, add_group, add_set, add_thread, add_work, count_work, free_handle, free_thread_handle, give_handle, give_result, give_thread_handle, on_call, on_instance, on_thread, on_work, push_high, push_high_first, push_low, remove_call, remove_group, remove_set, remove_thread, remove_work, set_backpressure, set_callers, set_cancel_delivered, set_cancelled, set_course, set_do_not_enter, set_do_not_suspend, set_end, set_event, set_exited, set_high, set_op_progress, set_join, set_low, set_task_event, set_phase, set_place, set_position, set_register, set_result, set_saved_callee, set_saved_own, set_script, set_stage, set_started, set_starting_published, set_subtask_handle, set_switch, set_thread_handle, set_trapped, set_uninteresting, set_word, take_result}
+pub use Rattle.task_records.specs.Image.{callers_in, chained, core_of, given_results, HasRoom, image, tracked_in, CoreImage, tag_of, tags_in, trimmed, with_first, with_given}
 pub use Rattle.task_records.specs.Instances.{by_place, handle_table, is_sorted-mapped, named_as, named_of}
 unfoldable pub use Rattle.task_records.specs.Instances.{by_place_from, records_by}
-pub use Rattle.task_records.specs.Kept.{AreKept, calls_of, entries_for, is_of_group, IsCallKept, IsGroupKept, IsSetKept, members_of, threads_of}
+pub use Rattle.task_records.specs.CachedCounts.{AreKept, calls_of, entries_for, is_of_group, IsCallKept, IsGroupKept, IsSetKept, members_of, threads_of}
 pub use Rattle.task_records.specs.Keys.{blocked_key, call_key, callers_key, group_key, ready_calls_key, ready_works_key, set_key, thread_key, under_key, waiters_key, work_blocked_key, work_key}
 pub use Rattle.task_records.specs.Kinds.{entry_of, item_of, no_other, on_item}
-pub use Rattle.task_records.specs.Groups.{AreEnded, is_known, known_of}
-pub use Rattle.task_records.specs.Names.{AreHandlesNamed, AtPlace, caller_target, CallOf, HasHome, HasNumber, how_far_target, IsCallNamed, IsHeldNamed, IsNamedAt, IsWorkNamed, join_target, Kinds, kinds, Nothing, OwnsHandle, place_target, SetOf, StandsAt, subtask_target, Target, ThreadOf, why_target, work_caller_target, WorkOf}
-pub use Rattle.task_records.specs.Places.{BlockedOn, held_list, HeldIn, live_chain, live_order, live_value, live_work, place_chain, place_filing, ready_call, ready_call_chain, ready_in, ready_work, ready_work_chain, Rises, StartsIn, UnderOf, WaitsOn, Where, where_at}
-pub use Rattle.task_records.specs.Rows.{callers_chain, callers_row, entry_seated, follower, HaveNodes, High, host_entry, is_of_instance, IsFollower, IsOfThread, IsSeated, Low, push_entry, Row, row, row_chain, seated, shelf_chain, shelf_in, thread_entry}
+pub use Rattle.task_records.specs.Groups.{AreEnded, is_tracked, tracked_of}
+pub use Rattle.task_records.specs.Names.{AreHandlesNamed, AtPlace, caller_target, CallOf, HasHome, HasNumber, op_progress_target, IsCallNamed, IsHeldNamed, IsNamedAt, IsWorkNamed, join_target, Kinds, kinds, Nothing, OwnsHandle, place_target, SetOf, StandsAt, subtask_target, Target, ThreadOf, why_target, work_caller_target, WorkOf}
+pub use Rattle.task_records.specs.RecordPlaces.{BlockedOn, held_list, HeldIn, live_chain, live_order, live_value, live_work, place_chain, place_filing, ready_call, ready_call_chain, ready_in, ready_work, ready_work_chain, Rises, StartsIn, UnderOf, WaitsOn, Where, where_at}
+pub use Rattle.task_records.specs.Rows.{callers_chain, callers_row, entry_keyed, follower, HaveNodes, High, host_entry, is_of_instance, IsFollower, IsOfThread, IsKeyed, Low, push_entry, Row, row, row_chain, keyed, instance_queue_chain, instance_queue_in, thread_entry}
 pub use Rattle.task_records.specs.Seen.{nothing, parts_of}
-unfoldable pub use Rattle.task_records.specs.Seen.{IsSound, seen}
+unfoldable pub use Rattle.task_records.specs.Seen.{IsSoundCore, seen}
 pub use Rattle.task_records.specs.Sound.{AreChained, AreCounted, AreNamed, AreTables, bare, bare_call, bare_instance, bare_thread, bare_work, EachEntry, HaveRowNodes, IsWhole, loose_call, loose_thread, loose_work, Sound, SoundTable, uninterested, unmoved}
 pub use Rattle.task_rules.specs.Calls.{new_call, new_thread, settle_group_of, work_group}
 unfoldable pub use Rattle.task_rules.specs.Calls.{call_made, with_handle, with_thread_handle, work_deleted, work_queued}
@@ -90,7 +90,7 @@ pub use Rattle.task_table.proofs.RecordChangeLemmas.{AreApart-new_table, PutsRec
 pub use Rattle.task_table.proofs.RecordCountLemmas.{size-records, size-records-le}
 pub use Rattle.task_table.proofs.RecordLemmas.{AreApart-rest, found_record_at, fresh_first, get-records, record_found}
 pub use Rattle.task_table.proofs.TableLemmas.{found_at, found_here, IsTable-with_entry, item_found, place_at_there}
-pub use Rattle.task_table.specs.Answers.{deletion, item_at, item_in}
+pub use Rattle.task_table.specs.TableAnswers.{deletion, item_at, item_in}
 pub use Rattle.task_table.specs.Changes.{entry_put, next_place}
 unfoldable pub use Rattle.task_table.specs.Changes.{deleted, pushed, with_capacity, with_entry}
 pub use Rattle.task_table.specs.Mapped.{placed_as}
@@ -102,7 +102,7 @@ unfoldable pub use Rattle.task_table.specs.Table.{found}
 pub use Rattle.task_wait.specs.Sets.{IsAscending, IsLeast}
 pub use Rattle.task_words.specs.Apart.{IsApart, IsBehindNobody, IsUnqueued, later_of, newest_of, older_of, work_entries}
 pub use Rattle.task_words.specs.Live.{kept_in}
-pub use Rattle.task_words.specs.Groups.{asked, IsAsked, ended_groups, if_known, known_group, known_work_group, some_if_known, with_group}
+pub use Rattle.task_words.specs.Groups.{asked, IsAsked, ended_groups, if_tracked, tracked_group, tracked_work_group, some_if_tracked, with_group}
 pub use Rattle.task_words.specs.Names.{subtask_in}
 pub use Rattle.task_words.specs.StateView.{call_of, Keeps, KeepsBut, KeepsTo, KeepsWith, lost_call, lost_set, lost_thread, lost_work, named, on_core, set_of, StateView, Tag, Tags, thread_of, with_core, work_of}
 unfoldable pub use Rattle.task_words.specs.StateView.{call_number, set_number, thread_number, work_number}

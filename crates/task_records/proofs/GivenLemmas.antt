@@ -1,7 +1,7 @@
 -- A handle that a table gives or takes back, as the machine's tables have it.
 use Rattle.task_records.proofs.Core.{[], ap, ap₂, arith, Bool, cases_eq, change, changed, cond, drop, eq-eqb, false, get, get-insert, get-remove, giving, handle_table, Handles, held_by, inl, inr, insert, less_one, List, live_in, named_by, nat_cmp_total, ne_eqb, next_handle, None, Option, option_and_then, option_map, Records, records_by, refl, size, size-insert_new, size-remove_present, Some, sum_by-insert, sym, taking, true, unsigned_tied, value_in, with_held, ℕ, ◌+◌, ◌==◌, ◌∙◌, ◌∷◌, ◌≡◌, ◌⊎◌}
 use Rattle.task_handles.specs.Handles.{IsWhole, without}
-use Rattle.task_machine.specs.Core.{Table}
+use Rattle.task_machine.specs.Core.{NameTable}
 use Rattle.std.specs.FinMap as map
 use Rattle.task_handles.specs.Handles.{next_handle as given_next}
 use Rattle.task_records.proofs.HandleLemmas.{get-records_by, records_by-insert, records_by-remove}
@@ -32,15 +32,15 @@ module _ {X Y : Type 0} (f : X → Y) (t : Handles X) where
   free_given whole free =
       ap (get (records_by f t.live)) (sym (next_given f t whole)) ∙ (get-records_by f t.live (given_next t) ∙ ap (option_map f) free)
 
-module _ {Y : Type 0} (tables : Records (Table Y)) (i : ℕ) (t : Table Y) (at : get tables i ≡ Some t) where
-  pub one_changed : (g : Table Y → Table Y) → change i g tables ≡ insert tables i (g t)
+module _ {Y : Type 0} (tables : Records (NameTable Y)) (i : ℕ) (t : NameTable Y) (at : get tables i ≡ Some t) where
+  pub one_changed : (g : NameTable Y → NameTable Y) → change i g tables ≡ insert tables i (g t)
   unfolding change
   one_changed g = ap (changed tables i g) at
 
-  live_changed : (g : Table Y → Table Y) → live_in (change i g tables) + size t.live ≡ live_in tables + size (g t).live
+  live_changed : (g : NameTable Y → NameTable Y) → live_in (change i g tables) + size t.live ≡ live_in tables + size (g t).live
   live_changed g =
-      let law = sum_by-insert (λ (u : Table Y). size u.live) tables i (g t) in
-      let was : value_in (λ (u : Table Y). size u.live) (get tables i) ≡ size t.live = ap (value_in (λ (u : Table Y). size u.live)) at in
+      let law = sum_by-insert (λ (u : NameTable Y). size u.live) tables i (g t) in
+      let was : value_in (λ (u : NameTable Y). size u.live) (get tables i) ≡ size t.live = ap (value_in (λ (u : NameTable Y). size u.live)) at in
       let is : live_in (change i g tables) ≡ live_in (insert tables i (g t)) = ap live_in (one_changed g) in
       omega arith
 
@@ -56,15 +56,15 @@ module _ {Y : Type 0} (tables : Records (Table Y)) (i : ℕ) (t : Table Y) (at :
       let less : size (taking h t).live + 1 ≡ size t.live = size-remove_present t.live h y live in
       omega arith
 
-  named_at : (g : Table Y → Table Y) (j h : ℕ) → named_by (change i g tables) j h ≡ cond (j == i) (get (g t).live h) (named_by tables j h)
-  named_at g j h = ap (option_and_then (λ (u : Table Y). get u.live h)) (ap (λ m. get m j) (one_changed g) ∙ get-insert tables i (g t) j) ∙ by_test (j == i)
+  named_at : (g : NameTable Y → NameTable Y) (j h : ℕ) → named_by (change i g tables) j h ≡ cond (j == i) (get (g t).live h) (named_by tables j h)
+  named_at g j h = ap (option_and_then (λ (u : NameTable Y). get u.live h)) (ap (λ m. get m j) (one_changed g) ∙ get-insert tables i (g t) j) ∙ by_test (j == i)
     where
-      by_test : (b : Bool) → option_and_then (λ (u : Table Y). get u.live h) (cond b (Some (g t)) (get tables j)) ≡ cond b (get (g t).live h) (named_by tables j h)
+      by_test : (b : Bool) → option_and_then (λ (u : NameTable Y). get u.live h) (cond b (Some (g t)) (get tables j)) ≡ cond b (get (g t).live h) (named_by tables j h)
       by_test true = refl
       by_test false = refl
 
   here : (j h : ℕ) → j ≡ i → named_by tables j h ≡ get t.live h
-  here j h same = ap (option_and_then (λ (u : Table Y). get u.live h)) (ap (get tables) same ∙ at)
+  here j h same = ap (option_and_then (λ (u : NameTable Y). get u.live h)) (ap (get tables) same ∙ at)
 
   -- what a handle named it names still
   pub names_on : (y : Y) → get t.live (next_handle t t.freed) ≡ None → (j h : ℕ) (z : Y) → named_by tables j h ≡ Some z → named_by (change i (giving y) tables) j h ≡ Some z

@@ -1,7 +1,7 @@
 -- A handle of a subtask or a set is given.
-use Rattle.task_records.proofs.Core.{ap, AreHandlesNamed, arith, bare, Bool, by_place, cases_eq, change, cond, Counter, eq-eqb, false, get, give_handle, giving, Global, handle_table, Handles, Held, held_by, inl, inr, insert, Inserts, IsHeldNamed, IsSound, kinds, List, live_in, map, map-set, Named, named_by, named_of, ne_eqb, new_handle, next_handle, None, on_core, Option, option_map, option_map_or, parts_of, Records, refl, same_Some, seen, set, slice_get, slice_get-map, Some, subst, sym, true, Vec, ℕ, ◌+◌, ◌==◌, ◌∙◌, ◌≡◌, ◌≤◌, ◌⊎◌}
-use Rattle.task_machine.specs.Core.{Table}
-use Rattle.task_records.specs.declared.{instances.InstanceRecord.InstanceRecord, parts.CoreParts.CoreParts}
+use Rattle.task_records.proofs.Core.{ap, AreHandlesNamed, arith, bare, Bool, by_place, cases_eq, change, cond, Counter, eq-eqb, false, get, give_handle, giving, Global, handle_table, Handles, HeldItem, held_by, inl, inr, insert, Inserts, IsHeldNamed, IsSoundCore, kinds, List, live_in, map, map-set, Named, named_by, named_of, ne_eqb, new_handle, next_handle, None, on_core, Option, option_map, option_map_or, parts_of, Records, refl, same_Some, seen, set, slice_get, slice_get-map, Some, subst, sym, true, Vec, ℕ, ◌+◌, ◌==◌, ◌∙◌, ◌≡◌, ◌≤◌, ◌⊎◌}
+use Rattle.task_machine.specs.Core.{NameTable}
+use Rattle.task_records.specs.declared.{instance_records.InstanceRecord.InstanceRecord, parts.CoreParts.CoreParts}
 use Rattle.task_handles.specs.Handles.{next_handle as given_next}
 use Rattle.task_records.proofs.GivenLemmas.{free_given, held_given, live_given, one_changed, table_given}
 use Rattle.task_records.proofs.HandleWrites.{handles_sound, unchanged}
@@ -12,7 +12,7 @@ use Rattle.task_records.specs.Instances.{thread_of as thread_named}
 
 -- ---- A handle is given
 
-module _ (a : CoreParts) (sound : IsSound a) (i : ℕ) (r : InstanceRecord) (at : Some r ≡ slice_get a.instances.items i) (item : Held) (new : Handles Held) (v : Vec InstanceRecord Global) (is : v.items ≡ set a.instances.items i (record r { handles = new })) (c : Counter) (handle : ℕ) (inserts : Inserts item r.handles new a.counter c handle) where
+module _ (a : CoreParts) (sound : IsSoundCore a) (i : ℕ) (r : InstanceRecord) (at : Some r ≡ slice_get a.instances.items i) (item : HeldItem) (new : Handles HeldItem) (v : Vec InstanceRecord Global) (is : v.items ≡ set a.instances.items i (record r { handles = new })) (c : Counter) (handle : ℕ) (inserts : Inserts item r.handles new a.counter c handle) where
   given_item : handle_table named_of new ≡ giving (named_of item) (handle_table named_of r.handles)
   given_item = ap (handle_table named_of) inserts.table ∙ table_given named_of r.handles item inserts.whole
 
@@ -45,10 +45,10 @@ module _ (a : CoreParts) (sound : IsSound a) (i : ℕ) (r : InstanceRecord) (at 
 
   pub handle_is : handle ≡ new_handle i (seen a).core
   unfolding new_handle
-  handle_is = inserts.handle_is ∙ (next_given named_of r.handles inserts.whole ∙ sym (ap (λ (o : Option (Table Named)). option_map_or (λ (t : Table Named). next_handle t t.freed) o 1) item_table_at))
+  handle_is = inserts.handle_is ∙ (next_given named_of r.handles inserts.whole ∙ sym (ap (λ (o : Option (NameTable Named)). option_map_or (λ (t : NameTable Named). next_handle t t.freed) o 1) item_table_at))
 
   module _ (stands : IsHeldNamed (kinds (bare (parts_of a))) item.kind item.rep) where
-    item_held : (h : ℕ) (x : Held) → held_by new h ≡ Some x → ((h ≡ handle) × (item ≡ x)) ⊎ (held_by r.handles h ≡ Some x)
+    item_held : (h : ℕ) (x : HeldItem) → held_by new h ≡ Some x → ((h ≡ handle) × (item ≡ x)) ⊎ (held_by r.handles h ≡ Some x)
     item_held h x live = by_handle (cases_eq h handle)
       where
         is_next : (b : Bool) → (h == given_next r.handles) ≡ b → cond b (Some item) (held_by r.handles h) ≡ Some x
@@ -59,7 +59,7 @@ module _ (a : CoreParts) (sound : IsSound a) (i : ℕ) (r : InstanceRecord) (at 
         by_handle (inr other) = inr (is_next false (ne_eqb h (given_next r.handles) (λ same. other (same ∙ sym inserts.handle_is))))
 
     handle_named : AreHandlesNamed (kinds (bare (parts_of a))) (record r { handles = new })
-    unfolding IsSound
+    unfolding IsSoundCore
     handle_named =
         let was = sound.handles i r (sym at) in
         record {
@@ -69,17 +69,17 @@ module _ (a : CoreParts) (sound : IsSound a) (i : ℕ) (r : InstanceRecord) (at 
           ];
           small_threads = was.small_threads;
           handles = λ h x live. elim (item_held h x live) [
-            | inl one ↦ subst (λ (y : Held). IsHeldNamed (kinds (bare (parts_of a))) y.kind y.rep) one.1 stands
+            | inl one ↦ subst (λ (y : HeldItem). IsHeldNamed (kinds (bare (parts_of a))) y.kind y.rep) one.1 stands
             | inr old ↦ was.handles h x old
           ];
           thread_handles = was.thread_handles;
         }
 
-    pub handle_sound : IsSound (record a { instances = v; counter = c })
-    unfolding IsSound seen
+    pub handle_sound : IsSoundCore (record a { instances = v; counter = c })
+    unfolding IsSoundCore seen
     handle_sound =
         handles_sound a i r (record r { handles = new }) at refl v is c sound handle_named
-        (λ q p there h has. ap (λ (m : Records (Table ℕ)). named_by m p.entry.item.instance h) threads_same ∙ sound.owned q p there h has)
+        (λ q p there h has. ap (λ (m : Records (NameTable ℕ)). named_by m p.entry.item.instance h) threads_same ∙ sound.owned q p there h has)
         (let more : c.live ≡ a.counter.live + 1 = ap (λ (k : Counter). k.live) inserts.counter in
         let one = live_given (seen a).core.handles i (handle_table named_of r.handles) item_table_at (named_of item) free_item in
         let was = sound.live in

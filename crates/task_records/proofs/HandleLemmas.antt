@@ -1,7 +1,7 @@
 -- The machine's maps of a table's handles.
 use Rattle.task_records.proofs.Core.{[], ap, arith, Bool, by_order, cond, empty, eq_by_cmp, Equal, false, find, get, get-empty, get-insert, get-remove, Greater, handle_table, insert, is_eq, length-map, Less, List, live_in, nat_cmp, nat_cmp_total, no_handles, None, Option, put, Records, records_by, refl, remove, same_map, size, Some, sum_by, sum_by-cons, sym, true, unsigned_tied, ℕ, ◌+◌, ◌==◌, ◌∙◌, ◌∷◌, ◌≡◌}
 use Rattle.std.proofs.Common.{option_map}
-use Rattle.task_machine.specs.Core.{Table}
+use Rattle.task_machine.specs.Core.{NameTable}
 use Rattle.task_records.specs.Instances.{mapped}
 use Rattle.std.specs.FinMap as fin
 use Rattle.task_handles.specs.Handles.{no_handles as none_given}
@@ -73,6 +73,6 @@ module _ {X : Type 0} where
   sum-insert_new m f n x none = sum-put_new f n x m.list none
 
 module _ {X : Type 0} where
-  pub live_in-more : (m : Records (Table X)) (n : ℕ) → get m n ≡ None → live_in (insert m n no_handles) ≡ live_in m
+  pub live_in-more : (m : Records (NameTable X)) (n : ℕ) → get m n ≡ None → live_in (insert m n no_handles) ≡ live_in m
   unfolding size empty
   live_in-more m n none = let one = sum-insert_new m (λ e. size e.1.live) n no_handles none in omega arith

@@ -1,23 +1,23 @@
 -- What the handles of an instance name.
-use Rattle.task_records.proofs.Core.{[], ap, AreHandlesNamed, arith, bare, CallOf, get, handle_table, HandleKind, Handles, Held, held_by, IfSome, IsHeldNamed, IsSound, kinds, length, List, named_by, named_of, next_handle, None, Option, option_and_then, option_map, parts_of, Records, refl, Rep, seen, SetOf, slice_get, Some, StandsAt, sym, thread_at, thread_key, ThreadOf, WaitableKind, WorkOf, ℕ, ◌+◌, ◌<◌, ◌∙◌, ◌∷◌, ◌≡◌}
+use Rattle.task_records.proofs.Core.{[], ap, AreHandlesNamed, arith, bare, CallOf, get, handle_table, HandleKind, Handles, HeldItem, held_by, IfSome, IsHeldNamed, IsSoundCore, kinds, length, List, named_by, named_of, next_handle, None, Option, option_and_then, option_map, parts_of, Records, refl, Rep, seen, SetOf, slice_get, Some, StandsAt, sym, thread_at, thread_key, ThreadOf, WaitableKind, WorkOf, ℕ, ◌+◌, ◌<◌, ◌∙◌, ◌∷◌, ◌≡◌}
 use Rattle.task_handles.specs.Handles.{IsWhole}
-use Rattle.task_machine.specs.Core.{Table}
-use Rattle.task_records.specs.declared.{instances.InstanceRecord.InstanceRecord, parts.CoreParts.CoreParts}
+use Rattle.task_machine.specs.Core.{NameTable}
+use Rattle.task_records.specs.declared.{instance_records.InstanceRecord.InstanceRecord, parts.CoreParts.CoreParts}
 use Rattle.task_handles.specs.Handles.{live_count as handles_live, next_handle as given_next}
 use Rattle.task_records.proofs.HandleLemmas.{get-records_by, size-records_by}
 use Rattle.task_records.proofs.HomeLemmas.{place_bare}
 use Rattle.task_records.proofs.InstanceReads.{handles_read, thread_handles_read}
 use Rattle.task_records.specs.Instances.{thread_of as thread_named}
 
-module _ {X Y : Type 0} (f : X → Y) (tables : Records (Table Y)) (i h : ℕ) where
+module _ {X Y : Type 0} (f : X → Y) (tables : Records (NameTable Y)) (i h : ℕ) where
   in_table : Option (Handles X) → Option Y
   in_table None = None
   in_table (Some t) = option_map f (held_by t h)
 
   by_table : (o : Option (Handles X)) → option_map (handle_table f) o ≡ get tables i → named_by tables i h ≡ in_table o
   unfolding in_table
-  by_table None at = ap (option_and_then (λ (t : Table Y). get t.live h)) (sym at)
-  by_table (Some t) at = ap (option_and_then (λ (t : Table Y). get t.live h)) (sym at) ∙ get-records_by f t.live h
+  by_table None at = ap (option_and_then (λ (t : NameTable Y). get t.live h)) (sym at)
+  by_table (Some t) at = ap (option_and_then (λ (t : NameTable Y). get t.live h)) (sym at) ∙ get-records_by f t.live h
 
   -- what the handle of a table names
   pub names_here : (t : Handles X) → Some (handle_table f t) ≡ get tables i → option_map f (held_by t h) ≡ named_by tables i h
@@ -37,9 +37,9 @@ module _ {X Y : Type 0} (f : X → Y) (tables : Records (Table Y)) (i h : ℕ) w
       by_handle None none = refl
       by_handle (Some t) none = by_held (held_by t h) (none t refl)
 
-module _ (a : CoreParts) (sound : IsSound a) (i : ℕ) (o : Option InstanceRecord) (at : o ≡ slice_get a.instances.items i) where
+module _ (a : CoreParts) (sound : IsSoundCore a) (i : ℕ) (o : Option InstanceRecord) (at : o ≡ slice_get a.instances.items i) where
   pub instance_names : (r : InstanceRecord) → o ≡ Some r → AreHandlesNamed (kinds (bare (parts_of a))) r
-  unfolding IsSound
+  unfolding IsSoundCore
   instance_names r is = sound.handles i r (sym at ∙ is)
 
   held_bare : (k : HandleKind) (r : Rep) → IsHeldNamed (kinds (bare (parts_of a))) k r → IsHeldNamed (kinds (parts_of a)) k r
@@ -57,10 +57,10 @@ module _ (a : CoreParts) (sound : IsSound a) (i : ℕ) (o : Option InstanceRecor
         by_instance None = refl
         by_instance (Some r) = refl
 
-        none : (q : Option InstanceRecord) → o ≡ q → (t : Handles Held) → option_map (λ (r : InstanceRecord). r.handles) q ≡ Some t → (x : Held) → held_by t h ≡ Some x → ⊥
+        none : (q : Option InstanceRecord) → o ≡ q → (t : Handles HeldItem) → option_map (λ (r : InstanceRecord). r.handles) q ≡ Some t → (x : HeldItem) → held_by t h ≡ Some x → ⊥
         none None is t same x live = absurd (cc)
         none (Some r) is t same x live =
-            let few = (instance_names r is).small h x (ap (λ (q : Option (Handles Held)). option_and_then (λ (t : Handles Held). held_by t h) q) same ∙ live) in
+            let few = (instance_names r is).small h x (ap (λ (q : Option (Handles HeldItem)). option_and_then (λ (t : Handles HeldItem). held_by t h) q) same ∙ live) in
             omega arith
 
     pub thread_past : 4294967295 < h → None ≡ thread_at i h (seen a).core
@@ -77,7 +77,7 @@ module _ (a : CoreParts) (sound : IsSound a) (i : ℕ) (o : Option InstanceRecor
             omega arith
 
     module _ (r : InstanceRecord) (is : o ≡ Some r) where
-      pub held_named : (q : Option Held) → q ≡ held_by r.handles h → IfSome q (λ x. IsHeldNamed (kinds (parts_of a)) x.kind x.rep)
+      pub held_named : (q : Option HeldItem) → q ≡ held_by r.handles h → IfSome q (λ x. IsHeldNamed (kinds (parts_of a)) x.kind x.rep)
       held_named None live = tt
       held_named (Some x) live = held_bare x.kind x.rep ((instance_names r is).handles h x (sym live))
 

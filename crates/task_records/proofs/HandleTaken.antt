@@ -1,18 +1,18 @@
 -- A handle of a subtask or a set is taken back.
-use Rattle.task_records.proofs.Core.{ap, AreHandlesNamed, arith, as_subtask, bare, Bool, by_place, change, cond, Counter, false, free_handle, get, Global, handle_table, HandleKind, Handles, Held, held_by, insert, is_some, IsSome, IsSound, kinds, length, List, live_in, map, map-set, Named, named_as, named_by, named_of, None, Ok, on_core, Option, option_and_then, option_map, parts_of, Records, refl, Removes, Rep, seen, set, slice_get, slice_get-map, Some, subst, subtask_at, subtask_of, sym, taking, true, Vec, WaitableKind, ℕ, ◌+◌, ◌-◌, ◌<◌, ◌==◌, ◌∙◌, ◌≡◌}
-use Rattle.task_handles.specs.Held.{subtask_in}
-use Rattle.task_machine.specs.Core.{Table}
-use Rattle.task_records.specs.declared.{instances.InstanceRecord.InstanceRecord, parts.CoreParts.CoreParts}
+use Rattle.task_records.proofs.Core.{ap, AreHandlesNamed, arith, as_subtask, bare, Bool, by_place, change, cond, Counter, false, free_handle, get, Global, handle_table, HandleKind, Handles, HeldItem, held_by, insert, is_some, IsSome, IsSoundCore, kinds, length, List, live_in, map, map-set, Named, named_as, named_by, named_of, None, Ok, on_core, Option, option_and_then, option_map, parts_of, Records, refl, Removes, Rep, seen, set, slice_get, slice_get-map, Some, subst, subtask_at, subtask_of, sym, taking, true, Vec, WaitableKind, ℕ, ◌+◌, ◌-◌, ◌<◌, ◌==◌, ◌∙◌, ◌≡◌}
+use Rattle.task_handles.specs.HeldItem.{subtask_in}
+use Rattle.task_machine.specs.Core.{NameTable}
+use Rattle.task_records.specs.declared.{instance_records.InstanceRecord.InstanceRecord, parts.CoreParts.CoreParts}
 use Rattle.task_records.proofs.GivenLemmas.{held_taken, live_taken, one_changed, table_taken}
 use Rattle.task_records.proofs.HandleWrites.{handles_sound, unchanged}
 use Rattle.task_records.proofs.HandleLemmas.{get-records_by}
 use Rattle.task_records.proofs.InstanceLemmas.{by_place-set}
-use Rattle.task_records.proofs.InstanceReads.{handles_read, instance_there}
+use Rattle.task_records.proofs.InstanceReads.{handles_read, instance_unchecked}
 use Rattle.task_records.specs.Instances.{thread_of as thread_named}
 
 -- ---- A handle is taken back
 
-module _ (a : CoreParts) (sound : IsSound a) (i : ℕ) (r : InstanceRecord) (at : Some r ≡ slice_get a.instances.items i) (h : ℕ) (item : Held) (held : held_by r.handles h ≡ Some item) where
+module _ (a : CoreParts) (sound : IsSoundCore a) (i : ℕ) (r : InstanceRecord) (at : Some r ≡ slice_get a.instances.items i) (h : ℕ) (item : HeldItem) (held : held_by r.handles h ≡ Some item) where
   item_table_at : get (seen a).core.handles i ≡ Some (handle_table named_of r.handles)
   item_table_at = sym (handles_read a i (Some r) at)
 
@@ -24,10 +24,10 @@ module _ (a : CoreParts) (sound : IsSound a) (i : ℕ) (r : InstanceRecord) (at 
 
   -- it is counted
   pub item_counted : 0 < a.counter.live
-  unfolding IsSound seen
+  unfolding IsSoundCore seen
   item_counted = let law = fewer in let all = sound.live in omega arith
 
-  module _ (new : Handles Held) (v : Vec InstanceRecord Global) (is : v.items ≡ set a.instances.items i (record r { handles = new })) (c : Counter) (removes : Removes h r.handles new a.counter c) where
+  module _ (new : Handles HeldItem) (v : Vec InstanceRecord Global) (is : v.items ≡ set a.instances.items i (record r { handles = new })) (c : Counter) (removes : Removes h r.handles new a.counter c) where
     items_taken : by_place (map (λ (x : InstanceRecord). handle_table named_of x.handles) v.items) ≡ change i (taking h) (seen a).core.handles
     unfolding seen
     items_taken =
@@ -49,7 +49,7 @@ module _ (a : CoreParts) (sound : IsSound a) (i : ℕ) (r : InstanceRecord) (at 
     unfolding seen free_handle
     item_taken_writes = rw (instances_same, items_taken, threads_same, ap (λ (k : Counter). k.limit) removes.counter) refl
 
-    held_before : (g : ℕ) (x : Held) → held_by new g ≡ Some x → held_by r.handles g ≡ Some x
+    held_before : (g : ℕ) (x : HeldItem) → held_by new g ≡ Some x → held_by r.handles g ≡ Some x
     held_before g x live = by_test (g == h) (sym (held_taken named_of r.handles h g) ∙ (ap (λ t. held_by t g) (sym removes.table) ∙ live))
       where
         by_test : (b : Bool) → cond b None (held_by r.handles g) ≡ Some x → held_by r.handles g ≡ Some x
@@ -57,7 +57,7 @@ module _ (a : CoreParts) (sound : IsSound a) (i : ℕ) (r : InstanceRecord) (at 
         by_test false some = some
 
     left_named : AreHandlesNamed (kinds (bare (parts_of a))) (record r { handles = new })
-    unfolding IsSound
+    unfolding IsSoundCore
     left_named =
         let was = sound.handles i r (sym at) in
         record {
@@ -67,11 +67,11 @@ module _ (a : CoreParts) (sound : IsSound a) (i : ℕ) (r : InstanceRecord) (at 
           thread_handles = was.thread_handles;
         }
 
-    pub item_taken_sound : IsSound (record a { instances = v; counter = c })
-    unfolding IsSound seen
+    pub item_taken_sound : IsSoundCore (record a { instances = v; counter = c })
+    unfolding IsSoundCore seen
     item_taken_sound =
         handles_sound a i r (record r { handles = new }) at refl v is c sound left_named
-        (λ q p there g has. ap (λ (m : Records (Table ℕ)). named_by m p.entry.item.instance g) threads_same ∙ sound.owned q p there g has)
+        (λ q p there g has. ap (λ (m : Records (NameTable ℕ)). named_by m p.entry.item.instance g) threads_same ∙ sound.owned q p there g has)
         (let less : c.live ≡ a.counter.live - 1 = ap (λ (k : Counter). k.live) removes.counter in
         let one = fewer in
         let was = sound.live in
@@ -91,22 +91,22 @@ is_subtask HandleKind.Set rep some = absurd (cc)
 module _ (a : CoreParts) (i h : ℕ) (some : IsSome (subtask_at i h (seen a).core)) where
   -- the instance is there
   pub subtask_instance : i < length a.instances.items
-  subtask_instance = instance_there a i (by_table (get (seen a).core.handles i) refl)
+  subtask_instance = instance_unchecked a i (by_table (get (seen a).core.handles i) refl)
     where
-      by_table : (o : Option (Table Named)) → get (seen a).core.handles i ≡ o → is_some o ≡ true
-      by_table None is = absurd (let none : IsSome (option_and_then as_subtask (option_and_then (λ (t : Table Named). get t.live h) None)) = subst (λ (o : Option (Table Named)). IsSome (option_and_then as_subtask (option_and_then (λ (t : Table Named). get t.live h) o))) is some in cc)
+      by_table : (o : Option (NameTable Named)) → get (seen a).core.handles i ≡ o → is_some o ≡ true
+      by_table None is = absurd (let none : IsSome (option_and_then as_subtask (option_and_then (λ (t : NameTable Named). get t.live h) None)) = subst (λ (o : Option (NameTable Named)). IsSome (option_and_then as_subtask (option_and_then (λ (t : NameTable Named). get t.live h) o))) is some in cc)
       by_table (Some t) is = refl
 
   module _ (r : InstanceRecord) (at : Some r ≡ slice_get a.instances.items i) where
     read : subtask_at i h (seen a).core ≡ option_and_then as_subtask (option_map named_of (held_by r.handles h))
-    read = ap (λ (o : Option (Table Named)). option_and_then as_subtask (option_and_then (λ (t : Table Named). get t.live h) o)) (sym (handles_read a i (Some r) at)) ∙ ap (option_and_then as_subtask) (get-records_by named_of r.handles.live h)
+    read = ap (λ (o : Option (NameTable Named)). option_and_then as_subtask (option_and_then (λ (t : NameTable Named). get t.live h) o)) (sym (handles_read a i (Some r) at)) ∙ ap (option_and_then as_subtask) (get-records_by named_of r.handles.live h)
 
     -- and the handle is live
-    pub subtask_held : (item : Held) × ((held_by r.handles h ≡ Some item) × ((p : Rep × Bool) × (subtask_of (held_by r.handles h) ≡ Ok p)))
+    pub subtask_held : (item : HeldItem) × ((held_by r.handles h ≡ Some item) × ((p : Rep × Bool) × (subtask_of (held_by r.handles h) ≡ Ok p)))
     subtask_held = by_held (held_by r.handles h) refl
       where
-        by_held : (o : Option Held) → held_by r.handles h ≡ o → (item : Held) × ((held_by r.handles h ≡ Some item) × ((p : Rep × Bool) × (subtask_of (held_by r.handles h) ≡ Ok p)))
-        by_held None is = absurd (let none : IsSome (option_and_then as_subtask (option_map named_of None)) = subst IsSome (read ∙ ap (λ (o : Option Held). option_and_then as_subtask (option_map named_of o)) is) some in cc)
+        by_held : (o : Option HeldItem) → held_by r.handles h ≡ o → (item : HeldItem) × ((held_by r.handles h ≡ Some item) × ((p : Rep × Bool) × (subtask_of (held_by r.handles h) ≡ Ok p)))
+        by_held None is = absurd (let none : IsSome (option_and_then as_subtask (option_map named_of None)) = subst IsSome (read ∙ ap (λ (o : Option HeldItem). option_and_then as_subtask (option_map named_of o)) is) some in cc)
         by_held (Some item) is =
-            let one = is_subtask item.kind item.rep (subst IsSome (read ∙ ap (λ (o : Option Held). option_and_then as_subtask (option_map named_of o)) is) some) in
+            let one = is_subtask item.kind item.rep (subst IsSome (read ∙ ap (λ (o : Option HeldItem). option_and_then as_subtask (option_map named_of o)) is) some) in
             (item, (is, (one.0, ap subtask_of is ∙ one.1)))

@@ -1,8 +1,8 @@
 -- A handle of an instance is given or taken back: what hangs on it.
-use Rattle.task_records.proofs.Core.{ap, ap₂, AreHandlesNamed, arith, AtPlace, bare, bare_instance, Bool, by_place, cases_eq, change, cond, Counter, EachEntry, eq-eqb, false, get, give_thread_handle, giving, Global, handle_table, Handles, held_by, image, inl, inr, insert, Inserts, IsNamedAt, IsSound, IsWhole, kinds, List, live_in, map, map-set, named_by, named_of, ne_eqb, new_thread_handle, next_handle, None, on_core, Option, option_map, option_map_or, OwnsHandle, parts_of, Records, refl, Rep, same_Some, seen, set, set-slice_get, size, slice_get, slice_get-map, slice_get-set_other, slice_get-set_same, slice_get_within, Some, Sound, subst, sum_by-insert, sum_by-remove, sym, thread_at, ThreadOf, true, value_in, Vec, ℕ, ◌+◌, ◌==◌, ◌∙◌, ◌≡◌, ◌≤◌, ◌⊎◌}
+use Rattle.task_records.proofs.Core.{ap, ap₂, AreHandlesNamed, arith, AtPlace, bare, bare_instance, Bool, by_place, cases_eq, change, cond, Counter, EachEntry, eq-eqb, false, get, give_thread_handle, giving, Global, handle_table, Handles, held_by, image, inl, inr, insert, Inserts, IsNamedAt, IsSoundCore, IsWhole, kinds, List, live_in, map, map-set, named_by, named_of, ne_eqb, new_thread_handle, next_handle, None, on_core, Option, option_map, option_map_or, OwnsHandle, parts_of, Records, refl, Rep, same_Some, seen, set, set-slice_get, size, slice_get, slice_get-map, slice_get-set_other, slice_get-set_same, slice_get_within, Some, Sound, subst, sum_by-insert, sum_by-remove, sym, thread_at, ThreadOf, true, value_in, Vec, ℕ, ◌+◌, ◌==◌, ◌∙◌, ◌≡◌, ◌≤◌, ◌⊎◌}
 use Rattle.task_handles.specs.Handles.{live_count}
-use Rattle.task_machine.specs.Core.{Table}
-use Rattle.task_records.specs.declared.{instances.InstanceRecord.InstanceRecord, parts.CoreParts.CoreParts}
+use Rattle.task_machine.specs.Core.{NameTable}
+use Rattle.task_records.specs.declared.{instance_records.InstanceRecord.InstanceRecord, parts.CoreParts.CoreParts}
 use Rattle.task_handles.specs.Handles.{next_handle as given_next}
 use Rattle.task_records.proofs.GivenLemmas.{free_given, held_given, live_given, names_new, names_on, one_changed, table_given}
 use Rattle.task_records.proofs.HandleReads.{next_given}
@@ -22,16 +22,16 @@ module _ (a : CoreParts) (i : ℕ) (r s : InstanceRecord) (at : Some r ≡ slice
       ap (map f) is ∙ (map-set f a.instances.items i s ∙ (ap (set (map f a.instances.items) i) same
       ∙ set-slice_get (map f a.instances.items) i (f r) (slice_get-map f a.instances.items i ∙ ap (option_map f) (sym at))))
 
-  module _ (sound : IsSound a) (named : AreHandlesNamed (kinds (bare (parts_of a))) s) where
+  module _ (sound : IsSoundCore a) (named : AreHandlesNamed (kinds (bare (parts_of a))) s) where
     by_number : (j : ℕ) (q : InstanceRecord) → slice_get v.items j ≡ Some q → (j ≡ i) ⊎ (j ≡ i → ⊥) → AreHandlesNamed (kinds (bare (parts_of a))) q
-    unfolding IsSound
+    unfolding IsSoundCore
     by_number j q there (inl here) =
         let one : Some q ≡ Some s = sym there ∙ (ap (λ xs. slice_get xs j) is ∙ (ap (slice_get (set a.instances.items i s)) here ∙ slice_get-set_same a.instances.items i s (slice_get_within a.instances.items i r (sym at)))) in
         subst (λ (x : InstanceRecord). AreHandlesNamed (kinds (bare (parts_of a))) x) (sym (same_Some q s one)) named
     by_number j q there (inr other) = sound.handles j q (sym (slice_get-set_other a.instances.items i j s other) ∙ (ap (λ xs. slice_get xs j) (sym is) ∙ there))
 
-    pub handles_sound : EachEntry (OwnsHandle (parts_of handles_after)) a.threads → c.live ≡ live_in (seen handles_after).core.handles + live_in (seen handles_after).core.thread_handles → IsSound handles_after
-    unfolding IsSound seen
+    pub handles_sound : EachEntry (OwnsHandle (parts_of handles_after)) a.threads → c.live ≡ live_in (seen handles_after).core.handles + live_in (seen handles_after).core.thread_handles → IsSoundCore handles_after
+    unfolding IsSoundCore seen
     handles_sound owned live = record {
       tables = record { threads = sound.tables.threads; calls = sound.tables.calls; works = sound.tables.works; sets = sound.tables.sets; groups = sound.tables.groups };
       whole = subst (λ (xs : List InstanceRecord). IsWhole (record (bare (parts_of a)) { instances = xs })) (sym (unchanged bare_instance loose)) sound.whole;
@@ -45,7 +45,7 @@ module _ (a : CoreParts) (i : ℕ) (r s : InstanceRecord) (at : Some r ≡ slice
 
 -- ---- A thread handle is given
 
-module _ (a : CoreParts) (sound : IsSound a) (i : ℕ) (r : InstanceRecord) (at : Some r ≡ slice_get a.instances.items i) (rep : Rep) (new : Handles Rep) (v : Vec InstanceRecord Global) (is : v.items ≡ set a.instances.items i (record r { thread_handles = new })) (c : Counter) (handle : ℕ) (inserts : Inserts rep r.thread_handles new a.counter c handle) where
+module _ (a : CoreParts) (sound : IsSoundCore a) (i : ℕ) (r : InstanceRecord) (at : Some r ≡ slice_get a.instances.items i) (rep : Rep) (new : Handles Rep) (v : Vec InstanceRecord Global) (is : v.items ≡ set a.instances.items i (record r { thread_handles = new })) (c : Counter) (handle : ℕ) (inserts : Inserts rep r.thread_handles new a.counter c handle) where
   given_thread : handle_table thread_named new ≡ giving rep.serial (handle_table thread_named r.thread_handles)
   given_thread = ap (handle_table thread_named) inserts.table ∙ table_given thread_named r.thread_handles rep inserts.whole
 
@@ -78,11 +78,11 @@ module _ (a : CoreParts) (sound : IsSound a) (i : ℕ) (r : InstanceRecord) (at 
 
   pub thread_handle_is : handle ≡ new_thread_handle i (seen a).core
   unfolding new_thread_handle
-  thread_handle_is = inserts.handle_is ∙ (next_given thread_named r.thread_handles inserts.whole ∙ sym (ap (λ (o : Option (Table ℕ)). option_map_or (λ (t : Table ℕ). next_handle t t.freed) o 1) thread_table_at))
+  thread_handle_is = inserts.handle_is ∙ (next_given thread_named r.thread_handles inserts.whole ∙ sym (ap (λ (o : Option (NameTable ℕ)). option_map_or (λ (t : NameTable ℕ). next_handle t t.freed) o 1) thread_table_at))
 
   pub thread_handle_names : thread_at i handle (seen (record a { instances = v; counter = c })).core ≡ Some rep.serial
   unfolding seen
-  thread_handle_names = ap (λ (m : Records (Table ℕ)). named_by m i handle) threads_given ∙ (ap (named_by (change i (giving rep.serial) (seen a).core.thread_handles) i) (inserts.handle_is ∙ next_given thread_named r.thread_handles inserts.whole) ∙ names_new (seen a).core.thread_handles i (handle_table thread_named r.thread_handles) thread_table_at rep.serial)
+  thread_handle_names = ap (λ (m : Records (NameTable ℕ)). named_by m i handle) threads_given ∙ (ap (named_by (change i (giving rep.serial) (seen a).core.thread_handles) i) (inserts.handle_is ∙ next_given thread_named r.thread_handles inserts.whole) ∙ names_new (seen a).core.thread_handles i (handle_table thread_named r.thread_handles) thread_table_at rep.serial)
 
   module _ (stands : AtPlace (parts_of a) rep.id (ThreadOf rep.serial)) where
     thread_held : (h : ℕ) (x : Rep) → held_by new h ≡ Some x → ((h ≡ handle) × (rep ≡ x)) ⊎ (held_by r.thread_handles h ≡ Some x)
@@ -96,7 +96,7 @@ module _ (a : CoreParts) (sound : IsSound a) (i : ℕ) (r : InstanceRecord) (at 
         by_handle (inr other) = inr (is_next false (ne_eqb h (given_next r.thread_handles) (λ same. other (same ∙ sym inserts.handle_is))))
 
     thread_handle_named : AreHandlesNamed (kinds (bare (parts_of a))) (record r { thread_handles = new })
-    unfolding IsSound
+    unfolding IsSoundCore
     thread_handle_named =
         let was = sound.handles i r (sym at) in
         record {
@@ -112,11 +112,11 @@ module _ (a : CoreParts) (sound : IsSound a) (i : ℕ) (r : InstanceRecord) (at 
           ];
         }
 
-    pub thread_handle_sound : IsSound (record a { instances = v; counter = c })
-    unfolding IsSound seen
+    pub thread_handle_sound : IsSoundCore (record a { instances = v; counter = c })
+    unfolding IsSoundCore seen
     thread_handle_sound =
         handles_sound a i r (record r { thread_handles = new }) at refl v is c sound thread_handle_named
-        (λ q p there h has. ap (λ (m : Records (Table ℕ)). named_by m p.entry.item.instance h) threads_given ∙ names_on (seen a).core.thread_handles i (handle_table thread_named r.thread_handles) thread_table_at rep.serial free_thread p.entry.item.instance h p.entry.item.number (sound.owned q p there h has))
+        (λ q p there h has. ap (λ (m : Records (NameTable ℕ)). named_by m p.entry.item.instance h) threads_given ∙ names_on (seen a).core.thread_handles i (handle_table thread_named r.thread_handles) thread_table_at rep.serial free_thread p.entry.item.instance h p.entry.item.number (sound.owned q p there h has))
         (let more : c.live ≡ a.counter.live + 1 = ap (λ (k : Counter). k.live) inserts.counter in
         let one = live_given (seen a).core.thread_handles i (handle_table thread_named r.thread_handles) thread_table_at rep.serial free_thread in
         let was = sound.live in
@@ -131,8 +131,8 @@ module _ (a : CoreParts) (i : ℕ) (r : InstanceRecord) (at : Some r ≡ slice_g
   items_same = is ∙ set-slice_get a.instances.items i r (sym at)
 
   -- nothing has changed
-  pub nothing_given : IsSound a → IsSound (record a { instances = v; counter = c })
-  unfolding IsSound
+  pub nothing_given : IsSoundCore a → IsSoundCore (record a { instances = v; counter = c })
+  unfolding IsSoundCore
   nothing_given sound = subst (λ (k : Counter). Sound (record (parts_of a) { instances = v.items; counter = k })) (sym same) (subst (λ (xs : List InstanceRecord). Sound (record (parts_of a) { instances = xs })) (sym items_same) sound)
 
   pub nothing_seen : seen (record a { instances = v; counter = c }) ≡ seen a
@@ -140,16 +140,16 @@ module _ (a : CoreParts) (i : ℕ) (r : InstanceRecord) (at : Some r ≡ slice_g
   nothing_seen = ap₂ (λ (xs : List InstanceRecord) (k : Counter). image (record (parts_of a) { instances = xs; counter = k })) items_same same
 
 -- no table has more than all
-part_of : {Y : Type 0} (m : Records (Table Y)) (i : ℕ) (t : Table Y) → get m i ≡ Some t → size t.live ≤ live_in m
+part_of : {Y : Type 0} (m : Records (NameTable Y)) (i : ℕ) (t : NameTable Y) → get m i ≡ Some t → size t.live ≤ live_in m
 part_of m i t at =
     let law = sum_by-insert (λ u. size u.live) m i t in
     let was : value_in (λ u. size u.live) (get m i) ≡ size t.live = ap (value_in (λ u. size u.live)) at in
     let less = sum_by-remove (λ u. size u.live) m i in
     omega arith
 
-module _ (a : CoreParts) (sound : IsSound a) (i : ℕ) (r : InstanceRecord) (at : Some r ≡ slice_get a.instances.items i) where
+module _ (a : CoreParts) (sound : IsSoundCore a) (i : ℕ) (r : InstanceRecord) (at : Some r ≡ slice_get a.instances.items i) where
   pub counts_threads : live_count r.thread_handles ≤ a.counter.live
-  unfolding IsSound seen
+  unfolding IsSoundCore seen
   counts_threads =
       let part = part_of (seen a).core.thread_handles i (handle_table thread_named r.thread_handles) (sym (thread_handles_read a i (Some r) at)) in
       let len = size-records_by thread_named r.thread_handles.live in
@@ -157,7 +157,7 @@ module _ (a : CoreParts) (sound : IsSound a) (i : ℕ) (r : InstanceRecord) (at 
       omega arith
 
   pub counts_items : live_count r.handles ≤ a.counter.live
-  unfolding IsSound seen
+  unfolding IsSoundCore seen
   counts_items =
       let part = part_of (seen a).core.handles i (handle_table named_of r.handles) (sym (handles_read a i (Some r) at)) in
       let len = size-records_by named_of r.handles.live in

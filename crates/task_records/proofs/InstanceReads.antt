@@ -1,7 +1,7 @@
 -- The records of instances: what is read at a number, and a write of what nothing hangs on.
-use Rattle.task_records.proofs.Core.{ap, ap₂, AreHandlesNamed, bare, bare_instance, by_place, cases_eq, change, changed, false, get, get_or, Global, handle_table, held_by, inl, inr, insert, Instance, is_some, IsSound, IsWhole, kinds, length, List, live_in, map, map-set, Named, named_by, named_of, None, on_core, on_instance, Option, option_map, parts_of, Records, refl, same_Some, seen, set, set-slice_get, slice_get, slice_get-get_or, slice_get-map, slice_get-set_other, slice_get-set_same, slice_get_past, slice_get_within, Some, StateView, subst, sym, true, untouched, Vec, ℕ, ◌+◌, ◌<◌, ◌∙◌, ◌≡◌, ◌≤◌, ◌⊎◌}
-use Rattle.task_machine.specs.Core.{Table}
-use Rattle.task_records.specs.declared.{instances.InstanceRecord.InstanceRecord, parts.CoreParts.CoreParts}
+use Rattle.task_records.proofs.Core.{ap, ap₂, AreHandlesNamed, bare, bare_instance, by_place, cases_eq, change, changed, false, get, get_or, Global, handle_table, held_by, inl, inr, insert, Instance, is_some, IsSoundCore, IsWhole, kinds, length, List, live_in, map, map-set, Named, named_by, named_of, None, on_core, on_instance, Option, option_map, parts_of, Records, refl, same_Some, seen, set, set-slice_get, slice_get, slice_get-get_or, slice_get-map, slice_get-set_other, slice_get-set_same, slice_get_past, slice_get_within, Some, StateView, subst, sym, true, untouched, Vec, ℕ, ◌+◌, ◌<◌, ◌∙◌, ◌≡◌, ◌≤◌, ◌⊎◌}
+use Rattle.task_machine.specs.Core.{NameTable}
+use Rattle.task_records.specs.declared.{instance_records.InstanceRecord.InstanceRecord, parts.CoreParts.CoreParts}
 use Rattle.task_records.proofs.InstanceLemmas.{by_place-set, get-by_place}
 use Rattle.task_records.specs.Instances.{thread_of as thread_named}
 
@@ -51,16 +51,16 @@ module _ (a : CoreParts) (i : ℕ) where
         ap (map f) is ∙ (map-set f a.instances.items i s ∙ (ap (set (map f a.instances.items) i) same
         ∙ set-slice_get (map f a.instances.items) i (f r) (slice_get-map f a.instances.items i ∙ ap (option_map f) (sym at))))
 
-    pub instance_sound : IsSound a → IsSound instance_after
-    unfolding IsSound
+    pub instance_sound : IsSoundCore a → IsSoundCore instance_after
+    unfolding IsSoundCore
     instance_sound sound = record {
       tables = record { threads = sound.tables.threads; calls = sound.tables.calls; works = sound.tables.works; sets = sound.tables.sets; groups = sound.tables.groups };
       whole = subst (λ (xs : List InstanceRecord). IsWhole (record (bare (parts_of a)) { instances = xs })) (sym (unchanged bare_instance (ap bare_instance close))) sound.whole;
       interesting = sound.interesting;
       moving = sound.moving;
       handles = λ j q there. by_number j q there (cases_eq j i);
-      owned = λ rep q there h has. ap (λ (t : Records (Table ℕ)). named_by t q.entry.item.instance h) same_threads ∙ sound.owned rep q there h has;
-      live = sound.live ∙ ap₂ (λ (h : Records (Table Named)) (t : Records (Table ℕ)). live_in h + live_in t) (sym same_handles) (sym same_threads);
+      owned = λ rep q there h has. ap (λ (t : Records (NameTable ℕ)). named_by t q.entry.item.instance h) same_threads ∙ sound.owned rep q there h has;
+      live = sound.live ∙ ap₂ (λ (h : Records (NameTable Named)) (t : Records (NameTable ℕ)). live_in h + live_in t) (sym same_handles) (sym same_threads);
       ended = sound.ended;
     }
       where
@@ -84,7 +84,7 @@ module _ (a : CoreParts) (i : ℕ) where
             subst (λ (x : InstanceRecord). AreHandlesNamed (kinds (bare (parts_of a))) x) (sym (same_Some q s one)) (renamed (sound.handles i r (sym at)))
         by_number j q there (inr other) = sound.handles j q (sym (slice_get-set_other a.instances.items i j s other) ∙ (ap (λ xs. slice_get xs j) (sym is) ∙ there))
 
-    instances_seen : Records Instance → Records (Table Named) → Records (Table ℕ) → StateView
+    instances_seen : Records Instance → Records (NameTable Named) → Records (NameTable ℕ) → StateView
     instances_seen m h t = record (seen a) { core = record (seen a).core { instances = m; handles = h; thread_handles = t } }
 
     pub instance_writes : (f : Instance → Instance) → f r.instance ≡ s.instance → seen instance_after ≡ on_core (on_instance i f) (seen a)
@@ -95,14 +95,14 @@ module _ (a : CoreParts) (i : ℕ) where
         ∙ (ap by_place (map-set (λ (x : InstanceRecord). x.instance) a.instances.items i s)
         ∙ (by_place-set i (map (λ (x : InstanceRecord). x.instance) a.instances.items) r.instance s.instance (slice_get-map (λ (x : InstanceRecord). x.instance) a.instances.items i ∙ ap (option_map (λ (x : InstanceRecord). x.instance)) (sym at))
         ∙ (ap (insert (seen a).core.instances i) (sym is_f) ∙ ap (changed (seen a).core.instances i f) (instance_read (Some r) at)))))
-        ∙ (ap (λ (h : Records (Table Named)). instances_seen (change i f (seen a).core.instances) h (by_place (map (λ (x : InstanceRecord). handle_table thread_named x.thread_handles) v.items)))
+        ∙ (ap (λ (h : Records (NameTable Named)). instances_seen (change i f (seen a).core.instances) h (by_place (map (λ (x : InstanceRecord). handle_table thread_named x.thread_handles) v.items)))
         (ap by_place (unchanged (λ x. handle_table named_of x.handles) (ap (λ (x : InstanceRecord). handle_table named_of x.handles) close)))
-        ∙ ap (λ (t : Records (Table ℕ)). instances_seen (change i f (seen a).core.instances) (seen a).core.handles t)
+        ∙ ap (λ (t : Records (NameTable ℕ)). instances_seen (change i f (seen a).core.instances) (seen a).core.handles t)
         (ap by_place (unchanged (λ x. handle_table thread_named x.thread_handles) (ap (λ (x : InstanceRecord). handle_table thread_named x.thread_handles) close))))
 
   -- where an instance has a table of handles it is there
-  pub instance_there : is_some (get (seen a).core.handles i) ≡ true → i < length a.instances.items
-  instance_there some = by_place (slice_get a.instances.items i) refl
+  pub instance_unchecked : is_some (get (seen a).core.handles i) ≡ true → i < length a.instances.items
+  instance_unchecked some = by_place (slice_get a.instances.items i) refl
     where
       by_place : (o : Option InstanceRecord) → slice_get a.instances.items i ≡ o → i < length a.instances.items
       by_place None is = absurd (let none : is_some (get (seen a).core.handles i) ≡ false = ap is_some (sym (handles_read None (sym is))) in cc)

@@ -1,6 +1,6 @@
 -- Kept numbers are what the machine counts, as contracts see it.
-use Rattle.task_records.proofs.Core.{[], ap, ap₂, arith, bare, bare_call, bare_thread, bare_work, Bool, Call, call_key, call_of, cond, core_of, count_by, count_by-le-length, entries_for, false, get, GuestTaskKey, has_thread, has_waiters, is_host_call, is_in_set, is_live, is_moving, is_some, is_sorted-mapped, IsSetKept, IsSound, item_at, item_of, keeps_set, key_in, length, length-map, List, list_any, live_count, loose_call, loose_thread, loose_work, mapped, members_of, nat_lt, ne_eqb, None, none_in_records, Ok, on_item, Option, option_map, parts_of, passing, place_at, place_at-mapped, Placed, placed_as, Records, records, refl, same_map, same_Some, seen, set_of, SetKey, size, size-records-le, Some, subst, sum_by-cons, sym, T, Table, table_len, table_use, TableId, Thread, thread_key, threads_of, true, uninterested, unmoved, Work, work_key, ℕ, ◌*◌, ◌+◌, ◌<◌, ◌==◌, ◌^◌, ◌||◌, ◌∙◌, ◌∷◌, ◌≡◌, ◌≤◌}
-use Rattle.task_records.specs.declared.{calls.GuestTask.GuestTask, parts.CoreParts.CoreParts, sets.WaitSet.WaitSet, single.Single.Single, threads.GuestThread.GuestThread}
+use Rattle.task_records.proofs.Core.{[], ap, ap₂, arith, bare, bare_call, bare_thread, bare_work, Bool, Call, call_key, call_of, cond, core_of, count_by, count_by-le-length, entries_for, false, get, GuestTaskKey, has_thread, has_waiters, is_host_call, is_in_set, is_live, is_moving, is_some, is_sorted-mapped, IsSetKept, IsSoundCore, item_at, item_of, keeps_set, key_in, length, length-map, List, list_any, live_count, loose_call, loose_thread, loose_work, mapped, members_of, nat_lt, ne_eqb, None, none_in_records, Ok, on_item, Option, option_map, parts_of, passing, place_at, place_at-mapped, Placed, placed_as, Records, records, refl, same_map, same_Some, seen, set_of, SetKey, size, size-records-le, Some, subst, sum_by-cons, sym, T, Table, table_len, table_use, TableId, Thread, thread_key, threads_of, true, uninterested, unmoved, Work, work_key, ℕ, ◌*◌, ◌+◌, ◌<◌, ◌==◌, ◌^◌, ◌||◌, ◌∙◌, ◌∷◌, ◌≡◌, ◌≤◌}
+use Rattle.task_records.specs.declared.{call_records.GuestTask.GuestTask, parts.CoreParts.CoreParts, set_records.WaitSet.WaitSet, single.Single.Single, thread_records.GuestThread.GuestThread}
 use Rattle.task_records.proofs.HandleLemmas.{find-mapped}
 use Rattle.task_records.proofs.KindLemmas.{item_stands}
 use Rattle.task_records.proofs.ReadLemmas.{call_named, set_named}
@@ -77,32 +77,32 @@ module _ (a : CoreParts) where
       (ap size bare_calls ∙ size_seconds (λ c. uninterested (loose_call c)) (seen a).core.calls) (ap size bare_threads ∙ size_seconds loose_thread (seen a).core.threads)
       ∙ ap (λ (n : ℕ). length (seen a).core.groups + size (seen a).core.calls + 2 * size (seen a).core.threads + n + size (seen a).core.sets) (count_works is_host_call)
 
-  module _ (sound : IsSound a) where
+  module _ (sound : IsSoundCore a) where
     pub used_is : a.kept.used ≡ table_use (seen a).core
-    unfolding IsSound
+    unfolding IsSoundCore
     used_is = sound.whole.counted.kept.used ∙ bare_use
 
     pub groups_are : a.kept.groups ≡ length (seen a).core.groups
-    unfolding IsSound seen
+    unfolding IsSoundCore seen
     groups_are = sound.whole.counted.kept.groups
 
     pub handles_are : a.counter.live ≡ live_count (seen a).core
-    unfolding IsSound seen live_count
+    unfolding IsSoundCore seen live_count
     handles_are = sound.live
 
     pub live_is : a.kept.live ≡ passing is_live (seen a).core.works
-    unfolding IsSound
+    unfolding IsSoundCore
     live_is = sound.whole.counted.kept.live ∙ count_works is_live
 
     pub call_threads : (id : TableId GuestTaskKey) (g : GuestTask) → Ok g ≡ item_at item_of a.calls id.rep id.serial → g.threads ≡ threads_of g.number (seen a).core
-    unfolding IsSound
+    unfolding IsSoundCore
     call_threads id g is =
         let one = item_stands (λ (g : GuestTask). g.number) (λ (g : GuestTask). g.call) a.calls a.made.threads sound.tables.calls id.rep id.serial g is in
         sound.whole.counted.calls id.rep _ (place_at-mapped (on_item bare_call) a.calls id.rep ∙ (ap (placed_as (on_item bare_call)) one.1.0 ∙ ap (λ e. Some (record { serial = one.0.serial; parent = one.0.parent; entry = on_item bare_call e })) one.1.1.1))
         ∙ count_threads (λ t. t.call == g.number)
 
     set_kept : (id : TableId SetKey) (x : WaitSet) → Ok x ≡ item_at item_of a.sets id.rep id.serial → IsSetKept (core_of (bare (parts_of a))) x
-    unfolding IsSound
+    unfolding IsSoundCore
     set_kept id x is =
         let one = item_stands (λ (x : WaitSet). x.number) (λ (x : WaitSet). x.set) a.sets a.made.sets sound.tables.sets id.rep id.serial x is in
         sound.whole.counted.sets id.rep _ (one.1.0 ∙ ap (λ e. Some (record { serial = one.0.serial; parent = one.0.parent; entry = e })) one.1.1.1)
@@ -124,7 +124,7 @@ module _ (a : CoreParts) where
 
     -- no thread is of the call 0
     call_above : (r : ℕ) (o : Option (Placed (Single GuestThread))) → place_at a.threads r ≡ o → (x : ℕ × Thread) → key_in thread_key o ≡ Some x → (x.1.call == 0) ≡ false
-    unfolding IsSound
+    unfolding IsSoundCore
     call_above r None at x is = absurd (cc)
     call_above r (Some q) at x is =
         let there = (sound.whole.named.threads r (record { serial = q.serial; parent = q.parent; entry = on_item bare_thread q.entry }) (place_at-mapped (on_item bare_thread) a.threads r ∙ ap (placed_as (on_item bare_thread)) at)).there in
@@ -144,7 +144,7 @@ module _ (a : CoreParts) where
 
     -- few works move
     pub moving_few : a.kept.moving + 1 < 2 ^ 64
-    unfolding IsSound seen size
+    unfolding IsSoundCore seen size
     moving_few =
         let some : passing is_moving (seen a).core.works ≤ length (seen a).core.works.list = count_by-le-length (λ (e : ℕ × Work). is_moving e.1) (seen a).core.works.list in
         let all : length (seen a).core.works.list ≤ table_len a.works = size-records-le work_key a.works sound.tables.works.apart in

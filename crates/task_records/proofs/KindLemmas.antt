@@ -3,7 +3,7 @@ use Rattle.task_records.proofs.Core.{[], ap, arith, Bool, change, changed, child
 use Rattle.std.proofs.Common.{IsSome, is_some, option_and_then}
 use Rattle.std.proofs.lemmas.Option.{same_Some}
 use Rattle.task_records.specs.declared.{single.Single.Single}
-use Rattle.task_table.specs.Answers.{item_in}
+use Rattle.task_table.specs.TableAnswers.{item_in}
 
 pub absent : {X Y : Type 0} (x : X) → ◌≡◌ {A = Option X} None (Some x) → Y
 absent x e = absurd (cc)

@@ -1,5 +1,5 @@
 pub mod Core
-pub mod KnownLemmas
+pub mod TrackedLemmas
 pub mod KindLemmas
 pub mod ReadLemmas
 pub mod TableLemmas

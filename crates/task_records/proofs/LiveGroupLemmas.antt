@@ -3,24 +3,24 @@ use Rattle.std.proofs.Common.{[], ap, arith, Bool, false, filter, inl, inr, List
 use Rattle.std.proofs.lemmas.Bool.{cases_lt}
 use Rattle.std.specs.Prelude.{is_some, None, Option, Some, vec_capacity, ◌≤◌, ◌⊎◌}
 use Rattle.task_index.specs.Members.{has}
-use Rattle.task_records.proofs.Core.{AreEnded, found_record, get-records, group_key, HasNumber, is_known, IsMembers-numbers, IsSound, known_of, numbers, number_in, record_at, records, SoundTable}
-use Rattle.task_records.proofs.KnownLemmas.{has_filter, known_has}
+use Rattle.task_records.proofs.Core.{AreEnded, found_record, get-records, group_key, HasNumber, is_tracked, IsMembers-numbers, IsSoundCore, tracked_of, numbers, number_in, record_at, records, SoundTable}
+use Rattle.task_records.proofs.TrackedLemmas.{has_filter, known_has}
 use Rattle.task_records.specs.declared.{parts.CoreParts.CoreParts}
 use Rattle.task_table.proofs.RecordLemmas.{found_record_at}
 
 abbrev pub live_groups : CoreParts → List ℕ
 live_groups a = filter (nat_lt a.finished) (numbers (records group_key a.groups.places))
 
-module _ (a : CoreParts) (sound : IsSound a) where
+module _ (a : CoreParts) (sound : IsSoundCore a) where
   abbrev live : List ℕ
   live = live_groups a
 
   pub ended_are : AreEnded a.ended.items (vec_capacity a.ended) live a.made.groups
-  unfolding IsSound
+  unfolding IsSoundCore
   ended_are = sound.ended
 
   pub groups_sound : SoundTable group_key a.groups a.made.groups
-  unfolding IsSound
+  unfolding IsSoundCore
   groups_sound = sound.tables.groups
 
   -- it is live where it has a record, and its number is above those that a trap finished
@@ -45,7 +45,7 @@ module _ (a : CoreParts) (sound : IsSound a) where
       below (inl more) = no_record (found_record group_key n a.groups.places) (nat_lt a.finished n) (groups_sound.later n more) (sym (live_found n) ∙ there)
       below (inr less) = less
 
-  pub known_within : (n : ℕ) → is_known a.ended.items live n ≡ true → (0 < n) × (n ≤ a.made.groups)
+  pub known_within : (n : ℕ) → is_tracked a.ended.items live n ≡ true → (0 < n) × (n ≤ a.made.groups)
   known_within n is = by (has n a.ended.items) refl is
     where
       by : (b : Bool) → has n a.ended.items ≡ b → (b || has n live) ≡ true → (0 < n) × (n ≤ a.made.groups)
@@ -53,7 +53,7 @@ module _ (a : CoreParts) (sound : IsSound a) where
       by false out is = live_within n is
 
   -- it is known where it is live or has ended
-  pub known_is : (n : ℕ) → has n (known_of a.ended.items live a.made.groups) ≡ is_known a.ended.items live n
+  pub known_is : (n : ℕ) → has n (tracked_of a.ended.items live a.made.groups) ≡ is_tracked a.ended.items live n
   known_is n = known_has a.ended.items live a.made.groups n (known_within n)
 
   pub numbers_above_zero : (n : ℕ) → has n (numbers (records group_key a.groups.places)) ≡ true → 0 < n
@@ -63,10 +63,10 @@ module _ (a : CoreParts) (sound : IsSound a) where
   numbers_above_zero (suc m) there = omega arith
 
   -- no group has the number 0
-  pub zero_unknown : has 0 (known_of a.ended.items live a.made.groups) ≡ false
-  zero_unknown = by (has 0 (known_of a.ended.items live a.made.groups)) refl
+  pub zero_unknown : has 0 (tracked_of a.ended.items live a.made.groups) ≡ false
+  zero_unknown = by (has 0 (tracked_of a.ended.items live a.made.groups)) refl
     where
-      by : (b : Bool) → has 0 (known_of a.ended.items live a.made.groups) ≡ b → b ≡ false
+      by : (b : Bool) → has 0 (tracked_of a.ended.items live a.made.groups) ≡ b → b ≡ false
       by true is = let more = (known_within 0 (sym (known_is 0) ∙ is)).0 in absurd (omega (arith, more))
       by false is = refl
 

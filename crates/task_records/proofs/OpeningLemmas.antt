@@ -1,5 +1,5 @@
 -- A core in which nothing was made.
-use Rattle.task_records.proofs.Core.{[], AreApart-new_table, AreChained, AreCounted, AreNamed, arith, bare, BlockedOn, by_place_from, call_key, empty, false, Filing, filings, found_record, fresh, get-empty, group_key, HaveRowNodes, HeldIn, StartsIn, High, image, IsIndex, IsIndex-nothing, IsIndex-same_chains, IsRows, IsTable, List, live_count, Low, mapped, new_table, None, nothing, nothing_made, numbers, Option, Parts, place_chain, records, refl, Row, row_chain, set_key, size, Sound, SoundTable, Subtask, sym, Table, table_use, thread_key, UnderOf, WaitsOn, Where, with_capacity, work_key, ℕ, ◌∙◌, ◌≡◌, ◌≤◌, has, true, ◌+◌, ◌<◌}
+use Rattle.task_records.proofs.Core.{[], AreApart-new_table, AreChained, AreCounted, AreNamed, arith, bare, BlockedOn, by_place_from, call_key, empty, false, Filing, filings, found_record, fresh, get-empty, group_key, HaveRowNodes, HeldIn, StartsIn, High, image, IsIndex, IsIndex-nothing, IsIndex-same_chains, IsRows, IsTable, List, live_count, Low, mapped, new_table, None, nothing, nothing_made, numbers, Option, CoreImage, place_chain, records, refl, Row, row_chain, set_key, size, Sound, SoundTable, Subtask, sym, Table, table_use, thread_key, UnderOf, WaitsOn, Where, with_capacity, work_key, ℕ, ◌∙◌, ◌≡◌, ◌≤◌, has, true, ◌+◌, ◌<◌}
 use Rattle.task_records.specs.declared.{single.Single.Single}
 use Rattle.task_records.proofs.KindLemmas.{absent}
 
@@ -7,7 +7,7 @@ abbrev pub no_records : {T : Type 0} → Table (Single T)
 no_records = with_capacity 4294967295 new_table
 
 -- the parts of such a core
-abbrev pub opening : (end_room : ℕ) → Parts
+abbrev pub opening : (end_room : ℕ) → CoreImage
 opening end_room = record {
   threads = no_records;
   calls = no_records;
@@ -21,7 +21,7 @@ opening end_room = record {
   ready_works = [];
   polled = [];
   marks = [];
-  shelves = [];
+  instance_queues = [];
   behind = [];
   high = None;
   low = None;
@@ -86,7 +86,7 @@ opening_chained room = record {
   polled = no_index _ _ (λ k. refl) (λ r. refl);
   rising = tt;
   marks = no_rows _ _ _ _ (no_row room);
-  shelves = no_rows _ _ _ _ (λ k. refl);
+  instance_queues = no_rows _ _ _ _ (λ k. refl);
   low = tt;
   behind = no_rows _ _ _ _ (λ k. refl);
 }
@@ -104,7 +104,7 @@ opening_nodes : (room : ℕ) → HaveRowNodes (bare (opening room))
 unfolding mapped with_capacity
 opening_nodes room = record {
   marks = record { made = λ rep q at. absent q at; own = λ r s p q at. absent p at };
-  shelves = record { made = λ rep q at. absent q at; own = λ r s p q at. absent p at };
+  instance_queues = record { made = λ rep q at. absent q at; own = λ r s p q at. absent p at };
   callers = record { made = λ rep q at. absent q at; own = λ r s p q at. absent p at };
   works = record { made = λ rep q at. absent q at; own = λ r s p q at. absent p at };
   apart = λ r s q w at. absent q at;

@@ -1,5 +1,5 @@
 -- A core with other chains, or other kept numbers, is sound where its parts are whole.
-use Rattle.task_records.proofs.Core.{bare, IsSound, IsWhole, parts_of, subst, sym, ◌≡◌}
+use Rattle.task_records.proofs.Core.{bare, IsSoundCore, IsWhole, parts_of, subst, sym, ◌≡◌}
 use Rattle.task_records.specs.declared.{parts.CoreParts.CoreParts}
 
 -- The cores have the same records, instances and handles, and as much that is interesting or moves.
@@ -13,7 +13,7 @@ SameRecords a b =
       polled = b.polled;
       polled_last = b.polled_last;
       marks = b.marks;
-      shelves = b.shelves;
+      instance_queues = b.instance_queues;
       behind = b.behind;
       high = b.high;
       low = b.low;
@@ -26,9 +26,9 @@ SameRecords a b =
       trapped = b.trapped;
     }
 
-pub sound_of_whole : (a b : CoreParts) → SameRecords a b → IsSound a → IsWhole (bare (parts_of b)) → IsSound b
-unfolding IsSound
-sound_of_whole a b same sound = subst (λ x. IsWhole (bare (parts_of x)) → IsSound x) (sym same) (λ whole. record {
+pub sound_of_whole : (a b : CoreParts) → SameRecords a b → IsSoundCore a → IsWhole (bare (parts_of b)) → IsSoundCore b
+unfolding IsSoundCore
+sound_of_whole a b same sound = subst (λ x. IsWhole (bare (parts_of x)) → IsSoundCore x) (sym same) (λ whole. record {
   tables = record { threads = sound.tables.threads; calls = sound.tables.calls; works = sound.tables.works; sets = sound.tables.sets; groups = sound.tables.groups };
   whole = whole;
   interesting = sound.interesting;

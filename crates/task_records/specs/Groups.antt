@@ -7,12 +7,12 @@ abbrev pub after : (low count : ℕ) → List ℕ
 after low zero = []
 after low (suc n) = suc low ∷ after (suc low) n
 
-abbrev pub is_known : (ended live : List ℕ) → ℕ → Bool
-is_known ended live n = has n ended || has n live
+abbrev pub is_tracked : (ended live : List ℕ) → ℕ → Bool
+is_tracked ended live n = has n ended || has n live
 
 -- those of the groups that were made, in order
-abbrev pub known_of : (ended live : List ℕ) → (made : ℕ) → List ℕ
-known_of ended live made = filter (is_known ended live) (after 0 made)
+abbrev pub tracked_of : (ended live : List ℕ) → (made : ℕ) → List ℕ
+tracked_of ended live made = filter (is_tracked ended live) (after 0 made)
 
 -- Of the groups that have ended each stands there once. None is live, and each was made. There is room for the live ones, too.
 pub record AreEnded (ended : List ℕ) (space : ℕ) (live : List ℕ) (made : ℕ) : Type 0 where

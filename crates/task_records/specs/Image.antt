@@ -4,28 +4,28 @@ use Rattle.std.specs.Map.{lookup}
 use Rattle.std.specs.Option.{option_map_or}
 use Rattle.std.specs.Ordering.{nat_cmp}
 use Rattle.std.specs.Prelude.{◌≡◌, false, true, ℕ, Bool, List, [], ◌∷◌, Option, Some, None, filter, map, nat_lt, option_map}
-use Rattle.table_order.specs.declared.seat_links.Seat.{Seat}
+use Rattle.table_order.specs.declared.ordered_lists.OrderKey.{OrderKey}
 use Rattle.task_handles.specs.Counter.{Counter}
 use Rattle.task_index.specs.Rows.{values}
 use Rattle.task_links.specs.Links.{Spot}
 use Rattle.task_machine.specs.Core.{Core}
 use Rattle.task_machine.specs.Maps.{Records, empty, insert, numbers, remove}
-use Rattle.task_machine.specs.declared.records.Made.{Made}
-use Rattle.task_records.specs.Groups.{known_of}
+use Rattle.task_machine.specs.declared.records.MadeCounts.{MadeCounts}
+use Rattle.task_records.specs.Groups.{tracked_of}
 use Rattle.task_records.specs.Instances.{by_place, handle_table, named_of, thread_of}
 use Rattle.task_records.specs.Keys.{call_key, group_key, set_key, thread_key, work_key}
-use Rattle.task_records.specs.declared.calls.GuestTask.{GuestTask}
-use Rattle.task_records.specs.declared.calls.TaskGroup.{TaskGroup}
-use Rattle.task_records.specs.declared.instances.InstanceRecord.{InstanceRecord}
-use Rattle.task_records.specs.declared.parts.Kept.{Kept}
+use Rattle.task_records.specs.declared.call_records.GuestTask.{GuestTask}
+use Rattle.task_records.specs.declared.call_records.TaskGroup.{TaskGroup}
+use Rattle.task_records.specs.declared.instance_records.InstanceRecord.{InstanceRecord}
+use Rattle.task_records.specs.declared.parts.CachedCounts.{CachedCounts}
 use Rattle.result_rooms.specs.declared.rooms.ResultRoom.{ResultRoom}
 use Rattle.task_records.specs.declared.single.Single.{Single}
-use Rattle.task_records.specs.declared.sets.WaitSet.{WaitSet}
-use Rattle.task_records.specs.declared.threads.Follower.{Follower}
-use Rattle.task_records.specs.declared.threads.GuestThread.{GuestThread}
-use Rattle.task_records.specs.declared.threads.Queued.{Queued}
-use Rattle.task_records.specs.declared.works.HostWork.{HostWork}
-use Rattle.task_records.specs.declared.works.LiveWork.{LiveWork}
+use Rattle.task_records.specs.declared.set_records.WaitSet.{WaitSet}
+use Rattle.task_records.specs.declared.thread_records.Follower.{Follower}
+use Rattle.task_records.specs.declared.thread_records.GuestThread.{GuestThread}
+use Rattle.task_records.specs.declared.thread_records.Queued.{Queued}
+use Rattle.task_records.specs.declared.work_records.WorkRecord.{WorkRecord}
+use Rattle.task_records.specs.declared.work_records.LiveWork.{LiveWork}
 use Rattle.task_table.specs.Records.{number_in, records}
 use Rattle.task_table.specs.Table.{Placed, Table}
 use Rattle.task_table.specs.declared.id.TableId.{TableId}
@@ -33,20 +33,20 @@ use Rattle.task_wait.specs.declared.keys.ThreadKey.{ThreadKey}
 use Rattle.task_words.specs.StateView.{StateView, Tag, Tags}
 
 -- the fields of a core, as tables, lists and numbers
-pub record Parts : Type 0 where
+pub record CoreImage : Type 0 where
   pub threads : Table (Single GuestThread)
   pub calls : Table (Single GuestTask)
-  pub works : Table (Single HostWork)
+  pub works : Table (Single WorkRecord)
   pub sets : Table (Single WaitSet)
   pub groups : Table (Single TaskGroup)
   pub instances : List InstanceRecord
   pub counter : Counter
-  pub places : List (Spot Seat)
-  pub ready_calls : List (Spot Seat)
-  pub ready_works : List (Spot Seat)
+  pub places : List (Spot OrderKey)
+  pub ready_calls : List (Spot OrderKey)
+  pub ready_works : List (Spot OrderKey)
   pub polled : List (Spot LiveWork)
   pub marks : List (Spot Queued)
-  pub shelves : List (Spot Queued)
+  pub instance_queues : List (Spot Queued)
   pub behind : List (Spot Follower)
   pub high : Option ℕ
   pub low : Option ℕ
@@ -54,12 +54,12 @@ pub record Parts : Type 0 where
   pub switch : Option Follower
   pub current : Option (TableId ThreadKey)
   pub results : List (ℕ × ResultRoom)
-  pub kept : Kept
+  pub kept : CachedCounts
   pub finished : ℕ
   pub ended : List ℕ
   pub end_room : ℕ
   pub capacity : ℕ
-  pub made : Made
+  pub made : MadeCounts
   pub trapped : Bool
 
 -- the values of a chain, where it was made
@@ -84,7 +84,7 @@ given_results (e ∷ es) = with_given (given_results es) e.0 e.1.given
 abbrev pub HasRoom : ℕ → List (ℕ × ResultRoom) → Type 0
 HasRoom k rs = option_map_or (λ r. r.lives) (lookup (is_at (nat_cmp k)) rs) false ≡ true
 
-abbrev pub core_of : Parts → Core
+abbrev pub core_of : CoreImage → Core
 core_of p = record {
   calls = records call_key p.calls.places;
   threads = records thread_key p.threads.places;
@@ -126,17 +126,17 @@ abbrev pub tags_in : {E X : Type 0} → (E → Option (ℕ × X)) → Table E �
 tags_in key t = trimmed (map (tag_of key) t.places)
 
 -- the groups that are known
-abbrev pub known_in : Parts → List ℕ
-known_in p = known_of p.ended (core_of p).groups p.made.groups
+abbrev pub tracked_in : CoreImage → List ℕ
+tracked_in p = tracked_of p.ended (core_of p).groups p.made.groups
 
-abbrev pub tags_of : Parts → Tags
+abbrev pub tags_of : CoreImage → Tags
 tags_of p = record {
   threads = tags_in thread_key p.threads;
   calls = tags_in call_key p.calls;
   sets = tags_in set_key p.sets;
   works = tags_in work_key p.works;
-  known = known_in p;
+  tracked = tracked_in p;
 }
 
-abbrev pub image : Parts → StateView
+abbrev pub image : CoreImage → StateView
 image p = record { core = core_of p; tags = tags_of p; current = p.current }

@@ -10,11 +10,11 @@ use Rattle.task_machine.specs.declared.records.Subtask.TheVariants as subtask
 use Rattle.task_handles.specs.declared.kinds.HandleKind.{HandleKind}
 use Rattle.task_handles.specs.declared.kinds.HandleKind.TheVariants as handle
 use Rattle.task_handles.specs.declared.kinds.WaitableKind.TheVariants as waitable
-use Rattle.task_handles.specs.declared.kinds.Held.{Held}
+use Rattle.task_handles.specs.declared.kinds.HeldItem.{HeldItem}
 use Rattle.task_handles.specs.declared.kinds.Rep.{Rep}
 use Rattle.task_handles.specs.Handles.{Handles}
 use Rattle.task_machine.specs.Maps.{Records, empty, insert}
-use Rattle.task_machine.specs.Core.{Table}
+use Rattle.task_machine.specs.Core.{NameTable}
 
 -- the map that has these at their places, the first at i
 unfoldable pub by_place_from : {X : Type 0} → ℕ → List X → Records X
@@ -42,7 +42,7 @@ module _ {X Y : Type 0} (f : X → Y) where
       record { list = mapped f (fin.entries m); sorted = subst T (sym (is_sorted-mapped (fin.entries m))) (fin.entries_sorted m) }
 
   -- the machine's table of these handles
-  abbrev pub handle_table : Handles X → Table Y
+  abbrev pub handle_table : Handles X → NameTable Y
   handle_table t = record { live = records_by t.live; freed = t.freed }
 
 abbrev pub named_as : HandleKind → ℕ → Named
@@ -51,7 +51,7 @@ named_as (handle.Waitable waitable.HostSubtask) n = named.Subtask (subtask.Host 
 named_as _ n = named.Set n
 
 -- what a handle names: the serial of what stands for a call, a work or a set is its number
-abbrev pub named_of : Held → Named
+abbrev pub named_of : HeldItem → Named
 named_of h = named_as h.kind h.rep.serial
 
 -- the thread that a thread handle names

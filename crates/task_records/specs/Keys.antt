@@ -4,12 +4,12 @@ use Rattle.task_machine.specs.declared.records.Call.{Call}
 use Rattle.task_machine.specs.declared.records.Set.{Set}
 use Rattle.task_machine.specs.declared.records.Thread.{Thread}
 use Rattle.task_machine.specs.declared.records.Work.{Work}
-use Rattle.task_records.specs.declared.calls.GuestTask.{GuestTask}
-use Rattle.task_records.specs.declared.calls.TaskGroup.{TaskGroup}
+use Rattle.task_records.specs.declared.call_records.GuestTask.{GuestTask}
+use Rattle.task_records.specs.declared.call_records.TaskGroup.{TaskGroup}
 use Rattle.task_records.specs.declared.single.Single.{Single}
-use Rattle.task_records.specs.declared.sets.WaitSet.{WaitSet}
-use Rattle.task_records.specs.declared.threads.GuestThread.{GuestThread}
-use Rattle.task_records.specs.declared.works.HostWork.{HostWork}
+use Rattle.task_records.specs.declared.set_records.WaitSet.{WaitSet}
+use Rattle.task_records.specs.declared.thread_records.GuestThread.{GuestThread}
+use Rattle.task_records.specs.declared.work_records.WorkRecord.{WorkRecord}
 
 abbrev pub thread_key : Single GuestThread → Option (ℕ × Thread)
 thread_key g = Some (g.item.number, g.item.thread)
@@ -17,7 +17,7 @@ thread_key g = Some (g.item.number, g.item.thread)
 abbrev pub call_key : Single GuestTask → Option (ℕ × Call)
 call_key g = Some (g.item.number, g.item.call)
 
-abbrev pub work_key : Single HostWork → Option (ℕ × Work)
+abbrev pub work_key : Single WorkRecord → Option (ℕ × Work)
 work_key w = Some (w.item.number, w.item.work)
 
 abbrev pub set_key : Single WaitSet → Option (ℕ × Set)
@@ -38,7 +38,7 @@ under_key g = Some (g.item.number, g.item.under)
 abbrev pub blocked_key : Single GuestTask → Option (ℕ × ℕ)
 blocked_key g = Some (g.item.number, g.item.blocked)
 
-abbrev pub work_blocked_key : Single HostWork → Option (ℕ × ℕ)
+abbrev pub work_blocked_key : Single WorkRecord → Option (ℕ × ℕ)
 work_blocked_key w = Some (w.item.number, w.item.blocked)
 
 abbrev pub waiters_key : Single WaitSet → Option (ℕ × ℕ)

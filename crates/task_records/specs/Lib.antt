@@ -4,8 +4,8 @@ pub mod Instances
 pub mod Groups
 pub mod Image
 pub mod Names
-pub mod Places
+pub mod RecordPlaces
 pub mod Rows
-pub mod Kept
+pub mod CachedCounts
 pub mod Sound
 pub mod Seen

@@ -3,18 +3,18 @@ use Rattle.std.specs.Prelude.{◌≡◌, ◌<◌, ◌≤◌, ℕ, Option, Some, 
 use Rattle.task_handles.specs.Handles.{held_by}
 use Rattle.task_handles.specs.declared.kinds.HandleKind.{HandleKind}
 use Rattle.task_handles.specs.declared.kinds.HandleKind.TheVariants as handle
-use Rattle.task_handles.specs.declared.kinds.Held.{Held}
+use Rattle.task_handles.specs.declared.kinds.HeldItem.{HeldItem}
 use Rattle.task_handles.specs.declared.kinds.Rep.{Rep}
 use Rattle.task_handles.specs.declared.kinds.WaitableKind.TheVariants as waitable
 use Rattle.task_machine.specs.Read.{call_instance, kind_of, thread_at}
 use Rattle.task_machine.specs.declared.records.Caller.{Caller}
 use Rattle.task_machine.specs.declared.records.Caller.TheVariants as caller
 use Rattle.task_machine.specs.declared.records.Delivery.TheVariants as delivery
-use Rattle.task_machine.specs.declared.records.HowFar.{HowFar}
-use Rattle.task_machine.specs.declared.records.HowFar.TheVariants as how_far
+use Rattle.task_machine.specs.declared.records.OpProgress.{OpProgress}
+use Rattle.task_machine.specs.declared.records.OpProgress.TheVariants as op_progress
 use Rattle.task_machine.specs.declared.records.Join.{Join}
 use Rattle.task_machine.specs.declared.records.Join.TheVariants as join
-use Rattle.task_machine.specs.declared.records.Made.{Made}
+use Rattle.task_machine.specs.declared.records.MadeCounts.{MadeCounts}
 use Rattle.task_machine.specs.declared.records.Place.{Place}
 use Rattle.task_machine.specs.declared.records.Place.TheVariants as place
 use Rattle.task_machine.specs.declared.records.Subtask.{Subtask}
@@ -24,14 +24,14 @@ use Rattle.task_machine.specs.declared.records.Why.{Why}
 use Rattle.task_machine.specs.declared.records.Why.TheVariants as why
 use Rattle.task_machine.specs.declared.records.WorkCaller.{WorkCaller}
 use Rattle.task_machine.specs.declared.records.WorkCaller.TheVariants as work_caller
-use Rattle.task_records.specs.Image.{Parts, core_of}
+use Rattle.task_records.specs.Image.{CoreImage, core_of}
 use Rattle.task_records.specs.Keys.{call_key, group_key, set_key, thread_key, work_key}
-use Rattle.task_records.specs.declared.calls.GuestTask.{GuestTask}
-use Rattle.task_records.specs.declared.instances.InstanceRecord.{InstanceRecord}
-use Rattle.task_records.specs.declared.sets.WaitSet.{WaitSet}
+use Rattle.task_records.specs.declared.call_records.GuestTask.{GuestTask}
+use Rattle.task_records.specs.declared.instance_records.InstanceRecord.{InstanceRecord}
+use Rattle.task_records.specs.declared.set_records.WaitSet.{WaitSet}
 use Rattle.task_records.specs.declared.single.Single.{Single}
-use Rattle.task_records.specs.declared.threads.GuestThread.{GuestThread}
-use Rattle.task_records.specs.declared.works.HostWork.{HostWork}
+use Rattle.task_records.specs.declared.thread_records.GuestThread.{GuestThread}
+use Rattle.task_records.specs.declared.work_records.WorkRecord.{WorkRecord}
 use Rattle.task_table.specs.Records.{found_record, number_in, record_at}
 use Rattle.task_table.specs.Table.{Table}
 use Rattle.task_words.specs.Barred.{bars_start}
@@ -61,12 +61,12 @@ place_target (place.Blocked sub) = subtask_target sub
 place_target (place.Held w) = why_target w
 place_target _ = Nothing
 
-abbrev pub how_far_target : HowFar → Target
-how_far_target (how_far.Waits x) = SetOf x
-how_far_target (how_far.Calls sub) = subtask_target sub
-how_far_target (how_far.Cancels sub) = subtask_target sub
-how_far_target (how_far.AwaitsEnd sub) = subtask_target sub
-how_far_target _ = Nothing
+abbrev pub op_progress_target : OpProgress → Target
+op_progress_target (op_progress.Waits x) = SetOf x
+op_progress_target (op_progress.Calls sub) = subtask_target sub
+op_progress_target (op_progress.Cancels sub) = subtask_target sub
+op_progress_target (op_progress.AwaitsEnd sub) = subtask_target sub
+op_progress_target _ = Nothing
 
 abbrev pub join_target : Join → Target
 join_target join.Nowhere = Nothing
@@ -94,11 +94,11 @@ StandsAt key t rep n = IsSome (found_record key n t.places) → HasNumber key t 
 pub record Kinds : Type 0 where
   pub threads : Table (Single GuestThread)
   pub calls : Table (Single GuestTask)
-  pub works : Table (Single HostWork)
+  pub works : Table (Single WorkRecord)
   pub sets : Table (Single WaitSet)
-  pub made : Made
+  pub made : MadeCounts
 
-abbrev pub kinds : Parts → Kinds
+abbrev pub kinds : CoreImage → Kinds
 kinds p = record { threads = p.threads; calls = p.calls; works = p.works; sets = p.sets; made = p.made }
 
 -- What is named was made and, if it is there, stands at the place.
@@ -109,25 +109,25 @@ IsNamedAt p rep (CallOf k) = (k ≤ p.made.threads) × StandsAt call_key p.calls
 IsNamedAt p rep (WorkOf i) = (i ≤ p.made.works) × StandsAt work_key p.works rep i
 IsNamedAt p rep (SetOf x) = (x ≤ p.made.sets) × StandsAt set_key p.sets rep x
 
-abbrev pub AtPlace : Parts → ℕ → Target → Type 0
+abbrev pub AtPlace : CoreImage → ℕ → Target → Type 0
 AtPlace p rep t = IsNamedAt (kinds p) rep t
 
 -- A thread's call is there, in an instance that is there.
-pub record HasHome (p : Parts) (g : GuestThread) : Type 0 where
+pub record HasHome (p : CoreImage) (g : GuestThread) : Type 0 where
   pub call : HasNumber call_key p.calls g.task g.thread.call
   pub there : 0 < g.thread.call
   pub instance : call_instance g.thread.call (core_of p) ≡ g.instance
   pub barred : bars_start g.thread.explicit (kind_of g.thread.call (core_of p)) ≡ g.barred
   pub within : IsSome (slice_get p.instances g.instance)
   pub place : AtPlace p g.beside (place_target g.thread.place)
-  pub how_far : AtPlace p g.awaited (how_far_target g.thread.how_far)
+  pub op_progress : AtPlace p g.awaited (op_progress_target g.thread.op_progress)
 
 -- The handle that a thread has, if it has one, names it.
-abbrev pub OwnsHandle : Parts → GuestThread → Type 0
+abbrev pub OwnsHandle : CoreImage → GuestThread → Type 0
 OwnsHandle p g = (h : ℕ) → g.thread.handle ≡ Some h → thread_at g.instance h (core_of p) ≡ Some g.number
 
 -- What a call names; its first thread has its number.
-pub record IsCallNamed (p : Parts) (g : GuestTask) : Type 0 where
+pub record IsCallNamed (p : CoreImage) (g : GuestTask) : Type 0 where
   pub caller : AtPlace p g.maker (caller_target g.call.caller)
   pub first : AtPlace p g.first (ThreadOf g.number)
   pub join : AtPlace p g.joined (join_target g.call.join)
@@ -135,7 +135,7 @@ pub record IsCallNamed (p : Parts) (g : GuestTask) : Type 0 where
   pub positive : 0 < g.call.group
 
 -- What a host work names.
-pub record IsWorkNamed (p : Parts) (w : HostWork) : Type 0 where
+pub record IsWorkNamed (p : CoreImage) (w : WorkRecord) : Type 0 where
   pub caller : AtPlace p w.maker (work_caller_target w.work.caller)
   pub join : AtPlace p w.joined (join_target w.work.join)
   pub group : (n : ℕ) → w.work.group ≡ Some n → HasNumber group_key p.groups w.group n × (0 < n)
@@ -149,7 +149,7 @@ IsHeldNamed p handle.Set r = IsNamedAt p r.id (SetOf r.serial)
 
 -- What the handles of an instance name.
 pub record AreHandlesNamed (p : Kinds) (i : InstanceRecord) : Type 0 where
-  pub small : (h : ℕ) (x : Held) → held_by i.handles h ≡ Some x → h ≤ 268435455
+  pub small : (h : ℕ) (x : HeldItem) → held_by i.handles h ≡ Some x → h ≤ 268435455
   pub small_threads : (h : ℕ) (r : Rep) → held_by i.thread_handles h ≡ Some r → h ≤ 268435455
-  pub handles : (h : ℕ) (x : Held) → held_by i.handles h ≡ Some x → IsHeldNamed p x.kind x.rep
+  pub handles : (h : ℕ) (x : HeldItem) → held_by i.handles h ≡ Some x → IsHeldNamed p x.kind x.rep
   pub thread_handles : (h : ℕ) (r : Rep) → held_by i.thread_handles h ≡ Some r → IsNamedAt p r.id (ThreadOf r.serial)

@@ -1,12 +1,12 @@
 -- What contracts see of the parts of a core.
 use Rattle.std.specs.Prelude.{None, [], vec_capacity}
 use Rattle.task_machine.specs.Core.{fresh}
-use Rattle.task_records.specs.Image.{Parts, image}
+use Rattle.task_records.specs.Image.{CoreImage, image}
 use Rattle.task_records.specs.Sound.{Sound}
 use Rattle.task_records.specs.declared.parts.CoreParts.{CoreParts}
 use Rattle.task_words.specs.StateView.{StateView}
 
-abbrev pub parts_of : CoreParts → Parts
+abbrev pub parts_of : CoreParts → CoreImage
 parts_of a = record {
   threads = a.threads;
   calls = a.calls;
@@ -20,7 +20,7 @@ parts_of a = record {
   ready_works = a.ready_works;
   polled = a.polled;
   marks = a.marks;
-  shelves = a.shelves;
+  instance_queues = a.instance_queues;
   behind = a.behind;
   high = a.high;
   low = a.low;
@@ -40,9 +40,9 @@ parts_of a = record {
 unfoldable pub seen : CoreParts → StateView
 seen a = image (parts_of a)
 
-unfoldable pub IsSound : CoreParts → Type 0
-IsSound a = Sound (parts_of a)
+unfoldable pub IsSoundCore : CoreParts → Type 0
+IsSoundCore a = Sound (parts_of a)
 
 -- what is seen of a core in which nothing was made: no instance, a limit of 100,000 handles, and room for 1,000,000 entries
 abbrev pub nothing : StateView
-nothing = record { core = fresh 0 100000 1000000; tags = record { threads = []; calls = []; sets = []; works = []; known = [] }; current = None }
+nothing = record { core = fresh 0 100000 1000000; tags = record { threads = []; calls = []; sets = []; works = []; tracked = [] }; current = None }

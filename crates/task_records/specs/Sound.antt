@@ -18,18 +18,18 @@ use Rattle.task_machine.specs.declared.records.Thread.{Thread}
 use Rattle.task_machine.specs.declared.records.Work.{Work}
 use Rattle.task_machine.specs.declared.words.Phase.TheVariants as phase
 use Rattle.task_records.specs.Groups.{AreEnded}
-use Rattle.task_records.specs.Image.{HasRoom, Parts, core_of}
-use Rattle.task_records.specs.Kept.{AreKept, IsCallKept, IsGroupKept, IsSetKept}
+use Rattle.task_records.specs.Image.{HasRoom, CoreImage, core_of}
+use Rattle.task_records.specs.CachedCounts.{AreKept, IsCallKept, IsGroupKept, IsSetKept}
 use Rattle.task_records.specs.Keys.{call_key, group_key, set_key, thread_key, work_key}
 use Rattle.task_records.specs.Kinds.{on_item}
 use Rattle.task_records.specs.Names.{AreHandlesNamed, HasHome, IsCallNamed, IsWorkNamed, OwnsHandle, kinds}
-use Rattle.task_records.specs.Places.{Rises, live_chain, live_work, place_chain, place_filing, ready_call, ready_call_chain, ready_work, ready_work_chain}
-use Rattle.task_records.specs.Rows.{HaveNodes, IsFollower, IsOfThread, IsSeated, Low, callers_chain, callers_row, is_of_instance, row, row_chain, shelf_chain}
-use Rattle.task_records.specs.declared.calls.GuestTask.{GuestTask}
-use Rattle.task_records.specs.declared.instances.InstanceRecord.{InstanceRecord}
+use Rattle.task_records.specs.RecordPlaces.{Rises, live_chain, live_work, place_chain, place_filing, ready_call, ready_call_chain, ready_work, ready_work_chain}
+use Rattle.task_records.specs.Rows.{HaveNodes, IsFollower, IsOfThread, IsKeyed, Low, callers_chain, callers_row, is_of_instance, row, row_chain, instance_queue_chain}
+use Rattle.task_records.specs.declared.call_records.GuestTask.{GuestTask}
+use Rattle.task_records.specs.declared.instance_records.InstanceRecord.{InstanceRecord}
 use Rattle.task_records.specs.declared.single.Single.{Single}
-use Rattle.task_records.specs.declared.threads.GuestThread.{GuestThread}
-use Rattle.task_records.specs.declared.works.HostWork.{HostWork}
+use Rattle.task_records.specs.declared.thread_records.GuestThread.{GuestThread}
+use Rattle.task_records.specs.declared.work_records.WorkRecord.{WorkRecord}
 use Rattle.task_rules.specs.Works.{is_moving}
 use Rattle.task_table.specs.Mapped.{mapped}
 use Rattle.task_table.specs.Records.{AreApart, found_record}
@@ -43,7 +43,7 @@ pub record SoundTable {E X : Type 0} (key : E → Option (ℕ × X)) (t : Table 
   pub above_zero : found_record key 0 t.places ≡ None
   pub later : (n : ℕ) → made < n → found_record key n t.places ≡ None
 
-pub record AreTables (p : Parts) : Type 0 where
+pub record AreTables (p : CoreImage) : Type 0 where
   pub threads : SoundTable thread_key p.threads p.made.threads
   pub calls : SoundTable call_key p.calls p.made.threads
   pub works : SoundTable work_key p.works p.made.works
@@ -64,7 +64,7 @@ loose_call c =
       started = false;
       starting_published = false;
       «end» = None;
-      own_event = None;
+      task_event = None;
       cancel_delivered = false;
       exited = false;
       result = None;
@@ -84,13 +84,13 @@ loose_work w = record w { cancelled = false; handle = None; borrows = 0 }
 abbrev pub unmoved : Work → Work
 unmoved w = record w { course = course.NoValue; phase = phase.Complete }
 
-abbrev pub bare_work : HostWork → HostWork
+abbrev pub bare_work : WorkRecord → WorkRecord
 bare_work w = record w { work = unmoved (loose_work w.work) }
 
 abbrev pub bare_instance : InstanceRecord → InstanceRecord
 bare_instance i = record i { instance = untouched; handles = no_handles; thread_handles = no_handles }
 
-abbrev pub bare : Parts → Parts
+abbrev pub bare : CoreImage → CoreImage
 bare p = record p {
   threads = mapped (on_item bare_thread) p.threads;
   calls = mapped (on_item bare_call) p.calls;
@@ -109,35 +109,35 @@ abbrev pub EachEntry : {E : Type 0} → (E → Type 0) → Table (Single E) → 
 EachEntry {E} P t = (rep : ℕ) (q : Placed (Single E)) → place_at t rep ≡ Some q → P q.entry.item
 
 -- Names: what a record names stands where the record says.
-pub record AreNamed (p : Parts) : Type 0 where
+pub record AreNamed (p : CoreImage) : Type 0 where
   pub threads : EachEntry (HasHome p) p.threads
   pub calls : EachEntry (IsCallNamed p) p.calls
   pub works : EachEntry (IsWorkNamed p) p.works
   pub switch : IfSome p.switch (IsFollower p)
 
 -- Indexes and rows: each chain has just what the machine finds or keeps.
-pub record AreChained (p : Parts) : Type 0 where
+pub record AreChained (p : CoreImage) : Type 0 where
   pub places : IsIndex (place_chain p) p.places (filings place_filing p.threads)
   pub ready_calls : IsIndex (ready_call_chain p) p.ready_calls (filings ready_call p.calls)
   pub ready_works : IsIndex (ready_work_chain p) p.ready_works (filings ready_work p.works)
   pub polled : IsIndex (live_chain p) p.polled (filings live_work p.works)
   pub rising : Rises p.polled p.live
-  pub marks : IsRows (row_chain p) (λ q. q.mark.index) (IsSeated p) p.marks (row p)
-  pub shelves : IsRows (shelf_chain p) (λ q. q.shelf.index) (IsSeated p) p.shelves (part is_of_instance (row p))
+  pub marks : IsRows (row_chain p) (λ q. q.mark.index) (IsKeyed p) p.marks (row p)
+  pub instance_queues : IsRows (instance_queue_chain p) (λ q. q.instance_queue.index) (IsKeyed p) p.instance_queues (part is_of_instance (row p))
   pub low : Each IsOfThread (row p Low)
   pub behind : IsRows (callers_chain p) (λ f. f.node.index) (IsFollower p) p.behind (callers_row p)
 
 -- Nodes: each entry has those by which it may stand in a row.
-pub record HaveRowNodes (p : Parts) : Type 0 where
+pub record HaveRowNodes (p : CoreImage) : Type 0 where
   pub marks : HaveNodes (λ (g : GuestThread). g.mark.index) p.threads p.marks
-  pub shelves : HaveNodes (λ (g : GuestThread). g.shelf.index) p.threads p.shelves
+  pub instance_queues : HaveNodes (λ (g : GuestThread). g.instance_queue.index) p.threads p.instance_queues
   pub callers : HaveNodes (λ (g : GuestThread). g.caller.index) p.threads p.behind
-  pub works : HaveNodes (λ (w : HostWork). w.mark.index) p.works p.marks
-  pub apart : (r s : ℕ) (q : Placed (Single GuestThread)) (w : Placed (Single HostWork)) → place_at p.threads r ≡ Some q →
+  pub works : HaveNodes (λ (w : WorkRecord). w.mark.index) p.works p.marks
+  pub apart : (r s : ℕ) (q : Placed (Single GuestThread)) (w : Placed (Single WorkRecord)) → place_at p.threads r ≡ Some q →
       place_at p.works s ≡ Some w → q.entry.item.mark.index ≡ w.entry.item.mark.index → ⊥
 
 -- Kept numbers, the groups that the trap finished, the rows of a core that has instances or host works, and room for results.
-pub record AreCounted (p : Parts) : Type 0 where
+pub record AreCounted (p : CoreImage) : Type 0 where
   pub kept : AreKept (core_of p) p.kept
   pub calls : EachEntry (IsCallKept (core_of p)) p.calls
   pub sets : EachEntry (IsSetKept (core_of p)) p.sets
@@ -146,16 +146,16 @@ pub record AreCounted (p : Parts) : Type 0 where
   pub finished : p.finished ≤ p.made.groups
   pub high : (p.instances ≡ [] → ⊥) → IsSome p.high
   pub low : (p.instances ≡ [] → ⊥) → IsSome p.low
-  pub works : EachEntry (λ (w : HostWork). IsSome p.high × IsSome p.live) p.works
+  pub works : EachEntry (λ (w : WorkRecord). IsSome p.high × IsSome p.live) p.works
   pub results : (k : ℕ) (c : Call) → get (core_of p).calls k ≡ Some c → c.goal ≡ goal.Main → HasRoom k p.results
 
-pub record IsWhole (p : Parts) : Type 0 where
+pub record IsWhole (p : CoreImage) : Type 0 where
   pub named : AreNamed p
   pub chained : AreChained p
   pub nodes : HaveRowNodes p
   pub counted : AreCounted p
 
-pub record Sound (p : Parts) : Type 0 where
+pub record Sound (p : CoreImage) : Type 0 where
   pub tables : AreTables p
   pub whole : IsWhole (bare p)
   pub interesting : p.kept.interesting ≡ passing (λ c. c.interesting) (core_of p).calls

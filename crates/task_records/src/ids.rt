@@ -3,7 +3,7 @@ ghost use Rattle.task_machine.specs.Maps.{get};
 ghost use Rattle.task_machine.specs.Read.{task_of};
 ghost use Rattle.task_records.specs.Keys.{call_key, set_key, thread_key, work_key};
 ghost use Rattle.task_records.specs.Names.{StandsAt};
-ghost use Rattle.task_records.specs.Seen.{IsSound, seen};
+ghost use Rattle.task_records.specs.Seen.{IsSoundCore, seen};
 ghost use Rattle.task_rules.specs.Notices.{is_in};
 ghost use Rattle.task_table.specs.Records.{number_in, record_at};
 ghost use Rattle.task_words.specs.Live.{kept_in, live_thread};
@@ -36,12 +36,12 @@ pub fn standing_thread(parts: &CoreParts, place: u32) -> ThreadId
     requires { 0 < number_in (record_at thread_key parts.now.threads.places place) }
     ensures { thread_of (seen parts.now) result ≡ number_in (record_at thread_key parts.now.threads.places place) }
 {
-    TableId::new(place, parts.threads.serial_there(place))
+    TableId::new(place, parts.threads.serial_unchecked(place))
 }
 
 /// The id of the thread of a number that was kept with a place; it names nothing where it is gone.
-pub fn named_thread(parts: &CoreParts, place: u32, number: u64) -> ThreadId
-    requires sound { IsSound parts.now }
+pub fn thread_id_at(parts: &CoreParts, place: u32, number: u64) -> ThreadId
+    requires sound { IsSoundCore parts.now }
     requires stands { StandsAt thread_key parts.now.threads place number }
     ensures { thread_of (seen parts.now) result ≡ kept_in (seen parts.now).core.threads number }
 {
@@ -72,12 +72,12 @@ pub fn standing_call(parts: &CoreParts, place: u32) -> CallId
     requires { 0 < number_in (record_at call_key parts.now.calls.places place) }
     ensures { call_of (seen parts.now) result ≡ number_in (record_at call_key parts.now.calls.places place) }
 {
-    TableId::new(place, parts.calls.serial_there(place))
+    TableId::new(place, parts.calls.serial_unchecked(place))
 }
 
 /// The id of the call of a number that was kept with a place; it names nothing where it is gone.
-pub fn named_call(parts: &CoreParts, place: u32, number: u64) -> CallId
-    requires sound { IsSound parts.now }
+pub fn call_id_at(parts: &CoreParts, place: u32, number: u64) -> CallId
+    requires sound { IsSoundCore parts.now }
     requires stands { StandsAt call_key parts.now.calls place number }
     ensures { call_of (seen parts.now) result ≡ kept_in (seen parts.now).core.calls number }
 {
@@ -104,8 +104,8 @@ pub fn work_at(parts: &CoreParts, place: u32) -> WorkId
 }
 
 /// The id of the host work of a number that was kept with a place; it names nothing where it is gone.
-pub fn named_work(parts: &CoreParts, place: u32, number: u64) -> WorkId
-    requires sound { IsSound parts.now }
+pub fn work_id_at(parts: &CoreParts, place: u32, number: u64) -> WorkId
+    requires sound { IsSoundCore parts.now }
     requires stands { StandsAt work_key parts.now.works place number }
     ensures { work_of (seen parts.now) result ≡ kept_in (seen parts.now).core.works number }
 {
@@ -132,8 +132,8 @@ pub fn set_at(parts: &CoreParts, place: u32) -> SetId
 }
 
 /// The id of the set of a number that was kept with a place; it names nothing where it is gone.
-pub fn named_set(parts: &CoreParts, place: u32, number: u64) -> SetId
-    requires sound { IsSound parts.now }
+pub fn set_id_at(parts: &CoreParts, place: u32, number: u64) -> SetId
+    requires sound { IsSoundCore parts.now }
     requires stands { StandsAt set_key parts.now.sets place number }
     ensures { set_of (seen parts.now) result ≡ kept_in (seen parts.now).core.sets number }
 {
@@ -151,7 +151,7 @@ pub fn named_set(parts: &CoreParts, place: u32, number: u64) -> SetId
 
 /// The call of a thread, which is there as long as the thread.
 pub fn task_of(parts: &CoreParts, thread: ThreadId) -> CallId
-    requires { IsSound parts.now }
+    requires { IsSoundCore parts.now }
     ensures is { call_of (seen parts.now) result ≡ task_of (thread_of (seen parts.now) thread) (seen parts.now).core }
     ensures live { 0 < thread_of (seen parts.now) thread → 0 < call_of (seen parts.now) result }
 {
@@ -163,21 +163,21 @@ pub fn task_of(parts: &CoreParts, thread: ThreadId) -> CallId
 
 /// The first thread of a call, which has the call's number; it names nothing where that is gone.
 pub fn first_thread(parts: &CoreParts, call: CallId) -> ThreadId
-    requires { IsSound parts.now }
+    requires { IsSoundCore parts.now }
     ensures { thread_of (seen parts.now) result ≡ live_thread (call_of (seen parts.now) call) (seen parts.now).core }
 {
     match crate::reads::call(parts, call) {
-        Some(entry) => named_thread(parts, entry.first, entry.number),
+        Some(entry) => thread_id_at(parts, entry.first, entry.number),
         None => nowhere(),
     }
 }
 
 /// Nothing has the number 0, which is that of an id that names nothing.
 pub fn none_is_zero(parts: &CoreParts)
-    requires { IsSound parts.now }
+    requires { IsSoundCore parts.now }
     ensures threads { get (seen parts.now).core.threads 0 ≡ None }
     ensures calls { get (seen parts.now).core.calls 0 ≡ None }
     ensures sets { get (seen parts.now).core.sets 0 ≡ None }
     ensures works { get (seen parts.now).core.works 0 ≡ None }
-    ensures groups { is_in (seen parts.now).tags.known 0 ≡ false }
+    ensures groups { is_in (seen parts.now).tags.tracked 0 ≡ false }
 {}

@@ -5,29 +5,29 @@
 //! see of it is `seen`, and `IsSound` is what each word keeps.
 #![tactic(auto)]
 
-mod calls;
+mod call_records;
 mod ids;
-mod instances;
+mod instance_records;
 mod parts;
 mod reads;
-mod sets;
+mod set_records;
 mod single;
-mod threads;
-mod works;
+mod thread_records;
+mod work_records;
 
-pub use calls::{GuestTask, TaskGroup};
+pub use call_records::{GuestTask, TaskGroup};
 pub use ids::{
-    call_at, first_thread, named_call, named_set, named_thread, named_work, none_is_zero, set_at,
+    call_at, first_thread, call_id_at, set_id_at, thread_id_at, work_id_at, none_is_zero, set_at,
     standing_call, standing_thread, task_of, thread_at, work_at,
 };
-pub use instances::InstanceRecord;
-pub use parts::{CoreParts, Kept};
+pub use instance_records::InstanceRecord;
+pub use parts::{CoreParts, CachedCounts};
 pub use reads::{
     call, call_there, held, held_thread, instance, set, set_there, thread, thread_there, work,
     work_there,
 };
-pub use sets::WaitSet;
+pub use set_records::WaitSet;
 pub use single::Single;
 pub use task_links::Node;
-pub use threads::{Follower, GuestThread, Queued};
-pub use works::{HostWork, LiveWork};
+pub use thread_records::{Follower, GuestThread, Queued};
+pub use work_records::{WorkRecord, LiveWork};

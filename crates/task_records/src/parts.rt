@@ -1,25 +1,25 @@
 ghost use Rattle.std.specs.Prelude.{◌≡◌};
-ghost use Rattle.task_records.specs.Seen.{IsSound, nothing, seen};
+ghost use Rattle.task_records.specs.Seen.{IsSoundCore, nothing, seen};
 
-use crate::calls::{GuestTask, TaskGroup};
-use crate::instances::InstanceRecord;
-use crate::sets::WaitSet;
+use crate::call_records::{GuestTask, TaskGroup};
+use crate::instance_records::InstanceRecord;
+use crate::set_records::WaitSet;
 use crate::single::Single;
-use crate::threads::{Follower, GuestThread, Queued};
-use crate::works::{HostWork, LiveWork};
+use crate::thread_records::{Follower, GuestThread, Queued};
+use crate::work_records::{WorkRecord, LiveWork};
 use record_table::RecordTable;
 use result_rooms::ResultRooms;
 use std::alloc::Global;
-use table_order::{SeatLinks, TablePlaces};
+use table_order::{OrderedLists, TablePlaces};
 use task_handles::HandleCounter;
 use task_links::{Links, Node};
-use task_machine::{Entry, Made};
+use task_machine::{Entry, MadeCounts};
 use task_table::TableId;
 use task_wait::ThreadKey;
 
 /// Numbers that the machine counts in its records.
 #[derive(Clone, Copy)]
-pub struct Kept {
+pub struct CachedCounts {
     /// How many entries of the resource table are taken.
     pub used: u64,
     /// How many groups are live.
@@ -37,24 +37,24 @@ pub struct CoreParts {
     pub alloc: Global,
     pub threads: RecordTable<Single<GuestThread>>,
     pub calls: RecordTable<Single<GuestTask>>,
-    pub works: RecordTable<Single<HostWork>>,
+    pub works: RecordTable<Single<WorkRecord>>,
     pub sets: RecordTable<Single<WaitSet>>,
     pub groups: RecordTable<Single<TaskGroup>>,
     pub instances: Vec<InstanceRecord>,
     /// How many handles are live, over all instances, and how many may be.
     pub counter: HandleCounter,
     /// The threads that wait, are blocked or held, or are under a thread.
-    pub places: SeatLinks,
+    pub places: OrderedLists,
     /// The ready members of sets: calls, and host works.
-    pub ready_calls: SeatLinks,
-    pub ready_works: SeatLinks,
+    pub ready_calls: OrderedLists,
+    pub ready_works: OrderedLists,
     /// The live works, in order of number.
     pub polled: Links<LiveWork>,
     /// The node of the work that was polled last: where the search for the next one begins.
     pub polled_last: Option<Node>,
     /// The entries at high and low, and of each instance there.
     pub marks: Links<Queued>,
-    pub shelves: Links<Queued>,
+    pub instance_queues: Links<Queued>,
     /// The callers of threads.
     pub behind: Links<Follower>,
     /// The chains of high, of low and of the live works, made with the first instance or work.
@@ -67,7 +67,7 @@ pub struct CoreParts {
     pub current: Option<TableId<ThreadKey>>,
     /// The rooms for results, by the numbers of calls by main: of each that is there or whose result was not taken.
     pub results: ResultRooms,
-    pub kept: Kept,
+    pub kept: CachedCounts,
     /// The groups up to this number were finished by the trap of the store.
     pub finished: u64,
     /// The groups that have ended since they were last asked for. There is room for the live ones too.
@@ -76,18 +76,18 @@ pub struct CoreParts {
     pub table_places: TablePlaces,
     /// How many entries the resource table has room for.
     pub capacity: usize,
-    pub made: Made,
+    pub made: MadeCounts,
     pub trapped: bool,
 }
 
-const NOTHING_MADE: Made = Made {
+const NOTHING_MADE: MadeCounts = MadeCounts {
     threads: 0,
     works: 0,
     sets: 0,
     groups: 0,
 };
 
-const NOTHING_KEPT: Kept = Kept {
+const NOTHING_KEPT: CachedCounts = CachedCounts {
     used: 0,
     groups: 0,
     interesting: 0,
@@ -114,14 +114,14 @@ const NO_ENTRY: Queued = Queued {
     place: 0,
     instance: None,
     mark: NO_NODE,
-    shelf: NO_NODE,
+    instance_queue: NO_NODE,
 };
 
 impl CoreParts {
     /// A core in which nothing was made: no instance, a limit of 100,000 handles, and room for
     /// 1,000,000 entries.
     pub fn new(alloc: Global) -> CoreParts
-        ensures sound { IsSound result }
+        ensures sound { IsSoundCore result }
         ensures seen { seen result ≡ nothing }
     {
         CoreParts {
@@ -133,13 +133,13 @@ impl CoreParts {
             groups: RecordTable::new(alloc),
             instances: Vec::new(alloc),
             counter: HandleCounter::new(100_000),
-            places: SeatLinks::new(alloc),
-            ready_calls: SeatLinks::new(alloc),
-            ready_works: SeatLinks::new(alloc),
+            places: OrderedLists::new(alloc),
+            ready_calls: OrderedLists::new(alloc),
+            ready_works: OrderedLists::new(alloc),
             polled: Links::new(alloc, NO_WORK),
             polled_last: None,
             marks: Links::new(alloc, NO_ENTRY),
-            shelves: Links::new(alloc, NO_ENTRY),
+            instance_queues: Links::new(alloc, NO_ENTRY),
             behind: Links::new(alloc, NO_THREAD),
             high: None,
             low: None,

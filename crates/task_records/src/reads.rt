@@ -5,23 +5,23 @@ ghost use Rattle.task_records.specs.Instances.{handle_table, named_of, thread_of
 ghost use Rattle.task_records.specs.Kinds.{item_of};
 ghost use Rattle.task_records.specs.Keys.{thread_key};
 ghost use Rattle.task_records.specs.Names.{IsHeldNamed, StandsAt, kinds};
-ghost use Rattle.task_records.specs.Seen.{IsSound, parts_of, seen};
-ghost use Rattle.task_table.specs.Answers.{item_at};
+ghost use Rattle.task_records.specs.Seen.{IsSoundCore, parts_of, seen};
+ghost use Rattle.task_table.specs.TableAnswers.{item_at};
 ghost use Rattle.task_words.specs.StateView.{call_of, set_of, thread_of, work_of};
 
-use crate::calls::GuestTask;
-use crate::instances::InstanceRecord;
+use crate::call_records::GuestTask;
+use crate::instance_records::InstanceRecord;
 use crate::parts::CoreParts;
-use crate::sets::WaitSet;
-use crate::threads::GuestThread;
-use crate::works::HostWork;
-use task_handles::{Held, Rep};
+use crate::set_records::WaitSet;
+use crate::thread_records::GuestThread;
+use crate::work_records::WorkRecord;
+use task_handles::{HeldItem, Rep};
 use task_wait::{GuestTaskKey, HostTaskKey, SetKey, ThreadKey};
 use task_words::{CallId, SetId, ThreadId, WorkId};
 
 /// The record of a thread, if the id names one.
 pub fn thread(parts: &CoreParts, id: ThreadId) -> Option<&GuestThread>
-    requires { IsSound parts.now }
+    requires { IsSoundCore parts.now }
     ensures is { option_map (λ g. g.now.thread) result ≡ get (seen parts.now).core.threads (thread_of (seen parts.now) id) }
     ensures item { IfSome result (λ g. Ok g.now ≡ item_at item_of parts.now.threads id.rep id.serial) }
     ensures number { IfSome result (λ g. g.now.number ≡ thread_of (seen parts.now) id) }
@@ -37,7 +37,7 @@ pub fn thread(parts: &CoreParts, id: ThreadId) -> Option<&GuestThread>
 
 /// The record of a thread that is there: nothing is tested.
 pub fn thread_there(parts: &CoreParts, id: ThreadId) -> &GuestThread
-    requires sound { IsSound parts.now }
+    requires sound { IsSoundCore parts.now }
     requires live { 0 < thread_of (seen parts.now) id }
     ensures is { Some result.now.thread ≡ get (seen parts.now).core.threads (thread_of (seen parts.now) id) }
     ensures item { Ok result.now ≡ item_at item_of parts.now.threads id.rep id.serial }
@@ -49,7 +49,7 @@ pub fn thread_there(parts: &CoreParts, id: ThreadId) -> &GuestThread
 
 /// The record of a call, if the id names one.
 pub fn call(parts: &CoreParts, id: CallId) -> Option<&GuestTask>
-    requires { IsSound parts.now }
+    requires { IsSoundCore parts.now }
     ensures is { option_map (λ g. g.now.call) result ≡ get (seen parts.now).core.calls (call_of (seen parts.now) id) }
     ensures item { IfSome result (λ g. Ok g.now ≡ item_at item_of parts.now.calls id.rep id.serial) }
     ensures number { IfSome result (λ g. g.now.number ≡ call_of (seen parts.now) id) }
@@ -63,7 +63,7 @@ pub fn call(parts: &CoreParts, id: CallId) -> Option<&GuestTask>
 
 /// The record of a call that is there: nothing is tested.
 pub fn call_there(parts: &CoreParts, id: CallId) -> &GuestTask
-    requires sound { IsSound parts.now }
+    requires sound { IsSoundCore parts.now }
     requires live { 0 < call_of (seen parts.now) id }
     ensures is { Some result.now.call ≡ get (seen parts.now).core.calls (call_of (seen parts.now) id) }
     ensures item { Ok result.now ≡ item_at item_of parts.now.calls id.rep id.serial }
@@ -73,8 +73,8 @@ pub fn call_there(parts: &CoreParts, id: CallId) -> &GuestTask
 }
 
 /// The record of a host work, if the id names one.
-pub fn work(parts: &CoreParts, id: WorkId) -> Option<&HostWork>
-    requires { IsSound parts.now }
+pub fn work(parts: &CoreParts, id: WorkId) -> Option<&WorkRecord>
+    requires { IsSoundCore parts.now }
     ensures is { option_map (λ g. g.now.work) result ≡ get (seen parts.now).core.works (work_of (seen parts.now) id) }
     ensures item { IfSome result (λ g. Ok g.now ≡ item_at item_of parts.now.works id.rep id.serial) }
     ensures number { IfSome result (λ g. g.now.number ≡ work_of (seen parts.now) id) }
@@ -87,8 +87,8 @@ pub fn work(parts: &CoreParts, id: WorkId) -> Option<&HostWork>
 }
 
 /// The record of a host work that is there: nothing is tested.
-pub fn work_there(parts: &CoreParts, id: WorkId) -> &HostWork
-    requires sound { IsSound parts.now }
+pub fn work_there(parts: &CoreParts, id: WorkId) -> &WorkRecord
+    requires sound { IsSoundCore parts.now }
     requires live { 0 < work_of (seen parts.now) id }
     ensures is { Some result.now.work ≡ get (seen parts.now).core.works (work_of (seen parts.now) id) }
     ensures item { Ok result.now ≡ item_at item_of parts.now.works id.rep id.serial }
@@ -99,7 +99,7 @@ pub fn work_there(parts: &CoreParts, id: WorkId) -> &HostWork
 
 /// The record of a set, if the id names one.
 pub fn set(parts: &CoreParts, id: SetId) -> Option<&WaitSet>
-    requires { IsSound parts.now }
+    requires { IsSoundCore parts.now }
     ensures is { option_map (λ g. g.now.set) result ≡ get (seen parts.now).core.sets (set_of (seen parts.now) id) }
     ensures item { IfSome result (λ g. Ok g.now ≡ item_at item_of parts.now.sets id.rep id.serial) }
     ensures number { IfSome result (λ g. g.now.number ≡ set_of (seen parts.now) id) }
@@ -113,7 +113,7 @@ pub fn set(parts: &CoreParts, id: SetId) -> Option<&WaitSet>
 
 /// The record of a set that is there: nothing is tested.
 pub fn set_there(parts: &CoreParts, id: SetId) -> &WaitSet
-    requires sound { IsSound parts.now }
+    requires sound { IsSoundCore parts.now }
     requires live { 0 < set_of (seen parts.now) id }
     ensures is { Some result.now.set ≡ get (seen parts.now).core.sets (set_of (seen parts.now) id) }
     ensures item { Ok result.now ≡ item_at item_of parts.now.sets id.rep id.serial }
@@ -137,8 +137,8 @@ pub fn instance(parts: &CoreParts, index: u32) -> Option<&InstanceRecord>
 }
 
 /// What a handle of an instance names; the numbers past those of handles name nothing.
-pub fn held(parts: &CoreParts, index: u32, handle: u64) -> Option<Held>
-    requires { IsSound parts.now }
+pub fn held(parts: &CoreParts, index: u32, handle: u64) -> Option<HeldItem>
+    requires { IsSoundCore parts.now }
     ensures is { option_map named_of result ≡ named_by (seen parts.now).core.handles index handle }
     ensures named { IfSome result (λ held. IsHeldNamed (kinds (parts_of parts.now)) held.kind held.rep) }
     ensures small { IfSome result (λ held. handle < 2 ^ 32) }
@@ -157,7 +157,7 @@ pub fn held(parts: &CoreParts, index: u32, handle: u64) -> Option<Held>
 
 /// What a thread handle of an instance names; the numbers past those of handles name nothing.
 pub fn held_thread(parts: &CoreParts, index: u32, handle: u64) -> Option<Rep>
-    requires { IsSound parts.now }
+    requires { IsSoundCore parts.now }
     ensures is { option_map thread_named result ≡ thread_at index handle (seen parts.now).core }
     ensures named { IfSome result (λ rep. StandsAt thread_key parts.now.threads rep.id rep.serial) }
 {

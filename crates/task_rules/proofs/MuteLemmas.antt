@@ -1,5 +1,5 @@
 -- What a label says of the ends of subtasks.
-use Rattle.task_rules.proofs.Machine.{ap, arith, Bool, Core, end_for, EndTells, EndWords, Frees, handed_as, HandsOut, host_taken, how_far_of, HowFar, is_none, Label, None, Option, Scene, Some, Status, Subtask, sym, sync_answered, true, Writes, written_as, ℕ, ◌&&◌, ◌∙◌, ◌≡◌}
+use Rattle.task_rules.proofs.Machine.{ap, arith, Bool, Core, end_for, EndTells, EndPrimitives, Frees, handed_as, HandsOut, host_taken, op_progress_of, OpProgress, is_none, Label, None, Option, Scene, Some, Status, Subtask, sym, sync_answered, true, Writes, written_as, ℕ, ◌&&◌, ◌∙◌, ◌≡◌}
 
 pub none_said : {X : Type 0} {A : Type 0} {o : Option X} {x : X} → o ≡ None → o ≡ Some x → A
 none_said none is = absurd (grind (arith, none, is))
@@ -17,7 +17,7 @@ is_mute a t k = is_none (written_as a.ops a.base k t) && (is_none (handed_as a.o
 
 -- What the label k of the step says of ends: those that it writes, and those that it hands out.
 module _ (a : Scene) (t : Core) {k : Label} (is : a.label ≡ k) where
-  pub says_by : is_other k ≡ true → ((sub : Subtask) (e : Status) → written_as a.ops a.base k t ≡ Some (end_for e sub) → Writes a t sub × EndTells a t sub e) → ((sub : Subtask) (e : Status) → handed_as a.ops a.main a.base k t ≡ Some (end_for e sub) → HandsOut a t sub e) → EndWords a t
+  pub says_by : is_other k ≡ true → ((sub : Subtask) (e : Status) → written_as a.ops a.base k t ≡ Some (end_for e sub) → Writes a t sub × EndTells a t sub e) → ((sub : Subtask) (e : Status) → handed_as a.ops a.main a.base k t ≡ Some (end_for e sub) → HandsOut a t sub e) → EndPrimitives a t
   says_by other writes hands = record {
     writes = λ sub e says. (writes sub e (ap (λ (y : Label). written_as a.ops a.base y t) (sym is) ∙ says)).0;
     hands = λ sub e out. hands sub e (ap (λ (y : Label). handed_as a.ops a.main a.base y t) (sym is) ∙ out);
@@ -26,20 +26,20 @@ module _ (a : Scene) (t : Core) {k : Label} (is : a.label ≡ k) where
     answers = λ n at. none_said (both_none (host_taken k) (sync_answered k) other).1 (ap sync_answered (sym is) ∙ at);
   }
 
-  pub hands_by : is_other k ≡ true → written_as a.ops a.base k t ≡ None → ((sub : Subtask) (e : Status) → handed_as a.ops a.main a.base k t ≡ Some (end_for e sub) → HandsOut a t sub e) → EndWords a t
+  pub hands_by : is_other k ≡ true → written_as a.ops a.base k t ≡ None → ((sub : Subtask) (e : Status) → handed_as a.ops a.main a.base k t ≡ Some (end_for e sub) → HandsOut a t sub e) → EndPrimitives a t
   hands_by other none hands = says_by other (λ sub e says. none_said none says) hands
 
-  pub writes_by : is_other k ≡ true → handed_as a.ops a.main a.base k t ≡ None → ((sub : Subtask) (e : Status) → written_as a.ops a.base k t ≡ Some (end_for e sub) → Writes a t sub × EndTells a t sub e) → EndWords a t
+  pub writes_by : is_other k ≡ true → handed_as a.ops a.main a.base k t ≡ None → ((sub : Subtask) (e : Status) → written_as a.ops a.base k t ≡ Some (end_for e sub) → Writes a t sub × EndTells a t sub e) → EndPrimitives a t
   writes_by other none writes = says_by other writes (λ sub e out. none_said none out)
 
-  pub mute_words : is_mute a t k ≡ true → EndWords a t
+  pub mute_words : is_mute a t k ≡ true → EndPrimitives a t
   mute_words mute =
       let p = both_none (written_as a.ops a.base k t) (handed_as a.ops a.main a.base k t) (grind arith) in
       hands_by (grind arith) p.0 (λ sub e out. none_said p.1 out)
 
   -- the entry of a host's work is taken
   pub takes_by : is_none (written_as a.ops a.base k t) && (is_none (handed_as a.ops a.main a.base k t) && is_none (sync_answered k)) ≡ true →
-      ((i : ℕ) → host_taken k ≡ Some i → Frees a t (Subtask.Host i)) → EndWords a t
+      ((i : ℕ) → host_taken k ≡ Some i → Frees a t (Subtask.Host i)) → EndPrimitives a t
   takes_by mute frees =
       let p = both_none (written_as a.ops a.base k t) (handed_as a.ops a.main a.base k t) (grind arith) in record {
         writes = λ sub e says. none_said p.0 (ap (λ (y : Label). written_as a.ops a.base y t) (sym is) ∙ says);
@@ -51,8 +51,8 @@ module _ (a : Scene) (t : Core) {k : Label} (is : a.label ≡ k) where
 
   -- a `call_sync` is answered, and the op that has the answer is done
   pub answers_by : is_none (written_as a.ops a.base k t) && is_none (host_taken k) ≡ true →
-      ((n : ℕ) → sync_answered k ≡ Some n → how_far_of n t ≡ HowFar.Fresh) →
-      ((sub : Subtask) (e : Status) → handed_as a.ops a.main a.base k t ≡ Some (end_for e sub) → HandsOut a t sub e) → EndWords a t
+      ((n : ℕ) → sync_answered k ≡ Some n → op_progress_of n t ≡ OpProgress.Fresh) →
+      ((sub : Subtask) (e : Status) → handed_as a.ops a.main a.base k t ≡ Some (end_for e sub) → HandsOut a t sub e) → EndPrimitives a t
   answers_by quiet fresh hands =
       let p = both_none (written_as a.ops a.base k t) (host_taken k) quiet in record {
         writes = λ sub e says. none_said p.0 (ap (λ (y : Label). written_as a.ops a.base y t) (sym is) ∙ says);

@@ -1,5 +1,5 @@
 -- A change of where threads are leaves all else.
-use Rattle.task_rules.proofs.Machine.{[], after_placing, after_word, ap, ap₂, arith, behind, behind_one, Bool, Call, callers_of, Chain, Core, Entry, false, foot_of, get, get-change, has_entry, has_ready_member, how_far_of, if◌then◌else◌, inl, inr, instance_of, is_explicit, is_ready_member, IsShift, less, List, list_any, map, Mark, may, MayLeave, MayShift, nat_tests, newest, next_entry, None, numbers, older, on_thread, Option, option_map, or_high, passed_on, Place, placed_as, Places, Placing, Pop, popped, Promote, promoted, push_high, push_high_first, push_low, Put, put_high, put_low, put_switch, Records, refl, rest_of, resumed_all, Scene, set_callers, set_high, set_low, set_place, set_switch, Shifts, Some, Stop, stopped, subst, Subtask, subtasks, sym, task_of, Then, Thread, true, unqueued, Why, Word, Work, ℕ, ◌++◌, ◌∙◌, ◌∷◌, ◌≡◌, ◌⊎◌}
+use Rattle.task_rules.proofs.Machine.{[], after_placing, after_primitive, ap, ap₂, arith, behind, behind_one, Bool, Call, callers_of, Chain, Core, Entry, false, foot_of, get, get-change, has_entry, has_ready_member, op_progress_of, if◌then◌else◌, inl, inr, instance_of, is_explicit, is_ready_member, IsShift, less, List, list_any, map, Mark, may, MayLeave, MayShift, nat_tests, newest, next_entry, None, numbers, older, on_thread, Option, option_map, or_high, passed_on, Place, placed_as, Places, Placing, Pop, popped, Promote, promoted, push_high, push_high_first, push_low, Put, put_high, put_low, put_switch, Records, refl, rest_of, resumed_all, Scene, set_callers, set_high, set_low, set_place, set_switch, Shifts, Some, Stop, stopped, subst, Subtask, subtasks, sym, task_of, Then, Thread, true, unqueued, Why, Primitive, Work, ℕ, ◌++◌, ◌∙◌, ◌∷◌, ◌≡◌, ◌⊎◌}
 use Rattle.task_rules.proofs.ChainLemmas.{along}
 
 -- the record of a thread but for its place
@@ -33,7 +33,7 @@ module _ {s t : Core} (h : Shifted s t) where
   pub shifted_explicit : (n : ℕ) → is_explicit n t ≡ is_explicit n s
   shifted_explicit n = grind (arith, h.threads n)
 
-  pub shifted_far : (n : ℕ) → how_far_of n t ≡ how_far_of n s
+  pub shifted_far : (n : ℕ) → op_progress_of n t ≡ op_progress_of n s
   shifted_far n = grind (arith, h.threads n)
 
   pub shifted_calls : t.calls ≡ s.calls
@@ -91,7 +91,7 @@ pub popped_shifted : (m : Mark) (s : Core) → Shifted s (popped m s)
 popped_shifted m s = placing_shifted (Pop m) s
 
 -- so it is with a chain of them
-word_shifted : {b : Core} (w : Word) (s : Core) → IsShift w s → Shifted b s → Shifted b (after_word w s)
+word_shifted : {b : Core} (w : Primitive) (s : Core) → IsShift w s → Shifted b s → Shifted b (after_primitive w s)
 word_shifted {b = b} (Places p) s ok h =
     subst (λ (c : Core). Shifted b c) (sym (placing_shifted p s).only) (shifted_after h (placing_shifted p s))
 word_shifted {b = b} _ s ok h = absurd ok
@@ -100,7 +100,7 @@ pub shifts_shifted : {b t : Core} → Shifts b t → Shifted b t
 shifts_shifted {b = b} c = along (λ t. Shifted b t) word_shifted (shifted_same b) c
 
 -- the words that put and move, as they stand in the rows
-pub placed : {may : Word → Core → Type 0} {b s : Core} (p : Placing) → may (Places p) s → Chain may b s → Chain may b (after_placing p s)
+pub placed : {may : Primitive → Core → Type 0} {b s : Core} (p : Placing) → may (Places p) s → Chain may b s → Chain may b (after_placing p s)
 placed {may = may} {b = b} {s = s} p ok c = subst (λ (t : Core). Chain may b t) (placing_shifted p s).only (Then s (Places p) c ok)
 
 -- ---- The entries of works

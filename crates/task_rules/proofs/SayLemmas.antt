@@ -1,10 +1,10 @@
 -- What labels say of the ends of calls: the events that are taken.
-use Rattle.task_rules.proofs.Machine.{[], and_parts, ap, arith, Bool, call_settled, Choice, chosen, Core, end_answered, end_for, event_of, false, find, finished_call, get, get-change, get-remove, get-remove_same, Gift, gift, gift_after_own, given_for, group_settled, handed_by_event, handed_out, HandsOut, has_result, if◌then◌else◌, instance_of, is_handed_end, is_none, List, map, MemberGift, nat_cmp, nat_tests, NoGift, None, numbers, on_call, on_work, Option, option_and_then, option_map, option_map_or, option_or, OwnEvent, OwnGift, Records, refl, remove, remove_call, remove_group, Scene, set_event, set_result, Some, Status, status_code, subst, Subtask, subtask_at, SubtaskEnd, take_result, taken, TakesEvent, true, undelivered_end, unsigned_tied, unwrap_or, ℕ, ◌&&◌, ◌==◌, ◌∙◌, ◌∷◌, ◌≡◌}
+use Rattle.task_rules.proofs.Machine.{[], and_parts, ap, arith, Bool, call_settled, Choice, chosen, Core, end_answered, end_for, event_of, false, find, finished_call, get, get-change, get-remove, get-remove_same, PickedEvent, picked_event, picked_event_after_own, given_for, group_settled, handed_by_event, handed_out, HandsOut, has_result, if◌then◌else◌, instance_of, is_handed_end, is_none, List, map, PickedMember, nat_cmp, nat_tests, NothingPicked, None, numbers, on_call, on_work, Option, option_and_then, option_map, option_map_or, option_or, TaskEvent, PickedTaskEvent, Records, refl, remove, remove_call, remove_group, Scene, set_event, set_result, Some, Status, status_code, subst, Subtask, subtask_at, SubtaskEnd, take_result, taken, TakesEvent, true, undelivered_end, unsigned_tied, unwrap_or, ℕ, ◌&&◌, ◌==◌, ◌∙◌, ◌∷◌, ◌≡◌}
 use Rattle.task_rules.proofs.StopLemmas.{find_passes}
 use Rattle.std.specs.FinMap.Entries.{find as seek}
 
 -- the handle that the choice shows names the member
-member_at : (o : Option OwnEvent) (n y : ℕ) (ch : Choice) (s : Core) (sub : Subtask) → gift_after_own o y (chosen n ch s) s ≡ Some (MemberGift sub) → subtask_at (instance_of n s) (unwrap_or ch.member 0) s ≡ Some sub
+member_at : (o : Option TaskEvent) (n y : ℕ) (ch : Choice) (s : Core) (sub : Subtask) → picked_event_after_own o y (chosen n ch s) s ≡ Some (PickedMember sub) → subtask_at (instance_of n s) (unwrap_or ch.member 0) s ≡ Some sub
 member_at o n y ch s sub h = grind arith
 
 handed_as : (f : Option Status) (o : Option Subtask) (sub to : Subtask) (e : Status) → o ≡ Some sub → (if is_handed_end (unwrap_or f Status.Starting) then option_map (end_for (unwrap_or f Status.Starting)) o else None) ≡ Some (end_for e to) → (sub ≡ to) × (undelivered_end f ≡ Some e)
@@ -19,11 +19,11 @@ unfolding set_event on_call on_work
 event_gone sub s t calls works = grind (arith, nat_tests, get-change, calls, works)
 
 -- a gift that hands an end out is its subtask's event, which is gone once the gift is taken
-pub given_out : {a : Scene} (by : Bool) (n j y : ℕ) (ch : Choice) (g : Gift) (k : ℕ) (u : Core) {t : Core} → gift by j y (chosen n ch a.base) a.base ≡ Some g → t.calls ≡ (taken g k u).calls → t.works ≡ (taken g k u).works → (to : Subtask) (e : Status) → handed_by_event n a.base (handed_out ch a.base g) ≡ Some (end_for e to) → HandsOut a t to e
-unfolding gift given_for taken
-given_out by n j y ch (OwnGift event) k u is calls works to e out = absurd (grind arith)
-given_out by n j y ch NoGift k u is calls works to e out = absurd (grind arith)
-given_out {a = a} by n j y ch (MemberGift sub) k u {t = t} is calls works to e out =
+pub given_out : {a : Scene} (by : Bool) (n j y : ℕ) (ch : Choice) (g : PickedEvent) (k : ℕ) (u : Core) {t : Core} → picked_event by j y (chosen n ch a.base) a.base ≡ Some g → t.calls ≡ (taken g k u).calls → t.works ≡ (taken g k u).works → (to : Subtask) (e : Status) → handed_by_event n a.base (handed_out ch a.base g) ≡ Some (end_for e to) → HandsOut a t to e
+unfolding picked_event given_for taken
+given_out by n j y ch (PickedTaskEvent event) k u is calls works to e out = absurd (grind arith)
+given_out by n j y ch NothingPicked k u is calls works to e out = absurd (grind arith)
+given_out {a = a} by n j y ch (PickedMember sub) k u {t = t} is calls works to e out =
     let q = handed_as (event_of sub a.base) (subtask_at (instance_of n a.base) (unwrap_or ch.member 0) a.base) sub to e (member_at _ n y ch a.base sub is) out in
     subst (λ (d : Subtask). HandsOut a t d e) q.0 (TakesEvent sub e q.1 (event_gone sub u t calls works))
 

@@ -136,8 +136,8 @@ module _ {P : ℕ → Watch} (n : ℕ) (q : Option Place) where
       (adds_stand m (Place.Behind g) s (behind_one g m s) adds n q xs st)
 
   -- a thread is loose or has its place, so its number was given
-  pub given_there : (xs : List ℕ) (s : Core) → Stand P n q xs s → (k : ℕ) → is_there k s ≡ true → Given k s
-  given_there xs s st k h = (h, grind (arith, once_or_not (times k (n ∷ xs)) (st.once k), st.placed k, st.loose k))
+  pub given_unchecked : (xs : List ℕ) (s : Core) → Stand P n q xs s → (k : ℕ) → is_there k s ≡ true → Given k s
+  given_unchecked xs s st k h = (h, grind (arith, once_or_not (times k (n ∷ xs)) (st.once k), st.placed k, st.loose k))
 
   -- what stands at switch is there
   pub switch_there : (xs : List ℕ) (s : Core) → Stand P n q xs s → (m : ℕ) → s.queues.switch ≡ Some m → is_there m s ≡ true
@@ -145,7 +145,7 @@ module _ {P : ℕ → Watch} (n : ℕ) (q : Option Place) where
 
   passed_on_stand : (o : Option ℕ) (xs : List ℕ) (s : Core) → s.queues.switch ≡ o → Stand P n q xs s → Stand P n q [] (passed_on o xs s)
   passed_on_stand (Some m) xs s e st =
-      behind_all_stand (foot_of m s) xs s (given_there xs s st (foot_of m s) (foot_there m s (switch_there xs s st m e))) st
+      behind_all_stand (foot_of m s) xs s (given_unchecked xs s st (foot_of m s) (foot_there m s (switch_there xs s st m e))) st
   passed_on_stand None [] s e st = st
   passed_on_stand None (m ∷ xs) s e st =
       let u = stand_as (m ∷ xs) (newest m xs ∷ older m xs) s (λ k. omega (arith, times-newest k m xs)) st in

@@ -1,5 +1,5 @@
 -- The end of a task as a chain of words.
-use Rattle.task_rules.proofs.Machine.{after_word, ap, arith, Bool, Call, CallEnd, Caller, caller_of, cancelled, Core, EndCall, EndTells, false, get, get-change, give_result, GiveResult, Goal, goal_of, if◌then◌else◌, is_over, is_some, is_told, nat_tests, on_call, on_thread, Option, option_map_or, published, Records, refl, result_given, returned, same_map, SaysEnd, Scene, set_end, set_event, set_register, set_result, SetRegister, SetResult, Some, Status, status_of_end, subst, Subtask, sym, task_of, TellsNever, TellsNow, told, true, Walk, ℕ, ◌∙◌, ◌≡◌}
+use Rattle.task_rules.proofs.Machine.{after_primitive, ap, arith, Bool, Call, CallEnd, Caller, caller_of, cancelled, Core, EndCall, EndTells, false, get, get-change, give_result, GiveResult, Goal, goal_of, if◌then◌else◌, is_over, is_some, is_told, nat_tests, on_call, on_thread, Option, option_map_or, published, Records, refl, result_given, returned, same_map, SaysEnd, Scene, set_end, set_event, set_register, set_result, SetRegister, SetResult, Some, Status, status_of_end, subst, Subtask, sym, task_of, TellsNever, TellsNow, told, true, Walk, ℕ, ◌∙◌, ◌≡◌}
 use Rattle.task_rules.proofs.{CallThreads.LastEnds, ChainLemmas.Keep, ChainLemmas.chain_if, FreeLemmas.published_frees, PlacingLemmas.shifted_calls, PlacingLemmas.shifted_task, PlacingLemmas.shifts_shifted, WalkMoves.ToldSpares, WalkMoves.ToldTo, WalkMoves.published_shifts, WalkMoves.shifted, WalkMoves.told_at, WalkMoves.told_shifts, WalkMoves.word}
 
 given_told : (g : Goal) (f : Caller) (k v : ℕ) (e : CallEnd) (s : Core) → is_told k (result_given g f k v (set_end k e s)) ≡ is_told k s
@@ -18,7 +18,7 @@ given_spares g f k v e w s spare told y is none n =
     let free = spare (sym (given_told g f k v e s) ∙ told) y (grind (arith, nat_tests, get-change, is)) none n in grind (arith, nat_tests, get-change, free)
 
 abbrev pub call_ends : ℕ → CallEnd → Core → Core
-call_ends k e s = after_word (EndCall k e) s
+call_ends k e s = after_primitive (EndCall k e) s
 
 -- where the end is told, the word sets both
 ends_told : (k : ℕ) (e : CallEnd) (s : Core) → is_told k s ≡ true → (e ≡ CallEnd.StartCancelled → ⊥) →

@@ -7,7 +7,7 @@ use Rattle.task_machine.specs.Core.{Core, MainPlace, Scripted, Unscripted}
 use Rattle.task_machine.specs.Labels.{host_label}
 use Rattle.task_machine.specs.Maps.{get}
 use Rattle.task_machine.specs.Moves.{has_entry, is_callback_waiter, is_deletable, is_group_done}
-use Rattle.task_machine.specs.Read.{goes_open, is_open, admits, caller_of, cancel_was_delivered, course_of, course_value, end_of, event_of, goal_of, has_ended, has_member, has_waiters, how_far_of, position_of, instance_of, is_async_lifted, is_at, is_direct, is_explicit, is_joined, is_stage_ended, is_waiter, is_watched, join_of, kind_of, may_not_enter, next_entry, own_event_of, phase_of, place_of, set_at, stage_of, subtask_at, subtask_ended, subtask_handle, undelivered_end, task_of, thread_group, was_started, work_caller_of, is_guest_call, is_aborted, is_blocked_on, foot_of, has_ready_member}
+use Rattle.task_machine.specs.Read.{goes_open, is_open, admits, caller_of, cancel_was_delivered, course_of, course_value, end_of, event_of, goal_of, has_ended, has_member, has_waiters, op_progress_of, position_of, instance_of, is_async_lifted, is_at, is_direct, is_explicit, is_joined, is_stage_ended, is_waiter, is_watched, join_of, kind_of, may_not_enter, next_entry, task_event_of, phase_of, place_of, set_at, stage_of, subtask_at, subtask_ended, subtask_handle, undelivered_end, task_of, thread_group, was_started, work_caller_of, is_guest_call, is_aborted, is_blocked_on, foot_of, has_ready_member}
 use Rattle.task_machine.specs.Write.{set_backpressure, set_do_not_enter}
 use Rattle.task_machine.specs.declared.component.Callee.{Callee}
 use Rattle.task_machine.specs.declared.component.ExportKind.{ExportKind}
@@ -16,7 +16,7 @@ use Rattle.task_machine.specs.declared.records.CallEnd.{CallEnd}
 use Rattle.task_machine.specs.declared.records.Caller.{Caller}
 use Rattle.task_machine.specs.declared.records.Delivery.{Delivery}
 use Rattle.task_machine.specs.declared.records.Goal.{Goal}
-use Rattle.task_machine.specs.declared.records.HowFar.{HowFar}
+use Rattle.task_machine.specs.declared.records.OpProgress.{OpProgress}
 use Rattle.task_machine.specs.declared.records.Join.{Join}
 use Rattle.task_machine.specs.declared.records.Place.{Place}
 use Rattle.task_machine.specs.declared.records.Subtask.{Subtask}
@@ -25,7 +25,7 @@ use Rattle.task_machine.specs.declared.records.Why.{Why}
 use Rattle.task_machine.specs.declared.records.WorkCaller.{WorkCaller}
 use Rattle.task_machine.specs.declared.scenario.MainOpDef.{MainOpDef}
 use Rattle.task_machine.specs.declared.words.Mark.{Mark}
-use Rattle.task_machine.specs.declared.words.OwnEvent.{OwnEvent}
+use Rattle.task_machine.specs.declared.words.TaskEvent.{TaskEvent}
 use Rattle.task_machine.specs.declared.words.Status.{Status}
 use Rattle.task_rules.specs.Calls.{new_thread, next_thread, next_work}
 use Rattle.task_rules.specs.Cancels.{aborted_phase, is_callback_wait}
@@ -38,7 +38,7 @@ use Rattle.task_rules.specs.Scenes.{Scene, component_of, op_in}
 use Rattle.task_rules.specs.Scripts.{HasOpen, export_kind, is_script, registers_for, script_of, slot_at}
 use Rattle.task_rules.specs.Threads.{resume_why}
 use Rattle.task_rules.specs.Takes.{starting_is_published}
-use Rattle.task_rules.specs.Words.{AddGroup, Advance, Restart, CloseSet, CountWork, EndWork, Enter, FinishWork, GoBehind, MakeCall, MakeThread, Move, NameCall, NameWork, OpenSet, Pend, Places, Placing, Pop, Promote, Put, QueueWork, RemoveCall, RemoveGroup, RemoveThread, RemoveWork, SetCallEvent, SetCallJoin, SetCancelDelivered, SetCancelled, SetBackpressure, SetDoNotEnter, EndCall, SetHowFar, SetOwnEvent, SetPhase, SetStarted, TakeWorkEvent, SetWorkJoin, Stop, TakeHost, TakePush, UnnameCall, UnnameWork, Withdraw, Word, status_of_end, GiveResult, SetUninteresting, SetTrapped}
+use Rattle.task_rules.specs.Words.{AddGroup, Advance, Restart, CloseSet, CountWork, EndWork, Enter, FinishWork, GoBehind, MakeCall, MakeThread, Move, NameCall, NameWork, OpenSet, Pend, Places, Placing, Pop, Promote, Put, QueueWork, RemoveCall, RemoveGroup, RemoveThread, RemoveWork, SetCallEvent, SetCallJoin, SetCancelDelivered, SetCancelled, SetBackpressure, SetDoNotEnter, EndCall, SetOpProgress, SetTaskEvent, SetPhase, SetStarted, TakeWorkEvent, SetWorkJoin, Stop, TakeHost, TakePush, UnnameCall, UnnameWork, Withdraw, Primitive, status_of_end, GiveResult, SetUninteresting, SetTrapped}
 use Rattle.task_rules.specs.Works.{next_polled, has_end, is_ended_work}
 use Rattle.task_rules.specs.SubtaskEnds.{end_for, written_as, direct_return}
 use Rattle.task_machine.specs.declared.words.Mark.TheVariants as mark
@@ -50,7 +50,7 @@ use Rattle.task_machine.specs.declared.records.Caller.TheVariants as caller
 use Rattle.task_machine.specs.declared.records.Delivery.TheVariants as delivery
 use Rattle.task_machine.specs.declared.records.Entry.TheVariants as entry
 use Rattle.task_machine.specs.declared.records.Goal.TheVariants as goal
-use Rattle.task_machine.specs.declared.records.HowFar.TheVariants as how_far
+use Rattle.task_machine.specs.declared.records.OpProgress.TheVariants as op_progress
 use Rattle.task_machine.specs.declared.records.Join.TheVariants as join
 use Rattle.task_machine.specs.declared.records.Place.TheVariants as place
 use Rattle.task_machine.specs.declared.records.Script.TheVariants as script
@@ -58,7 +58,7 @@ use Rattle.task_machine.specs.declared.records.Subtask.TheVariants as subtask
 use Rattle.task_machine.specs.declared.records.Turn.TheVariants as turn
 use Rattle.task_machine.specs.declared.records.Why.TheVariants as why
 use Rattle.task_machine.specs.declared.records.WorkCaller.TheVariants as work_caller
-use Rattle.task_machine.specs.declared.words.OwnEvent.TheVariants as own
+use Rattle.task_machine.specs.declared.words.TaskEvent.TheVariants as own
 use Rattle.task_machine.specs.declared.words.Status.TheVariants as status
 
 -- ---- The thread that runs or was taken
@@ -96,24 +96,24 @@ is_exit _ = false
 -- delivery for it.
 pub data HasSet (a : Scene) (n x : ℕ) : Type 0 where
   BySetHandle : (h : ℕ) → set_at (instance_of n a.base) h a.base ≡ Some x → HasSet a n x
-  ByWait : how_far_of n a.base ≡ how_far.Waits x → HasSet a n x
+  ByWait : op_progress_of n a.base ≡ op_progress.Waits x → HasSet a n x
   ByDelivery : WasReady a n (why.Delivery (delivery.Set x)) → HasSet a n x
 
 -- the subtask that an op under way is about
-abbrev pub subtask_under_way : HowFar → Option Subtask
-subtask_under_way (how_far.Calls sub) = Some sub
-subtask_under_way (how_far.Cancels sub) = Some sub
-subtask_under_way (how_far.AwaitsEnd sub) = Some sub
+abbrev pub subtask_under_way : OpProgress → Option Subtask
+subtask_under_way (op_progress.Calls sub) = Some sub
+subtask_under_way (op_progress.Cancels sub) = Some sub
+subtask_under_way (op_progress.AwaitsEnd sub) = Some sub
 subtask_under_way _ = None
 
 -- What makes the subtask one of the thread's: a handle of its instance names it, or its op is about it.
 pub data HasSubtask (a : Scene) (n : ℕ) (sub : Subtask) : Type 0 where
   ByHandle : (h : ℕ) → subtask_at (instance_of n a.base) h a.base ≡ Some sub → HasSubtask a n sub
-  ByOp : subtask_under_way (how_far_of n a.base) ≡ Some sub → HasSubtask a n sub
+  ByOp : subtask_under_way (op_progress_of n a.base) ≡ Some sub → HasSubtask a n sub
 
 -- the op cancels the subtask already
 abbrev pub Cancelling : Scene → ℕ → Subtask → Type 0
-Cancelling a n sub = (how_far_of n a.base ≡ how_far.Cancels sub) ⊎ (how_far_of n a.base ≡ how_far.AwaitsEnd sub)
+Cancelling a n sub = (op_progress_of n a.base ≡ op_progress.Cancels sub) ⊎ (op_progress_of n a.base ≡ op_progress.AwaitsEnd sub)
 
 -- the op cancels a subtask that a handle names, or cancels it already
 abbrev pub MayCancel : Scene → ℕ → Subtask → Type 0
@@ -131,7 +131,7 @@ watches n (subtask.Host i) s = option_map_or (λ w. is_watched_by n w.join) (get
 -- the subtask is in no thread's own set, or in that of the running thread, whose op is done
 abbrev pub MayPart : Scene → ℕ → Subtask → Core → Type 0
 MayPart a n sub s = (is_watched (join_of sub s) ≡ false) ⊎
-    (Cancelling a n sub × ((how_far_of n s ≡ how_far.Fresh) × (join_of sub s ≡ join_of sub a.base)))
+    (Cancelling a n sub × ((op_progress_of n s ≡ op_progress.Fresh) × (join_of sub s ≡ join_of sub a.base)))
 
 -- a handle of the running thread's instance names it
 abbrev pub IsNamed : Scene → Subtask → Type 0
@@ -266,32 +266,32 @@ IsCalled n k s = (caller_of k s ≡ caller.Thread n) × (subtask_handle (subtask
 
 -- the call hasn't ended, and no cancel has come to it
 abbrev pub IsUntouched : ℕ → Core → Type 0
-IsUntouched k s = (end_of k s ≡ None) × ((own_event_of k s ≡ None) × (cancel_was_delivered k s ≡ false))
+IsUntouched k s = (end_of k s ≡ None) × ((task_event_of k s ≡ None) × (cancel_was_delivered k s ≡ false))
 
 -- the thread has just made the call
 abbrev pub HasCalled : ℕ → ℕ → Core → Type 0
 HasCalled n k s = IsCalled n k s × IsUntouched k s
 
 -- how far an op comes: it waits on a set of its instance, stays inside its call or makes one, or is about a subtask of its own or a new one
-abbrev pub MayCome : Scene → ℕ → HowFar → Core → Type 0
-MayCome a n (how_far.Waits x) s = Leaves a n × (HasSet a n x × ((is_wait (op_in a n) ≡ true) ×
+abbrev pub MayCome : Scene → ℕ → OpProgress → Core → Type 0
+MayCome a n (op_progress.Waits x) s = Leaves a n × (HasSet a n x × ((is_wait (op_in a n) ≡ true) ×
     (option_map_or (is_at_wait x) (place_of n s) true ≡ true)))
-MayCome a n (how_far.Calls (subtask.Guest k)) s = IsRunner a n × (((how_far_of n a.base ≡ how_far.Calls (subtask.Guest k)) ×
-    (how_far_of n s ≡ how_far.Calls (subtask.Guest k))) ⊎ (IsNew a (subtask.Guest k) s × HasCalled n k s))
-MayCome a n (how_far.Calls (subtask.Host i)) s = IsRunner a n × (IsNew a (subtask.Host i) s × ((work_caller_of i s ≡ work_caller.Sync n) ×
+MayCome a n (op_progress.Calls (subtask.Guest k)) s = IsRunner a n × (((op_progress_of n a.base ≡ op_progress.Calls (subtask.Guest k)) ×
+    (op_progress_of n s ≡ op_progress.Calls (subtask.Guest k))) ⊎ (IsNew a (subtask.Guest k) s × HasCalled n k s))
+MayCome a n (op_progress.Calls (subtask.Host i)) s = IsRunner a n × (IsNew a (subtask.Host i) s × ((work_caller_of i s ≡ work_caller.Sync n) ×
     (option_map_or (is_blocked_on (subtask.Host i)) (place_of n s) true ≡ true)))
-MayCome a n (how_far.Cancels sub) s = Leaves a n × (MayCancel a n sub × (watches n sub s ≡ true))
-MayCome a n (how_far.AwaitsEnd sub) s = Leaves a n × (MayCancel a n sub × (watches n sub s ≡ true))
+MayCome a n (op_progress.Cancels sub) s = Leaves a n × (MayCancel a n sub × (watches n sub s ≡ true))
+MayCome a n (op_progress.AwaitsEnd sub) s = Leaves a n × (MayCancel a n sub × (watches n sub s ≡ true))
 -- its direct callee, which ran, has come to a value, and exits
-MayCome a n (how_far.Answered v) s = (m : ℕ) × (IsRunner a m × ((a.next ≡ turn.Run n) × ((place_of n a.base ≡ Some (place.Under m)) ×
+MayCome a n (op_progress.Answered v) s = (m : ℕ) × (IsRunner a m × ((a.next ≡ turn.Run n) × ((place_of n a.base ≡ Some (place.Under m)) ×
     (direct_return a.base a.label ≡ Some (n, task_of m a.base)))))
 MayCome a n h s = IsRunner a n
 
 -- Why the op can come so far.
-pub data CanCome (a : Scene) (n : ℕ) (h : HowFar) (s : Core) : Type 0 where
+pub data CanCome (a : Scene) (n : ℕ) (h : OpProgress) (s : Core) : Type 0 where
   InOp : AtOp a n s → can_come (op_in a n) h ≡ true → CanCome a n h s
   -- its direct callee was on top of it
-  WasUnder : (m v : ℕ) → place_of n a.base ≡ Some (place.Under m) → h ≡ how_far.Answered v → CanCome a n h s
+  WasUnder : (m v : ℕ) → place_of n a.base ≡ Some (place.Under m) → h ≡ op_progress.Answered v → CanCome a n h s
 
 -- the running thread's op is done, and it runs on, at a place in its script or at the end
 abbrev pub MayAdvance : Scene → ℕ → ℕ → Type 0
@@ -318,7 +318,7 @@ pub data MayGo (a : Scene) (n : ℕ) (s : Core) : Type 0 where
   -- the running thread, and the one under it goes on
   EndsOver : (m : ℕ) → IsRunner a n → a.turn ≡ turn.Run n → a.next ≡ turn.Run m → place_of m a.base ≡ Some (place.Under n) → MayGo a n s
   -- the strand that trapped: the thread that ran or was taken, and those that were under ones that are gone
-  Falls : a.next ≡ turn.Over →
+  Unwinds : a.next ≡ turn.Over →
       IsRunner a n ⊎ ((m : ℕ) × ((place_of n a.base ≡ Some (place.Under m)) × (is_none (get s.threads m) ≡ true))) → MayGo a n s
 
 -- the start of a call that a handle of the running thread's instance names, which hasn't begun or ended
@@ -392,11 +392,11 @@ IsOwn a sub = (n : ℕ) × (IsRunner a n × HasSubtask a n sub)
 pub data MayTakeEvent (a : Scene) (k : ℕ) (s : Core) : Type 0 where
   TakesNamed : IsNamed a (subtask.Guest k) → MayTakeEvent a k s
   -- its op cancels the call
-  TakesCancelled : (n : ℕ) → IsRunner a n → (how_far_of n a.base ≡ how_far.Cancels (subtask.Guest k)) ⊎
-      (how_far_of n a.base ≡ how_far.AwaitsEnd (subtask.Guest k)) → MayTakeEvent a k s
+  TakesCancelled : (n : ℕ) → IsRunner a n → (op_progress_of n a.base ≡ op_progress.Cancels (subtask.Guest k)) ⊎
+      (op_progress_of n a.base ≡ op_progress.AwaitsEnd (subtask.Guest k)) → MayTakeEvent a k s
   -- its op was inside of the call, and is done, or the call hasn't returned
-  TakesCalled : (n : ℕ) → IsRunner a n → how_far_of n a.base ≡ how_far.Calls (subtask.Guest k) →
-      (how_far_of n s ≡ how_far.Fresh) ⊎ (event_of (subtask.Guest k) s ≡ Some status.Returned → ⊥) → MayTakeEvent a k s
+  TakesCalled : (n : ℕ) → IsRunner a n → op_progress_of n a.base ≡ op_progress.Calls (subtask.Guest k) →
+      (op_progress_of n s ≡ op_progress.Fresh) ⊎ (event_of (subtask.Guest k) s ≡ Some status.Returned → ⊥) → MayTakeEvent a k s
 
 -- how far its start has come is told to the calling thread, or the running thread takes the event
 abbrev pub MayTell : Scene → ℕ → Option Status → Core → Type 0
@@ -405,21 +405,21 @@ MayTell a k None s = MayTakeEvent a k s
 
 -- Cancelled comes to a task that a handle names, and that is started and hasn't ended; to one that yields comes what it has, or None;
 -- what is there is taken by the running thread
-abbrev pub MayOwe : Scene → ℕ → Option OwnEvent → Core → Type 0
+abbrev pub MayOwe : Scene → ℕ → Option TaskEvent → Core → Type 0
 MayOwe a k (Some e) s =
     ((e ≡ own.Cancelled) × (IsNamed a (subtask.Guest k) × ((was_started k s ≡ true) × (has_ended k s ≡ false))))
-    ⊎ ((n : ℕ) × (EndsActivation a n × ((k ≡ task_of n a.base) × (own_or_none (own_event_of k a.base) ≡ Some e))))
+    ⊎ ((n : ℕ) × (EndsActivation a n × ((k ≡ task_of n a.base) × (own_or_none (task_event_of k a.base) ≡ Some e))))
 MayOwe a k None s = (n : ℕ) × (IsRunner a n × (k ≡ task_of n a.base))
 
 -- a thread that was taken with a delivery finds Cancelled as its task's own event
 abbrev pub MayDeliver : Scene → ℕ → Type 0
 MayDeliver a k = (n : ℕ) × (IsRunner a n × ((k ≡ task_of n a.base) × (((d : Delivery) × WasReady a n (why.Delivery d)) ×
-    (own_event_of k a.base ≡ Some own.Cancelled))))
+    (task_event_of k a.base ≡ Some own.Cancelled))))
 
 -- a call that nothing keeps goes where it has ended, or where the running thread's op, which was inside of it, is done
 abbrev pub MayRemoveCall : Scene → ℕ → Core → Type 0
 MayRemoveCall a k s = (is_deletable k s ≡ true) × ((has_ended k s ≡ true) ⊎ ((n : ℕ) × (IsRunner a n ×
-    ((how_far_of n a.base ≡ how_far.Calls (subtask.Guest k)) × (how_far_of n s ≡ how_far.Fresh)))))
+    ((op_progress_of n a.base ≡ op_progress.Calls (subtask.Guest k)) × (op_progress_of n s ≡ op_progress.Fresh)))))
 
 -- ---- Subtasks
 
@@ -431,7 +431,7 @@ MayJoin a sub (join.Set x) s = (n : ℕ) × ((h : ℕ) × ((g : ℕ) ×
     (IsRunner a n × ((subtask_at (instance_of n a.base) h s ≡ Some sub) × ((set_at (instance_of n a.base) g s ≡ Some x) ×
     ((is_watched (join_of sub s) ≡ false) × ((a.turn ≡ turn.Run n) × (is_join (op_in a n) ≡ true))))))))
 MayJoin a sub (join.Watched n) s = IsRunner a n ×
-    (HasSubtask a n sub × (((is_joined (join_of sub a.base) ≡ false) ⊎ (how_far_of n a.base ≡ how_far.Cancels sub)) ×
+    (HasSubtask a n sub × (((is_joined (join_of sub a.base) ≡ false) ⊎ (op_progress_of n a.base ≡ op_progress.Cancels sub)) ×
     (join_of sub s ≡ join_of sub a.base)))
 
 -- the running thread's instance gets a handle of its subtask, or of a new one
@@ -442,7 +442,7 @@ MayName a i sub s = (n : ℕ) × (IsRunner a n × ((i ≡ instance_of n a.base) 
 -- as before the step
 abbrev pub MayNameCall : Scene → ℕ → ℕ → Core → Type 0
 MayNameCall a i k s = (n : ℕ) × ((a.turn ≡ turn.Run n) × ((i ≡ instance_of n a.base) ×
-    ((how_far_of n a.base ≡ how_far.Calls (subtask.Guest k)) × ((how_far_of n s ≡ how_far.Fresh) × ((caller_of k s ≡ caller_of k a.base) ×
+    ((op_progress_of n a.base ≡ op_progress.Calls (subtask.Guest k)) × ((op_progress_of n s ≡ op_progress.Fresh) × ((caller_of k s ≡ caller_of k a.base) ×
     (subtask_handle (subtask.Guest k) s ≡ subtask_handle (subtask.Guest k) a.base))))))
 
 -- the handle names the subtask, which is in no set any more
@@ -459,7 +459,7 @@ MayQueue a work_caller.Spawn group = (group ≡ None) × (a.turn ≡ turn.Main)
 MayQueue a (work_caller.Async n q) group = IsRunner a n × ((group ≡ Some (thread_group n a.base)) × ((a.turn ≡ turn.Run n) ×
     (calls_host (op_in a n) ≡ true)))
 MayQueue a (work_caller.Sync n) group = IsRunner a n × ((group ≡ Some (thread_group n a.base)) × ((a.turn ≡ turn.Run n) ×
-    (queues_work (how_far_of n a.base) (op_in a n) ≡ true)))
+    (queues_work (op_progress_of n a.base) (op_in a n) ≡ true)))
 
 -- it is open only where a host is, or main is no script
 abbrev pub MayBeOpen : Scene → HostDef → Type 0
@@ -476,7 +476,7 @@ IsPolled a i s = (n : ℕ) × ((a.turn ≡ turn.Futures n) × (next_polled n s �
 -- the sync call of the running thread is answered, and done, or its ended subtask is dropped; whose the work is is as before the step
 abbrev pub MayRemoveWork : Scene → ℕ → Core → Type 0
 MayRemoveWork a i s = (n : ℕ) × (IsRunner a n × ((work_caller_of i s ≡ work_caller_of i a.base) ×
-    (((how_far_of n a.base ≡ how_far.Calls (subtask.Host i)) × (how_far_of n s ≡ how_far.Fresh)) ⊎
+    (((op_progress_of n a.base ≡ op_progress.Calls (subtask.Host i)) × (op_progress_of n s ≡ op_progress.Fresh)) ⊎
     ((subtask_ended (subtask.Host i) a.base ≡ true) × ((subtask_handle (subtask.Host i) s ≡ None) ×
     ((is_stage_ended (stage_of i s) ≡ true) ×
     ((h : ℕ) × (subtask_at (instance_of n a.base) h a.base ≡ Some (subtask.Host i)))))))))
@@ -530,18 +530,18 @@ MayCount i c s = c ≡ 0 → NoneHeldIn i (set_backpressure i c s)
 -- ---- All words
 
 -- Where the word is done in this step, right after s.
-abbrev pub Allowed : Scene → Word → Core → Type 0
+abbrev pub Allowed : Scene → Primitive → Core → Type 0
 Allowed a (Places p) s = MayShift p s ⊎ MayLeave a p s
 Allowed a (Advance n p) s = MayAdvance a n p
 Allowed a (Restart n) s = MayRestart a n
-Allowed a (SetHowFar n h) s = MayCome a n h s × CanCome a n h s
+Allowed a (SetOpProgress n h) s = MayCome a n h s × CanCome a n h s
 Allowed a (MakeThread t) s = MayMake a t s
 Allowed a (RemoveThread n) s = MayGo a n s
 Allowed a (Withdraw k) s = MayWithdraw a k s × (SaysEnd a k status.StartCancelled × NoneCame a s)
 Allowed a (MakeCall f e x g group words) s = MayMakeCall a f e x g group s
 Allowed a (SetStarted k) s = MayStart a k s
 Allowed a (EndCall k e) s = MayEnd a k e s × SaysEnd a k (status_of_end e)
-Allowed a (SetOwnEvent k e) s = MayOwe a k e s
+Allowed a (SetTaskEvent k e) s = MayOwe a k e s
 Allowed a (SetCancelDelivered k) s = MayDeliver a k
 Allowed a (RemoveCall k) s = MayRemoveCall a k s
 Allowed a (SetCallEvent k e) s = MayTell a k e s
@@ -576,20 +576,20 @@ Allowed a _ s = Unit {0}
 -- ---- While the running thread stays
 
 -- The words of a step before that thread comes to where it goes, or is gone.
-abbrev pub Stays : Scene → Word → Core → Type 0
+abbrev pub Stays : Scene → Primitive → Core → Type 0
 Stays a (Places p) s = MayShift p s ⊎ MayHasten a p s
 Stays a (RemoveThread n) s = ⊥
 Stays a w s = Allowed a w s
 
 -- What becomes of a call whose thread is gone.
-abbrev pub IsSettling : Word → Core → Type 0
+abbrev pub IsSettling : Primitive → Core → Type 0
 IsSettling (SetUninteresting k) s = Unit {0}
 IsSettling (RemoveCall k) s = (is_deletable k s ≡ true) × (has_ended k s ≡ true)
 IsSettling (RemoveGroup g) s = is_group_done g s ≡ true
 IsSettling _ s = ⊥
 
 -- a strand falls, and the store is trapped
-abbrev pub IsFall : Scene → Word → Core → Type 0
-IsFall a (RemoveThread n) s = MayGo a n s
-IsFall a SetTrapped s = Unit {0}
-IsFall a _ s = ⊥
+abbrev pub IsUnwind : Scene → Primitive → Core → Type 0
+IsUnwind a (RemoveThread n) s = MayGo a n s
+IsUnwind a SetTrapped s = Unit {0}
+IsUnwind a _ s = ⊥

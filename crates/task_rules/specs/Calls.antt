@@ -10,7 +10,7 @@ use Rattle.task_machine.specs.declared.component.HostDef.{HostDef}
 use Rattle.task_machine.specs.declared.component.HostDef.TheVariants as host_def
 use Rattle.task_machine.specs.declared.words.HostPoll.{HostPoll}
 use Rattle.task_machine.specs.declared.words.HostPoll.TheVariants as host_poll
-use Rattle.task_machine.specs.declared.records.HowFar.{HowFar}
+use Rattle.task_machine.specs.declared.records.OpProgress.{OpProgress}
 use Rattle.task_machine.specs.declared.records.Script.{Script}
 use Rattle.task_machine.specs.declared.words.Status.{Status}
 use Rattle.task_machine.specs.declared.records.Subtask.{Subtask}
@@ -22,7 +22,7 @@ use Rattle.task_machine.specs.declared.records.Caller.TheVariants as caller
 use Rattle.task_machine.specs.declared.records.Course.TheVariants as course
 use Rattle.task_machine.specs.declared.records.Entry.TheVariants as entry
 use Rattle.task_machine.specs.declared.records.Goal.TheVariants as goal
-use Rattle.task_machine.specs.declared.records.HowFar.TheVariants as how_far
+use Rattle.task_machine.specs.declared.records.OpProgress.TheVariants as op_progress
 use Rattle.task_machine.specs.declared.records.Join.TheVariants as join
 use Rattle.task_machine.specs.declared.component.ExportKind.TheVariants as kind
 use Rattle.task_machine.specs.declared.label.Label.TheVariants as label
@@ -41,9 +41,9 @@ use Rattle.task_machine.specs.Core.{Core}
 use Rattle.task_machine.specs.Maps.{get}
 use Rattle.task_machine.specs.Moves.{behind, call_settled, checked, group_settled, passes_check, put_switch, stopped_at}
 use Rattle.task_machine.specs.Read.{at_handle_limit, call_instance, course_of, course_value, event_of, fits, instance_of, is_async_lifted, may_not_suspend, new_handle, new_thread_handle, result_of, saved_callee_of, thread_group}
-use Rattle.task_machine.specs.Write.{add_call, add_thread, add_work, count_work, give_handle, give_thread_handle, push_high, remove_work, set_do_not_suspend, set_event, set_how_far, set_place, set_register, set_result, set_saved_callee, set_saved_own, set_started, set_subtask_handle, set_thread_handle}
+use Rattle.task_machine.specs.Write.{add_call, add_thread, add_work, count_work, give_handle, give_thread_handle, push_high, remove_work, set_do_not_suspend, set_event, set_op_progress, set_place, set_register, set_result, set_saved_callee, set_saved_own, set_started, set_subtask_handle, set_thread_handle}
 use Rattle.task_rules.specs.Finish.{Doer, OneNumber, OwnScript, finish}
-use Rattle.task_rules.specs.Progress.{Fails, Goes, Progress, Stops, trap_if, Asks}
+use Rattle.task_rules.specs.Progress.{Fails, Continues, Progress, Stops, trap_if, Asks}
 use Rattle.task_rules.specs.Scripts.{export_kind, host_at, registers_for}
 use Rattle.task_machine.specs.Statuses.{packed}
 
@@ -59,7 +59,7 @@ new_call f e x g group = record {
   starting_published = false;
   «end» = None;
   event = None;
-  own_event = None;
+  task_event = None;
   cancel_delivered = false;
   exited = false;
   interesting = true;
@@ -76,7 +76,7 @@ new_thread k explicit x registers h = record {
   explicit = explicit;
   script = x;
   position = 0;
-  how_far = how_far.Fresh;
+  op_progress = op_progress.Fresh;
   registers = registers;
   handle = h;
   saved_own = None;
@@ -108,7 +108,7 @@ call_queues n e x g words s =
     let m = next_thread s in
     let made = call_made (caller.Thread n) e x g (thread_group n s) words s in
     let queued = put_switch m why.Start made in
-    set_how_far n (how_far.Calls (subtask.Guest m)) (behind m (n ∷ []) (call_clears_flag n e.instance x queued))
+    set_op_progress n (op_progress.Calls (subtask.Guest m)) (behind m (n ∷ []) (call_clears_flag n e.instance x queued))
 
 -- trap 18 (TableFull) where 3 entries don't fit
 abbrev pub call_begins : Component → ℕ → Callee → Goal → List ℕ → Core → Progress
@@ -154,22 +154,22 @@ call_pending n r k v s = answered n r v (call_with_handle n k s)
 
 -- Returned is answered as 2; another status with a new handle: trap 17 (HandleLimit) where none may be given
 abbrev pub call_status_by : Doer → ℕ → ℕ → Core → Status → Progress
-call_status_by d n k s status.Returned = Goes (label.Call (call_label.Call 2 n)) (answered_by d n 2 (call_let_go n k s)) n
+call_status_by d n k s status.Returned = Continues (label.Call (call_label.Call 2 n)) (answered_by d n 2 (call_let_go n k s)) n
 call_status_by d n k s e =
     let v = packed (new_handle (instance_of n s) s) e in
     trap_if (at_handle_limit s) trap.HandleLimit (
-    Goes (label.Call (call_label.Call v n)) (answered_by d n v (call_with_handle n k s)) n)
+    Continues (label.Call (call_label.Call v n)) (answered_by d n v (call_with_handle n k s)) n)
 
 abbrev pub call_status : ℕ → ℕ → ℕ → Core → Status → Progress
 call_status n r k s e = call_status_by (OwnScript r) n k s e
 
 -- `call R Q F X*`, by how far it has come; default: inside another op
-abbrev pub call_rule : Doer → Component → ℕ → ℕ → Callee → List ℕ → Core → HowFar → Progress
-call_rule d c n q e words s (how_far.Calls (subtask.Guest k)) = call_status_by d n k s (status_found k s)
+abbrev pub call_rule : Doer → Component → ℕ → ℕ → Callee → List ℕ → Core → OpProgress → Progress
+call_rule d c n q e words s (op_progress.Calls (subtask.Guest k)) = call_status_by d n k s (status_found k s)
 call_rule d c n q e words s _ = call_begins c n e (goal.Register q) words s
 
-abbrev pub call_row : Component → ℕ → ℕ → ℕ → Callee → List ℕ → Core → HowFar → Progress
-call_row c n r q e words s f = call_rule (OwnScript r) c n q e words s f
+abbrev pub scripted_call_rule : Component → ℕ → ℕ → ℕ → Callee → List ℕ → Core → OpProgress → Progress
+scripted_call_rule c n r q e words s f = call_rule (OwnScript r) c n q e words s f
 
 -- the result is taken, too
 unfoldable pub call_taken : ℕ → ℕ → Core → Core
@@ -180,7 +180,7 @@ call_answered n r k s = answered n r (result_of k s) (call_taken n k s)
 
 -- the strand stops, and its top is blocked on the subtask of its call
 unfoldable pub call_stops : ℕ → Subtask → Core → Core
-call_stops n sub s = set_how_far n (how_far.Calls sub) (stopped_at n (place.Blocked sub) s)
+call_stops n sub s = set_op_progress n (op_progress.Calls sub) (stopped_at n (place.Blocked sub) s)
 
 unfoldable pub call_sync_stops : ℕ → ℕ → Core → Core
 call_sync_stops n k s = call_stops n (subtask.Guest k) (checked (instance_of n s) (call_resumes n k s))
@@ -189,7 +189,7 @@ call_sync_stops n k s = call_stops n (subtask.Guest k) (checked (instance_of n s
 -- trap 9 (CannotBlockSyncTask) where it fails
 abbrev pub call_sync_status_by : Doer → ℕ → ℕ → Core → Status → Progress
 call_sync_status_by d n k s status.Returned =
-    Goes (label.Call (call_label.CallSync n (result_of k s))) (answered_by d n (result_of k s) (call_taken n k s)) n
+    Continues (label.Call (call_label.CallSync n (result_of k s))) (answered_by d n (result_of k s) (call_taken n k s)) n
 call_sync_status_by d n k s e =
     trap_if (not (passes_check (instance_of n s) (call_resumes n k s))) trap.CannotBlockSyncTask (
     Stops (label.Thread (thread_label.Pauses n)) (call_sync_stops n k s))
@@ -215,28 +215,28 @@ enter_runs n e x words s =
     let made = call_made (caller.Thread n) e x goal.Direct (thread_group n s) words s in
     let begun = set_started m (with_thread_handle e.instance m made) in
     let on_top = set_place m place.Running (sync_sets_flag m e.instance x begun) in
-    set_how_far n (how_far.Calls (subtask.Guest m)) (set_place n (place.Under m) on_top)
+    set_op_progress n (op_progress.Calls (subtask.Guest m)) (set_place n (place.Under m) on_top)
 
 -- trap 18 (TableFull) where 3 entries don't fit, trap 17 (HandleLimit) where no handle may be given
-abbrev pub enter_row : ℕ → Callee → ExportKind → List ℕ → Core → Progress
-enter_row n e x words s =
+abbrev pub enter_rule : ℕ → Callee → ExportKind → List ℕ → Core → Progress
+enter_rule n e x words s =
     trap_if (not (fits 3 s)) trap.TableFull (
     trap_if (at_handle_limit s) trap.HandleLimit (
-    Goes (label.Call (call_label.Enters n (next_thread s))) (enter_runs n e x words s) (next_thread s)))
+    Continues (label.Call (call_label.Enters n (next_thread s))) (enter_runs n e x words s) (next_thread s)))
 
 -- by whether the export is async-lifted: its start is queued, or it is called directly
 abbrev pub call_sync_begins : Component → ℕ → Callee → List ℕ → Core → Bool → Progress
 call_sync_begins c n e words s true = call_begins c n e goal.Answer words s
-call_sync_begins c n e words s false = enter_row n e (export_kind c e) words s
+call_sync_begins c n e words s false = enter_rule n e (export_kind c e) words s
 
 -- `call_sync R F X*`, by how far it has come
-abbrev pub call_sync_rule : Doer → Component → ℕ → Callee → List ℕ → Core → HowFar → Progress
-call_sync_rule d c n e words s (how_far.Answered v) = Goes (label.Call (call_label.CallSync n v)) (finish d n (OneNumber v) s) n
-call_sync_rule d c n e words s (how_far.Calls (subtask.Guest k)) = call_sync_status_by d n k s (status_found k s)
+abbrev pub call_sync_rule : Doer → Component → ℕ → Callee → List ℕ → Core → OpProgress → Progress
+call_sync_rule d c n e words s (op_progress.Answered v) = Continues (label.Call (call_label.CallSync n v)) (finish d n (OneNumber v) s) n
+call_sync_rule d c n e words s (op_progress.Calls (subtask.Guest k)) = call_sync_status_by d n k s (status_found k s)
 call_sync_rule d c n e words s _ = call_sync_begins c n e words s (is_async_lifted (export_kind c e))
 
-abbrev pub call_sync_row : Component → ℕ → ℕ → Callee → List ℕ → Core → HowFar → Progress
-call_sync_row c n r e words s f = call_sync_rule (OwnScript r) c n e words s f
+abbrev pub scripted_call_sync_rule : Component → ℕ → ℕ → Callee → List ℕ → Core → OpProgress → Progress
+scripted_call_sync_rule c n r e words s f = call_sync_rule (OwnScript r) c n e words s f
 
 -- ---- Calls of a host
 
@@ -247,7 +247,7 @@ next_work s = s.made.works + 1
 abbrev pub new_work : WorkCaller → HostDef → Option ℕ → Work
 new_work f host group = record {
   caller = f;
-  course = course.Goes host;
+  course = course.Continues host;
   phase = phase.Running;
   stage = stage.Queued;
   cancelled = false;
@@ -306,13 +306,13 @@ host_pending n r q v host s = finish (OwnScript r) n (OneNumber v) (host_with_ha
 -- trap 18 (TableFull) where 1 entry doesn't fit, trap 17 (HandleLimit) where no handle may be given
 abbrev pub call_host_by : Doer → ℕ → ℕ → Core → FirstPoll → Progress
 call_host_by d n q s (AtOnce v) =
-    Goes (label.Call (call_label.CallPolls 2 n (next_work s))) (finish d n (OneNumber 2) (host_valued n q v s)) n
+    Continues (label.Call (call_label.CallPolls 2 n (next_work s))) (finish d n (OneNumber 2) (host_valued n q v s)) n
 call_host_by d n q s Failing = Fails (next_work s)
 call_host_by d n q s (Later host) =
     let v = packed (new_handle (instance_of n s) s) status.Started in
     trap_if (not (fits 1 s)) trap.TableFull (
     trap_if (at_handle_limit s) trap.HandleLimit (
-    Goes (label.Call (call_label.CallPolls v n (next_work s))) (finish d n (OneNumber v) (host_with_handle n q host s)) n))
+    Continues (label.Call (call_label.CallPolls v n (next_work s))) (finish d n (OneNumber v) (host_with_handle n q host s)) n))
 
 abbrev pub call_host_polled : ℕ → ℕ → ℕ → Core → FirstPoll → Progress
 call_host_polled n r q s f = call_host_by (OwnScript r) n q s f
@@ -321,8 +321,8 @@ call_host_polled n r q s f = call_host_by (OwnScript r) n q s f
 abbrev pub call_host_rule : Doer → Component → ℕ → ℕ → ℕ → Core → Progress
 call_host_rule d c n q h s = first_polled (host_at c h) (call_host_by d n q s)
 
-abbrev pub call_host_row : Component → ℕ → ℕ → ℕ → ℕ → Core → Progress
-call_host_row c n r q h s = call_host_rule (OwnScript r) c n q h s
+abbrev pub scripted_call_host_rule : Component → ℕ → ℕ → ℕ → ℕ → Core → Progress
+scripted_call_host_rule c n r q h s = call_host_rule (OwnScript r) c n q h s
 
 abbrev pub host_answered : ℕ → ℕ → ℕ → Core → Core
 host_answered n r v s = finish (OwnScript r) n (OneNumber v) (count_work s)
@@ -335,7 +335,7 @@ call_sync_host_stops n host s =
 -- a value at once; a failure, which ends the run; or a pending work, which stops the strand after a check:
 -- trap 18 (TableFull) where 1 entry doesn't fit, trap 9 (CannotBlockSyncTask) where the check fails
 abbrev pub call_sync_host_by : Doer → ℕ → Core → FirstPoll → Progress
-call_sync_host_by d n s (AtOnce v) = Goes (label.CallSyncPolls n v (next_work s)) (finish d n (OneNumber v) (count_work s)) n
+call_sync_host_by d n s (AtOnce v) = Continues (label.CallSyncPolls n v (next_work s)) (finish d n (OneNumber v) (count_work s)) n
 call_sync_host_by d n s Failing = Fails (next_work s)
 call_sync_host_by d n s (Later host) =
     trap_if (not (fits 1 s)) trap.TableFull (
@@ -364,10 +364,10 @@ abbrev pub work_answered : ℕ → ℕ → ℕ → Core → Core
 work_answered n r i s = finish (OwnScript r) n (OneNumber (work_value i s)) (work_deleted i s)
 
 -- `call_sync R H`, by how far it has come
-abbrev pub call_sync_host_rule : Doer → Component → ℕ → ℕ → Core → HowFar → Progress
-call_sync_host_rule d c n h s (how_far.Calls (subtask.Host i)) =
-    Goes (label.Call (call_label.CallSync n (work_value i s))) (finish d n (OneNumber (work_value i s)) (work_deleted i s)) n
+abbrev pub call_sync_host_rule : Doer → Component → ℕ → ℕ → Core → OpProgress → Progress
+call_sync_host_rule d c n h s (op_progress.Calls (subtask.Host i)) =
+    Continues (label.Call (call_label.CallSync n (work_value i s))) (finish d n (OneNumber (work_value i s)) (work_deleted i s)) n
 call_sync_host_rule d c n h s _ = first_polled (host_at c h) (call_sync_host_by d n s)
 
-abbrev pub call_sync_host_row : Component → ℕ → ℕ → ℕ → Core → HowFar → Progress
-call_sync_host_row c n r h s f = call_sync_host_rule (OwnScript r) c n h s f
+abbrev pub scripted_call_sync_host_rule : Component → ℕ → ℕ → ℕ → Core → OpProgress → Progress
+scripted_call_sync_host_rule c n r h s f = call_sync_host_rule (OwnScript r) c n h s f

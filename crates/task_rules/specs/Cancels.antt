@@ -2,7 +2,7 @@
 use Rattle.std.specs.Prelude.{Bool, None, Option, Some, [], false, if◌then◌else◌, is_some, not, true, ℕ, ◌∷◌}
 use Rattle.task_machine.specs.declared.op.CallOp.{CallOp}
 use Rattle.task_machine.specs.declared.component.Component.{Component}
-use Rattle.task_machine.specs.declared.records.HowFar.{HowFar}
+use Rattle.task_machine.specs.declared.records.OpProgress.{OpProgress}
 use Rattle.task_machine.specs.declared.label.Label.{Label}
 use Rattle.task_machine.specs.declared.words.Phase.{Phase}
 use Rattle.task_machine.specs.declared.records.Place.{Place}
@@ -11,10 +11,10 @@ use Rattle.task_machine.specs.declared.records.Subtask.{Subtask}
 use Rattle.task_machine.specs.declared.label.CallLabel.TheVariants as call_label
 use Rattle.task_machine.specs.declared.op.CallOp.TheVariants as call_op
 use Rattle.task_machine.specs.declared.records.Delivery.TheVariants as delivery
-use Rattle.task_machine.specs.declared.records.HowFar.TheVariants as how_far
+use Rattle.task_machine.specs.declared.records.OpProgress.TheVariants as op_progress
 use Rattle.task_machine.specs.declared.records.Join.TheVariants as join
 use Rattle.task_machine.specs.declared.label.Label.TheVariants as label
-use Rattle.task_machine.specs.declared.words.OwnEvent.TheVariants as own
+use Rattle.task_machine.specs.declared.words.TaskEvent.TheVariants as own
 use Rattle.task_machine.specs.declared.words.Phase.TheVariants as phase
 use Rattle.task_machine.specs.declared.records.Place.TheVariants as place
 use Rattle.task_machine.specs.declared.records.Subtask.TheVariants as subtask
@@ -23,11 +23,11 @@ use Rattle.task_machine.specs.declared.trap.Trap.TheVariants as trap
 use Rattle.task_machine.specs.declared.records.Why.TheVariants as why
 use Rattle.task_machine.specs.Core.{Core}
 use Rattle.task_machine.specs.Moves.{behind, call_settled, checked, passes_check, promoted_unless, put_switch, stopped_at, withdrawn}
-use Rattle.task_machine.specs.Read.{call_instance, event_of, foot_of, has_ended, how_far_of, instance_of, is_at, is_callback_yield, is_joined, is_watched, join_of, may_not_suspend, phase_of, registers_of, saved_callee_of, subtask_at, subtask_ended, undelivered_end, was_cancelled, was_started}
-use Rattle.task_machine.specs.Write.{free_handle, set_cancelled, set_do_not_suspend, set_event, set_how_far, set_join, set_own_event, set_phase, set_saved_callee, set_subtask_handle}
+use Rattle.task_machine.specs.Read.{call_instance, event_of, foot_of, has_ended, op_progress_of, instance_of, is_at, is_callback_yield, is_joined, is_watched, join_of, may_not_suspend, phase_of, registers_of, saved_callee_of, subtask_at, subtask_ended, undelivered_end, was_cancelled, was_started}
+use Rattle.task_machine.specs.Write.{free_handle, set_cancelled, set_do_not_suspend, set_event, set_op_progress, set_join, set_task_event, set_phase, set_saved_callee, set_subtask_handle}
 use Rattle.task_rules.specs.Calls.{answered, answered_by, call_host_rule, call_rule, call_sync_host_rule, call_sync_rule, put_back, work_deleted}
 use Rattle.task_rules.specs.Finish.{Doer, NoAnswer, OwnScript, finish}
-use Rattle.task_rules.specs.Progress.{Goes, Progress, Stops, Traps, or_trap, trap_if}
+use Rattle.task_rules.specs.Progress.{Continues, Progress, Stops, Traps, or_trap, trap_if}
 use Rattle.task_rules.specs.Scripts.{value_of, values_in}
 use Rattle.task_machine.specs.Statuses.{status_code}
 
@@ -52,10 +52,10 @@ cancel_takes_end n r sub e s = answered n r (status_code e) (set_event sub None 
 -- trap 5 (SubtaskCancelAfterTerminal) where the end was handed out before
 abbrev pub cancel_ended_by : Doer → Mode → ℕ → Subtask → Core → Option Status → Progress
 cancel_ended_by d mode n sub s None = Traps trap.SubtaskCancelAfterTerminal
-cancel_ended_by d mode n sub s (Some e) = Goes (cancel_label mode n (status_code e)) (answered_by d n (status_code e) (set_event sub None s)) n
+cancel_ended_by d mode n sub s (Some e) = Continues (cancel_label mode n (status_code e)) (answered_by d n (status_code e) (set_event sub None s)) n
 
-abbrev pub cancel_ended_row : Mode → ℕ → ℕ → Subtask → Core → Option Status → Progress
-cancel_ended_row mode n r sub s o = cancel_ended_by (OwnScript r) mode n sub s o
+abbrev pub cancel_ended_rule : Mode → ℕ → ℕ → Subtask → Core → Option Status → Progress
+cancel_ended_rule mode n r sub s o = cancel_ended_by (OwnScript r) mode n sub s o
 
 -- ---- A subtask that hasn't ended
 
@@ -67,18 +67,18 @@ blocked_code = 4294967295
 unfoldable pub cancel_stops : ℕ → Subtask → Core → Core
 cancel_stops n sub s =
     let watched = set_join sub (join.Watched n) (set_saved_callee n None s) in
-    set_how_far n (how_far.AwaitsEnd sub) (stopped_at n (place.Blocked sub) (checked (instance_of n s) watched))
+    set_op_progress n (op_progress.AwaitsEnd sub) (stopped_at n (place.Blocked sub) (checked (instance_of n s) watched))
 
 -- `cancel` answers that it is blocked; `cancel_sync` stops the strand after a check:
 -- trap 9 (CannotBlockSyncTask) where it fails
 abbrev pub cancel_unended_by : Doer → Mode → ℕ → Subtask → Core → Progress
-cancel_unended_by d Async n sub s = Goes (cancel_label Async n blocked_code) (answered_by d n blocked_code s) n
+cancel_unended_by d Async n sub s = Continues (cancel_label Async n blocked_code) (answered_by d n blocked_code s) n
 cancel_unended_by d Sync n sub s =
     trap_if (not (passes_check (instance_of n s) s)) trap.CannotBlockSyncTask (
     Stops (pauses n) (cancel_stops n sub s))
 
-abbrev pub cancel_unended_row : Mode → ℕ → ℕ → Subtask → Core → Progress
-cancel_unended_row mode n r sub s = cancel_unended_by (OwnScript r) mode n sub s
+abbrev pub cancel_unended_rule : Mode → ℕ → ℕ → Subtask → Core → Progress
+cancel_unended_rule mode n r sub s = cancel_unended_by (OwnScript r) mode n sub s
 
 abbrev pub cancel_by : Doer → Mode → ℕ → Subtask → Core → Bool → Progress
 cancel_by d mode n sub s true = cancel_ended_by d mode n sub s (undelivered_end (event_of sub s))
@@ -122,7 +122,7 @@ cancel_withdraws n r k s = answered n r 3 (withdrawn k s)
 
 -- the task finds Cancelled as its own event
 unfoldable pub cancel_asks : ℕ → Core → Core
-cancel_asks k s = set_own_event k (Some own.Cancelled) s
+cancel_asks k s = set_task_event k (Some own.Cancelled) s
 
 -- the canceller goes behind the entry at switch; default: nothing at switch
 abbrev pub behind_switch : ℕ → Option ℕ → Core → Core
@@ -135,7 +135,7 @@ cancel_goes_behind n k s =
     let j = call_instance k s in
     let cleared = set_do_not_suspend j false (set_saved_callee n (Some (may_not_suspend j s)) s) in
     let watched = set_join (subtask.Guest k) (join.Watched n) cleared in
-    set_how_far n (how_far.Cancels (subtask.Guest k)) (behind_switch n s.queues.switch watched)
+    set_op_progress n (op_progress.Cancels (subtask.Guest k)) (behind_switch n s.queues.switch watched)
 
 -- the waiting callback becomes the switch entry
 unfoldable pub cancel_wakes_callback : ℕ → ℕ → Core → Core
@@ -173,7 +173,7 @@ cancel_case k s =
 -- the table of the cancel
 abbrev pub cancel_guest_by : Doer → Mode → ℕ → ℕ → Core → CancelCase → Progress
 cancel_guest_by d mode n k s AlreadyEnded = cancel_ended_by d mode n (subtask.Guest k) s (undelivered_end (event_of (subtask.Guest k) s))
-cancel_guest_by d mode n k s StartNotRun = Goes (cancel_label mode n 3) (answered_by d n 3 (withdrawn k s)) n
+cancel_guest_by d mode n k s StartNotRun = Continues (cancel_label mode n 3) (answered_by d n 3 (withdrawn k s)) n
 cancel_guest_by d mode n k s CallbackWaits = Stops (pauses n) (cancel_wakes_callback n k s)
 cancel_guest_by d mode n k s CallbackYields = Stops (pauses n) (cancel_promotes_yield n k s)
 cancel_guest_by d mode n k s OtherwiseRuns = after_cancel_by d mode n (subtask.Guest k) (cancel_asks k s)
@@ -210,15 +210,15 @@ cancel_resumed n sub s = set_join sub join.Nowhere (set_saved_callee n None (put
 
 -- `cancel R X` and `cancel_sync R X`: resumed behind the callee; resumed once the end was told; or as it begins:
 -- trap 16 (BadHandle) where X names no subtask
-abbrev pub cancel_rule : Doer → Mode → ℕ → ℕ → Core → HowFar → Progress
-cancel_rule d mode n h s (how_far.Cancels sub) = after_cancel_by d mode n sub (cancel_resumed n sub s)
-cancel_rule d mode n h s (how_far.AwaitsEnd sub) =
+abbrev pub cancel_rule : Doer → Mode → ℕ → ℕ → Core → OpProgress → Progress
+cancel_rule d mode n h s (op_progress.Cancels sub) = after_cancel_by d mode n sub (cancel_resumed n sub s)
+cancel_rule d mode n h s (op_progress.AwaitsEnd sub) =
     let t = set_join sub join.Nowhere s in
     cancel_ended_by d mode n sub t (undelivered_end (event_of sub t))
 cancel_rule d mode n h s _ = or_trap (subtask_at (instance_of n s) h s) trap.BadHandle (cancel_found_by d mode n s)
 
-abbrev pub cancel_row : Mode → ℕ → ℕ → ℕ → Core → HowFar → Progress
-cancel_row mode n r h s f = cancel_rule (OwnScript r) mode n h s f
+abbrev pub scripted_cancel_rule : Mode → ℕ → ℕ → ℕ → Core → OpProgress → Progress
+scripted_cancel_rule mode n r h s f = cancel_rule (OwnScript r) mode n h s f
 
 -- ---- Dropping
 
@@ -242,7 +242,7 @@ drop_by d n h s sub =
     trap_if (is_watched (join_of sub s)) trap.WaitableSyncAndAsync (
     trap_if (not (subtask_ended sub s)) trap.SubtaskDropNotResolved (
     trap_if (is_some (event_of sub s)) trap.SubtaskDropNotResolved (
-    Goes (label.Call (call_label.Drop n)) (finish d n NoAnswer (unnamed n h sub s)) n)))
+    Continues (label.Call (call_label.Drop n)) (finish d n NoAnswer (unnamed n h sub s)) n)))
 
 abbrev pub drop_found : ℕ → ℕ → Core → Subtask → Progress
 drop_found n h s sub = drop_by (OwnScript 0) n h s sub
@@ -251,18 +251,18 @@ drop_found n h s sub = drop_by (OwnScript 0) n h s sub
 abbrev pub drop_rule : Doer → ℕ → ℕ → Core → Progress
 drop_rule d n h s = or_trap (subtask_at (instance_of n s) h s) trap.BadHandle (drop_by d n h s)
 
-abbrev pub drop_row : ℕ → ℕ → Core → Progress
-drop_row n h s = drop_rule (OwnScript 0) n h s
+abbrev pub scripted_drop_rule : ℕ → ℕ → Core → Progress
+scripted_drop_rule n h s = drop_rule (OwnScript 0) n h s
 
 -- ---- All ops on subtasks
 
 abbrev pub subtask_rule : Doer → Component → ℕ → Core → CallOp → Progress
-subtask_rule d c n s (call_op.Call r q e xs) = call_rule d c n q e (values_in (registers_of n s) xs) s (how_far_of n s)
-subtask_rule d c n s (call_op.CallSync r e xs) = call_sync_rule d c n e (values_in (registers_of n s) xs) s (how_far_of n s)
+subtask_rule d c n s (call_op.Call r q e xs) = call_rule d c n q e (values_in (registers_of n s) xs) s (op_progress_of n s)
+subtask_rule d c n s (call_op.CallSync r e xs) = call_sync_rule d c n e (values_in (registers_of n s) xs) s (op_progress_of n s)
 subtask_rule d c n s (call_op.CallHost r q h) = call_host_rule d c n q h s
-subtask_rule d c n s (call_op.CallSyncHost r h) = call_sync_host_rule d c n h s (how_far_of n s)
-subtask_rule d c n s (call_op.Cancel r x) = cancel_rule d Async n (value_of n s x) s (how_far_of n s)
-subtask_rule d c n s (call_op.CancelSync r x) = cancel_rule d Sync n (value_of n s x) s (how_far_of n s)
+subtask_rule d c n s (call_op.CallSyncHost r h) = call_sync_host_rule d c n h s (op_progress_of n s)
+subtask_rule d c n s (call_op.Cancel r x) = cancel_rule d Async n (value_of n s x) s (op_progress_of n s)
+subtask_rule d c n s (call_op.CancelSync r x) = cancel_rule d Sync n (value_of n s x) s (op_progress_of n s)
 subtask_rule d c n s (call_op.Drop x) = drop_rule d n (value_of n s x) s
 
 -- the register of the op's answer; default: it has none
@@ -275,5 +275,5 @@ call_answer (call_op.Cancel r x) = r
 call_answer (call_op.CancelSync r x) = r
 call_answer (call_op.Drop x) = 0
 
-abbrev pub subtask_row : Component → ℕ → Core → CallOp → Progress
-subtask_row c n s o = subtask_rule (OwnScript (call_answer o)) c n s o
+abbrev pub scripted_subtask_rule : Component → ℕ → Core → CallOp → Progress
+scripted_subtask_rule c n s o = subtask_rule (OwnScript (call_answer o)) c n s o

@@ -10,14 +10,14 @@ use Rattle.std.specs.Prelude.{Bool, None, Option, Some, false, is_some, length, 
 use Rattle.task_machine.specs.Core.{Core, Main, Scripted, State, Unscripted, MainPlace}
 use Rattle.task_machine.specs.Maps.{get}
 use Rattle.task_machine.specs.Moves.{ended, is_callback_waiter}
-use Rattle.task_machine.specs.Read.{position_of, event_of, is_waiter, join_of, foot_of, goal_of, has_ended, is_async_lifted, is_direct, is_explicit, kind_of, may_not_enter, place_of, task_of, undelivered_end, course_of, how_far_of, work_caller_of}
+use Rattle.task_machine.specs.Read.{position_of, event_of, is_waiter, join_of, foot_of, goal_of, has_ended, is_async_lifted, is_direct, is_explicit, kind_of, may_not_enter, place_of, task_of, undelivered_end, course_of, op_progress_of, work_caller_of}
 use Rattle.task_machine.specs.declared.label.Label.{Label}
 use Rattle.task_machine.specs.declared.outcome.Outcome.{Outcome}
 use Rattle.task_machine.specs.declared.records.Place.{Place}
 use Rattle.task_machine.specs.declared.records.Turn.{Turn}
 use Rattle.task_rules.specs.Ends.{is_told}
-use Rattle.task_rules.specs.Allowed.{Allowed, IsRunner, MayShift, SaysEnd, is_exit, IsPolled, IsNamed, IsFall, IsSettling, Leaves, MayLand, MayMove, Stays, wake_why}
-use Rattle.task_machine.specs.declared.records.HowFar.{HowFar}
+use Rattle.task_rules.specs.Allowed.{Allowed, IsRunner, MayShift, SaysEnd, is_exit, IsPolled, IsNamed, IsUnwind, IsSettling, Leaves, MayLand, MayMove, Stays, wake_why}
+use Rattle.task_machine.specs.declared.records.OpProgress.{OpProgress}
 use Rattle.task_rules.specs.Laws.{is_free}
 use Rattle.task_rules.specs.Once.{begun_holder}
 use Rattle.task_rules.specs.Places.{is_inside}
@@ -29,12 +29,12 @@ use Rattle.task_machine.specs.Labels.{choice_of}
 use Rattle.task_machine.specs.declared.op.Op.{Op}
 use Rattle.task_rules.specs.Stalled.{Setting}
 use Rattle.task_rules.specs.Finish.{SomeHost}
-use Rattle.task_rules.specs.Step.{Progresses, Step, op_row, op_rule}
+use Rattle.task_rules.specs.Step.{Progresses, Step, scripted_op_rule, op_rule}
 use Rattle.task_rules.specs.Turns.{settled_turn}
-use Rattle.task_rules.specs.Words.{GoBehind, Move, Places, Placing, RemoveThread, SetHowFar, Stop, Word, after_word}
+use Rattle.task_rules.specs.Words.{GoBehind, Move, Places, Placing, RemoveThread, SetOpProgress, Stop, Primitive, after_primitive}
 use Rattle.task_machine.specs.declared.words.Status.TheVariants as status
 use Rattle.task_machine.specs.declared.records.Subtask.TheVariants as subtask
-use Rattle.task_machine.specs.declared.records.HowFar.TheVariants as how_far
+use Rattle.task_machine.specs.declared.records.OpProgress.TheVariants as op_progress
 use Rattle.task_machine.specs.declared.label.Label.TheVariants as label
 use Rattle.task_machine.specs.declared.label.TakeLabel.TheVariants as take_label
 use Rattle.task_machine.specs.declared.label.LoopLabel.TheVariants as loop_label
@@ -45,9 +45,9 @@ use Rattle.task_machine.specs.declared.records.Turn.TheVariants as turn
 use Rattle.task_machine.specs.declared.records.WorkCaller.TheVariants as work_caller
 
 -- From b one word after another, each where it may be done.
-pub data Chain (may : Word → Core → Type 0) (b : Core) : Core → Type 0 where
-  NoWord : Chain may b b
-  Then : (s : Core) → (w : Word) → Chain may b s → may w s → Chain may b (after_word w s)
+pub data Chain (may : Primitive → Core → Type 0) (b : Core) : Core → Type 0 where
+  NoPrimitive : Chain may b b
+  Then : (s : Core) → (w : Primitive) → Chain may b s → may w s → Chain may b (after_primitive w s)
 
 -- the words of a step
 abbrev pub Walk : Scene → Core → Core → Type 0
@@ -61,14 +61,14 @@ abbrev pub Settles : Core → Core → Type 0
 Settles b t = Chain IsSettling b t
 
 -- where the thread comes to is right for an op that has come that far
-abbrev pub lands_inside : Placing → HowFar → Bool
+abbrev pub lands_inside : Placing → OpProgress → Bool
 lands_inside (Move n p) h = is_inside p h
 lands_inside _ h = true
 
 -- it comes there with its op as far as before
 abbrev pub lands_alone : Placing → Bool
 lands_alone (Move n place.Suspended) = false
-lands_alone (Move n p) = is_inside p how_far.Fresh
+lands_alone (Move n p) = is_inside p op_progress.Fresh
 lands_alone (GoBehind f n) = false
 lands_alone _ = true
 
@@ -79,7 +79,7 @@ pub record Halted (a : Scene) (b : Core) (n : ℕ) (s : Core) : Type 0 where
   pub first : Stay a b at
   pub before : Core
   pub stays : Stay a at before
-  pub rest : Stay a (after_word (Places (Stop (foot_of n at))) before) s
+  pub rest : Stay a (after_primitive (Places (Stop (foot_of n at))) before) s
 
 -- the thread that comes to a place at which it doesn't go on
 abbrev pub leaving : Placing → Option ℕ
@@ -96,25 +96,25 @@ pub data Trip (a : Scene) (b : Core) : Core → Type 0 where
   Remains : (t : Core) → Stay a b t → ((m : ℕ) → a.next ≡ turn.Run m → a.turn ≡ turn.Run m) →
       ((m : ℕ) → IsRunner a m → a.next ≡ turn.Run m) → Trip a b t
   Lands : (s : Core) → (p : Placing) → Stay a b s → MayLand a p s → lands_alone p ≡ true → Halts a b (leaving p) s →
-      Trip a b (after_word (Places p) s)
+      Trip a b (after_primitive (Places p) s)
   -- and its op has come that far
-  LandsAt : (s : Core) → (p : Placing) → (n : ℕ) → (h : HowFar) → Stay a b s → MayLand a p s → lands_inside p h ≡ true →
-      Allowed a (SetHowFar n h) (after_word (Places p) s) → Halts a b (leaving p) s →
-      Trip a b (after_word (SetHowFar n h) (after_word (Places p) s))
-  Quits : (s t : Core) → (n : ℕ) → Stay a b s → Leaves a n → Settles (after_word (RemoveThread n) s) t → Halted a b n s → Trip a b t
+  LandsAt : (s : Core) → (p : Placing) → (n : ℕ) → (h : OpProgress) → Stay a b s → MayLand a p s → lands_inside p h ≡ true →
+      Allowed a (SetOpProgress n h) (after_primitive (Places p) s) → Halts a b (leaving p) s →
+      Trip a b (after_primitive (SetOpProgress n h) (after_primitive (Places p) s))
+  Quits : (s t : Core) → (n : ℕ) → Stay a b s → Leaves a n → Settles (after_primitive (RemoveThread n) s) t → Halted a b n s → Trip a b t
   -- a direct callee exits, and the thread under it goes on
   GoesBack : (s t : Core) → (n m v : ℕ) → Stay a b s → IsRunner a n → a.turn ≡ turn.Run n → a.next ≡ turn.Run m →
       place_of m a.base ≡ Some (place.Under n) → direct_return a.base a.label ≡ Some (m, task_of n a.base) →
-      Settles (after_word (RemoveThread n) s) t → MayMove a m place.Running t →
-      Trip a b (after_word (SetHowFar m (how_far.Answered v)) (after_word (Places (Move m place.Running)) t))
-  Collapses : (t : Core) → a.next ≡ turn.Over → Chain (IsFall a) b t → Trip a b t
+      Settles (after_primitive (RemoveThread n) s) t → MayMove a m place.Running t →
+      Trip a b (after_primitive (SetOpProgress m (op_progress.Answered v)) (after_primitive (Places (Move m place.Running)) t))
+  Collapses : (t : Core) → a.next ≡ turn.Over → Chain (IsUnwind a) b t → Trip a b t
 
 -- the core in which the thread runs or has been taken; where there is none, that of the step
 abbrev pub start_of : Scene → Core → Core
 start_of a s = option_map_or (λ n. a.base) a.runner s
 
 -- only changes of where other threads are
-abbrev pub IsShift : Word → Core → Type 0
+abbrev pub IsShift : Primitive → Core → Type 0
 IsShift (Places p) s = MayShift p s
 IsShift _ s = ⊥
 
@@ -192,7 +192,7 @@ pub data HandsOut (a : Scene) (t : Core) : Subtask → Status → Type 0 where
       written_as a.ops a.base a.label t ≡ Some (end_for status.Returned (subtask.Host i)) →
       HandsOut a t (subtask.Host i) status.Returned
   -- the sync call of a host is answered
-  Answers : (n i : ℕ) → IsRunner a n → how_far_of n a.base ≡ how_far.Calls (subtask.Host i) → get t.works i ≡ None →
+  Answers : (n i : ℕ) → IsRunner a n → op_progress_of n a.base ≡ op_progress.Calls (subtask.Host i) → get t.works i ≡ None →
       HandsOut a t (subtask.Host i) status.Returned
 
 -- From s to t one thread that waits on the set is woken, if there is one.
@@ -222,16 +222,16 @@ host_taken (label.Take (take_label.HostWakes m i w)) = Some i
 host_taken _ = None
 
 -- What the label of a step says of the ends of subtasks.
-pub record EndWords (a : Scene) (t : Core) : Type 0 where
+pub record EndPrimitives (a : Scene) (t : Core) : Type 0 where
   pub writes : (sub : Subtask) (e : Status) → written_as a.ops a.base a.label t ≡ Some (end_for e sub) → Writes a t sub
   pub hands : (sub : Subtask) (e : Status) → handed_as a.ops a.main a.base a.label t ≡ Some (end_for e sub) → HandsOut a t sub e
   pub tells : (sub : Subtask) (e : Status) → written_as a.ops a.base a.label t ≡ Some (end_for e sub) → EndTells a t sub e
   pub takes : (i : ℕ) → host_taken a.label ≡ Some i → Frees a t (subtask.Host i)
   -- the op that answers is done
-  pub answers : (n : ℕ) → sync_answered a.label ≡ Some n → how_far_of n t ≡ how_far.Fresh
+  pub answers : (n : ℕ) → sync_answered a.label ≡ Some n → op_progress_of n t ≡ op_progress.Fresh
 
 -- What the last words of a step leave.
-pub record LastWords (a : Scene) (t : Core) : Type 0 where
+pub record LastPrimitives (a : Scene) (t : Core) : Type 0 where
   -- a thread that was taken is at a place that says nothing of entries, or gone
   pub laid : (n : ℕ) → IsRunner a n → is_take a.turn ≡ true → option_map_or is_free (place_of n t) true ≡ true
   -- a thread whose turn comes was running already, or runs now
@@ -241,7 +241,7 @@ pub record LastWords (a : Scene) (t : Core) : Type 0 where
   -- a thread that exits is gone
   pub gone : (n : ℕ) → IsRunner a n → is_exit a.label ≡ true → get t.threads n ≡ None
   -- what the label says of ends is so
-  pub says : EndWords a t
+  pub says : EndPrimitives a t
   -- a holding entry that begins to run finds its instance open, and shuts it
   pub shut : (i : ℕ) → begun_holder a.base a.label ≡ Some i → (may_not_enter i a.base ≡ false) ×
       (is_some (get t.instances i) ≡ true → may_not_enter i t ≡ true)
@@ -263,7 +263,7 @@ pub record WalkedAs (ops : ℕ → Op) (x : Setting) (s : State) (l : Label) (t 
   pub main : SameMain s.main t.core t.main
   pub walk : Walk (scene_as ops x s l next) s.core t.core
   pub trip : Trip (scene_as ops x s l next) (start_of (scene_as ops x s l next) s.core) t.core
-  pub ends : LastWords (scene_as ops x s l next) t.core
+  pub ends : LastPrimitives (scene_as ops x s l next) t.core
 
 abbrev pub Walked : Setting → State → Label → State → Type 0
 Walked x s l t = WalkedAs (ops_of x.component s.core) x s l t
@@ -277,7 +277,7 @@ StepsAreWalks = (x : Setting) (s : State) (l : Label) (t : State) → Step x s l
 unfoldable pub RulesAreWalks : Type 0
 RulesAreWalks = (ops : ℕ → Op) (x : Setting) (s : State) (n : ℕ) (l : Label) (o : Op) (t : State) → s.turn ≡ turn.Run n → ops n ≡ o →
     (is_exit_op o ≡ false → position_of n s.core + 1 ≤ length (script_of x.component n s.core)) →
-    Progresses s s.core n (op_row x.component n s.core (choice_of l) o) l t → WalkedAs ops x s l t
+    Progresses s s.core n (scripted_op_rule x.component n s.core (choice_of l) o) l t → WalkedAs ops x s l t
 
 -- So is the rule as a host has it done, of any op but one on registers and words, wherever the thread is in its script.
 unfoldable pub HostRulesAreWalks : Type 0

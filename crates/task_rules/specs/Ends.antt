@@ -5,16 +5,16 @@ use Rattle.task_machine.specs.declared.component.ExportKind.{ExportKind}
 use Rattle.task_machine.specs.declared.records.Goal.{Goal}
 use Rattle.task_machine.specs.declared.records.Join.{Join}
 use Rattle.task_machine.specs.declared.label.Label.{Label}
-use Rattle.task_machine.specs.declared.words.OwnEvent.{OwnEvent}
+use Rattle.task_machine.specs.declared.words.TaskEvent.{TaskEvent}
 use Rattle.task_machine.specs.declared.words.Status.{Status}
 use Rattle.task_machine.specs.declared.records.CallEnd.TheVariants as call_end
 use Rattle.task_machine.specs.declared.records.Caller.TheVariants as caller
 use Rattle.task_machine.specs.declared.records.Delivery.TheVariants as delivery
 use Rattle.task_machine.specs.declared.records.Goal.TheVariants as goal
-use Rattle.task_machine.specs.declared.records.HowFar.TheVariants as how_far
+use Rattle.task_machine.specs.declared.records.OpProgress.TheVariants as op_progress
 use Rattle.task_machine.specs.declared.records.Join.TheVariants as join
 use Rattle.task_machine.specs.declared.component.ExportKind.TheVariants as kind
-use Rattle.task_machine.specs.declared.words.OwnEvent.TheVariants as own
+use Rattle.task_machine.specs.declared.words.TaskEvent.TheVariants as own
 use Rattle.task_machine.specs.declared.records.Place.TheVariants as place
 use Rattle.task_machine.specs.declared.words.Status.TheVariants as status
 use Rattle.task_machine.specs.declared.records.Subtask.TheVariants as subtask
@@ -23,9 +23,9 @@ use Rattle.task_machine.specs.declared.records.Why.TheVariants as why
 use Rattle.task_machine.specs.Core.{Core}
 use Rattle.task_machine.specs.Labels.{exit_label}
 use Rattle.task_machine.specs.Moves.{checked, ended, may_publish, passes_check, published, put_high, put_low, released, stopped}
-use Rattle.task_machine.specs.Read.{admitted_held, caller_of, callers_of, first_at, foot_of, goal_of, has_ended, has_ready_member, instance_of, is_direct, is_explicit, is_guest_call, is_last_thread, is_nil, is_waiting_on, join_of, kind_of, own_event_of, register_of, saved_own_of, set_at, task_of, under_of}
-use Rattle.task_machine.specs.Write.{give_result, set_do_not_enter, set_do_not_suspend, set_end, set_how_far, set_own_event, set_place, set_register, set_result}
-use Rattle.task_rules.specs.Progress.{Goes, Never, Ordered, Progress, Stops, Traps, may, or_trap, trap_if}
+use Rattle.task_machine.specs.Read.{admitted_held, caller_of, callers_of, first_at, foot_of, goal_of, has_ended, has_ready_member, instance_of, is_direct, is_explicit, is_guest_call, is_last_thread, is_nil, is_waiting_on, join_of, kind_of, task_event_of, register_of, saved_own_of, set_at, task_of, under_of}
+use Rattle.task_machine.specs.Write.{give_result, set_do_not_enter, set_do_not_suspend, set_end, set_op_progress, set_task_event, set_place, set_register, set_result}
+use Rattle.task_rules.specs.Progress.{Continues, Never, Ordered, Progress, Stops, Traps, may, or_trap, trap_if}
 
 -- ---- The end of a task
 
@@ -111,8 +111,8 @@ exit_stops n s = ended n (stopped (foot_of n s) (checked (instance_of n s) s))
 
 -- a stackful export's exit, and an explicit thread's: trap 9 (CannotBlockSyncTask) where the check fails,
 -- trap 4 (NoAsyncResult) where no thread is left and the task hasn't ended
-abbrev pub thread_exit_row : ℕ → Core → Progress
-thread_exit_row n s =
+abbrev pub thread_exit_rule : ℕ → Core → Progress
+thread_exit_rule n s =
     trap_if (not (passes_check (instance_of n s) s)) trap.CannotBlockSyncTask (
     trap_if (leaves_no_result n s) trap.NoAsyncResult (
     Stops (exit_label n None) (exit_stops n s)))
@@ -122,16 +122,16 @@ unfoldable pub sync_exits : ℕ → Option ℕ → Core → Core
 sync_exits n w s = ended n (stopped (foot_of n s) (returned (task_of n s) (register_of n 0 s) w (exit_restores n s)))
 
 -- a sync export's exit
-abbrev pub sync_exit_row : ℕ → Option ℕ → Core → Progress
-sync_exit_row n w s = may (may_tell (task_of n s) w s) (Stops (exit_label n w) (sync_exits n w s))
+abbrev pub sync_exit_rule : ℕ → Option ℕ → Core → Progress
+sync_exit_rule n w s = may (may_tell (task_of n s) w s) (Stops (exit_label n w) (sync_exits n w s))
 
 -- after the release and the return a blocking export's thread leaves
 unfoldable pub blocking_exits : ℕ → Option ℕ → List ℕ → Core → Core
 blocking_exits n w order s = exit_stops n (blocking_returned n w order s)
 
 -- a blocking export's exit: trap 9 (CannotBlockSyncTask) where the check after the release and the return fails
-abbrev pub blocking_exit_row : ℕ → Option ℕ → Core → Progress
-blocking_exit_row n w s =
+abbrev pub blocking_exit_rule : ℕ → Option ℕ → Core → Progress
+blocking_exit_rule n w s =
     let held = held_by_flag (instance_of n s) s in
     trap_if (not (passes_after_return n w s)) trap.CannotBlockSyncTask (
     may (may_tell (task_of n s) w s) (
@@ -139,20 +139,20 @@ blocking_exit_row n w s =
 
 -- a direct call's task returns v; the thread under it goes on
 unfoldable pub direct_exits : ℕ → ℕ → ℕ → Core → Core
-direct_exits n m v s = set_how_far m (how_far.Answered v) (set_place m place.Running (ended n (set_end (task_of n s) call_end.Returned s)))
+direct_exits n m v s = set_op_progress m (op_progress.Answered v) (set_place m place.Running (ended n (set_end (task_of n s) call_end.Returned s)))
 
 -- of a sync export the flag is written back; of a blocking one a check: trap 9 (CannotBlockSyncTask) where it fails;
 -- default: nobody under
 abbrev pub direct_exit_to : ℕ → ExportKind → Core → Option ℕ → Progress
 direct_exit_to n x s None = Never
 direct_exit_to n kind.Sync s (Some m) =
-    Goes (exit_label n None) (direct_exits n m (register_of n 0 s) (exit_restores n s)) m
+    Continues (exit_label n None) (direct_exits n m (register_of n 0 s) (exit_restores n s)) m
 direct_exit_to n x s (Some m) =
     trap_if (not (passes_check (instance_of n s) s)) trap.CannotBlockSyncTask (
-    Goes (exit_label n None) (direct_exits n m (register_of n 0 s) (checked (instance_of n s) s)) m)
+    Continues (exit_label n None) (direct_exits n m (register_of n 0 s) (checked (instance_of n s) s)) m)
 
-abbrev pub direct_exit_row : ℕ → Core → Progress
-direct_exit_row n s = direct_exit_to n (kind_of (task_of n s) s) s (under_of n s)
+abbrev pub direct_exit_rule : ℕ → Core → Progress
+direct_exit_rule n s = direct_exit_to n (kind_of (task_of n s) s) s (under_of n s)
 
 -- ---- The ends of activations
 
@@ -164,7 +164,7 @@ code_stops n order s = stopped (foot_of n s) (end_reopens (instance_of n s) orde
 unfoldable pub code_exits : ℕ → List ℕ → Core → Core
 code_exits n order s = ended n (checked (instance_of n s) (code_stops n order s))
 
-abbrev pub own_or_none : Option OwnEvent → Option OwnEvent
+abbrev pub own_or_none : Option TaskEvent → Option TaskEvent
 own_or_none None = Some own.None
 own_or_none (Some e) = Some e
 
@@ -172,7 +172,7 @@ own_or_none (Some e) = Some e
 unfoldable pub code_yields : ℕ → List ℕ → Core → Core
 code_yields n order s =
     let k = task_of n s in
-    put_low n (why.Delivery delivery.Yield) (set_own_event k (own_or_none (own_event_of k s)) (code_stops n order s))
+    put_low n (why.Delivery delivery.Yield) (set_task_event k (own_or_none (task_event_of k s)) (code_stops n order s))
 
 -- code 2: an event is there
 unfoldable pub code_finds : ℕ → ℕ → List ℕ → Core → Core
@@ -184,52 +184,52 @@ code_waits n x order s = set_place n (place.Waiting x true) (code_stops n order 
 
 -- the task's own event, or a ready member of the set, is there
 unfoldable pub has_event_for : ℕ → ℕ → Core → Bool
-has_event_for k x s = is_some (own_event_of k s) || has_ready_member x s
+has_event_for k x s = is_some (task_event_of k s) || has_ready_member x s
 
 -- by whether an event is there
-abbrev pub code_wait_row : Label → ℕ → ℕ → List ℕ → Core → Bool → Progress
-code_wait_row l n x held s true = Ordered held (λ order. Stops l (code_finds n x order s))
-code_wait_row l n x held s false = Ordered held (λ order. Stops l (code_waits n x order s))
+abbrev pub code_wait_rule : Label → ℕ → ℕ → List ℕ → Core → Bool → Progress
+code_wait_rule l n x held s true = Ordered held (λ order. Stops l (code_finds n x order s))
+code_wait_rule l n x held s false = Ordered held (λ order. Stops l (code_waits n x order s))
 
 -- By the low four bits of the code, and the rest of it.
 -- 0: trap 9 (CannotBlockSyncTask) where the check after the release and the stop fails, trap 4 (NoAsyncResult) where no thread is
 -- left and the task hasn't ended. 1: the callback yields. 2: trap 16 (BadHandle) where the rest names no set.
 -- Else trap 12 (UnsupportedCallbackCode)
-abbrev pub code_kind_row : Label → ℕ → List ℕ → Core → ℕ → ℕ → Progress
-code_kind_row l n held s zero rest =
+abbrev pub code_kind_rule : Label → ℕ → List ℕ → Core → ℕ → ℕ → Progress
+code_kind_rule l n held s zero rest =
     trap_if (not (passes_after_stop (instance_of n s) (foot_of n s) held s)) trap.CannotBlockSyncTask (
     trap_if (leaves_no_result n s) trap.NoAsyncResult (
     Ordered held (λ order. Stops l (code_exits n order s))))
-code_kind_row l n held s (suc zero) rest = Ordered held (λ order. Stops l (code_yields n order s))
-code_kind_row l n held s (suc (suc zero)) rest =
+code_kind_rule l n held s (suc zero) rest = Ordered held (λ order. Stops l (code_yields n order s))
+code_kind_rule l n held s (suc (suc zero)) rest =
     or_trap (set_at (instance_of n s) rest s) trap.BadHandle (
-    λ x. code_wait_row l n x held s (has_event_for (task_of n s) x s))
-code_kind_row l n held s _ rest = Traps trap.UnsupportedCallbackCode
+    λ x. code_wait_rule l n x held s (has_event_for (task_of n s) x s))
+code_kind_rule l n held s _ rest = Traps trap.UnsupportedCallbackCode
 
 -- a callback activation ends with the code: trap 12 (UnsupportedCallbackCode) where it is above 4294967295
-abbrev pub code_row : Label → ℕ → Core → ℕ → Progress
-code_row l n s code =
+abbrev pub code_rule : Label → ℕ → Core → ℕ → Progress
+code_rule l n s code =
     trap_if (nat_lt 4294967295 code) trap.UnsupportedCallbackCode (
-    code_kind_row l n (held_by_flag (instance_of n s) s) s (code % 16) (code / 16))
+    code_kind_rule l n (held_by_flag (instance_of n s) s) s (code % 16) (code / 16))
 
 -- ---- Exit
 
-abbrev pub kind_exit_row : ℕ → Option ℕ → Core → ExportKind → Progress
-kind_exit_row n w s kind.Sync = sync_exit_row n w s
-kind_exit_row n w s kind.Blocking = blocking_exit_row n w s
-kind_exit_row n w s kind.Stackful = thread_exit_row n s
-kind_exit_row n w s kind.Callback = code_row (exit_label n None) n s 0
+abbrev pub kind_exit_rule : ℕ → Option ℕ → Core → ExportKind → Progress
+kind_exit_rule n w s kind.Sync = sync_exit_rule n w s
+kind_exit_rule n w s kind.Blocking = blocking_exit_rule n w s
+kind_exit_rule n w s kind.Stackful = thread_exit_rule n s
+kind_exit_rule n w s kind.Callback = code_rule (exit_label n None) n s 0
 
 -- of a call's first thread, by whether the call is direct
-abbrev pub implicit_exit_row : ℕ → Option ℕ → Core → Bool → Progress
-implicit_exit_row n w s true = direct_exit_row n s
-implicit_exit_row n w s false = kind_exit_row n w s (kind_of (task_of n s) s)
+abbrev pub implicit_exit_rule : ℕ → Option ℕ → Core → Bool → Progress
+implicit_exit_rule n w s true = direct_exit_rule n s
+implicit_exit_rule n w s false = kind_exit_rule n w s (kind_of (task_of n s) s)
 
 -- by whether the thread is explicit
-abbrev pub exit_row_for : ℕ → Option ℕ → Core → Bool → Progress
-exit_row_for n w s true = thread_exit_row n s
-exit_row_for n w s false = implicit_exit_row n w s (is_direct (goal_of (task_of n s) s))
+abbrev pub exit_rule_for : ℕ → Option ℕ → Core → Bool → Progress
+exit_rule_for n w s true = thread_exit_rule n s
+exit_rule_for n w s false = implicit_exit_rule n w s (is_direct (goal_of (task_of n s) s))
 
 -- `exit`, and a script's end
-abbrev pub exit_row : ℕ → Option ℕ → Core → Progress
-exit_row n w s = exit_row_for n w s (is_explicit n s)
+abbrev pub exit_rule : ℕ → Option ℕ → Core → Progress
+exit_rule n w s = exit_rule_for n w s (is_explicit n s)

@@ -2,8 +2,8 @@
 use Rattle.std.specs.Prelude.{ℕ, ◌+◌}
 use Rattle.task_machine.specs.Core.{Core}
 use Rattle.task_machine.specs.Statuses.{status_code}
-use Rattle.task_machine.specs.Write.{set_how_far, set_register}
-use Rattle.task_machine.specs.declared.records.HowFar.TheVariants as how_far
+use Rattle.task_machine.specs.Write.{set_op_progress, set_register}
+use Rattle.task_machine.specs.declared.records.OpProgress.TheVariants as op_progress
 use Rattle.task_machine.specs.declared.words.Given.{Given}
 use Rattle.task_machine.specs.declared.words.Given.TheVariants as given
 use Rattle.task_rules.specs.Data.{advanced, assigned}
@@ -44,4 +44,4 @@ abbrev pub finish : Doer → ℕ → OpAnswer → Core → Core
 finish (OwnScript r) n NoAnswer s = advanced n s
 finish (OwnScript r) n (OneNumber v) s = assigned n r v s
 finish (OwnScript r) n (OneEvent v) s = advanced n (set_given n r v s)
-finish SomeHost n a s = set_how_far n how_far.Fresh s
+finish SomeHost n a s = set_op_progress n op_progress.Fresh s

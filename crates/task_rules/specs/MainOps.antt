@@ -100,16 +100,16 @@ unless_pending true l s = Does l s
 unless_pending false l s = Pends
 
 -- the act of the op that is the k-th of its kind, or names it
-abbrev pub main_row : Component → ℕ → Core → MainAct → MainProgress
-main_row c k s (Start e words) = start_act c k e words s (start_refusal s)
-main_row c k s (Finish x) = finish_act k s x
-main_row c k s (Spawn h) = Does (main_label.Spawn k (next_work s)) (main_spawned c h s)
-main_row c k s SpawnOpen = Does (main_label.Spawn k (next_work s)) (open_spawned s)
-main_row c k s (Abort i) = Does (main_label.Abort (phase_of i s) k) (main_aborted i s)
-main_row c k s (Await i) = unless_pending (is_complete (phase_of i s)) (main_label.Await k) s
-main_row c k s Quiet = unless_pending (not (has_interesting s)) main_label.Quiet s
-main_row c k s (Ready i) = unless_pending (is_ready_for_call i s) main_label.Ready s
-main_row c k s (Answer v) = Answers v
+abbrev pub main_rule : Component → ℕ → Core → MainAct → MainProgress
+main_rule c k s (Start e words) = start_act c k e words s (start_refusal s)
+main_rule c k s (Finish x) = finish_act k s x
+main_rule c k s (Spawn h) = Does (main_label.Spawn k (next_work s)) (main_spawned c h s)
+main_rule c k s SpawnOpen = Does (main_label.Spawn k (next_work s)) (open_spawned s)
+main_rule c k s (Abort i) = Does (main_label.Abort (phase_of i s) k) (main_aborted i s)
+main_rule c k s (Await i) = unless_pending (is_complete (phase_of i s)) (main_label.Await k) s
+main_rule c k s Quiet = unless_pending (not (has_interesting s)) main_label.Quiet s
+main_rule c k s (Ready i) = unless_pending (is_ready_for_call i s) main_label.Ready s
+main_rule c k s (Answer v) = Answers v
 
 -- ---- What a main may do
 

@@ -34,7 +34,7 @@ call_end_code (Some call_end.StartCancelled) = 2
 call_end_code (Some call_end.ReturnCancelled) = 3
 
 abbrev pub course_code : Course → ℕ
-course_code (course.Goes host) = 0
+course_code (course.Continues host) = 0
 course_code (course.Value v) = 1
 course_code course.NoValue = 2
 

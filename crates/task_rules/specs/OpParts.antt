@@ -5,8 +5,8 @@ use Rattle.task_machine.specs.declared.op.CallOp.{CallOp}
 use Rattle.task_machine.specs.declared.op.Op.{Op}
 use Rattle.task_machine.specs.declared.op.TaskOp.{TaskOp}
 use Rattle.task_machine.specs.declared.op.ThreadOp.{ThreadOp}
-use Rattle.task_machine.specs.declared.records.HowFar.{HowFar}
-use Rattle.task_machine.specs.declared.records.HowFar.TheVariants as how_far
+use Rattle.task_machine.specs.declared.records.OpProgress.{OpProgress}
+use Rattle.task_machine.specs.declared.records.OpProgress.TheVariants as op_progress
 use Rattle.task_machine.specs.declared.records.Subtask.TheVariants as subtask
 use Rattle.task_machine.specs.declared.op.SetOp.TheVariants as set_op
 use Rattle.task_machine.specs.declared.op.ThreadOp.TheVariants as thread_op
@@ -78,14 +78,14 @@ is_sync_host_call (op.Call (call_op.CallSyncHost r h)) = true
 is_sync_host_call _ = false
 
 -- the thread goes on inside of a host's call
-abbrev pub is_calling_host : HowFar → Bool
-is_calling_host (how_far.Calls (subtask.Host i)) = true
+abbrev pub is_calling_host : OpProgress → Bool
+is_calling_host (op_progress.Calls (subtask.Host i)) = true
 is_calling_host _ = false
 
 -- an op that has come so far polls a host first, and may make its work
-abbrev pub queues_work : HowFar → Op → Bool
+abbrev pub queues_work : OpProgress → Op → Bool
 queues_work h (op.Call (call_op.CallHost r q f)) = true
-queues_work (how_far.Calls (subtask.Host i)) (op.Call (call_op.CallSyncHost r f)) = false
+queues_work (op_progress.Calls (subtask.Host i)) (op.Call (call_op.CallSyncHost r f)) = false
 queues_work h (op.Call (call_op.CallSyncHost r f)) = true
 queues_work h _ = false
 
@@ -116,14 +116,14 @@ is_thread_op test _ = false
 -- Any op may be about to begin. A wait can be inside its wait, a call inside the call that it made, and a sync one answered; a sync call of
 -- a host can be inside its work. A cancel can be behind its callee, and a sync one can await the end. The ops that suspend can be
 -- suspended, and those that yield can have yielded.
-abbrev pub can_come : Op → HowFar → Bool
-can_come o how_far.Fresh = true
-can_come o (how_far.Waits x) = is_wait o
-can_come o (how_far.Calls (subtask.Guest k)) = is_some (callee_of_op o)
-can_come o (how_far.Calls (subtask.Host i)) = is_sync_host_call o
-can_come o (how_far.Answered v) = is_sync_call o
-can_come o (how_far.Cancels (subtask.Guest k)) = is_cancel o
-can_come o (how_far.Cancels (subtask.Host i)) = false
-can_come o (how_far.AwaitsEnd sub) = is_sync_cancel o
-can_come o how_far.Suspends = is_thread_op suspends o
-can_come o how_far.Yields = is_thread_op yields o
+abbrev pub can_come : Op → OpProgress → Bool
+can_come o op_progress.Fresh = true
+can_come o (op_progress.Waits x) = is_wait o
+can_come o (op_progress.Calls (subtask.Guest k)) = is_some (callee_of_op o)
+can_come o (op_progress.Calls (subtask.Host i)) = is_sync_host_call o
+can_come o (op_progress.Answered v) = is_sync_call o
+can_come o (op_progress.Cancels (subtask.Guest k)) = is_cancel o
+can_come o (op_progress.Cancels (subtask.Host i)) = false
+can_come o (op_progress.AwaitsEnd sub) = is_sync_cancel o
+can_come o op_progress.Suspends = is_thread_op suspends o
+can_come o op_progress.Yields = is_thread_op yields o

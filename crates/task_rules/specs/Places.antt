@@ -8,8 +8,8 @@ use Rattle.task_machine.specs.declared.words.Mark.TheVariants as mark
 use Rattle.task_machine.specs.declared.records.Place.TheVariants as place
 use Rattle.task_machine.specs.Core.{Core}
 use Rattle.task_machine.specs.Read.{callers_of, is_entry_of, is_resumption, place_of, is_inside_wait, same_subtask}
-use Rattle.task_machine.specs.declared.records.HowFar.{HowFar}
-use Rattle.task_machine.specs.declared.records.HowFar.TheVariants as how_far
+use Rattle.task_machine.specs.declared.records.OpProgress.{OpProgress}
+use Rattle.task_machine.specs.declared.records.OpProgress.TheVariants as op_progress
 
 abbrev pub one_if : Bool → ℕ
 one_if true = 1
@@ -73,10 +73,10 @@ is_at_wait x _ = false
 
 -- A thread that waits, but not by callback, is inside a wait on that set. One that is blocked is inside a sync call of that subtask, or
 -- awaits its end.
-abbrev pub is_inside : Place → HowFar → Bool
+abbrev pub is_inside : Place → OpProgress → Bool
 is_inside (place.Waiting x false) h = is_inside_wait x h
-is_inside (place.Blocked sub) (how_far.Calls on) = same_subtask sub on
-is_inside (place.Blocked sub) (how_far.AwaitsEnd on) = same_subtask sub on
+is_inside (place.Blocked sub) (op_progress.Calls on) = same_subtask sub on
+is_inside (place.Blocked sub) (op_progress.AwaitsEnd on) = same_subtask sub on
 is_inside (place.Blocked sub) h = false
 is_inside p h = true
 

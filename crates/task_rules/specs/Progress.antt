@@ -7,7 +7,7 @@ use Rattle.task_machine.specs.Core.{Core}
 
 pub data Progress : Type 0 where
   -- a thread goes on running
-  Goes : (label : Label) → (new : Core) → (running : ℕ) → Progress
+  Continues : (label : Label) → (new : Core) → (running : ℕ) → Progress
   -- nothing runs any more
   Stops : (label : Label) → (new : Core) → Progress
   Traps : (trap : Trap) → Progress

@@ -1,13 +1,13 @@
 -- The ops on waitable sets.
 use Rattle.std.specs.Prelude.{Bool, None, Option, Some, false, is_none, not, option_and_then, suc, true, unwrap_or, zero, ℕ, ◌&&◌, ◌+◌}
 use Rattle.task_machine.specs.declared.words.Given.{Given}
-use Rattle.task_machine.specs.declared.records.HowFar.{HowFar}
+use Rattle.task_machine.specs.declared.records.OpProgress.{OpProgress}
 use Rattle.task_machine.specs.declared.records.Join.{Join}
 use Rattle.task_machine.specs.declared.op.SetOp.{SetOp}
 use Rattle.task_machine.specs.declared.words.Status.{Status}
 use Rattle.task_machine.specs.declared.records.Subtask.{Subtask}
 use Rattle.task_machine.specs.declared.words.Given.TheVariants as given
-use Rattle.task_machine.specs.declared.records.HowFar.TheVariants as how_far
+use Rattle.task_machine.specs.declared.records.OpProgress.TheVariants as op_progress
 use Rattle.task_machine.specs.declared.records.Join.TheVariants as join
 use Rattle.task_machine.specs.declared.label.Label.TheVariants as label
 use Rattle.task_machine.specs.declared.records.Named.TheVariants as named
@@ -18,13 +18,13 @@ use Rattle.task_machine.specs.declared.label.ThreadLabel.TheVariants as thread_l
 use Rattle.task_machine.specs.declared.trap.Trap.TheVariants as trap
 use Rattle.task_machine.specs.Core.{Core}
 use Rattle.task_machine.specs.Labels.{Choice, join_label, wait_label}
-use Rattle.task_machine.specs.Moves.{Gift, NoGift, checked, gift, given_for, handed_on, may_hand_on, may_wake, own_gift_of, passes_check, stopped_at, taken, wake}
-use Rattle.task_machine.specs.Read.{at_handle_limit, event_of, fits, has_member, has_ready_member, has_waiters, how_far_of, instance_of, is_watched, join_of, new_handle, set_at, subtask_at, task_of}
-use Rattle.task_machine.specs.Write.{add_set, free_handle, give_handle, remove_set, set_how_far, set_join, set_register}
+use Rattle.task_machine.specs.Moves.{PickedEvent, NothingPicked, checked, picked_event, given_for, handed_on, may_hand_on, may_wake, picked_task_event_of, passes_check, stopped_at, taken, wake}
+use Rattle.task_machine.specs.Read.{at_handle_limit, event_of, fits, has_member, has_ready_member, has_waiters, op_progress_of, instance_of, is_watched, join_of, new_handle, set_at, subtask_at, task_of}
+use Rattle.task_machine.specs.Write.{add_set, free_handle, give_handle, remove_set, set_op_progress, set_join, set_register}
 pub use Rattle.task_rules.specs.Finish.{given_code, given_handle, given_result}
 unfoldable pub use Rattle.task_rules.specs.Finish.{set_given}
 use Rattle.task_rules.specs.Finish.{Doer, NoAnswer, OneEvent, OneNumber, OwnScript, finish}
-use Rattle.task_rules.specs.Progress.{Goes, Progress, Stops, may, or_never, or_trap, trap_if}
+use Rattle.task_rules.specs.Progress.{Continues, Progress, Stops, may, or_never, or_trap, trap_if}
 use Rattle.task_rules.specs.Scripts.{value_of}
 
 -- ---- Making and dropping a set
@@ -43,10 +43,10 @@ set_new_rule d n s =
     let h = new_handle (instance_of n s) s in
     trap_if (not (fits 1 s)) trap.TableFull (
     trap_if (at_handle_limit s) trap.HandleLimit (
-    Goes (label.Set (set_label.New h n)) (finish d n (OneNumber h) (set_opened n s)) n))
+    Continues (label.Set (set_label.New h n)) (finish d n (OneNumber h) (set_opened n s)) n))
 
-abbrev pub set_new_row : ℕ → ℕ → Core → Progress
-set_new_row n r s = set_new_rule (OwnScript r) n s
+abbrev pub scripted_set_new_rule : ℕ → ℕ → Core → Progress
+scripted_set_new_rule n r s = set_new_rule (OwnScript r) n s
 
 -- the set x and its handle h are gone
 unfoldable pub set_closed : ℕ → ℕ → ℕ → Core → Core
@@ -61,7 +61,7 @@ abbrev pub set_drop_by : Doer → ℕ → ℕ → Core → ℕ → Progress
 set_drop_by d n h s x =
     trap_if (has_waiters x s) trap.WaitableSetDropHasWaiters (
     trap_if (has_member x s) trap.TableHasChildren (
-    Goes (label.Set (set_label.Drop n)) (finish d n NoAnswer (set_closed n h x s)) n))
+    Continues (label.Set (set_label.Drop n)) (finish d n NoAnswer (set_closed n h x s)) n))
 
 abbrev pub set_drop_found : ℕ → ℕ → Core → ℕ → Progress
 set_drop_found n h s x = set_drop_by (OwnScript 0) n h s x
@@ -70,8 +70,8 @@ set_drop_found n h s x = set_drop_by (OwnScript 0) n h s x
 abbrev pub set_drop_rule : Doer → ℕ → ℕ → Core → Progress
 set_drop_rule d n h s = or_trap (set_at (instance_of n s) h s) trap.BadHandle (set_drop_by d n h s)
 
-abbrev pub set_drop_row : ℕ → ℕ → Core → Progress
-set_drop_row n h s = set_drop_rule (OwnScript 0) n h s
+abbrev pub scripted_set_drop_rule : ℕ → ℕ → Core → Progress
+scripted_set_drop_rule n h s = set_drop_rule (OwnScript 0) n h s
 
 -- ---- Waiting and polling
 
@@ -80,32 +80,32 @@ abbrev pub chosen : ℕ → Choice → Core → Option Subtask
 chosen n ch s = option_and_then (λ h. subtask_at (instance_of n s) h s) ch.member
 
 -- what the gift hands out; default: no member chosen
-abbrev pub handed_out : Choice → Core → Gift → Given
+abbrev pub handed_out : Choice → Core → PickedEvent → Given
 handed_out ch s g = given_for g (unwrap_or ch.member 0) s
 
 -- the gift is taken, and what it hands out is the answer
-abbrev pub received_by : Doer → ℕ → Gift → Given → Core → Core
+abbrev pub received_by : Doer → ℕ → PickedEvent → Given → Core → Core
 received_by d n g v s = finish d n (OneEvent v) (taken g (task_of n s) s)
 
 -- in r and the two registers after it
-abbrev pub received : ℕ → ℕ → Gift → Given → Core → Core
+abbrev pub received : ℕ → ℕ → PickedEvent → Given → Core → Core
 received n r g v s = received_by (OwnScript r) n g v s
 
 -- the strand stops, and its top waits on x
 unfoldable pub wait_stops : ℕ → ℕ → Core → Core
-wait_stops n x s = set_how_far n (how_far.Waits x) (stopped_at n (place.Waiting x false) s)
+wait_stops n x s = set_op_progress n (op_progress.Waits x) (stopped_at n (place.Waiting x false) s)
 
 unfoldable pub wait_stops_checked : ℕ → ℕ → Core → Core
 wait_stops_checked n x s = wait_stops n x (checked (instance_of n s) s)
 
 -- neither the own event, as far as the thread may take it, nor a ready member is there
 unfoldable pub finds_nothing : ℕ → ℕ → Core → Bool
-finds_nothing n x s = is_none (own_gift_of false (task_of n s) s) && not (has_ready_member x s)
+finds_nothing n x s = is_none (picked_task_event_of false (task_of n s) s) && not (has_ready_member x s)
 
-abbrev pub wait_takes_by : Doer → ℕ → Choice → Core → Gift → Progress
-wait_takes_by d n ch s g = let v = handed_out ch s g in Goes (label.Set (set_label.Wait v n)) (received_by d n g v s) n
+abbrev pub wait_takes_by : Doer → ℕ → Choice → Core → PickedEvent → Progress
+wait_takes_by d n ch s g = let v = handed_out ch s g in Continues (label.Set (set_label.Wait v n)) (received_by d n g v s) n
 
-abbrev pub wait_takes : ℕ → ℕ → Choice → Core → Gift → Progress
+abbrev pub wait_takes : ℕ → ℕ → Choice → Core → PickedEvent → Progress
 wait_takes n r ch s g = wait_takes_by (OwnScript r) n ch s g
 
 -- where nothing is there, a check: trap 9 (CannotBlockSyncTask) where it fails, else the strand stops; where something is there,
@@ -115,57 +115,57 @@ wait_begins_by d n ch s x true =
     trap_if (not (passes_check (instance_of n s) s)) trap.CannotBlockSyncTask (
     Stops (label.Thread (thread_label.Pauses n)) (wait_stops_checked n x s))
 wait_begins_by d n ch s x false =
-    or_never (gift false (task_of n s) x (chosen n ch s) s) (
+    or_never (picked_event false (task_of n s) x (chosen n ch s) s) (
     wait_takes_by d n ch s)
 
 abbrev pub wait_begins : ℕ → ℕ → Choice → Core → ℕ → Bool → Progress
 wait_begins n r ch s x b = wait_begins_by (OwnScript r) n ch s x b
 
 -- the wake is handed on where the gift is the own event
-abbrev pub received_woken_by : Doer → ℕ → ℕ → Option ℕ → Gift → Given → Core → Core
+abbrev pub received_woken_by : Doer → ℕ → ℕ → Option ℕ → PickedEvent → Given → Core → Core
 received_woken_by d n x w g v s = received_by d n g v (handed_on x g w s)
 
-abbrev pub received_woken : ℕ → ℕ → ℕ → Option ℕ → Gift → Given → Core → Core
+abbrev pub received_woken : ℕ → ℕ → ℕ → Option ℕ → PickedEvent → Given → Core → Core
 received_woken n x r w g v s = received_woken_by (OwnScript r) n x w g v s
 
 -- the resumed thread waits again, without a check, where nothing is there any more; else it takes what is there
-abbrev pub wait_goes_on_by : Doer → ℕ → ℕ → Choice → Core → Gift → Progress
-wait_goes_on_by d n x ch s NoGift = Stops (label.Thread (thread_label.Pauses n)) (wait_stops n x s)
+abbrev pub wait_goes_on_by : Doer → ℕ → ℕ → Choice → Core → PickedEvent → Progress
+wait_goes_on_by d n x ch s NothingPicked = Stops (label.Thread (thread_label.Pauses n)) (wait_stops n x s)
 wait_goes_on_by d n x ch s g =
     let v = handed_out ch s g in
     may (may_hand_on x g ch.woken s) (
-    Goes (wait_label n v ch.woken) (received_woken_by d n x ch.woken g v s) n)
+    Continues (wait_label n v ch.woken) (received_woken_by d n x ch.woken g v s) n)
 
-abbrev pub wait_goes_on : ℕ → ℕ → ℕ → Choice → Core → Gift → Progress
+abbrev pub wait_goes_on : ℕ → ℕ → ℕ → Choice → Core → PickedEvent → Progress
 wait_goes_on n x r ch s g = wait_goes_on_by (OwnScript r) n x ch s g
 
 -- `wait R X`: resumed inside it, or as it begins: trap 16 (BadHandle) where X names no set
-abbrev pub wait_rule : Doer → ℕ → ℕ → Choice → Core → HowFar → Progress
-wait_rule d n h ch s (how_far.Waits x) =
-    or_never (gift false (task_of n s) x (chosen n ch s) s) (
+abbrev pub wait_rule : Doer → ℕ → ℕ → Choice → Core → OpProgress → Progress
+wait_rule d n h ch s (op_progress.Waits x) =
+    or_never (picked_event false (task_of n s) x (chosen n ch s) s) (
     wait_goes_on_by d n x ch s)
 wait_rule d n h ch s _ =
     or_trap (set_at (instance_of n s) h s) trap.BadHandle (
     λ x. wait_begins_by d n ch s x (finds_nothing n x s))
 
-abbrev pub wait_row : ℕ → ℕ → ℕ → Choice → Core → HowFar → Progress
-wait_row n r h ch s f = wait_rule (OwnScript r) n h ch s f
+abbrev pub scripted_wait_rule : ℕ → ℕ → ℕ → Choice → Core → OpProgress → Progress
+scripted_wait_rule n r h ch s f = wait_rule (OwnScript r) n h ch s f
 
-abbrev pub poll_takes_by : Doer → ℕ → Choice → Core → Gift → Progress
-poll_takes_by d n ch s g = let v = handed_out ch s g in Goes (label.Set (set_label.Poll v n)) (received_by d n g v s) n
+abbrev pub poll_takes_by : Doer → ℕ → Choice → Core → PickedEvent → Progress
+poll_takes_by d n ch s g = let v = handed_out ch s g in Continues (label.Set (set_label.Poll v n)) (received_by d n g v s) n
 
-abbrev pub poll_takes : ℕ → ℕ → Choice → Core → Gift → Progress
+abbrev pub poll_takes : ℕ → ℕ → Choice → Core → PickedEvent → Progress
 poll_takes n r ch s g = poll_takes_by (OwnScript r) n ch s g
 
 -- `poll R X`: trap 16 (BadHandle) where X names no set; else what is there is taken, and 0 0 0 where nothing is
 abbrev pub poll_rule : Doer → ℕ → ℕ → Choice → Core → Progress
 poll_rule d n h ch s =
     or_trap (set_at (instance_of n s) h s) trap.BadHandle (
-    λ x. or_never (gift false (task_of n s) x (chosen n ch s) s) (
+    λ x. or_never (picked_event false (task_of n s) x (chosen n ch s) s) (
     poll_takes_by d n ch s))
 
-abbrev pub poll_row : ℕ → ℕ → ℕ → Choice → Core → Progress
-poll_row n r h ch s = poll_rule (OwnScript r) n h ch s
+abbrev pub scripted_poll_rule : ℕ → ℕ → ℕ → Choice → Core → Progress
+scripted_poll_rule n r h ch s = poll_rule (OwnScript r) n h ch s
 
 -- ---- Joining
 
@@ -194,7 +194,7 @@ abbrev pub join_done_by : Doer → ℕ → Subtask → Option ℕ → Core → O
 join_done_by d n sub w s x =
     trap_if (is_watched (join_of sub s)) trap.WaitableSyncAndAsync (
     may (may_wake_new (event_of sub s) x w s) (
-    Goes (join_label n w) (finish d n NoAnswer (moved_over sub x w s)) n))
+    Continues (join_label n w) (finish d n NoAnswer (moved_over sub x w s)) n))
 
 abbrev pub join_done : ℕ → Subtask → Option ℕ → Core → Option ℕ → Progress
 join_done n sub w s x = join_done_by (OwnScript 0) n sub w s x
@@ -211,13 +211,13 @@ join_to n y w s sub = join_to_by (OwnScript 0) n y w s sub
 abbrev pub join_rule : Doer → ℕ → ℕ → ℕ → Option ℕ → Core → Progress
 join_rule d n h y w s = or_trap (subtask_at (instance_of n s) h s) trap.BadHandle (join_to_by d n y w s)
 
-abbrev pub join_row : ℕ → ℕ → ℕ → Option ℕ → Core → Progress
-join_row n h y w s = join_rule (OwnScript 0) n h y w s
+abbrev pub scripted_join_rule : ℕ → ℕ → ℕ → Option ℕ → Core → Progress
+scripted_join_rule n h y w s = join_rule (OwnScript 0) n h y w s
 
 abbrev pub set_rule : Doer → ℕ → Core → Choice → SetOp → Progress
 set_rule d n s ch (set_op.New r) = set_new_rule d n s
 set_rule d n s ch (set_op.Drop x) = set_drop_rule d n (value_of n s x) s
-set_rule d n s ch (set_op.Wait r x) = wait_rule d n (value_of n s x) ch s (how_far_of n s)
+set_rule d n s ch (set_op.Wait r x) = wait_rule d n (value_of n s x) ch s (op_progress_of n s)
 set_rule d n s ch (set_op.Poll r x) = poll_rule d n (value_of n s x) ch s
 set_rule d n s ch (set_op.Join x y) = join_rule d n (value_of n s x) (value_of n s y) ch.woken s
 
@@ -228,5 +228,5 @@ set_answer (set_op.Wait r x) = r
 set_answer (set_op.Poll r x) = r
 set_answer _ = 0
 
-abbrev pub set_row : ℕ → Core → Choice → SetOp → Progress
-set_row n s ch o = set_rule (OwnScript (set_answer o)) n s ch o
+abbrev pub scripted_set_rule : ℕ → Core → Choice → SetOp → Progress
+scripted_set_rule n s ch o = set_rule (OwnScript (set_answer o)) n s ch o

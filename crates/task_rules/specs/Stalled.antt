@@ -17,8 +17,8 @@ use Rattle.task_machine.specs.declared.records.Turn.TheVariants as turn
 use Rattle.task_machine.specs.Core.{Core, Main, MainPlace, Scripted, State, Unscripted}
 use Rattle.task_machine.specs.Maps.{numbers}
 use Rattle.task_machine.specs.Read.{admitted_held, any_thread, event_of, has_ready_member, has_waiter, is_behind, is_delivery_for, is_nil, may_not_suspend, undelivered_end}
-use Rattle.task_rules.specs.MainOps.{MainProgress, Pends, act_of, line_of, main_row, op_at}
-use Rattle.task_rules.specs.Turns.{nothing_stands}
+use Rattle.task_rules.specs.MainOps.{MainProgress, Pends, act_of, line_of, main_rule, op_at}
+use Rattle.task_rules.specs.Turns.{queues_are_empty}
 use Rattle.task_rules.specs.Works.{has_live_work, has_moving_work, is_ended_work}
 
 -- What the steps of a state are seen beside: the component, main's script and the idle line.
@@ -40,7 +40,7 @@ is_pending _ = false
 -- past the script's end main pends for ever
 abbrev pub pends_at : Setting → Core → MainPlace → Option MainOpDef → Bool
 pends_at x s p None = true
-pends_at x s p (Some o) = is_pending (main_row x.component (line_of p o) s (act_of p o))
+pends_at x s p (Some o) = is_pending (main_rule x.component (line_of p o) s (act_of p o))
 
 -- main's op pends; of a main that is no script this is left to its label
 abbrev pub main_pends : Setting → Core → Main → Bool
@@ -95,7 +95,7 @@ abbrev pub none_blocked_on_end : Core → Bool
 none_blocked_on_end s = not (any_thread (λ t. is_blocked_on_end s t.place) s)
 
 unfoldable pub is_idle : Setting → State → Bool
-is_idle x s = waits_for_entry x s && (nothing_stands s.core && works_rest s.core)
+is_idle x s = waits_for_entry x s && (queues_are_empty s.core && works_rest s.core)
 
 unfoldable pub is_stalled : Setting → State → Bool
 is_stalled x s = is_idle x s && (none_behind s.core && (none_admitted s.core && (no_set_passed_over s.core && none_blocked_on_end s.core)))

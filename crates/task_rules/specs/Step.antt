@@ -22,13 +22,13 @@ use Rattle.task_machine.specs.Moves.{ended}
 use Rattle.task_machine.specs.Read.{next_entry, strand_of}
 use Rattle.task_machine.specs.Write.{remove_threads, set_trapped}
 use Rattle.task_rules.specs.Cancels.{call_answer, subtask_rule}
-use Rattle.task_rules.specs.Data.{data_row}
-use Rattle.task_rules.specs.MainOps.{Answers, Does, MainAct, MainProgress, Pends, act_of, advanced_main, line_of, main_row, may_act, op_at}
-use Rattle.task_rules.specs.Progress.{Fails, Goes, Never, Ordered, Progress, Stops, Traps, Asks}
+use Rattle.task_rules.specs.Data.{data_rule}
+use Rattle.task_rules.specs.MainOps.{Answers, Does, MainAct, MainProgress, Pends, act_of, advanced_main, line_of, main_rule, may_act, op_at}
+use Rattle.task_rules.specs.Progress.{Fails, Continues, Never, Ordered, Progress, Stops, Traps, Asks}
 use Rattle.task_rules.specs.Scripts.{op_of}
 use Rattle.task_rules.specs.Sets.{set_answer, set_rule}
 use Rattle.task_rules.specs.Stalled.{Setting, deadlock_trap, is_unended_take, may_deadlock}
-use Rattle.task_rules.specs.Takes.{popped, take_row}
+use Rattle.task_rules.specs.Takes.{popped, take_rule}
 use Rattle.task_rules.specs.Finish.{Doer, OwnScript}
 use Rattle.task_rules.specs.Task.{task_rule}
 use Rattle.task_rules.specs.Threads.{thread_answer, thread_rule}
@@ -40,7 +40,7 @@ use Rattle.task_rules.specs.Works.{Ends, FailsNow, Poll, StillPends, has_moving_
 -- the running thread's op, by its group
 -- the rule of an op: what it results in, by whoever has the thread do it; those on registers and words are a script's alone
 abbrev pub op_rule : Doer → Component → ℕ → Core → Choice → Op → Progress
-op_rule d c n s ch (op.Data o) = data_row c n s o
+op_rule d c n s ch (op.Data o) = data_rule c n s o
 op_rule d c n s ch (op.Task o) = task_rule d n s ch o
 op_rule d c n s ch (op.Set o) = set_rule d n s ch o
 op_rule d c n s ch (op.Call o) = subtask_rule d c n s o
@@ -58,26 +58,26 @@ abbrev pub own_script : Op → Doer
 own_script o = OwnScript (answer_register o)
 
 -- as the thread's script has it done
-abbrev pub op_row : Component → ℕ → Core → Choice → Op → Progress
-op_row c n s ch o = op_rule (own_script o) c n s ch o
+abbrev pub scripted_op_rule : Component → ℕ → Core → Choice → Op → Progress
+scripted_op_rule c n s ch o = op_rule (own_script o) c n s ch o
 
 -- what the next step of the running thread results in, where it chooses so
 unfoldable pub did : Component → ℕ → Core → Choice → Progress
-did c n s ch = op_row c n s ch (op_of c n s)
+did c n s ch = scripted_op_rule c n s ch (op_of c n s)
 
 -- the strand of n is gone, the store is trapped and all groups are finished
-unfoldable pub struck : ℕ → Core → Core
-struck n s = set_trapped (remove_threads (strand_of n s) s)
+unfoldable pub unwound : ℕ → Core → Core
+unwound n s = set_trapped (remove_threads (strand_of n s) s)
 
 abbrev pub trap_label : ℕ → Trap → Label
 trap_label n t = label.Loop (loop_label.Trap t n)
 
 -- From s, where n runs or was taken in the core, the progress shows the label and leads to t.
 abbrev pub Progresses : State → Core → ℕ → Progress → Label → State → Type 0
-Progresses s base n (Goes label new m) l t = (l ≡ label) × (t ≡ goes_to s new (turn.Run m))
+Progresses s base n (Continues label new m) l t = (l ≡ label) × (t ≡ goes_to s new (turn.Run m))
 Progresses s base n (Stops label new) l t = (l ≡ label) × (t ≡ goes_to s new turn.Main)
-Progresses s base n (Traps trap) l t = (l ≡ trap_label n trap) × (t ≡ goes_to s (struck n base) turn.Over)
-Progresses s base n (Fails i) l t = (l ≡ label.Call (call_label.Fails n i)) × (t ≡ goes_to s (struck n base) turn.Over)
+Progresses s base n (Traps trap) l t = (l ≡ trap_label n trap) × (t ≡ goes_to s (unwound n base) turn.Over)
+Progresses s base n (Fails i) l t = (l ≡ label.Call (call_label.Fails n i)) × (t ≡ goes_to s (unwound n base) turn.Over)
 Progresses s base n Never l t = ⊥
 Progresses s base n (Ordered ns next) l t = (order : List ℕ) × (IsPermutation ns order × Progresses s base n (next order) l t)
 Progresses s base n (Asks next) l t = (answer : HostPoll) × Progresses s base n (next answer) l t
@@ -92,7 +92,7 @@ MainProgresses s p o (Answers v) x t = (x ≡ label.Main (main_label.Answer v)) 
 
 abbrev pub ScriptStep : Setting → State → MainPlace → Option MainOpDef → Label → State → Type 0
 ScriptStep x s p None l t = (l ≡ label.Loop loop_label.MainPends) × (t ≡ goes_to s s.core (turn.Futures 0))
-ScriptStep x s p (Some o) l t = MainProgresses s p o (main_row x.component (line_of p o) s.core (act_of p o)) l t
+ScriptStep x s p (Some o) l t = MainProgresses s p o (main_rule x.component (line_of p o) s.core (act_of p o)) l t
 
 abbrev pub OpenProgresses : State → MainProgress → Label → State → Type 0
 OpenProgresses s (Does l new) x t = (x ≡ label.Main l) × (t ≡ goes_to s new turn.Main)
@@ -101,7 +101,7 @@ OpenProgresses s (Answers v) x t = (x ≡ label.Main (main_label.Answer v)) × (
 
 -- a main that is no script does such an act, in an op that is the k-th of its kind or names it
 abbrev pub OpenAct : Setting → State → ℕ → MainAct → Label → State → Type 0
-OpenAct x s k act l t = (may_act x.component s.core act ≡ true) × OpenProgresses s (main_row x.component k s.core act) l t
+OpenAct x s k act l t = (may_act x.component s.core act ≡ true) × OpenProgresses s (main_rule x.component k s.core act) l t
 
 -- it may pend, or do any act that a main may do in this core
 abbrev pub OpenStep : Setting → State → Label → State → Type 0
@@ -146,7 +146,7 @@ entry_number (entry.Host i) = i
 
 abbrev pub TakeStep : Setting → State → Option (Mark × Entry) → Label → State → Type 0
 TakeStep x s None l t = EmptyStep x s l t
-TakeStep x s (Some e) l t = let base = popped e.0 s.core in Progresses s base (entry_number e.1) (take_row e.0 (choice_of l) base e.1) l t
+TakeStep x s (Some e) l t = let base = popped e.0 s.core in Progresses s base (entry_number e.1) (take_rule e.0 (choice_of l) base e.1) l t
 
 abbrev pub RunStep : Component → State → ℕ → Label → State → Type 0
 RunStep c s n l t = Progresses s s.core n (did c n s.core (choice_of l)) l t

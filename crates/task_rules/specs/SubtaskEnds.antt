@@ -4,7 +4,7 @@ use Rattle.std.specs.Prelude.{Bool, None, Option, Some, false, find, if◌then�
 use Rattle.task_machine.specs.declared.label.CallLabel.{CallLabel}
 use Rattle.task_machine.specs.declared.component.Component.{Component}
 use Rattle.task_machine.specs.declared.words.Given.{Given}
-use Rattle.task_machine.specs.declared.records.HowFar.{HowFar}
+use Rattle.task_machine.specs.declared.records.OpProgress.{OpProgress}
 use Rattle.task_machine.specs.declared.label.Label.{Label}
 use Rattle.task_machine.specs.declared.label.LoopLabel.{LoopLabel}
 use Rattle.task_machine.specs.declared.label.MainLabel.{MainLabel}
@@ -17,7 +17,7 @@ use Rattle.task_machine.specs.declared.label.TaskLabel.{TaskLabel}
 use Rattle.task_machine.specs.declared.label.CallLabel.TheVariants as call_label
 use Rattle.task_machine.specs.declared.op.CallOp.TheVariants as call_op
 use Rattle.task_machine.specs.declared.words.Given.TheVariants as given
-use Rattle.task_machine.specs.declared.records.HowFar.TheVariants as how_far
+use Rattle.task_machine.specs.declared.records.OpProgress.TheVariants as op_progress
 use Rattle.task_machine.specs.declared.label.Label.TheVariants as label
 use Rattle.task_machine.specs.declared.label.LoopLabel.TheVariants as loop_label
 use Rattle.task_machine.specs.declared.label.MainLabel.TheVariants as main_label
@@ -29,7 +29,7 @@ use Rattle.task_machine.specs.declared.label.TakeLabel.TheVariants as take
 use Rattle.task_machine.specs.declared.label.TaskLabel.TheVariants as task_label
 use Rattle.task_machine.specs.Core.{Began, Core, Main, Refused, Scripted, Started, Unscripted}
 use Rattle.task_machine.specs.Maps.{get, numbers}
-use Rattle.task_machine.specs.Read.{course_of, course_value, goal_of, how_far_of, instance_of, is_async_lifted, is_direct, is_explicit, kind_of, subtask_at, task_of, under_of}
+use Rattle.task_machine.specs.Read.{course_of, course_value, goal_of, op_progress_of, instance_of, is_async_lifted, is_direct, is_explicit, kind_of, subtask_at, task_of, under_of}
 use Rattle.task_rules.specs.MainOps.{started_at}
 use Rattle.task_rules.specs.Scripts.{ops_of, value_of}
 use Rattle.task_rules.specs.Takes.{host_status}
@@ -51,8 +51,8 @@ host_end i e = Some (end_for e (subtask.Host i))
 
 -- ---- The subtask that an op is about
 
-abbrev pub call_of_op : HowFar → Option Subtask
-call_of_op (how_far.Calls sub) = Some sub
+abbrev pub call_of_op : OpProgress → Option Subtask
+call_of_op (op_progress.Calls sub) = Some sub
 call_of_op _ = None
 
 -- the subtask that a cancel names by its handle
@@ -61,9 +61,9 @@ cancel_target n s (op.Call (call_op.Cancel r x)) = subtask_at (instance_of n s) 
 cancel_target n s (op.Call (call_op.CancelSync r x)) = subtask_at (instance_of n s) (value_of n s x) s
 cancel_target n s _ = None
 
-abbrev pub cancelled_of_op : (ℕ → Op) → ℕ → Core → HowFar → Option Subtask
-cancelled_of_op ops n s (how_far.Cancels sub) = Some sub
-cancelled_of_op ops n s (how_far.AwaitsEnd sub) = Some sub
+abbrev pub cancelled_of_op : (ℕ → Op) → ℕ → Core → OpProgress → Option Subtask
+cancelled_of_op ops n s (op_progress.Cancels sub) = Some sub
+cancelled_of_op ops n s (op_progress.AwaitsEnd sub) = Some sub
 cancelled_of_op ops n s _ = cancel_target n s (ops n)
 
 -- ---- Writing an end
@@ -86,7 +86,7 @@ written_by_task s _ = None
 -- a cancel that answers 3 has withdrawn a start
 abbrev pub written_by_cancel : (ℕ → Op) → ℕ → Core → ℕ → Option SubtaskEnd
 written_by_cancel ops n s answer =
-    if answer == 3 then option_map (end_for status.StartCancelled) (cancelled_of_op ops n s (how_far_of n s)) else None
+    if answer == 3 then option_map (end_for status.StartCancelled) (cancelled_of_op ops n s (op_progress_of n s)) else None
 
 -- a host was ready at its first poll
 abbrev pub ready_at_once : ℕ → ℕ → Option SubtaskEnd
@@ -145,10 +145,10 @@ end_answered answer =
 
 -- by a cancel that answers 2, 3 or 4
 abbrev pub handed_by_cancel : (ℕ → Op) → ℕ → Core → ℕ → Option SubtaskEnd
-handed_by_cancel ops n s answer = option_and_then (λ e. option_map (end_for e) (cancelled_of_op ops n s (how_far_of n s))) (end_answered answer)
+handed_by_cancel ops n s answer = option_and_then (λ e. option_map (end_for e) (cancelled_of_op ops n s (op_progress_of n s))) (end_answered answer)
 
 abbrev pub returned_of_op : ℕ → Core → Option SubtaskEnd
-returned_of_op n s = option_map (end_for status.Returned) (call_of_op (how_far_of n s))
+returned_of_op n s = option_map (end_for status.Returned) (call_of_op (op_progress_of n s))
 
 abbrev pub handed_by_call : (ℕ → Op) → Core → CallLabel → Option SubtaskEnd
 handed_by_call ops s (call_label.Call answer n) = if answer == 2 then returned_of_op n s else None
@@ -208,10 +208,10 @@ abbrev pub sync_answered : Label → Option ℕ
 sync_answered (label.Call (call_label.CallSync n v)) = Some n
 sync_answered _ = None
 
-abbrev pub is_answered : HowFar → Bool
-is_answered (how_far.Answered v) = true
+abbrev pub is_answered : OpProgress → Bool
+is_answered (op_progress.Answered v) = true
 is_answered _ = false
 
 -- the thread whose `call_sync` answers what its direct call returned
 abbrev pub direct_answered : Core → Label → Option ℕ
-direct_answered s l = option_and_then (λ n. if is_answered (how_far_of n s) then Some n else None) (sync_answered l)
+direct_answered s l = option_and_then (λ n. if is_answered (op_progress_of n s) then Some n else None) (sync_answered l)

@@ -27,13 +27,13 @@ use Rattle.task_machine.specs.declared.records.WorkCaller.TheVariants as work_ca
 use Rattle.task_machine.specs.Core.{Core}
 use Rattle.task_machine.specs.Labels.{Choice, event_label, held_label, host_label, take_label}
 use Rattle.task_machine.specs.Maps.{get}
-use Rattle.task_machine.specs.Moves.{Gift, NoGift, gift, given_for, handed_on, may_hand_on, may_publish, own_gift_only, published, stopped_at, taken}
+use Rattle.task_machine.specs.Moves.{PickedEvent, NothingPicked, picked_event, given_for, handed_on, may_hand_on, may_publish, picked_task_event_only, published, stopped_at, taken}
 use Rattle.task_machine.specs.Read.{admits, at_handle_limit, course_of, course_value, instance_of, is_explicit, kind_of, place_of, task_of, work_caller_of}
 use Rattle.task_machine.specs.Write.{set_do_not_enter, set_high, set_low, set_place, set_register, set_script, set_stage, set_started, set_starting_published, set_switch}
 use Rattle.task_rules.specs.Calls.{sync_sets_flag, with_thread_handle}
 use Rattle.task_rules.specs.Data.{moved_to}
 use Rattle.task_rules.specs.Ends.{may_tell, told}
-use Rattle.task_rules.specs.Progress.{Goes, Never, Progress, Stops, may, or_never, trap_if}
+use Rattle.task_rules.specs.Progress.{Continues, Never, Progress, Stops, may, or_never, trap_if}
 use Rattle.task_rules.specs.Sets.{chosen, handed_out, set_given}
 
 -- ---- The mark
@@ -69,8 +69,8 @@ host_done i w s =
     let v = course_value (course_of i s) in
     host_result (work_caller_of i s) v (published (subtask.Host i) (host_status v) w (set_stage i stage.Ended s))
 
-abbrev pub host_row : Mark → ℕ → Option ℕ → Core → Progress
-host_row m i w s = may (may_publish (subtask.Host i) w s) (Stops (host_label m i w) (host_done i w s))
+abbrev pub scripted_host_rule : Mark → ℕ → Option ℕ → Core → Progress
+scripted_host_rule m i w s = may (may_publish (subtask.Host i) w s) (Stops (host_label m i w) (host_done i w s))
 
 -- ---- Starts
 
@@ -109,29 +109,29 @@ running n s = set_place n place.Running s
 
 -- an explicit thread goes on; a call's first thread begins: trap 17 (HandleLimit) where no thread handle may be given
 abbrev pub start_admitted : Mark → ℕ → Option ℕ → Core → Bool → Progress
-start_admitted m n w s true = Goes (take_label m n None) (running n s) n
+start_admitted m n w s true = Continues (take_label m n None) (running n s) n
 start_admitted m n w s false =
     trap_if (at_handle_limit s) trap.HandleLimit (
     may (may_tell (task_of n s) w s) (
-    Goes (take_label m n w) (start_begins n w s) n))
+    Continues (take_label m n w) (start_begins n w s) n))
 
 -- by whether the start is admitted
-abbrev pub start_row : Mark → ℕ → Option ℕ → Core → Bool → Progress
-start_row m n w s true = start_admitted m n w s (is_explicit n s)
-start_row m n w s false =
+abbrev pub start_rule : Mark → ℕ → Option ℕ → Core → Bool → Progress
+start_rule m n w s true = start_admitted m n w s (is_explicit n s)
+start_rule m n w s false =
     may (may_tell_starting (task_of n s) w s) (
     Stops (held_label m n w) (start_holds n w s))
 
 -- ---- Deliveries
 
 -- what it hands out is in r0, r1 and r2, and the react script runs
-unfoldable pub activated : ℕ → Gift → Given → Core → Core
+unfoldable pub activated : ℕ → PickedEvent → Given → Core → Core
 activated n g v s =
     let given = set_given n 0 v (taken g (task_of n s) s) in
     let shut = set_do_not_enter (instance_of n s) true given in
     set_place n place.Running (moved_to n 0 (set_script n script.React shut))
 
-unfoldable pub activated_woken : ℕ → ℕ → Option ℕ → Gift → Given → Core → Core
+unfoldable pub activated_woken : ℕ → ℕ → Option ℕ → PickedEvent → Given → Core → Core
 activated_woken n x w g v s = activated n g v (handed_on x g w s)
 
 -- it found nothing, and waits again
@@ -139,36 +139,36 @@ unfoldable pub wait_again : ℕ → ℕ → Core → Core
 wait_again n x s = stopped_at n (place.Waiting x true) s
 
 -- the callback waits again where nothing is there; else it is given what is there
-abbrev pub set_delivered : Mark → ℕ → ℕ → Choice → Core → Gift → Progress
-set_delivered m n x ch s NoGift = Stops (label.Take (take.Again m n)) (wait_again n x s)
+abbrev pub set_delivered : Mark → ℕ → ℕ → Choice → Core → PickedEvent → Progress
+set_delivered m n x ch s NothingPicked = Stops (label.Take (take.Again m n)) (wait_again n x s)
 set_delivered m n x ch s g =
     let v = handed_out ch s g in
     may (may_hand_on x g ch.woken s) (
-    Goes (event_label m n v ch.woken) (activated_woken n x ch.woken g v s) n)
+    Continues (event_label m n v ch.woken) (activated_woken n x ch.woken g v s) n)
 
 -- of a yield and of a cancel: the own event alone, and 0 0 0 where none is there
-abbrev pub own_delivered : Mark → ℕ → Core → Gift → Progress
+abbrev pub own_delivered : Mark → ℕ → Core → PickedEvent → Progress
 own_delivered m n s g =
     let v = given_for g 0 s in
-    Goes (event_label m n v None) (activated n g v s) n
+    Continues (event_label m n v None) (activated n g v s) n
 
 abbrev pub delivered : Mark → ℕ → Choice → Core → Delivery → Progress
 delivered m n ch s (delivery.Set x) =
-    or_never (gift true (task_of n s) x (chosen n ch s) s) (
+    or_never (picked_event true (task_of n s) x (chosen n ch s) s) (
     set_delivered m n x ch s)
-delivered m n ch s d = own_delivered m n s (own_gift_only (task_of n s) s)
+delivered m n ch s d = own_delivered m n s (picked_task_event_only (task_of n s) s)
 
 -- by whether the delivery is admitted
-abbrev pub delivery_row : Mark → ℕ → Choice → Core → Delivery → Bool → Progress
-delivery_row m n ch s d true = delivered m n ch s d
-delivery_row m n ch s d false = Stops (held_label m n None) (take_holds n (why.Delivery d) s)
+abbrev pub delivery_rule : Mark → ℕ → Choice → Core → Delivery → Bool → Progress
+delivery_rule m n ch s d true = delivered m n ch s d
+delivery_rule m n ch s d false = Stops (held_label m n None) (take_holds n (why.Delivery d) s)
 
 -- ---- Taking
 
 abbrev pub thread_taken_for : Mark → ℕ → Choice → Core → Why → Progress
-thread_taken_for m n ch s why.Start = start_row m n ch.woken s (admits n s why.Start)
-thread_taken_for m n ch s (why.Delivery d) = delivery_row m n ch s d (admits n s (why.Delivery d))
-thread_taken_for m n ch s why.Resumption = Goes (take_label m n None) (running n s) n
+thread_taken_for m n ch s why.Start = start_rule m n ch.woken s (admits n s why.Start)
+thread_taken_for m n ch s (why.Delivery d) = delivery_rule m n ch s d (admits n s (why.Delivery d))
+thread_taken_for m n ch s why.Resumption = Continues (take_label m n None) (running n s) n
 
 -- only a thread whose entry is queued is taken; default: not queued
 abbrev pub thread_taken : Mark → ℕ → Choice → Core → Option Place → Progress
@@ -176,7 +176,7 @@ thread_taken m n ch s (Some (place.Ready x w)) = thread_taken_for m n ch s w
 thread_taken m n ch s _ = Never
 
 -- the entry, which was queued at the mark, is taken
-abbrev pub take_row : Mark → Choice → Core → Entry → Progress
-take_row m ch s (entry.Thread n) = thread_taken m n ch s (place_of n s)
-take_row m ch s (entry.Push i) = Stops (label.Take (take.Push m i)) (pushed i s)
-take_row m ch s (entry.Host i) = host_row m i ch.woken s
+abbrev pub take_rule : Mark → Choice → Core → Entry → Progress
+take_rule m ch s (entry.Thread n) = thread_taken m n ch s (place_of n s)
+take_rule m ch s (entry.Push i) = Stops (label.Take (take.Push m i)) (pushed i s)
+take_rule m ch s (entry.Host i) = scripted_host_rule m i ch.woken s

@@ -2,14 +2,14 @@
 use Rattle.std.specs.Option.{option_map_or}
 use Rattle.std.specs.Prelude.{Bool, None, Option, Some, [], false, not, option_and_then, true, unwrap_or, ℕ, ◌&&◌, ◌==◌, ◌∷◌}
 use Rattle.task_machine.specs.declared.component.Component.{Component}
-use Rattle.task_machine.specs.declared.records.HowFar.{HowFar}
+use Rattle.task_machine.specs.declared.records.OpProgress.{OpProgress}
 use Rattle.task_machine.specs.declared.label.Label.{Label}
 use Rattle.task_machine.specs.declared.records.Place.{Place}
 use Rattle.task_machine.specs.declared.component.Slot.{Slot}
 use Rattle.task_machine.specs.declared.label.ThreadLabel.{ThreadLabel}
 use Rattle.task_machine.specs.declared.op.ThreadOp.{ThreadOp}
 use Rattle.task_machine.specs.declared.records.Why.{Why}
-use Rattle.task_machine.specs.declared.records.HowFar.TheVariants as how_far
+use Rattle.task_machine.specs.declared.records.OpProgress.TheVariants as op_progress
 use Rattle.task_machine.specs.declared.label.Label.TheVariants as label
 use Rattle.task_machine.specs.declared.records.Place.TheVariants as place
 use Rattle.task_machine.specs.declared.records.Script.TheVariants as script
@@ -20,12 +20,12 @@ use Rattle.task_machine.specs.declared.trap.Trap.TheVariants as trap
 use Rattle.task_machine.specs.declared.records.Why.TheVariants as why
 use Rattle.task_machine.specs.Core.{Core}
 use Rattle.task_machine.specs.Moves.{checked, passes_check, promoted_unless, put_low, put_switch, stopped, stopped_at}
-use Rattle.task_machine.specs.Read.{at_handle_limit, fits, foot_of, how_far_of, instance_of, is_explicit, is_ready_to_resume, is_yielded, new_thread_handle, place_of, task_of, thread_at, thread_handle_of}
-use Rattle.task_machine.specs.Write.{add_thread, set_how_far}
+use Rattle.task_machine.specs.Read.{at_handle_limit, fits, foot_of, op_progress_of, instance_of, is_explicit, is_ready_to_resume, is_yielded, new_thread_handle, place_of, task_of, thread_at, thread_handle_of}
+use Rattle.task_machine.specs.Write.{add_thread, set_op_progress}
 use Rattle.task_rules.specs.Calls.{new_thread, next_thread, with_thread_handle}
 use Rattle.task_rules.specs.Cancels.{pauses}
 use Rattle.task_rules.specs.Finish.{Doer, NoAnswer, OneNumber, OwnScript, finish}
-use Rattle.task_rules.specs.Progress.{Goes, Progress, Stops, Traps, or_trap, trap_if}
+use Rattle.task_rules.specs.Progress.{Continues, Progress, Stops, Traps, or_trap, trap_if}
 use Rattle.task_rules.specs.Scripts.{registers_for, slot_at, value_of}
 
 -- ---- Making a thread
@@ -52,19 +52,19 @@ thread_new_rule d n x v s slot.Bad = Traps trap.ThreadNewIndirectInvalidType
 thread_new_rule d n x v s (slot.Script ops) =
     trap_if (not (fits 2 s)) trap.TableFull (
     trap_if (at_handle_limit s) trap.HandleLimit (
-    Goes (thread_new_label n s) (finish d n (OneNumber (new_thread_handle (instance_of n s) s)) (thread_added n x v s)) n))
+    Continues (thread_new_label n s) (finish d n (OneNumber (new_thread_handle (instance_of n s) s)) (thread_added n x v s)) n))
 
-abbrev pub thread_new_row : ℕ → ℕ → ℕ → ℕ → Core → Slot → Progress
-thread_new_row n r x v s k = thread_new_rule (OwnScript r) n x v s k
+abbrev pub scripted_thread_new_rule : ℕ → ℕ → ℕ → ℕ → Core → Slot → Progress
+scripted_thread_new_rule n r x v s k = thread_new_rule (OwnScript r) n x v s k
 
 -- `thread_index R`; default: no handle of its own
 abbrev pub thread_index_rule : Doer → ℕ → Core → Progress
 thread_index_rule d n s =
     let h = unwrap_or (thread_handle_of n s) 0 in
-    Goes (label.Thread (thread_label.Index h n)) (finish d n (OneNumber h) s) n
+    Continues (label.Thread (thread_label.Index h n)) (finish d n (OneNumber h) s) n
 
-abbrev pub thread_index_row : ℕ → ℕ → Core → Progress
-thread_index_row n r s = thread_index_rule (OwnScript r) n s
+abbrev pub scripted_thread_index_rule : ℕ → ℕ → Core → Progress
+scripted_thread_index_rule n r s = thread_index_rule (OwnScript r) n s
 
 -- ---- Resuming a thread
 
@@ -85,7 +85,7 @@ abbrev pub resume_later_by : Doer → ℕ → Core → ℕ → Progress
 resume_later_by d n s m =
     trap_if (m == n) trap.CannotResumeThread (
     or_trap (resume_why m s) trap.CannotResumeThread (
-    λ w. Goes (label.Thread (thread_label.ResumeLater n)) (finish d n NoAnswer (put_low m w s)) n))
+    λ w. Continues (label.Thread (thread_label.ResumeLater n)) (finish d n NoAnswer (put_low m w s)) n))
 
 abbrev pub resume_later_found : ℕ → Core → ℕ → Progress
 resume_later_found n s m = resume_later_by (OwnScript 0) n s m
@@ -94,8 +94,8 @@ resume_later_found n s m = resume_later_by (OwnScript 0) n s m
 abbrev pub resume_later_rule : Doer → ℕ → ℕ → Core → Progress
 resume_later_rule d n h s = or_trap (thread_at (instance_of n s) h s) trap.BadHandle (resume_later_by d n s)
 
-abbrev pub resume_later_row : ℕ → ℕ → Core → Progress
-resume_later_row n h s = resume_later_rule (OwnScript 0) n h s
+abbrev pub scripted_resume_later_rule : ℕ → ℕ → Core → Progress
+scripted_resume_later_rule n h s = resume_later_rule (OwnScript 0) n h s
 
 -- ---- Suspending and yielding
 
@@ -106,8 +106,8 @@ pub data Halt : Type 0 where
 
 -- the strand stops; its top is suspended, or gets a low entry
 unfoldable pub halted : Halt → ℕ → Core → Core
-halted Suspension n s = set_how_far n how_far.Suspends (stopped_at n place.Suspended s)
-halted Yielding n s = set_how_far n how_far.Yields (put_low n why.Resumption (stopped (foot_of n s) s))
+halted Suspension n s = set_op_progress n op_progress.Suspends (stopped_at n place.Suspended s)
+halted Yielding n s = set_op_progress n op_progress.Yields (put_low n why.Resumption (stopped (foot_of n s) s))
 
 unfoldable pub halted_checked : Halt → ℕ → Core → Core
 halted_checked x n s = halted x n (checked (instance_of n s) s)
@@ -116,7 +116,7 @@ halted_checked x n s = halted x n (checked (instance_of n s) s)
 abbrev pub halts_by : Doer → Halt → ℕ → Label → Core → Bool → Progress
 halts_by d x n l s true = Stops (pauses n) (halted_checked x n s)
 halts_by d Suspension n l s false = Traps trap.CannotBlockSyncTask
-halts_by d Yielding n l s false = Goes l (finish d n NoAnswer s) n
+halts_by d Yielding n l s false = Continues l (finish d n NoAnswer s) n
 
 abbrev pub halts : Halt → ℕ → Label → Core → Bool → Progress
 halts x n l s b = halts_by (OwnScript 0) x n l s b
@@ -125,8 +125,8 @@ halts x n l s b = halts_by (OwnScript 0) x n l s b
 abbrev pub halt_rule : Doer → Halt → ℕ → Label → Core → Progress
 halt_rule d x n l s = halts_by d x n l s (passes_check (instance_of n s) s)
 
-abbrev pub halt_row : Halt → ℕ → Label → Core → Progress
-halt_row x n l s = halt_rule (OwnScript 0) x n l s
+abbrev pub scripted_halt_rule : Halt → ℕ → Label → Core → Progress
+scripted_halt_rule x n l s = halt_rule (OwnScript 0) x n l s
 
 unfoldable pub halted_resuming : Halt → ℕ → ℕ → Why → Core → Core
 halted_resuming x n m w s = halted x n (put_switch m w s)
@@ -139,12 +139,12 @@ then_resume_found x n s m =
     λ w. Stops (pauses n) (halted_resuming x n m w s)))
 
 -- `suspend_then_resume X`, `yield_then_resume X`: trap 16 (BadHandle) where X names no thread
-abbrev pub then_resume_row : Halt → ℕ → ℕ → Core → Progress
-then_resume_row x n h s = or_trap (thread_at (instance_of n s) h s) trap.BadHandle (then_resume_found x n s)
+abbrev pub then_resume_rule : Halt → ℕ → ℕ → Core → Progress
+then_resume_rule x n h s = or_trap (thread_at (instance_of n s) h s) trap.BadHandle (then_resume_found x n s)
 
 -- the thread has yielded, and its entry is queued
 unfoldable pub has_yielded : ℕ → Core → Bool
-has_yielded m s = option_map_or is_ready_to_resume (place_of m s) false && is_yielded (how_far_of m s)
+has_yielded m s = option_map_or is_ready_to_resume (place_of m s) false && is_yielded (op_progress_of m s)
 
 unfoldable pub halted_promoting : Halt → ℕ → ℕ → Core → Core
 halted_promoting x n m s = halted x n (promoted_unless m s)
@@ -170,20 +170,20 @@ then_promote_found x n l s m = then_promote_found_by (OwnScript 0) x n l s m
 abbrev pub then_promote_rule : Doer → Halt → ℕ → ℕ → Label → Core → Progress
 then_promote_rule d x n h l s = or_trap (thread_at (instance_of n s) h s) trap.BadHandle (then_promote_found_by d x n l s)
 
-abbrev pub then_promote_row : Halt → ℕ → ℕ → Label → Core → Progress
-then_promote_row x n h l s = then_promote_rule (OwnScript 0) x n h l s
+abbrev pub scripted_then_promote_rule : Halt → ℕ → ℕ → Label → Core → Progress
+scripted_then_promote_rule x n h l s = then_promote_rule (OwnScript 0) x n h l s
 
 -- the op as it begins, or done once the thread was resumed inside it
-abbrev pub resumed_by : Doer → HowFar → ℕ → Label → Core → Progress → Progress
-resumed_by d how_far.Suspends n l s p = Goes l (finish d n NoAnswer s) n
-resumed_by d how_far.Yields n l s p = Goes l (finish d n NoAnswer s) n
+abbrev pub resumed_by : Doer → OpProgress → ℕ → Label → Core → Progress → Progress
+resumed_by d op_progress.Suspends n l s p = Continues l (finish d n NoAnswer s) n
+resumed_by d op_progress.Yields n l s p = Continues l (finish d n NoAnswer s) n
 resumed_by d _ n l s p = p
 
-abbrev pub by_how_far : HowFar → ℕ → Label → Core → Progress → Progress
-by_how_far f n l s p = resumed_by (OwnScript 0) f n l s p
+abbrev pub by_op_progress : OpProgress → ℕ → Label → Core → Progress → Progress
+by_op_progress f n l s p = resumed_by (OwnScript 0) f n l s p
 
 abbrev pub halting_by : Doer → ℕ → Core → ThreadLabel → (Label → Progress) → Progress
-halting_by d n s l row = resumed_by d (how_far_of n s) n (label.Thread l) s (row (label.Thread l))
+halting_by d n s l row = resumed_by d (op_progress_of n s) n (label.Thread l) s (row (label.Thread l))
 
 abbrev pub halting : ℕ → Core → ThreadLabel → (Label → Progress) → Progress
 halting n s l row = halting_by (OwnScript 0) n s l row
@@ -195,9 +195,9 @@ thread_rule d c n s (thread_op.ResumeLater x) = resume_later_rule d n (value_of 
 thread_rule d c n s thread_op.Suspend = halting_by d n s (thread_label.Suspend n) (λ l. halt_rule d Suspension n l s)
 thread_rule d c n s thread_op.Yield = halting_by d n s (thread_label.Yield n) (λ l. halt_rule d Yielding n l s)
 thread_rule d c n s (thread_op.SuspendThenResume x) =
-    halting_by d n s (thread_label.SuspendThenResume n) (λ l. then_resume_row Suspension n (value_of n s x) s)
+    halting_by d n s (thread_label.SuspendThenResume n) (λ l. then_resume_rule Suspension n (value_of n s x) s)
 thread_rule d c n s (thread_op.YieldThenResume x) =
-    halting_by d n s (thread_label.YieldThenResume n) (λ l. then_resume_row Yielding n (value_of n s x) s)
+    halting_by d n s (thread_label.YieldThenResume n) (λ l. then_resume_rule Yielding n (value_of n s x) s)
 thread_rule d c n s (thread_op.SuspendThenPromote x) =
     halting_by d n s (thread_label.SuspendThenPromote n) (λ l. then_promote_rule d Suspension n (value_of n s x) l s)
 thread_rule d c n s (thread_op.YieldThenPromote x) =
@@ -209,5 +209,5 @@ thread_answer (thread_op.New r x v) = r
 thread_answer (thread_op.Index r) = r
 thread_answer _ = 0
 
-abbrev pub thread_row : Component → ℕ → Core → ThreadOp → Progress
-thread_row c n s o = thread_rule (OwnScript (thread_answer o)) c n s o
+abbrev pub scripted_thread_rule : Component → ℕ → Core → ThreadOp → Progress
+scripted_thread_rule c n s o = thread_rule (OwnScript (thread_answer o)) c n s o

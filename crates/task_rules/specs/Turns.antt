@@ -8,8 +8,8 @@ use Rattle.task_machine.specs.Read.{next_entry}
 use Rattle.task_rules.specs.Works.{next_polled}
 
 -- nothing is queued
-abbrev pub nothing_stands : Core → Bool
-nothing_stands s = is_none (next_entry s)
+abbrev pub queues_are_empty : Core → Bool
+queues_are_empty s = is_none (next_entry s)
 
 -- after a work that ended in this turn and where nothing stands, main's turn comes
 abbrev pub settled_take : Bool → Bool → Turn
@@ -17,13 +17,13 @@ settled_take true true = turn.Main
 settled_take ended stands = turn.Take ended
 
 abbrev pub settled_futures : ℕ → Core → Option ℕ → Turn
-settled_futures n s None = settled_take false (nothing_stands s)
+settled_futures n s None = settled_take false (queues_are_empty s)
 settled_futures n s (Some i) = turn.Futures n
 
 -- the turn, once the moves without a label are made: past the last live work an entry is taken
 abbrev pub settled_turn : Core → Turn → Turn
 settled_turn s (turn.Futures n) = settled_futures n s (next_polled n s)
-settled_turn s (turn.Take ended) = settled_take ended (nothing_stands s)
+settled_turn s (turn.Take ended) = settled_take ended (queues_are_empty s)
 settled_turn s x = x
 
 -- the state with this core and main's part, at this turn

@@ -28,7 +28,7 @@ is_ended_work (subtask.Host i) s = is_stage_ended (stage_of i s)
 
 -- the work has come to an end
 abbrev pub has_end : Course → Bool
-has_end (course.Goes host) = false
+has_end (course.Continues host) = false
 has_end _ = true
 
 -- the live works with numbers above n, in order of number
@@ -70,7 +70,7 @@ polled_again (host_def.Settled (Some (suc polls)) value) = StillPends (host_def.
 polled_again host_def.Open = Asked heard
 
 abbrev pub polled_course : Course → Poll
-polled_course (course.Goes host) = polled_again host
+polled_course (course.Continues host) = polled_again host
 polled_course (course.Value v) = Ends (Some v)
 polled_course course.NoValue = Ends None
 
@@ -84,7 +84,7 @@ poll_of i s = polled_in (phase_of i s) (course_of i s)
 
 -- one poll fewer is left
 unfoldable pub poll_pends : ℕ → HostDef → Core → Core
-poll_pends i host s = set_course i (course.Goes host) s
+poll_pends i host s = set_course i (course.Continues host) s
 
 abbrev pub course_for : Option ℕ → Course
 course_for None = course.NoValue

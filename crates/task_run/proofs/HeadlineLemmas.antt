@@ -9,7 +9,7 @@ use Rattle.task_machine.specs.Core.{Core, State, Scripted, fresh}
 use Rattle.task_rules.specs.History.{history}
 use Rattle.task_group.specs.Listeners.{Listeners, nobody}
 use Rattle.task_loop.proofs.HeedLemmas.{all_told}
-use Rattle.task_loop.specs.Heeds.{HeedsAll}
+use Rattle.task_loop.specs.AnswersOk.{AnswersOkAll}
 use Rattle.task_rules.specs.Notices.{notices}
 use Rattle.task_rules.specs.Once.{EndsOnce, OneHolder}
 use Rattle.task_rules.specs.Outcome.{IsOutcome}
@@ -53,16 +53,16 @@ unfolding opens fresh
 opens_groups x = refl
 
 -- the room that a report takes is enough
-room_suffices : (x : ScenarioDef) (ls : List Label) (t : State) (run : Run (setting_of x) (opens x) ls t) (old new : Listeners) → HeedsAll (history (setting_of x) (opens x) ls t run) old new → (steps : ℕ) → length ls ≤ steps → length (told_of_run x ls t run) ≤ 2 * steps + 512
-room_suffices x ls t run old new heeds steps few =
-    let all = run_room (setting_of x) (opens x) ls t run old new heeds in
+room_suffices : (x : ScenarioDef) (ls : List Label) (t : State) (run : Run (setting_of x) (opens x) ls t) (old new : Listeners) → AnswersOkAll (history (setting_of x) (opens x) ls t run) old new → (steps : ℕ) → length ls ≤ steps → length (told_of_run x ls t run) ≤ 2 * steps + 512
+room_suffices x ls t run old new answers_ok steps few =
+    let all = run_room (setting_of x) (opens x) ls t run old new answers_ok in
     let none = ap (λ (gs : List ℕ). length gs) (opens_groups x) in
     omega (arith, all, none, few)
 
 -- a run was driven, and its notices were told
 abbrev pub DrivesTold : (old new : Listeners) (t : State) (after : List Label) (steps : ℕ) (o : Outcome) → Setting → State → List Label → Type 0
 DrivesTold old new t after steps o y s before =
-    (d : Drives y s before t after steps o) × HeedsAll (history y s d.added t d.run) old new
+    (d : Drives y s before t after steps o) × AnswersOkAll (history y s d.added t d.run) old new
 
 pub headline : (x : ScenarioDef) → Keeps x → (y : Setting) (s t : State) (before after : List Label) (steps : ℕ) (o : Outcome) (core : Core) (old new : Listeners) →
     y ≡ setting_of x → s ≡ opens x → before ≡ [] → core ≡ t.core → old ≡ record nobody { room = 2 * steps + 512 } →
@@ -72,8 +72,8 @@ headline x keeps y s t before after steps o core old new setting start none imag
     let two : DrivesTold old new t after steps o (setting_of x) (opens x) before = subst (λ (s : State). DrivesTold old new t after steps o (setting_of x) s before) start one in
     let three : DrivesTold old new t after steps o (setting_of x) (opens x) [] = subst (λ (ls : List Label). DrivesTold old new t after steps o (setting_of x) (opens x) ls) none two in
     let d = three.0 in
-    let both : (run : Run (setting_of x) (opens x) after t) × HeedsAll (history (setting_of x) (opens x) after t run) old new =
-    subst (λ (ls : List Label). (run : Run (setting_of x) (opens x) ls t) × HeedsAll (history (setting_of x) (opens x) ls t run) old new) (sym d.trace) (d.run, three.1) in
+    let both : (run : Run (setting_of x) (opens x) after t) × AnswersOkAll (history (setting_of x) (opens x) after t run) old new =
+    subst (λ (ls : List Label). (run : Run (setting_of x) (opens x) ls t) × AnswersOkAll (history (setting_of x) (opens x) ls t run) old new) (sym d.trace) (d.run, three.1) in
     let run = both.0 in
     record {
       last = t;

@@ -6,7 +6,7 @@ use Rattle.std.specs.Option.{option_map_or}
 use Rattle.std.specs.Prelude.{length, nat_le, option_and_then, slice_get, ◌==◌}
 use Rattle.op_dispatch.specs.Fits.{op_fits}
 use Rattle.task_laws.specs.Settings.{CalleesAre}
-use Rattle.task_loop.specs.Calls.{callee_of}
+use Rattle.task_loop.specs.LoopCalls.{callee_of}
 use Rattle.task_machine.specs.Core.{Scripted, State}
 use Rattle.task_machine.specs.declared.component.Callee.{Callee}
 use Rattle.task_machine.specs.declared.component.Component.{Component}

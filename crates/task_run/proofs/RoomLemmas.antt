@@ -12,7 +12,7 @@ use Rattle.task_loop.proofs.MainToldLemmas.{finish_more, trapped_groups}
 use Rattle.task_group.specs.Listeners.{Listeners}
 use Rattle.task_loop.proofs.StartLemmas.{start_groups}
 use Rattle.task_loop.proofs.ToldLemmas.{idle_at}
-use Rattle.task_loop.specs.Heeds.{FewerGroups, FewerIn, HeedsAll}
+use Rattle.task_loop.specs.AnswersOk.{FewerGroups, FewerIn, AnswersOkAll}
 use Rattle.task_machine.specs.Core.{Began, Core, Main, MainPlace, Refused, Scripted, Started, State, Unscripted}
 use Rattle.task_machine.specs.Maps.{get}
 use Rattle.task_machine.specs.Read.{next_entry, phase_of}
@@ -36,7 +36,7 @@ use Rattle.task_machine.specs.declared.trap.Trap.{Trap}
 use Rattle.task_machine.specs.declared.words.Mark.{Mark}
 use Rattle.task_rules.specs.Calls.{work_queued}
 use Rattle.task_rules.specs.History.{history}
-use Rattle.task_rules.specs.MainOps.{Abort, Answer, Answers, Await, Does, Finish, MainAct, MainProgress, Pends, Quiet, Ready, Spawn, SpawnOpen, Start, act_of, finish_act, finish_result, has_interesting, is_complete, is_ready_for_call, line_of, main_aborted, main_row, main_spawned, open_spawned, op_at, start_act, start_refusal, unless_pending}
+use Rattle.task_rules.specs.MainOps.{Abort, Answer, Answers, Await, Does, Finish, MainAct, MainProgress, Pends, Quiet, Ready, Spawn, SpawnOpen, Start, act_of, finish_act, finish_result, has_interesting, is_complete, is_ready_for_call, line_of, main_aborted, main_rule, main_spawned, open_spawned, op_at, start_act, start_refusal, unless_pending}
 use Rattle.task_rules.specs.Notices.{around, finish_notices, group_notice, is_in, moment_notices, notices, of_live, running_group, same_group, start_notices, switch_notices, told_of, work_notices}
 use Rattle.task_rules.specs.Run.{Run}
 use Rattle.task_rules.specs.Stalled.{Setting}
@@ -173,16 +173,16 @@ ready_bound : (b : Bool) (s : Core) → Bound s (unless_pending b main_label.Rea
 ready_bound true s = same_fits s s refl
 ready_bound false s = tt
 
-row_bound : (c : Component) (k : ℕ) (s : Core) (act : MainAct) → Bound s (main_row c k s act)
-row_bound c k s (Start e words) = start_bound c k e words s (start_refusal s)
-row_bound c k s (Finish x) = finish_bound k s x
-row_bound c k s (Spawn h) = same_fits s (main_spawned c h s) (spawned_groups c h s)
-row_bound c k s SpawnOpen = same_fits s (open_spawned s) (opened_groups s)
-row_bound c k s (Abort i) = same_fits s (main_aborted i s) (aborted_groups i s)
-row_bound c k s (Await i) = await_bound (is_complete (phase_of i s)) k s
-row_bound c k s Quiet = quiet_bound (not (has_interesting s)) s
-row_bound c k s (Ready i) = ready_bound (is_ready_for_call i s) s
-row_bound c k s (Answer v) = tt
+rule_bound : (c : Component) (k : ℕ) (s : Core) (act : MainAct) → Bound s (main_rule c k s act)
+rule_bound c k s (Start e words) = start_bound c k e words s (start_refusal s)
+rule_bound c k s (Finish x) = finish_bound k s x
+rule_bound c k s (Spawn h) = same_fits s (main_spawned c h s) (spawned_groups c h s)
+rule_bound c k s SpawnOpen = same_fits s (open_spawned s) (opened_groups s)
+rule_bound c k s (Abort i) = same_fits s (main_aborted i s) (aborted_groups i s)
+rule_bound c k s (Await i) = await_bound (is_complete (phase_of i s)) k s
+rule_bound c k s Quiet = quiet_bound (not (has_interesting s)) s
+rule_bound c k s (Ready i) = ready_bound (is_ready_for_call i s) s
+rule_bound c k s (Answer v) = tt
 
 main_room : (s : State) (l : Label) (t : State) → s.turn ≡ turn.Main → running_group t.core t.turn ≡ None → work_notices l s.core ≡ [] → Fits s.core (start_notices l t.core) t.core → Room s l t
 main_room s l t at none quiet fits =
@@ -220,7 +220,7 @@ module _ (s : State) (at : s.turn ≡ turn.Main) (l : Label) (t : State) where
 
   place_room : (x : Setting) (p : MainPlace) (o : Option MainOpDef) → ScriptStep x s p o l t → Room s l t
   place_room x p None h = pends_room h.0 h.1
-  place_room x p (Some o) h = script_room p o _ h (row_bound x.component (line_of p o) s.core (act_of p o))
+  place_room x p (Some o) h = script_room p o _ h (rule_bound x.component (line_of p o) s.core (act_of p o))
 
   open_room : (q : MainProgress) → OpenProgresses s q l t → Bound s.core q → Room s l t
   open_room (Does k new) h bound = done_room k new s.main h.0 h.1 bound
@@ -228,7 +228,7 @@ module _ (s : State) (at : s.turn ≡ turn.Main) (l : Label) (t : State) where
   open_room (Answers v) h bound = answers_room v h.0 h.1
 
   act_room : (x : Setting) → (k : ℕ) × ((act : MainAct) × OpenAct x s k act l t) → Room s l t
-  act_room x h = open_room _ h.1.1.1 (row_bound x.component h.0 s.core h.1.0)
+  act_room x h = open_room _ h.1.1.1 (rule_bound x.component h.0 s.core h.1.0)
 
 any_room : (s : State) (at : s.turn ≡ turn.Main) (l : Label) (t : State) (x : Setting) → OpenStep x s l t → Room s l t
 any_room s at (label.Loop loop_label.MainPends) t x h = pends_room s at (label.Loop loop_label.MainPends) t refl h
@@ -252,11 +252,11 @@ unfolding Step
 step_room x s l t step fewer = turn_room x s l t s.turn refl step step fewer
 
 -- ---- A run's notices are at most two for each label, beside the groups that it began with
-pub run_room : (x : Setting) (s : State) (ls : List Label) (t : State) (run : Run x s ls t) (a b : Listeners) → HeedsAll (history x s ls t run) a b →
+pub run_room : (x : Setting) (s : State) (ls : List Label) (t : State) (run : Run x s ls t) (a b : Listeners) → AnswersOkAll (history x s ls t run) a b →
     length (notices (history x s ls t run)) + length t.core.groups ≤ 2 * length ls + length s.core.groups
-run_room x s [] t run a b heeds = let e = ap (λ (u : State). length u.core.groups) run in omega (arith, e)
-run_room x s (l ∷ ls) t run a b heeds =
-    let first = step_room x s l run.0 run.1.0 heeds.1.0.fewer in
-    let rest = run_room x run.0 ls t run.1.1 heeds.0 b heeds.1.1 in
+run_room x s [] t run a b answers_ok = let e = ap (λ (u : State). length u.core.groups) run in omega (arith, e)
+run_room x s (l ∷ ls) t run a b answers_ok =
+    let first = step_room x s l run.0 run.1.0 answers_ok.1.0.fewer in
+    let rest = run_room x run.0 ls t run.1.1 answers_ok.0 b answers_ok.1.1 in
     let e = length-append (moment_notices (moment s l run.0)) (notices (history x run.0 ls t run.1.1)) in
     omega (arith, first, rest, e)

@@ -15,7 +15,7 @@ use Rattle.scenario_text.specs.Placement.{CallStands, EachStands, InstanceStands
 use Rattle.scenario_text.proofs.CalleeLaws.{some_at}
 use Rattle.scenario_text.proofs.StandingLaws.{stands_at}
 use Rattle.task_laws.specs.Settings.{CodesInCallbacks, HasNoCode}
-use Rattle.task_loop.specs.Calls.{callee_of}
+use Rattle.task_loop.specs.LoopCalls.{callee_of}
 use Rattle.task_loop.specs.declared.call.Func.{Func}
 use Rattle.task_machine.specs.Read.{is_callback}
 use Rattle.task_machine.specs.declared.component.Callee.{Callee}

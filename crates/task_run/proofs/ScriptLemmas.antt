@@ -9,7 +9,7 @@ use Rattle.task_machine.specs.declared.label.MainLabel.TheVariants as main_label
 use Rattle.task_machine.specs.declared.records.Turn.TheVariants as turn
 use Rattle.task_machine.specs.declared.scenario.MainOpDef.{MainOpDef}
 use Rattle.task_machine.specs.Core.{Core, MainPlace, Scripted}
-use Rattle.task_rules.specs.MainOps.{Answers, Does, Pends, act_of, advanced_main, line_of, main_row, op_at}
+use Rattle.task_rules.specs.MainOps.{Answers, Does, Pends, act_of, advanced_main, line_of, main_rule, op_at}
 use Rattle.task_rules.specs.Step.{MainProgresses, ScriptStep}
 use Rattle.task_rules.specs.Stalled.{is_pending, pends_at}
 use Rattle.task_rules.specs.Turns.{at_turn}
@@ -19,7 +19,7 @@ use Rattle.state_calls.specs.declared.error.TaskError.TheVariants as task_error
 use Rattle.task_machine.specs.declared.component.Callee.{Callee}
 use Rattle.task_machine.specs.declared.trap.Trap.{Trap}
 use Rattle.task_rules.specs.MainOps.{start_act}
-use Rattle.task_calls.specs.Calls.{Starts}
+use Rattle.task_calls.specs.MainCalls.{Starts}
 use Rattle.task_words.specs.Groups.{asked}
 use Rattle.task_words.specs.StateView.{StateView, work_number}
 use Rattle.task_turns.specs.Main as main
@@ -34,9 +34,9 @@ use Rattle.task_rules.specs.Scripts.{host_at, never_host}
 
 module _ (c : Component) (ops : List MainOpDef) (p : MainPlace) (s : Core) (o : MainOpDef) (at : op_at ops p ≡ Some o) where
   -- the op is done
-  pub did_by_row : (l : MainLabel) (new : Core) → main_row c (line_of p o) s (act_of p o) ≡ Does l new → IsOpOfMain (label.Main l) → main.Did c ops (Scripted p) s (label.Main l) (Scripted (advanced_main o l p)) new
+  pub did_by_rule : (l : MainLabel) (new : Core) → main_rule c (line_of p o) s (act_of p o) ≡ Does l new → IsOpOfMain (label.Main l) → main.Did c ops (Scripted p) s (label.Main l) (Scripted (advanced_main o l p)) new
   unfolding at_turn
-  did_by_row l new row is = record {
+  did_by_rule l new row is = record {
     op = is;
     step =
         subst (λ q. ScriptStep (main_setting c ops) (state_at s (Scripted p) turn.Main) p q (label.Main l) (state_at new (Scripted (advanced_main o l p)) turn.Main)) (sym at)
@@ -44,17 +44,17 @@ module _ (c : Component) (ops : List MainOpDef) (p : MainPlace) (s : Core) (o : 
   }
 
   -- main waits
-  pub pends_by_row : main_row c (line_of p o) s (act_of p o) ≡ Pends → main.Pends c ops (Scripted p) s (Scripted p) s
-  pends_by_row row = record {
+  pub pends_by_rule : main_rule c (line_of p o) s (act_of p o) ≡ Pends → main.Pends c ops (Scripted p) s (Scripted p) s
+  pends_by_rule row = record {
     part = refl;
     core = refl;
     pends = ap (pends_at (main_setting c ops) s p) at ∙ ap is_pending row;
   }
 
   -- main answers
-  pub answers_by_row : (v : ℕ) → main_row c (line_of p o) s (act_of p o) ≡ Answers v → main.Answers c ops (Scripted p) s v (Scripted p) s
+  pub answers_by_rule : (v : ℕ) → main_rule c (line_of p o) s (act_of p o) ≡ Answers v → main.Answers c ops (Scripted p) s v (Scripted p) s
   unfolding at_turn
-  answers_by_row v row = record {
+  answers_by_rule v row = record {
     part = refl;
     core = refl;
     step =
@@ -69,13 +69,13 @@ pends_past c ops p s none = record { part = refl; core = refl; pends = ap (pends
 -- ---- What a start came to, in the words of its row
 
 module _ (c : Component) (e : Callee) (words : List ℕ) (s t : StateView) (k : ℕ) where
-  pub started_row : (o : Option Trap) (n : ℕ) → Starts c e words s o (Ok n) t → start_act c k e words s.core o ≡ Does (main_label.Start k n) t.core
-  started_row None n starts = ap₂ (λ i new. Does (main_label.Start k i) new) (sym starts.0) (sym starts.1.core)
-  started_row (Some why) n starts = let no : Ok n ≡ Err (task_error.Trap why) = starts.0 in absurd (cc)
+  pub started_rule : (o : Option Trap) (n : ℕ) → Starts c e words s o (Ok n) t → start_act c k e words s.core o ≡ Does (main_label.Start k n) t.core
+  started_rule None n starts = ap₂ (λ i new. Does (main_label.Start k i) new) (sym starts.0) (sym starts.1.core)
+  started_rule (Some why) n starts = let no : Ok n ≡ Err (task_error.Trap why) = starts.0 in absurd (cc)
 
-  pub refused_row : (o : Option Trap) (why : Trap) → Starts c e words s o (Err (task_error.Trap why)) t → start_act c k e words s.core o ≡ Does (main_label.StartRefused why k) t.core
-  refused_row None why starts = let no : task_error.Trap why ≡ task_error.NoMemory = starts.0 in absurd (cc)
-  refused_row (Some other) why starts =
+  pub refused_rule : (o : Option Trap) (why : Trap) → Starts c e words s o (Err (task_error.Trap why)) t → start_act c k e words s.core o ≡ Does (main_label.StartRefused why k) t.core
+  refused_rule None why starts = let no : task_error.Trap why ≡ task_error.NoMemory = starts.0 in absurd (cc)
+  refused_rule (Some other) why starts =
       let same : Path (Result ℕ TaskError) (Err (task_error.Trap why)) (Err (task_error.Trap other)) = starts.0 in
       let equal : other ≡ why = cc in
       ap₂ (λ w new. Does (main_label.StartRefused w k) new) equal (sym starts.1.core)
@@ -93,8 +93,8 @@ asked_names s t keeps = keeps
 
 -- ---- A spawn
 
-pub spawned_row : (c : Component) (h : ℕ) (host : HostDef) (s t : Core) (k n : ℕ) → Some host ≡ slice_get c.hosts h → t ≡ work_queued work_caller.Spawn host None s → n ≡ next_work s → Does (main_label.Spawn k (next_work s)) (main_spawned c h s) ≡ Does (main_label.Spawn k n) t
+pub spawned_rule : (c : Component) (h : ℕ) (host : HostDef) (s t : Core) (k n : ℕ) → Some host ≡ slice_get c.hosts h → t ≡ work_queued work_caller.Spawn host None s → n ≡ next_work s → Does (main_label.Spawn k (next_work s)) (main_spawned c h s) ≡ Does (main_label.Spawn k n) t
 unfolding main_spawned
-spawned_row c h host s t k n there core number =
+spawned_rule c h host s t k n there core number =
     let at : host_at c h ≡ host = ap (λ (o : Option HostDef). unwrap_or o never_host) (sym there) in
     ap₂ (λ i new. Does (main_label.Spawn k i) new) (sym number) (ap (λ (d : HostDef). work_queued work_caller.Spawn d None s) at ∙ sym core)

@@ -2,7 +2,7 @@
 use Rattle.std.proofs.Common.{IfSome, ap, ap₂, inl, inr, refl, subst, sym, ⊎_elim, ◌∙◌}
 use Rattle.std.specs.Option.{unwrap_or}
 use Rattle.std.specs.Prelude.{[], Err, List, None, Ok, OnOk, IfOk, Option, Result, Some, map, slice_get, suc, zero, ℕ, ◌+◌, ◌++◌, ◌∷◌, ◌≡◌, ◌⊎◌}
-use Rattle.task_calls.specs.Calls.{Starts}
+use Rattle.task_calls.specs.MainCalls.{Starts}
 use Rattle.state_calls.specs.declared.error.TaskError.{TaskError}
 use Rattle.task_machine.specs.Core.{Core, Main}
 use Rattle.task_machine.specs.Read.{phase_of}
@@ -39,9 +39,9 @@ spawn_number (h ∷ hs) zero = refl
 spawn_number (h ∷ hs) (suc k) = spawn_number hs k
 
 -- the phase that an abort found, and the core that it left
-pub aborted_row : (s : Core) (i j k : ℕ) (p : Phase) (t : Core) → i ≡ j → p ≡ phase_of j s → t ≡ main_aborted j s →
+pub aborted_rule : (s : Core) (i j k : ℕ) (p : Phase) (t : Core) → i ≡ j → p ≡ phase_of j s → t ≡ main_aborted j s →
     Does (main_label.Abort (phase_of i s) k) (main_aborted i s) ≡ Does (main_label.Abort p k) t
-aborted_row s i j k p t same phase core = ap (λ (n : ℕ). Does (main_label.Abort (phase_of n s) k) (main_aborted n s)) same ∙ ap₂ (λ q new. Does (main_label.Abort q k) new) (sym phase) (sym core)
+aborted_rule s i j k p t same phase core = ap (λ (n : ℕ). Does (main_label.Abort (phase_of n s) k) (main_aborted n s)) same ∙ ap₂ (λ q new. Does (main_label.Abort q k) new) (sym phase) (sym core)
 
 pub spawn_known : (m : ScriptMain) (s : StateView) (k : ℕ) (o : Option SpawnHandle) → o ≡ slice_get m.spawns.items k → KnowsSpawns m s → IfSome o (λ h. IsSpawnedIn h s)
 spawn_known m s k None is knows = tt

@@ -3,7 +3,7 @@ use Rattle.group_laws.specs.Tells.{is_start}
 use Rattle.std.proofs.Common.{ap, subst, sym}
 use Rattle.std.specs.Prelude.{List, false, ◌≡◌}
 use Rattle.task_loop.proofs.MainStepLemmas.{stepped_quietly}
-use Rattle.task_loop.specs.HasRun.{HasStepped, MayStep}
+use Rattle.task_loop.specs.HasRun.{HasStepResult, MayStep}
 use Rattle.task_machine.specs.declared.component.Component.{Component}
 use Rattle.task_machine.specs.declared.component.HostDef.{HostDef}
 use Rattle.task_ops.specs.Works.{KeepsWorks}
@@ -25,7 +25,7 @@ suits_still c m n same suits = subst (λ (ops : List MainOp). SuitsOps ops c) (s
 
 -- an op that is no start and spawns nothing
 pub script_stepped : {T H G : Type 0} (course : H → HostDef) (c : Component) (m : ScriptMain) (s : Store T H G) → MayStep script_says course c m s → (q : MainStep) (n : ScriptMain) (t : Store T H G) →
-    n.ops ≡ m.ops → n.spawns ≡ m.spawns → t.listeners ≡ s.listeners → t.state.tags.known ≡ s.state.tags.known → Steps c (script_of m) (part_of m) s.state.core q (part_of n) t.state.core → is_start (label_of_step q) ≡ false →
-    running_of t.state ≡ running_of s.state → KeepsWorks s.state t.state → HoldsHosts course t → HasStepped script_says course c q m s n t
+    n.ops ≡ m.ops → n.spawns ≡ m.spawns → t.listeners ≡ s.listeners → t.state.tags.tracked ≡ s.state.tags.tracked → Steps c (script_of m) (part_of m) s.state.core q (part_of n) t.state.core → is_start (label_of_step q) ≡ false →
+    running_of t.state ≡ running_of s.state → KeepsWorks s.state t.state → HoldsHosts course t → HasStepResult script_says course c q m s n t
 script_stepped course c m s may q n t ops spawns same known steps quiet idle names works =
     stepped_quietly script_says course c q m s n t same known steps quiet may.asked idle tt (suits_still c m n ops may.suits) (knows_still c (script_of m) m n s.state t.state q spawns steps names may.knows) works

@@ -14,7 +14,7 @@ use Rattle.task_loop.specs.declared.call.Func.{Func}
 use Rattle.task_run.specs.declared.script.ScriptMain.{ScriptMain}
 use Rattle.task_run.specs.declared.script.Start.{Start}
 use Rattle.task_run.specs.declared.script.Start.TheVariants as start
-use Rattle.task_loop.specs.Calls.{callee_of}
+use Rattle.task_loop.specs.LoopCalls.{callee_of}
 
 -- the machine's op
 abbrev pub machine_op : MainOp → MainOpDef

@@ -88,22 +88,22 @@ fn export_def(alloc: Global, export: ExportText) -> (Seq<u8>, ExportDef)
 
 // What the parts of an instance so far have said.
 #[derive(Drop)]
-struct Parts {
+struct ScenarioParts {
     names: Seq<Seq<u8>>,
     exports: Seq<ExportDef>,
     slots: Vec<Slot>,
 }
 
-impl Parts {
+impl ScenarioParts {
     ghost use Rattle.scenario_text.specs.Spelling.{exports_in};
     ghost use Rattle.task_run.specs.Lower.{slots_with};
 
-    fn new(alloc: Global) -> Result<Parts, AllocError>
+    fn new(alloc: Global) -> Result<ScenarioParts, AllocError>
         ensures names { IfOk result (λ p. p.names ≡ []) }
         ensures exports { IfOk result (λ p. p.exports ≡ []) }
         ensures slots { IfOk result (λ p. p.slots.items ≡ replicate 16 Slot.Empty) }
     {
-        Ok(Parts {
+        Ok(ScenarioParts {
             names: Seq::new(alloc),
             exports: Seq::new(alloc),
             slots: empty_slots(alloc)?,
@@ -135,7 +135,7 @@ fn instance_def(
 ) -> Result<(InstanceNames, InstanceDef), AllocError>
     ensures { IfOk result (λ p. p ≡ (names_of instance, instance_def instance)) }
 {
-    let mut parts = Parts::new(alloc)?;
+    let mut parts = ScenarioParts::new(alloc)?;
     for part in instance.parts.into_vec() {
         parts.add(alloc, part)?;
     }

@@ -1,5 +1,5 @@
 ghost use Rattle.std.specs.Prelude.{◌≡◌, ◌+◌, ◌<◌, ◌^◌, ◌-◌, ◌++◌, ◌∷◌, [], length, option_copied, IfOk, IfSome, None, OnOk, Some, slice_get, slice_set};
-ghost use Rattle.task_loop.specs.HasRun.{HasStepped, MayStep, StepsTo};
+ghost use Rattle.task_loop.specs.HasRun.{HasStepResult, MayStep, StepsTo};
 ghost use Rattle.task_loop.specs.Standing.{standing};
 ghost use Rattle.task_machine.specs.Read.{phase_of};
 ghost use Rattle.task_rules.specs.MainOps.{is_complete, is_ready_for_call, main_aborted, spawned_at, started_at};
@@ -24,7 +24,7 @@ use task_group::TaskGroupHook;
 use task_loop::{Func, MainStep, MainTask, TaskError, operand_value};
 use task_machine::{Component, HostDef, Label, MainLabel, Operand, Phase, Trap};
 use task_store::{Access, AccessorTask, FromHost, HostWork, SpawnHandle, Whole};
-use task_words::{InstanceWords, ResultWords, View};
+use task_words::{InstancePrimitives, ResultPrimitives, View};
 
 // The values of these operands.
 fn words_of(
@@ -288,7 +288,7 @@ fn abort_work<T, H: HostWork, G: TaskGroupHook>(
     ensures same { access.new.store.ghost_name ≡ access.old.store.ghost_name }
     ensures stands { standing access.new.store.now ≡ standing access.old.store.now }
     ensures ops { main.new.ops ≡ main.old.ops }
-    ensures step { HasStepped script_says H.course component.now result main.old access.old.store.now main.new access.new.store.now }
+    ensures step { HasStepResult script_says H.course component.now result main.old access.old.store.now main.new access.new.store.now }
 {
     let _component = component;
     let at = main.next_place();
@@ -330,7 +330,7 @@ fn await_work<T, H: HostWork, G: TaskGroupHook>(
     ensures same { access.new.store.ghost_name ≡ access.old.store.ghost_name }
     ensures stands { standing access.new.store.now ≡ standing access.old.store.now }
     ensures ops { main.new.ops ≡ main.old.ops }
-    ensures step { HasStepped script_says H.course component.now result main.old access.old.store.now main.new access.new.store.now }
+    ensures step { HasStepResult script_says H.course component.now result main.old access.old.store.now main.new access.new.store.now }
 {
     let _component = component;
     let at = main.next_place();
@@ -352,7 +352,7 @@ fn await_quiet<T, H: HostWork, G: TaskGroupHook>(
     requires may { MayStep script_says H.course component.now main.old access.now.store.now }
     requires op { slice_get main.old.ops.now main.old.at ≡ Some main_op.Quiet }
     ensures ops { main.new.ops ≡ main.old.ops }
-    ensures step { HasStepped script_says H.course component.now result main.old access.now.store.now main.new access.now.store.now }
+    ensures step { HasStepResult script_says H.course component.now result main.old access.now.store.now main.new access.now.store.now }
 {
     let _component = component;
     let at = main.next_place();
@@ -382,7 +382,7 @@ fn await_ready<T, H: HostWork, G: TaskGroupHook>(
     requires may { MayStep script_says H.course component.now main.old access.now.store.now }
     requires op { slice_get main.old.ops.now main.old.at ≡ Some (main_op.Ready func) }
     ensures ops { main.new.ops ≡ main.old.ops }
-    ensures step { HasStepped script_says H.course component.now result main.old access.now.store.now main.new access.now.store.now }
+    ensures step { HasStepResult script_says H.course component.now result main.old access.now.store.now main.new access.now.store.now }
 {
     let _component = component;
     let at = main.next_place();

@@ -163,7 +163,7 @@ fn write_report<K: Sink>(alloc: Global, sink: &mut K, report: &Report) -> Result
     ensures fault { IfErr result (λ end. (end ≡ End.NoMemory) ⊎ (end ≡ End.WriteFailed)) }
     ensures told { OnOk result (Appends (K.held sink.old) (K.held sink.new) (text report.now.trace report.now.outcome)) }
     ensures front { IsFront (K.held sink.old) (K.held sink.new) (text report.now.trace report.now.outcome) }
-    ensures wanting { IsErrOf result End.NoMemory → sink.new ≡ sink.old }
+    ensures out_of_memory { IsErrOf result End.NoMemory → sink.new ≡ sink.old }
 {
     let mut page = Page::new(alloc)?;
     let mut labels = report.trace.labels();
@@ -178,7 +178,7 @@ fn write_report<K: Sink>(alloc: Global, sink: &mut K, report: &Report) -> Result
 fn say_bad_line<K: Sink>(alloc: Global, sink: &mut K, line: u32) -> End
     ensures told { (result ≡ End.NoMemory) ⊎ SaysOrFails (K.held sink.old) (K.held sink.new) (bad_line_text line) End.BadScenario result }
     ensures cause { result ≡ End.WriteFailed → HasRisen (K.faults sink.old) (K.faults sink.new) }
-    ensures wanting { result ≡ End.NoMemory → sink.new ≡ sink.old }
+    ensures out_of_memory { result ≡ End.NoMemory → sink.new ≡ sink.old }
 {
     match format!(in alloc; "bad scenario line {line}\n") {
         Ok(text) => say(sink, text.as_bytes(), End::BadScenario),
@@ -252,7 +252,7 @@ fn make<K: Sink>(alloc: Global, number: u32, sink: &mut K) -> ToolEnd
     requires some { 1 ≤ number }
     requires few { number ≤ 256 }
     ensures ended { MakeEnded number (K.held sink.old) (K.held sink.new) result }
-    ensures wanting { result.status ≡ 1 → sink.new ≡ sink.old }
+    ensures out_of_memory { result.status ≡ 1 → sink.new ≡ sink.old }
     ensures cause { result.status ≡ 5 → HasRisen (K.faults sink.old) (K.faults sink.new) }
 {
     match make_scenario(alloc, number) {
@@ -284,7 +284,7 @@ fn big<K: Sink>(alloc: Global, number: u32, steps: u32, sink: &mut K) -> ToolEnd
     requires one { 0 < steps }
     requires limit { steps ≤ 1000000 }
     ensures ended { BigEnded number steps (K.held sink.old) (K.held sink.new) result }
-    ensures wanting { result.status ≡ 1 → sink.new ≡ sink.old }
+    ensures out_of_memory { result.status ≡ 1 → sink.new ≡ sink.old }
     ensures cause { result.status ≡ 5 → HasRisen (K.faults sink.old) (K.faults sink.new) }
 {
     let Ok(report) = run_generated(alloc, number, steps) else {

@@ -1,5 +1,5 @@
 ghost use Rattle.std.specs.Prelude.{◌≡◌, ◌<◌, ◌≤◌, ℕ, false, length, true, IfOk, IsOk, IsErrOf, IsOkUnless};
-ghost use Rattle.host_works.specs.Kept.{HoldsNone};
+ghost use Rattle.host_works.specs.KeptWorks.{HoldsNone};
 ghost use Rattle.scenario_text.specs.Grammar.{IsBadLine};
 ghost use Rattle.task_group.specs.Listeners.{nobody};
 ghost use Rattle.task_machine.specs.Core.{fresh};

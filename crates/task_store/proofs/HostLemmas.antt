@@ -6,7 +6,7 @@ use Rattle.std.specs.Prelude.{Bool, None, Option, Some, cond, false, is_some, su
 use Rattle.cell_laws.proofs.StayLemmas.{works_stay_running, works_stay_taken, works_stay_walked}
 use Rattle.cell_laws.specs.Cells.{IsInside, Runs, RunsWorks, SpawnedNothing, StaysWork, Takes, WorksStayRunning, WorksStayTaken, WorksStayWalked, is_spawned, phase_told}
 use Rattle.host_works.specs.Course.{MayTell}
-use Rattle.host_works.specs.Kept.{Found, HeldWork, HoldsNone, MayAnswer, after_abort, after_poll, found_phase, held}
+use Rattle.host_works.specs.KeptWorks.{Found, HeldWork, HoldsNone, MayAnswer, after_abort, after_poll, found_phase, held}
 use Rattle.host_works.specs.declared.kept.HostWorks.{HostWorks}
 use Rattle.task_machine.specs.declared.words.HostPoll.{HostPoll}
 use Rattle.task_machine.specs.declared.words.HostPoll.TheVariants as host_poll
@@ -36,8 +36,8 @@ use Rattle.task_machine.specs.declared.records.WorkCaller.{WorkCaller}
 use Rattle.task_machine.specs.declared.records.WorkCaller.TheVariants as callers
 use Rattle.task_machine.specs.declared.words.Phase.{Phase}
 use Rattle.task_machine.specs.declared.words.Phase.TheVariants as phases
-use Rattle.task_ops.specs.Polled.{PolledTo, TellsPoll}
-use Rattle.task_ops.specs.declared.works.Told.{Told}
+use Rattle.task_ops.specs.PolledWorks.{PolledTo, TellsPoll}
+use Rattle.task_ops.specs.declared.work_ops.PollNews.{PollNews}
 use Rattle.task_rules.specs.Calls.{new_work, work_queued}
 use Rattle.task_rules.specs.Cancels.{aborted_phase}
 use Rattle.task_rules.specs.Chains.{WalkedAs}
@@ -47,7 +47,7 @@ use Rattle.task_rules.specs.Stalled.{Setting}
 use Rattle.task_rules.specs.Step.{Step}
 use Rattle.task_rules.specs.Works.{Asked, heard, Ends, FailsNow, Poll, StillPends, course_for, followed, has_end, poll_ends, poll_of, poll_pends, polled_again, polled_course, polled_in}
 use Rattle.task_store.specs.Hosts.{HoldsAt, HoldsHosts, HoldsWork, HoldsWorks, WorksNumbered, held_by, held_of, running}
-use Rattle.task_store.specs.Polled.{HoldsPolled, is_over, polled_core, told_of}
+use Rattle.task_store.specs.PolledStore.{HoldsPolled, is_over, polled_core, told_of}
 use Rattle.task_store.specs.declared.store.Store.{Store}
 use Rattle.task_turns.specs.Turn.{state_at}
 
@@ -106,7 +106,7 @@ stays_held o None (Some w) none stays h = absurd (let e = none refl in cc)
 stays_held o (Some v) None none stays h = h.held ∙ gone v.course (phase_told v.caller v.phase) stays
   where
     gone : (c : Course) (p : Phase) → has_end c ≡ true → held_of c p ≡ None
-    gone (courses.Goes d) p is = absurd (cc)
+    gone (courses.Continues d) p is = absurd (cc)
     gone (courses.Value v) p is = refl
     gone courses.NoValue p is = refl
 stays_held o (Some v) (Some w) none stays h = record {
@@ -125,7 +125,7 @@ stays_held o (Some v) (Some w) none stays h = record {
         let same : w.phase ≡ v.phase = by_cell v.caller w.phase v.phase spawn (sym (ap (λ (f : WorkCaller). phase_told f w.phase) caller) ∙ cell) in
         ap is_complete same ∙ (h.spawned spawn ∙ sym (ap has_end course))
 
-new_held : (d : HostDef) (w : Work) → w.course ≡ courses.Goes d → is_spawned w.caller ≡ false → HoldsWork (running d) w.caller w.phase w.course
+new_held : (d : HostDef) (w : Work) → w.course ≡ courses.Continues d → is_spawned w.caller ≡ false → HoldsWork (running d) w.caller w.phase w.course
 new_held d w goes call = record {
   held = sym (ap (λ (c : Course). held_of c (phase_told w.caller w.phase)) goes ∙ ap (λ (p : Phase). Some (Found d p)) (told_call w.caller w.phase call));
   spawned = λ is. absurd (let e = sym is ∙ call in cc);
@@ -213,14 +213,14 @@ module _ (ops : ℕ → Op) (x : Setting) (s : State) (l : Label) (t : State) (w
   next_none = next_free s.core numbered
 
   -- it is there, and held
-  pub holds_made : (d : HostDef) (right : ℕ → Option HeldWork) → course_of (s.core.made.works + 1) t.core ≡ courses.Goes d →
+  pub holds_made : (d : HostDef) (right : ℕ → Option HeldWork) → course_of (s.core.made.works + 1) t.core ≡ courses.Continues d →
       ((i : ℕ) → right i ≡ cond (s.core.made.works + 1 == i) (running d) (left i)) → HoldsWorks right t.core
   holds_made d right goes is = record { each = λ i. each_at i (i == s.core.made.works + 1) refl; first = first_still }
     where
       own : right (s.core.made.works + 1) ≡ running d
       own = is (s.core.made.works + 1) ∙ grind (arith, nat_tests)
 
-      at_next : (o : Option Work) → get t.core.works (s.core.made.works + 1) ≡ o → StaysWork None o → option_map_or (λ (w : Work). w.course) o courses.NoValue ≡ courses.Goes d → HoldsAt (running d) o
+      at_next : (o : Option Work) → get t.core.works (s.core.made.works + 1) ≡ o → StaysWork None o → option_map_or (λ (w : Work). w.course) o courses.NoValue ≡ courses.Continues d → HoldsAt (running d) o
       at_next None at call goes = absurd (cc)
       at_next (Some w) at call goes = new_held d w goes call
 
@@ -244,9 +244,9 @@ abort_told : (w : Work) → is_spawned w.caller ≡ true → after_abort (held_o
 abort_told w spawn = by w.caller w.course w.phase spawn
   where
     by : (f : WorkCaller) (c : Course) (p : Phase) → is_spawned f ≡ true → after_abort (held_of c (phase_told f p)) ≡ held_of c (phase_told f (aborted_phase p))
-    by callers.Spawn (courses.Goes d) phases.Running is = refl
-    by callers.Spawn (courses.Goes d) phases.AbortRequested is = refl
-    by callers.Spawn (courses.Goes d) phases.Complete is = refl
+    by callers.Spawn (courses.Continues d) phases.Running is = refl
+    by callers.Spawn (courses.Continues d) phases.AbortRequested is = refl
+    by callers.Spawn (courses.Continues d) phases.Complete is = refl
     by callers.Spawn (courses.Value v) p is = refl
     by callers.Spawn courses.NoValue p is = refl
     by (callers.Async n q) c p is = absurd (cc)
@@ -304,7 +304,7 @@ found_is i s left caller h = by (get s.works i) caller (h.each i)
     over phases.Complete is = refl
 
     told : (c : Course) (p : Phase) → is_complete p ≡ has_end c → found_phase (held_of c p) ≡ p
-    told (courses.Goes d) p is = refl
+    told (courses.Continues d) p is = refl
     told (courses.Value v) p is = over p is
     told courses.NoValue p is = over p is
 
@@ -319,7 +319,7 @@ found_is i s left caller h = by (get s.works i) caller (h.each i)
 
 -- what the record of a polled work says then
 abbrev pub said_after : Poll → Option Says → Option Says
-said_after (StillPends host) o = option_map (λ (t : Says). (t.0, (t.1.0, courses.Goes host))) o
+said_after (StillPends host) o = option_map (λ (t : Says). (t.0, (t.1.0, courses.Continues host))) o
 said_after (Ends v) o = option_map (λ (t : Says). (t.0, (phases.Complete, course_for v))) o
 said_after FailsNow o = o
 said_after (Asked next) o = o
@@ -364,7 +364,7 @@ module _ (i : ℕ) (s : Core) (p : Poll) (left right : ℕ → Option HeldWork) 
       (subst (λ (n : ℕ). HoldsSaid o (said_after p (option_map says (get s.works n)))) (sym k) own)))
 
   none_after : (q : Poll) (m : Option Says) → m ≡ None → said_after q m ≡ None
-  none_after (StillPends host) m e = ap (λ (k : Option Says). option_map (λ (t : Says). (t.0, (t.1.0, courses.Goes host))) k) e
+  none_after (StillPends host) m e = ap (λ (k : Option Says). option_map (λ (t : Says). (t.0, (t.1.0, courses.Continues host))) k) e
   none_after (Ends v) m e = ap (λ (k : Option Says). option_map (λ (t : Says). (t.0, (phases.Complete, course_for v))) k) e
   none_after FailsNow m e = e
   none_after (Asked next) m e = e
@@ -407,10 +407,10 @@ module _ (i : ℕ) (s : Core) (left right : ℕ → Option HeldWork) (h : HoldsW
     where
       by : (p : Phase) (c : Course) → (is_aborted p || has_end c) ≡ true → (v : Option ℕ) × (polled_in p c ≡ Ends v)
       by phases.AbortRequested c h = (None, refl)
-      by phases.Running (courses.Goes d) h = absurd (cc)
+      by phases.Running (courses.Continues d) h = absurd (cc)
       by phases.Running (courses.Value v) h = (Some v, refl)
       by phases.Running courses.NoValue h = (None, refl)
-      by phases.Complete (courses.Goes d) h = absurd (cc)
+      by phases.Complete (courses.Continues d) h = absurd (cc)
       by phases.Complete (courses.Value v) h = (Some v, refl)
       by phases.Complete courses.NoValue h = (None, refl)
 
@@ -419,7 +419,7 @@ module _ (i : ℕ) (s : Core) (left right : ℕ → Option HeldWork) (h : HoldsW
   ended_said v (Some t) = record { held = ends_unheld v (phase_told t.0 phases.Complete); spawned = λ is. ends_complete v }
 
   -- and is let go
-  pub over_held : (r : Told) → is_over i s ≡ true → ((j : ℕ) → right j ≡ cond (i == j) None (left j)) → HoldsPolled r i right s
+  pub over_held : (r : PollNews) → is_over i s ≡ true → ((j : ℕ) → right j ≡ cond (i == j) None (left j)) → HoldsPolled r i right s
   over_held r over is t to =
       let e = over_ends over in
       let core : t ≡ polled_core i (Ends e.0) s = subst (λ (p : Poll). PolledTo r i p s t) e.1 to in
@@ -430,7 +430,7 @@ module _ (i : ℕ) (s : Core) (left right : ℕ → Option HeldWork) (h : HoldsW
     work : Work
     host : HostDef
     at : get s.works i ≡ Some work
-    goes : work.course ≡ courses.Goes host
+    goes : work.course ≡ courses.Continues host
     unasked : is_aborted work.phase ≡ false
     spawned : is_spawned work.caller ≡ true → is_complete work.phase ≡ false
     held : left i ≡ running host
@@ -442,7 +442,7 @@ module _ (i : ℕ) (s : Core) (left right : ℕ → Option HeldWork) (h : HoldsW
   cell_runs (callers.Async n q) p a c = refl
   cell_runs (callers.Sync n) p a c = refl
 
-  going_of : (w : Work) (d : HostDef) → get s.works i ≡ Some w → w.course ≡ courses.Goes d → is_aborted w.phase ≡ false → Going
+  going_of : (w : Work) (d : HostDef) → get s.works i ≡ Some w → w.course ≡ courses.Continues d → is_aborted w.phase ≡ false → Going
   going_of w d at goes unasked =
       let q : HoldsWork (left i) w.caller w.phase w.course = subst (λ (o : Option Work). HoldsAt (left i) o) at (h.each i) in
       let spawned : is_spawned w.caller ≡ true → is_complete w.phase ≡ false = λ is. q.spawned is ∙ ap has_end goes in
@@ -460,7 +460,7 @@ module _ (i : ℕ) (s : Core) (left right : ℕ → Option HeldWork) (h : HoldsW
   going h = by (get s.works i) refl h
     where
       both : (w : Work) (p : Phase) (c : Course) → w.phase ≡ p → w.course ≡ c → get s.works i ≡ Some w → (is_aborted p || has_end c) ≡ false → Going
-      both w p (courses.Goes d) phase course at e = going_of w d at course (ap is_aborted phase ∙ first p e)
+      both w p (courses.Continues d) phase course at e = going_of w d at course (ap is_aborted phase ∙ first p e)
         where
           first : (p : Phase) → (is_aborted p || false) ≡ false → is_aborted p ≡ false
           first phases.Running e = refl
@@ -478,7 +478,7 @@ module _ (i : ℕ) (s : Core) (left right : ℕ → Option HeldWork) (h : HoldsW
   polled_of g = ap (λ (o : Option Work). polled_in (option_map_or (λ (w : Work). w.phase) o phases.Complete) (option_map_or (λ (w : Work). w.course) o courses.NoValue)) g.at
       ∙ (ap (λ (c : Course). polled_in g.work.phase c) g.goes ∙ by g.work.phase g.unasked)
     where
-      by : (p : Phase) → is_aborted p ≡ false → polled_in p (courses.Goes g.host) ≡ polled_again g.host
+      by : (p : Phase) → is_aborted p ≡ false → polled_in p (courses.Continues g.host) ≡ polled_again g.host
       by phases.Running is = refl
       by phases.AbortRequested is = absurd (cc)
       by phases.Complete is = refl
@@ -490,7 +490,7 @@ module _ (i : ℕ) (s : Core) (left right : ℕ → Option HeldWork) (h : HoldsW
 
   -- what is held after it
   after_said : (d : HostDef) (answer : HostPoll) → MayTell d answer → (f : WorkCaller) (p : Phase) → phase_told f p ≡ phases.Running → (is_spawned f ≡ true → is_complete p ≡ false) →
-      HoldsSaid (after_poll (Some answer) (running d)) (said_after (found d answer) (Some (f, (p, courses.Goes d))))
+      HoldsSaid (after_poll (Some answer) (running d)) (said_after (found d answer) (Some (f, (p, courses.Continues d))))
   after_said (host_def.Settled None v) answer tells f p cell c = rw tells (record { held = ap (λ (q : Phase). Some (Found (host_def.Settled None v) q)) (sym cell); spawned = c })
   after_said (host_def.Settled (Some zero) None) answer tells f p cell c = rw tells (record { held = ap (λ (q : Phase). Some (Found (host_def.Settled (Some 0) None) q)) (sym cell); spawned = c })
   after_said (host_def.Settled (Some zero) (Some v)) answer tells f p cell c = rw tells (record { held = refl; spawned = λ is. refl })
@@ -517,15 +517,15 @@ module _ (i : ℕ) (s : Core) (left right : ℕ → Option HeldWork) (h : HoldsW
   going_held answer over may is t to =
       let g = going over in
       let p = found g.host answer in
-      let own : HoldsSaid (after_poll (Some answer) (running g.host)) (said_after p (Some (g.work.caller, (g.work.phase, courses.Goes g.host)))) =
+      let own : HoldsSaid (after_poll (Some answer) (running g.host)) (said_after p (Some (g.work.caller, (g.work.phase, courses.Continues g.host)))) =
       after_said g.host answer (going_answers g answer may) g.work.caller g.work.phase (cell_runs g.work.caller g.work.phase g.unasked g.spawned) g.spawned in
-      let said : option_map says (get s.works i) ≡ Some (g.work.caller, (g.work.phase, courses.Goes g.host)) =
+      let said : option_map says (get s.works i) ≡ Some (g.work.caller, (g.work.phase, courses.Continues g.host)) =
       ap (λ (o : Option Work). option_map says o) g.at ∙ ap (λ (c : Course). Some (g.work.caller, (g.work.phase, c))) g.goes in
       let core = found_core g.host answer t (subst (λ (q : Poll). PolledTo (told_of answer) i q s t) (polled_of g) to) in
       subst (λ (u : Core). HoldsWorks right u) (sym core)
       (holds_polled i s p left right (after_poll (Some answer) (left i)) is h
       (subst (λ (t : Option Says). HoldsSaid (after_poll (Some answer) (left i)) (said_after p t)) (sym said)
-      (subst (λ (o : Option HeldWork). HoldsSaid (after_poll (Some answer) o) (said_after p (Some (g.work.caller, (g.work.phase, courses.Goes g.host))))) (sym g.held) own)))
+      (subst (λ (o : Option HeldWork). HoldsSaid (after_poll (Some answer) o) (said_after p (Some (g.work.caller, (g.work.phase, courses.Continues g.host))))) (sym g.held) own)))
 
   -- a work that is polled tells what the machine finds
   told_again : (d : HostDef) (answer : HostPoll) → MayTell d answer → TellsPoll (told_of answer) (polled_again d)
@@ -561,7 +561,7 @@ module _ (i : ℕ) (s : Core) (left right : ℕ → Option HeldWork) (h : HoldsW
       nobody e = let n : Some answer ≡ None = subst (λ (o : Option HeldWork). MayAnswer o (Some answer)) e is in cc
 
       goes : (c : Course) (p : Phase) → left i ≡ held_of c p → has_end c ≡ false
-      goes (courses.Goes d) p e = refl
+      goes (courses.Continues d) p e = refl
       goes (courses.Value v) p e = absurd (nobody e)
       goes courses.NoValue p e = absurd (nobody e)
 
@@ -589,7 +589,7 @@ module _ (i : ℕ) (s : Core) (left right : ℕ → Option HeldWork) (h : HoldsW
       by phases.Complete is = refl
 
   -- one that isn't held stays so
-  pub unheld_over : (r : Told) → is_aborted (phase_of i s) ≡ false → MayAnswer (left i) None → ((j : ℕ) → right j ≡ cond (i == j) (after_poll None (left i)) (left j)) → HoldsPolled r i right s
+  pub unheld_over : (r : PollNews) → is_aborted (phase_of i s) ≡ false → MayAnswer (left i) None → ((j : ℕ) → right j ≡ cond (i == j) (after_poll None (left i)) (left j)) → HoldsPolled r i right s
   unheld_over r unasked none is =
       let ended = unpolled_over unasked none in
       over_held r (ap (λ (b : Bool). b || has_end (course_of i s)) unasked ∙ ended) (λ j. is j ∙ ap (λ (o : Option HeldWork). cond (i == j) (after_poll None o) (left j)) (unheld ended))
@@ -598,7 +598,7 @@ module _ (i : ℕ) (s : Core) (left right : ℕ → Option HeldWork) (h : HoldsW
       unheld ended = by (get s.works i) ended (h.each i)
         where
           gone : (c : Course) (p : Phase) → has_end c ≡ true → held_of c p ≡ None
-          gone (courses.Goes d) p is = absurd (cc)
+          gone (courses.Continues d) p is = absurd (cc)
           gone (courses.Value v) p is = refl
           gone courses.NoValue p is = refl
 

@@ -6,7 +6,7 @@ use Rattle.std.specs.Option.{option_map_or}
 use Rattle.std.specs.Prelude.{Bool, Option, false, if◌then◌else◌, is_some, None, option_and_then, Some, true, ℕ, ◌==◌, ◌≡◌, ◌≤◌}
 use Rattle.task_laws.specs.Order.{is_open, InOrder, TableKept}
 use Rattle.task_machine.proofs.MapLemmas.{get-insert_same}
-use Rattle.task_machine.specs.Core.{Core, Main, Table, no_handles, untouched}
+use Rattle.task_machine.specs.Core.{Core, Main, NameTable, no_handles, untouched}
 use Rattle.task_machine.specs.Maps.{Records, get, get-empty, get-insert, insert, size}
 use Rattle.task_machine.specs.Read.{named_by}
 use Rattle.task_machine.specs.declared.component.Component.{Component}
@@ -14,7 +14,7 @@ use Rattle.task_machine.specs.declared.records.Instance.{Instance}
 use Rattle.task_machine.specs.declared.records.Named.{Named}
 use Rattle.task_machine.specs.declared.records.Turn.{Turn}
 use Rattle.task_rules.proofs.StandLemmas.{by_number}
-use Rattle.task_turns.specs.Turn.{Sits, state_at}
+use Rattle.task_turns.specs.Turn.{CoreInOrder, state_at}
 
 module _ (s : Core) (fresh : get s.instances (size s.instances) ≡ None) (unnamed : get s.handles (size s.instances) ≡ None) where
   abbrev n : ℕ
@@ -45,8 +45,8 @@ module _ (s : Core) (fresh : get s.instances (size s.instances) ≡ None) (unnam
       (λ is. ap at (at_new s.handles no_handles i is) ∙ (get-empty h ∙ sym (ap at (ap (get s.handles) is ∙ unnamed))))
       (λ other. ap at (elsewhere s.handles no_handles i other))
     where
-      at : Option (Table Named) → Option Named
-      at = option_and_then (λ (t : Table Named). get t.live h)
+      at : Option (NameTable Named) → Option Named
+      at = option_and_then (λ (t : NameTable Named). get t.live h)
 
   kept_none : TableKept (no_handles {X = Named})
   kept_none = record {
@@ -55,13 +55,13 @@ module _ (s : Core) (fresh : get s.instances (size s.instances) ≡ None) (unnam
     once = λ h. omega arith;
   }
 
-  tables : ((i : ℕ) (t : Table Named) → get s.handles i ≡ Some t → TableKept t) → (i : ℕ) (t : Table Named) → get more.handles i ≡ Some t → TableKept t
+  tables : ((i : ℕ) (t : NameTable Named) → get s.handles i ≡ Some t → TableKept t) → (i : ℕ) (t : NameTable Named) → get more.handles i ≡ Some t → TableKept t
   tables kept i t at = by_number i n _
       (λ is. let here : Some no_handles ≡ Some t = sym (at_new s.handles no_handles i is) ∙ at in
-      subst (λ (u : Table Named). TableKept u) (same no_handles t here) kept_none)
+      subst (λ (u : NameTable Named). TableKept u) (same no_handles t here) kept_none)
       (λ other. kept i t (sym (elsewhere s.handles no_handles i other) ∙ at))
     where
-      same : (t u : Table Named) → Some t ≡ Some u → t ≡ u
+      same : (t u : NameTable Named) → Some t ≡ Some u → t ≡ u
       same t u e = cc
 
   more_in_order : (c : Component) (p : Turn) (m : Main) → InOrder c (state_at s m p) → InOrder c (state_at more m p)
@@ -85,7 +85,7 @@ there_more m n i x there = ap is_some (get-insert m n x i) ∙ by (i == n)
 
 -- an instance more keeps order
 pub instance_keeps : (s : Core) → get s.instances (size s.instances) ≡ None → get s.handles (size s.instances) ≡ None → (c : Component) (p : Turn) →
-    Sits c p s → Sits c p (with_instance s)
+    CoreInOrder c p s → CoreInOrder c p (with_instance s)
 unfolding with_instance
 instance_keeps s fresh unnamed c p sits = record {
   order = λ m. more_in_order s fresh unnamed c p m (sits.order m);

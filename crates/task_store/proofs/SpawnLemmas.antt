@@ -23,7 +23,7 @@ use Rattle.task_machine.specs.declared.words.Phase.{Phase}
 use Rattle.task_store.specs.Spawned.{IsSpawnedIn, poll_of_phase}
 use Rattle.task_store.specs.declared.spawn.SpawnHandle.{SpawnHandle}
 use Rattle.task_turns.proofs.SpawnLemmas.{abort_in_order}
-use Rattle.task_turns.specs.Turn.{Sits}
+use Rattle.task_turns.specs.Turn.{CoreInOrder}
 use Rattle.task_words.specs.StateView.{StateView, work_of}
 
 -- a write of what isn't there changes nothing
@@ -35,11 +35,11 @@ unfolding main_aborted set_phase on_work
 gone_aborted i s none = ap (λ (ws : Records Work). record s { works = ws }) (absent s.works i (λ w. record w { phase = aborted_phase (phase_of i s) }) none)
 
 -- the abort of a spawned work keeps order, also where the work is gone
-pub aborted_in_order : (c : Component) (p : Turn) (i : ℕ) (s : Core) → work_caller_of i s ≡ callers.Spawn → Sits c p s → Sits c p (main_aborted i s)
+pub aborted_in_order : (c : Component) (p : Turn) (i : ℕ) (s : Core) → work_caller_of i s ≡ callers.Spawn → CoreInOrder c p s → CoreInOrder c p (main_aborted i s)
 aborted_in_order c p i s is sits = by_work (get s.works i) refl
   where
-    by_work : (o : Option Work) → get s.works i ≡ o → Sits c p (main_aborted i s)
-    by_work None none = subst (λ (u : Core). Sits c p u) (sym (gone_aborted i s none)) sits
+    by_work : (o : Option Work) → get s.works i ≡ o → CoreInOrder c p (main_aborted i s)
+    by_work None none = subst (λ (u : Core). CoreInOrder c p u) (sym (gone_aborted i s none)) sits
     by_work (Some w) there =
         let own : w.caller ≡ callers.Spawn = ap (λ (o : Option Work). option_map_or (λ (v : Work). v.caller) o callers.Spawn) (sym there) ∙ is in
         let spawn : is_spawn i s ≡ true = ap (λ (o : Option Work). option_map_or (λ (v : Work). is_spawn_caller v.caller) o false) there ∙ ap is_spawn_caller own in

@@ -1,8 +1,8 @@
 -- What is let go with a store.
 use Rattle.group_notices.specs.Moves.{finishes}
-use Rattle.host_works.specs.Kept.{HoldsNone}
+use Rattle.host_works.specs.KeptWorks.{HoldsNone}
 use Rattle.std.specs.Prelude.{◌≡◌}
-use Rattle.task_group.specs.Listeners.{Told}
+use Rattle.task_group.specs.Listeners.{ToldListeners}
 use Rattle.task_machine.specs.Write.{set_trapped}
 use Rattle.task_store.specs.declared.store.Store.{Store}
 use Rattle.task_words.specs.Groups.{asked}
@@ -11,6 +11,6 @@ use Rattle.task_words.specs.StateView.{on_core}
 -- All groups are finished, which is told, the store is trapped, and no host work is held.
 pub record LetsGo {T H G : Type 0} (s t : Store T H G) : Type 0 where
   pub state : t.state ≡ asked (on_core set_trapped s.state)
-  pub told : Told (finishes s.state.tags.known) s.listeners t.listeners
+  pub told : ToldListeners (finishes s.state.tags.tracked) s.listeners t.listeners
   pub works : HoldsNone t.works
   pub rest : t ≡ record s { state = t.state; works = t.works; listeners = t.listeners }

@@ -1,6 +1,6 @@
 -- The host works that a store holds.
 use Rattle.cell_laws.specs.Cells.{is_spawned, phase_told}
-use Rattle.host_works.specs.Kept.{Found, HeldWork, after_poll, held}
+use Rattle.host_works.specs.KeptWorks.{Found, HeldWork, after_poll, held}
 use Rattle.std.specs.Prelude.{◌==◌, ◌≡◌, ◌≤◌, Bool, None, Option, Some, cond, false, is_some, true, ℕ}
 use Rattle.task_machine.specs.Core.{Core}
 use Rattle.task_machine.specs.Maps.{get}
@@ -18,7 +18,7 @@ use Rattle.task_store.specs.declared.store.Store.{Store}
 
 -- one that has ended isn't held
 abbrev pub held_of : Course → Phase → Option HeldWork
-held_of (courses.Goes d) p = Some (Found d p)
+held_of (courses.Continues d) p = Some (Found d p)
 held_of _ p = None
 
 -- What is held of a work is what its record says: what it is still to do, and the phase of its cell. A spawned work is complete just

@@ -6,7 +6,7 @@ pub mod Hosts
 pub mod Lending
 pub mod NewStores
 pub mod PartLending
-pub mod Polled
+pub mod PolledStore
 pub mod Polls
 pub mod Scopes
 pub mod Slots

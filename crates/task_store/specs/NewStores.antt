@@ -1,5 +1,5 @@
 -- A store as it is made.
-use Rattle.host_works.specs.Kept.{HoldsNone}
+use Rattle.host_works.specs.KeptWorks.{HoldsNone}
 use Rattle.std.specs.Prelude.{Bool, [], false, ℕ, ◌≡◌}
 use Rattle.task_group.specs.Listeners.{nobody}
 use Rattle.task_records.specs.Seen.{nothing}

@@ -17,7 +17,7 @@ use Rattle.task_store.specs.Hosts.{HoldsHosts, WorksNumbered}
 use Rattle.task_store.specs.Spawned.{IsSpawnedIn}
 use Rattle.task_store.specs.declared.spawn.SpawnHandle.{SpawnHandle}
 use Rattle.task_store.specs.declared.store.Store.{Store}
-use Rattle.task_turns.specs.Turn.{Sits}
+use Rattle.task_turns.specs.Turn.{CoreInOrder}
 use Rattle.task_words.specs.StateView.{Keeps, work_of}
 
 -- what a slot's spawn answers, where the store's answers this
@@ -34,10 +34,10 @@ module _ {T H G : Type 0} (course : H → HostDef) (work : H) where
     pub core : OnOk result (t.state.core ≡ work_queued work_callers.Spawn (course work) None s.state.core)
     pub current : t.state.current ≡ s.state.current
     pub tags : Keeps s.state.tags t.state.tags
-    pub order : (c : Component) (p : Turn) → Sits c p s.state.core → Sits c p t.state.core
+    pub order : (c : Component) (p : Turn) → CoreInOrder c p s.state.core → CoreInOrder c p t.state.core
     pub hosts : WorksNumbered s.state.core → HoldsHosts course s → HoldsHosts course t
     pub rest : t ≡ record s { state = t.state; works = t.works }
-    pub wanting : IfErr result (λ e. e ≡ faults.NoMemory)
+    pub out_of_memory : IfErr result (λ e. e ≡ faults.NoMemory)
     pub err : OnErr result (t.state ≡ s.state)
 
 module _ {T H : Type 0} (course : H → HostDef) (work : H) where

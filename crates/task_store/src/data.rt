@@ -6,7 +6,7 @@ ghost use Rattle.task_store.specs.Data.{is_empty_state};
 
 use crate::store::{ComponentInstanceId, Store};
 use task_group::TaskGroupHook;
-use task_words::{QueueWords, View, WorkWords};
+use task_words::{QueuePrimitives, View, WorkPrimitives};
 
 /// An instance of a store, as a host names it: its place in the component is 0, since each instance
 /// here is a component's instance of its own.

@@ -4,20 +4,20 @@ ghost use Rattle.task_laws.specs.Order.{WorksQueued};
 ghost use Rattle.task_machine.specs.Core.{Main};
 ghost use Rattle.task_machine.specs.Read.{is_aborted};
 ghost use Rattle.task_machine.specs.declared.records.Turn.{Turn};
-ghost use Rattle.task_ops.specs.Polled.{TellsPoll};
+ghost use Rattle.task_ops.specs.PolledWorks.{TellsPoll};
 ghost use Rattle.task_ops.specs.Works.{KeepsTold};
 ghost use Rattle.task_rules.specs.Calls.{next_work};
 ghost use Rattle.task_rules.specs.Places.{Placed};
 ghost use Rattle.task_rules.specs.Stalled.{Setting};
 ghost use Rattle.task_rules.specs.Works.{has_end, poll_of, polled_course};
 ghost use Rattle.host_works.specs.Course.{one_fewer};
-ghost use Rattle.host_works.specs.Kept.{MayAnswer, after_poll};
+ghost use Rattle.host_works.specs.KeptWorks.{MayAnswer, after_poll};
 ghost use Rattle.task_machine.specs.declared.component.HostDef.{HostDef};
 ghost use Rattle.task_store.specs.Hosts.{HoldsHosts, held_after_call, held_by, running};
-ghost use Rattle.task_store.specs.Polled.{HoldsPolled, told_of};
+ghost use Rattle.task_store.specs.PolledStore.{HoldsPolled, told_of};
 ghost use Rattle.task_store.specs.Spawns.{Spawns};
 ghost use Rattle.task_turns.specs.Turn.{IsSettled, PendsIn, Turns, given};
-ghost use Rattle.task_turns.specs.Worked.{known_worked};
+ghost use Rattle.task_turns.specs.Worked.{tracked_worked_group};
 ghost use Rattle.task_words.specs.StateView.{work_of};
 
 use crate::spawn::SpawnHandle;
@@ -26,9 +26,9 @@ use host_works::{AccessorTask, FromHost, HostPoll};
 use state_calls::TaskError;
 use task_group::TaskGroupHook;
 use task_machine::{Course, HostDef, NoMemory, Phase};
-use task_ops::Told;
-use task_turns::{Made, poll};
-use task_words::{ResultWords, WorkId, WorkWords};
+use task_ops::PollNews;
+use task_turns::{MadeStep, poll};
+use task_words::{ResultPrimitives, WorkId, WorkPrimitives};
 
 // Whether an abort was asked for.
 fn is_aborted(phase: Phase) -> bool
@@ -38,24 +38,24 @@ fn is_aborted(phase: Phase) -> bool
 }
 
 // What a work tells that has ended.
-fn told_at_end(course: Course) -> Told
+fn told_at_end(course: Course) -> PollNews
     requires { has_end course ≡ true }
     ensures { TellsPoll result (polled_course course) }
 {
     match course {
-        Course::Value { value } => Told::Ends(Some(value)),
-        _ => Told::Ends(None),
+        Course::Value { value } => PollNews::Ends(Some(value)),
+        _ => PollNews::Ends(None),
     }
 }
 
 // What a work tells that was polled.
-fn told_of(answer: HostPoll) -> Told
+fn told_of(answer: HostPoll) -> PollNews
     ensures { result ≡ told_of answer }
 {
     match answer {
-        HostPoll::Pending => Told::Pends,
-        HostPoll::Value(value) => Told::Ends(Some(value)),
-        HostPoll::Failed => Told::Fails,
+        HostPoll::Pending => PollNews::Pends,
+        HostPoll::Value(value) => PollNews::Ends(Some(value)),
+        HostPoll::Failed => PollNews::Fails,
     }
 }
 
@@ -84,7 +84,7 @@ impl<T, H: AccessorTask<T>, G: TaskGroupHook> Store<T, H, G> {
     // Polls the work, which has this number, and answers what it tells. One that was aborted is let go, and isn't polled;
     // one that isn't held has ended.
     #[inline(always)]
-    fn tell(&mut self, work: WorkId, number: u64) -> Told
+    fn tell(&mut self, work: WorkId, number: u64) -> PollNews
         requires hosts { HoldsHosts H.course self.old }
         requires number { number ≡ work_of self.old.state work }
         ensures answer { TellsPoll result (poll_of (work_of self.old.state work) self.old.state.core) }
@@ -93,7 +93,7 @@ impl<T, H: AccessorTask<T>, G: TaskGroupHook> Store<T, H, G> {
     {
         if is_aborted(self.state.phase(work)) {
             self.works.let_go(number);
-            return Told::Ends(None);
+            return PollNews::Ends(None);
         }
         match self.works.poll(number, &mut self.value) {
             Some(answer) => told_of(answer),
@@ -102,13 +102,13 @@ impl<T, H: AccessorTask<T>, G: TaskGroupHook> Store<T, H, G> {
     }
 
     /// Polls the live work that is next, past those with numbers up to `polled`. Its group is asked.
-    pub fn poll_next(&mut self, polled: u64, worked: &mut Option<u64>) -> Made
+    pub fn poll_next(&mut self, polled: u64, worked: &mut Option<u64>) -> MadeStep
         requires placed { Placed self.old.state.core }
         requires works { WorksQueued self.old.state.core }
         requires current { self.old.state.current ≡ None }
         requires settled { IsSettled self.old.state.core (Turn.Futures polled) }
         requires hosts { HoldsHosts H.course self.old }
-        ensures worked { worked.new ≡ known_worked self.old.state (Turn.Futures polled) }
+        ensures worked { worked.new ≡ tracked_worked_group self.old.state (Turn.Futures polled) }
         ensures turns { (x : Setting) → (m : Main) → PendsIn x self.old.state.core m (Turn.Futures polled) → Turns x (Turn.Futures polled) m self.old.state result m self.new.state }
         ensures works { KeepsTold self.old.state self.new.state }
         ensures hosts { HoldsHosts H.course self.new }

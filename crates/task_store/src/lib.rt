@@ -22,5 +22,5 @@ pub use record_core::{CallContext, Scope, TaskCore};
 pub use scopes::ComponentTasksNotConcurrent;
 pub use slot::{SlotError, StoreSlot, TryGet};
 pub use spawn::SpawnHandle;
-pub use store::{ComponentInstanceId, ConcurrentTable, StandingRun, Store, finish_ended};
+pub use store::{ComponentInstanceId, ConcurrentTable, ActiveRun, Store, finish_ended};
 pub use task_machine::NoMemory;

@@ -7,7 +7,7 @@ use crate::data::RuntimeInstance;
 use crate::store::Store;
 use futures::task::Poll;
 use task_group::TaskGroupHook;
-use task_words::{InstanceWords, ResultWords};
+use task_words::{InstancePrimitives, ResultPrimitives};
 
 impl<T, H, G: TaskGroupHook> Store<T, H, G> {
     /// Ready exactly where no task is left that main has to wait for: main's op `quiet`.

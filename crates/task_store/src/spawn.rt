@@ -8,7 +8,7 @@ ghost use Rattle.task_rules.specs.Cancels.{aborted_phase};
 ghost use Rattle.task_rules.specs.MainOps.{main_aborted};
 ghost use Rattle.task_store.specs.Hosts.{HoldsHosts};
 ghost use Rattle.task_store.specs.Spawned.{IsSpawnedIn, poll_of_phase};
-ghost use Rattle.task_turns.specs.Turn.{Sits};
+ghost use Rattle.task_turns.specs.Turn.{CoreInOrder};
 ghost use Rattle.task_words.specs.StateView.{on_core, work_of};
 
 use crate::store::Store;
@@ -16,7 +16,7 @@ use futures::task::Poll;
 use host_works::HostWork;
 use task_group::TaskGroupHook;
 use task_machine::Phase;
-use task_words::{WorkId, WorkWords};
+use task_words::{WorkId, WorkPrimitives};
 
 /// A work that was spawned in a store.
 #[derive(Clone, Copy)]
@@ -63,7 +63,7 @@ impl SpawnHandle {
         requires spawned { IsSpawnedIn self.now store.old.state }
         requires hosts { HoldsHosts H.course store.old }
         ensures hosts { HoldsHosts H.course store.new }
-        ensures order { (c : Component) (p : Turn) → Sits c p store.old.state.core → Sits c p store.new.state.core }
+        ensures order { (c : Component) (p : Turn) → CoreInOrder c p store.old.state.core → CoreInOrder c p store.new.state.core }
         ensures phase { result ≡ phase_of self.now.number store.old.state.core }
         ensures state { store.new ≡ record store.old { works = store.new.works; state = on_core (main_aborted self.now.number) store.old.state } }
     {

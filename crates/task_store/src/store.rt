@@ -10,8 +10,8 @@ ghost use Rattle.task_store.specs.Lending.{LendsValue};
 ghost use Rattle.task_store.specs.NewStores.{IsNewStore};
 ghost use Rattle.task_machine.specs.declared.component.Component.{Component};
 ghost use Rattle.task_machine.specs.declared.records.Turn.{Turn};
-ghost use Rattle.task_turns.specs.Turn.{Sits, given};
-ghost use Rattle.task_group.specs.Listeners.{Told};
+ghost use Rattle.task_turns.specs.Turn.{CoreInOrder, given};
+ghost use Rattle.task_group.specs.Listeners.{ToldListeners};
 ghost use Rattle.task_words.specs.Groups.{asked, ended_groups};
 ghost use Rattle.task_words.specs.StateView.{on_core};
 
@@ -22,7 +22,7 @@ use record_core::TaskCore;
 use std::alloc::Global;
 use task_group::{HookError, Listeners, NoHook, NoticeList, Notices, TaskGroupHook};
 use task_machine::{NoMemory, Trap};
-use task_words::ResultWords;
+use task_words::ResultPrimitives;
 
 /// Names an instance by its number, from 0.
 #[derive(Clone, Copy, PartialEq, Eq)]
@@ -43,7 +43,7 @@ pub fn finish_ended<G: TaskGroupHook>(
     listeners: &mut Listeners<G>,
 ) -> Result<(), HookError>
     ensures asked { core.new ≡ asked core.old }
-    ensures told { Told (finishes (ended_groups core.old)) listeners.old listeners.new }
+    ensures told { ToldListeners (finishes (ended_groups core.old)) listeners.old listeners.new }
     ensures hook { AnswersAsHook result listeners.old listeners.new }
 {
     let told = tell_finishes(listeners, core.ended());
@@ -53,7 +53,7 @@ pub fn finish_ended<G: TaskGroupHook>(
 
 /// A run that stands on a store. Only `Store::begin_run` makes one.
 #[derive(Drop)]
-pub struct StandingRun {
+pub struct ActiveRun {
     begun: (),
 }
 
@@ -133,7 +133,7 @@ impl<T, H, G: TaskGroupHook> Store<T, H, G> {
         ensures number { IfOk result (λ i. i.0 ≡ size self.old.state.core.instances) }
         ensures ok { OnOk result (self.new ≡ record self.old { state = on_core with_instance self.old.state }) }
         ensures err { OnErr result (self.new ≡ self.old) }
-        ensures order { (c : Component) (p : Turn) → Sits c p self.old.state.core → Sits c p self.new.state.core }
+        ensures order { (c : Component) (p : Turn) → CoreInOrder c p self.old.state.core → CoreInOrder c p self.new.state.core }
     {
         match self.state.add_instance() {
             Ok(number) => Ok(ComponentInstanceId(number)),
@@ -212,7 +212,7 @@ impl<T, H, G: TaskGroupHook> Store<T, H, G> {
     /// told of. Errors of the hook are passed over. No group is known then.
     pub fn set_trapped(&mut self)
         ensures rest { self.new ≡ record self.old { state = asked (on_core set_trapped self.old.state); listeners = self.new.listeners } }
-        ensures told { Told (finishes self.old.state.tags.known) self.old.listeners self.new.listeners }
+        ensures told { ToldListeners (finishes self.old.state.tags.tracked) self.old.listeners self.new.listeners }
     {
         self.state.set_trapped();
         let _ = finish_ended(&mut self.state, &mut self.listeners);
@@ -263,7 +263,7 @@ impl<T, H, G: TaskGroupHook> Store<T, H, G> {
 
     /// A run stands on the store from now on. Refused with trap 21 exactly where one does, and then
     /// nothing is changed.
-    pub fn begin_run(&mut self) -> Result<StandingRun, Trap>
+    pub fn begin_run(&mut self) -> Result<ActiveRun, Trap>
         ensures refused { IfErr result (λ trap. (trap ≡ Trap.RecursiveRun) × (self.old.running ≡ true)) }
         ensures begun { OnOk result (self.old.running ≡ false) }
         ensures store { self.new ≡ record self.old { running = true } }
@@ -272,14 +272,14 @@ impl<T, H, G: TaskGroupHook> Store<T, H, G> {
             return Err(Trap::RecursiveRun);
         }
         self.running = true;
-        Ok(StandingRun { begun: () })
+        Ok(ActiveRun { begun: () })
     }
 
     /// The run stands on the store no longer.
-    pub fn end_run(&mut self, run: StandingRun)
+    pub fn end_run(&mut self, run: ActiveRun)
         ensures { self.new ≡ record self.old { running = false } }
     {
-        let StandingRun { begun: () } = run;
+        let ActiveRun { begun: () } = run;
         self.running = false;
     }
 }

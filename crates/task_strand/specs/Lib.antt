@@ -1,2 +1,2 @@
 pub mod Strand
-pub mod Lends
+pub mod LentFrames

@@ -35,7 +35,7 @@ impl Model for Strand {
 }
 
 impl Strand {
-    ghost use Rattle.task_strand.specs.Lends.{lends_top};
+    ghost use Rattle.task_strand.specs.LentFrames.{lends_top};
 
     /// A strand of one frame, its foot and its top.
     ///

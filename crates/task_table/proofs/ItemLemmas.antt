@@ -4,7 +4,7 @@ use Rattle.task_machine.specs.Maps.{get}
 use Rattle.task_table.specs.declared.error.ResourceTableError.{ResourceTableError}
 use Rattle.task_table.specs.declared.error.ResourceTableError.TheVariants.{WrongType}
 use Rattle.task_table.specs.Table.{Table, Placed, found, children_of}
-use Rattle.task_table.specs.Answers.{item_in, item_at, deletion, unless_children}
+use Rattle.task_table.specs.TableAnswers.{item_in, item_at, deletion, unless_children}
 use Rattle.task_table.specs.Changes.{deleted, with_entry}
 use Rattle.task_table.specs.Records.{key_in, record_at, with_record, without_record, records, number_of, SameNumber, AreApart, Names}
 use Rattle.task_table.proofs.TableLemmas.{found_at, item_found}

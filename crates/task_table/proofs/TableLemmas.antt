@@ -7,7 +7,7 @@ use Rattle.std.proofs.lemmas.List.Sums.{sum_by-cons}
 use Rattle.std.proofs.lemmas.Option.{slice_get_within, same_Some}
 use Rattle.task_table.specs.Table.{Table, Placed, IsTable, place_at, standing, found, of_serial, is_child_of, is_number, children_of, is_free, is_nil, is_full}
 use Rattle.task_table.specs.declared.error.ResourceTableError.TheVariants.{WrongType}
-use Rattle.task_table.specs.Answers.{item_in, item_at, pair_refusal, deletion, unless_children}
+use Rattle.task_table.specs.TableAnswers.{item_in, item_at, pair_refusal, deletion, unless_children}
 use Rattle.task_table.specs.Kind.{unwrapped, or_entry}
 use Rattle.task_table.specs.Changes.{pushed, put_at_next, deleted, with_entry, with_entry_at, entry_put, with_parent, parent_put}
 use Rattle.task_table.proofs.ReadLemmas.{slice_get-set_same, slice_get-set_other, slice_get-push_same, slice_get-push_other, set-slice_get, count_by-set, count_by-push, count_by-found}

@@ -1,9 +1,9 @@
-pub mod Answers
+pub mod TableAnswers
 pub mod Changes
 pub mod Entries
 pub mod Kind
-pub mod Lends
+pub mod LentEntries
 pub mod Mapped
-pub mod Places
+pub mod TableCells
 pub mod Records
 pub mod Table

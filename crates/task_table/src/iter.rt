@@ -1,12 +1,12 @@
 ghost use Rattle.std.specs.Iterator.{YieldsFirstBy, item_count};
 
-use crate::place::Place;
+use crate::place::TableCell;
 use std::marker::Model;
 
 /// The entries of a table with their places, in order of the place, seen as the list of those that are left.
 #[derive(Drop)]
 pub struct TableIter<'a, E> {
-    pub(crate) places: &'a [Place<E>],
+    pub(crate) places: &'a [TableCell<E>],
     // The number of the first of `places`.
     pub(crate) rep: u32,
 }
@@ -17,7 +17,7 @@ impl<'a, E> Model for TableIter<'a, E> {
     ghost Value = { List (ℕ × E) };
 
     ghost use Rattle.task_table.specs.Entries.{entries_from};
-    ghost use Rattle.task_table.specs.Places.{placed_in};
+    ghost use Rattle.task_table.specs.TableCells.{placed_in};
 
     ghost view = { λ it. entries_from it.rep (map placed_in it.places.now) };
 
@@ -36,7 +36,7 @@ impl<'a, E> Iterator for TableIter<'a, E> {
             let rep = self.rep;
             self.places = rest;
             self.rep += 1;
-            if let Place::Taken(slot) = place {
+            if let TableCell::Taken(slot) = place {
                 return Some((rep, &slot.entry));
             }
         }

@@ -2,9 +2,9 @@ ghost use Rattle.std.specs.Prelude.{◌≡◌, ◌↔◌, ◌<◌, ◌≤◌, �
 ghost use Rattle.std.specs.Option.{option_and_then, option_copied, option_map};
 ghost use Rattle.std.specs.Result.{result_err};
 ghost use Rattle.std.specs.Borrow.{sem};
-ghost use Rattle.task_table.specs.Answers.{item_at, deletion, pair_refusal, parent_of, or_not_child, result_copied, result_copied_mut};
+ghost use Rattle.task_table.specs.TableAnswers.{item_at, deletion, pair_refusal, parent_of, or_not_child, result_copied, result_copied_mut};
 ghost use Rattle.task_table.specs.Changes.{Adds, Removes, next_place, pushed, deleted, with_parent, with_capacity};
-ghost use Rattle.task_table.specs.Places.{placed};
+ghost use Rattle.task_table.specs.TableCells.{placed};
 ghost use Rattle.task_table.specs.Entries.{entries};
 ghost use Rattle.task_table.specs.Table.{IsTable, new_table, place_at, found, table_len, free_count, is_full, is_number, children_of};
 
@@ -12,7 +12,7 @@ use crate::error::{PushError, ResourceTableError};
 use crate::id::TableId;
 use crate::iter::TableIter;
 use crate::kind::Kind;
-use crate::place::{Place, Slot, fill, link, reserve, slot_in, unlink, vacate};
+use crate::place::{TableCell, TakenCell, fill, link, reserve, slot_in, unlink, vacate};
 use std::alloc::{AllocError, Global};
 use std::marker::Model;
 
@@ -21,7 +21,7 @@ use std::marker::Model;
 /// Contracts see what stands at each place, the free places from the one freed last on, how many serials were given, and the capacity. A place is given again, the one freed last first; a serial never is, so an id that was deleted finds nothing from then on. An entry can have one parent, and a parent is deleted only after its children. A refused call leaves the table as it was, and each call works in constant time, but for the growth of the table.
 #[derive(Drop)]
 pub struct ResourceTable<E> {
-    places: Vec<Place<E>>,
+    places: Vec<TableCell<E>>,
     // The free places, the one freed last at the end. It has room for each place.
     free: Vec<u32>,
     // How many serials were given.
@@ -37,15 +37,15 @@ impl<E> Model for ResourceTable<E> {
 
     ghost coded = { table_code E.code };
 
-    ghost use Rattle.task_table.specs.Places.{shown, IsSound};
+    ghost use Rattle.task_table.specs.TableCells.{shown, IsSoundTable};
 
     ghost view = { λ t. shown t.places.items t.free.items t.given t.max_capacity };
 
-    ghost invariant = { λ t. IsSound t.places.items t.free.items (vec_capacity t.free) t.given t.max_capacity };
+    ghost invariant = { λ t. IsSoundTable t.places.items t.free.items (vec_capacity t.free) t.given t.max_capacity };
 }
 
 impl<E> ResourceTable<E> {
-    ghost use Rattle.task_table.specs.Lends.{lends_entry, lends_item};
+    ghost use Rattle.task_table.specs.LentEntries.{lends_entry, lends_item};
 
     /// An empty table with a capacity of 1,000,000 entries.
     pub fn new(alloc: Global) -> ResourceTable<E>
@@ -100,7 +100,7 @@ impl<E> ResourceTable<E> {
     }
 
     // The slot at a place.
-    fn slot_at(&self, rep: u32) -> Option<&Slot<E>>
+    fn slot_at(&self, rep: u32) -> Option<&TakenCell<E>>
         ensures place { option_map placed (option_copied result) ≡ place_at self.now rep }
         ensures children { IfSome result (λ slot. slot.now.children ≡ children_of self.now rep) }
         ensures sound { IsTable self.now }
@@ -110,7 +110,7 @@ impl<E> ResourceTable<E> {
 
     // The slot of the entry with this place and serial.
     #[tactic(auto, unfolding(crate::specs::Table::found))]
-    fn slot(&self, rep: u32, serial: u64) -> Option<&Slot<E>>
+    fn slot(&self, rep: u32, serial: u64) -> Option<&TakenCell<E>>
         ensures found { option_map placed (option_copied result) ≡ found self.now rep serial }
     {
         match self.slot_at(rep) {
@@ -222,7 +222,7 @@ impl<E> ResourceTable<E> {
             });
         }
         let serial = self.given;
-        let slot = Slot {
+        let slot = TakenCell {
             serial,
             parent: None,
             children: 0,

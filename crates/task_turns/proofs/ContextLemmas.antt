@@ -8,7 +8,7 @@ use Rattle.task_machine.proofs.MapLemmas.{get-change_same, same_records}
 use Rattle.task_machine.specs.Core.{Core}
 use Rattle.task_machine.specs.Maps.{Records, change, get}
 use Rattle.task_machine.specs.Read.{call_instance, instance_of, position_of, registers_of, task_of, word_of}
-use Rattle.task_machine.specs.Write.{on_instance, on_thread, set_how_far, set_position, set_register, set_word}
+use Rattle.task_machine.specs.Write.{on_instance, on_thread, set_op_progress, set_position, set_register, set_word}
 use Rattle.task_machine.specs.declared.component.Component.{Component}
 use Rattle.task_machine.specs.declared.label.DataLabel.{DataLabel}
 use Rattle.task_machine.specs.declared.label.DataLabel.TheVariants as data_label
@@ -16,10 +16,10 @@ use Rattle.task_machine.specs.declared.label.Label.TheVariants as label
 use Rattle.task_machine.specs.declared.op.DataOp.TheVariants as data_op
 use Rattle.task_machine.specs.declared.op.Operand.{Operand}
 use Rattle.task_machine.specs.declared.op.Operand.TheVariants as operand
-use Rattle.task_machine.specs.declared.records.HowFar.TheVariants as how_far
+use Rattle.task_machine.specs.declared.records.OpProgress.TheVariants as op_progress
 use Rattle.task_machine.specs.declared.records.Thread.{Thread}
-use Rattle.task_rules.specs.Data.{advanced, assigned, data_row, moved_to, skip_row, skipped, stored}
-use Rattle.task_rules.specs.Progress.{Goes}
+use Rattle.task_rules.specs.Data.{advanced, assigned, data_rule, moved_to, skip_rule, skipped, stored}
+use Rattle.task_rules.specs.Progress.{Continues}
 use Rattle.task_rules.specs.Scripts.{script_of, script_of_thread, value_in, value_of}
 use Rattle.task_turns.specs.Context.{KeepsBeside, in_context}
 use Rattle.task_turns.specs.declared.context.ThreadContext.{ThreadContext}
@@ -27,7 +27,7 @@ use Rattle.task_words.specs.Context.{with_context}
 use Rattle.task_words.specs.StateView.{StateView, on_core}
 
 abbrev pub in_record : ℕ → List ℕ → Thread → Thread
-in_record p rs t = record t { position = p; registers = rs; how_far = how_far.Fresh }
+in_record p rs t = record t { position = p; registers = rs; op_progress = op_progress.Fresh }
 
 word-context : (i w n p : ℕ) (rs : List ℕ) (s : Core) → word_of i w (with_context n p rs s) ≡ word_of i w s
 unfolding with_context on_thread
@@ -55,7 +55,7 @@ module _ (n : ℕ) (s : Core) (t : Thread) (found : get s.threads n ≡ Some t) 
   thread-context p rs = get-change_same s.threads n (in_record p rs) ∙ ap (λ (o : Option Thread). option_map (in_record p rs) o) found
 
   -- what the record has is written
-  pub context_same : t.how_far ≡ how_far.Fresh → with_context n (position_of n s) (registers_of n s) s ≡ s
+  pub context_same : t.op_progress ≡ op_progress.Fresh → with_context n (position_of n s) (registers_of n s) s ≡ s
   unfolding with_context on_thread
   context_same fresh = ap (λ (m : Records Thread). record s { threads = m }) (same_records (change n (in_record (position_of n s) (registers_of n s)) s.threads) s.threads (λ q. grind (arith, nat_tests, get-change, found, fresh)))
 
@@ -82,10 +82,10 @@ module _ (n : ℕ) (s : Core) (t : Thread) (found : get s.threads n ≡ Some t) 
     value-context x = ap (λ regs. value_in regs x) registers-context
 
     pub moved-context : (q : ℕ) → moved_to n q here ≡ with_context n q rs s
-    unfolding moved_to set_how_far set_position with_context on_thread
+    unfolding moved_to set_op_progress set_position with_context on_thread
     moved-context q = ap (λ (m : Records Thread). record s { threads = m })
-        (ap (change n (λ (u : Thread). record u { how_far = how_far.Fresh })) (change-change_same s.threads n (λ (u : Thread). record u { position = q }) (in_record p rs))
-        ∙ change-change_same s.threads n (λ (u : Thread). record u { how_far = how_far.Fresh }) (λ (u : Thread). record (in_record p rs u) { position = q }))
+        (ap (change n (λ (u : Thread). record u { op_progress = op_progress.Fresh })) (change-change_same s.threads n (λ (u : Thread). record u { position = q }) (in_record p rs))
+        ∙ change-change_same s.threads n (λ (u : Thread). record u { op_progress = op_progress.Fresh }) (λ (u : Thread). record (in_record p rs u) { position = q }))
 
     advanced-context : advanced n here ≡ with_context n (p + 1) rs s
     unfolding advanced
@@ -122,34 +122,34 @@ module _ (n i : ℕ) (s : Core) (there : (t : Thread) × (get s.threads n ≡ So
   instance_is = instance-context n s there.0 there.1 x.position x.registers ∙ sym instance
 
   -- an op that answers in a register
-  answers : (l : ℕ → DataLabel) (to v v' : ℕ) (y : ThreadContext) → v ≡ v' → y ≡ answered to v' → Goes (label.Data (l v)) (assigned n to v at) n ≡ Goes (label.Data (l v')) (in_context n y s) n
+  answers : (l : ℕ → DataLabel) (to v v' : ℕ) (y : ThreadContext) → v ≡ v' → y ≡ answered to v' → Continues (label.Data (l v)) (assigned n to v at) n ≡ Continues (label.Data (l v')) (in_context n y s) n
   answers l to v v' y same is =
-      ap (λ v. Goes (label.Data (l v)) (assigned n to v at) n) same
-      ∙ ap (λ new. Goes (label.Data (l v')) new n) (assigned-context n s there.0 there.1 x.position x.registers to v')
-      ∙ ap (λ (y : ThreadContext). Goes (label.Data (l v')) (in_context n y s) n) (sym is)
+      ap (λ v. Continues (label.Data (l v)) (assigned n to v at) n) same
+      ∙ ap (λ new. Continues (label.Data (l v')) new n) (assigned-context n s there.0 there.1 x.position x.registers to v')
+      ∙ ap (λ (y : ThreadContext). Continues (label.Data (l v')) (in_context n y s) n) (sym is)
 
-  pub set_row : (to : ℕ) (o : Operand) (v : ℕ) (y : ThreadContext) → v ≡ value_in x.registers o → y ≡ answered to v → data_row c n at (data_op.Set to o) ≡ Goes (label.Data (data_label.Set n v)) (in_context n y s) n
-  set_row to o v y value is = answers (data_label.Set n) to (value_of n at o) v y (value_is o ∙ sym value) is
+  pub scripted_set_rule : (to : ℕ) (o : Operand) (v : ℕ) (y : ThreadContext) → v ≡ value_in x.registers o → y ≡ answered to v → data_rule c n at (data_op.Set to o) ≡ Continues (label.Data (data_label.Set n v)) (in_context n y s) n
+  scripted_set_rule to o v y value is = answers (data_label.Set n) to (value_of n at o) v y (value_is o ∙ sym value) is
 
-  pub add_row : (to : ℕ) (o : Operand) (a b : ℕ) (y : ThreadContext) → a ≡ value_in x.registers (operand.Register to) → b ≡ value_in x.registers o → y ≡ answered to ((a + b) % 2 ^ 64)
-      → data_row c n at (data_op.Add to o) ≡ Goes (label.Data (data_label.Add n ((a + b) % 2 ^ 64))) (in_context n y s) n
-  add_row to o a b y left right is =
+  pub add_rule : (to : ℕ) (o : Operand) (a b : ℕ) (y : ThreadContext) → a ≡ value_in x.registers (operand.Register to) → b ≡ value_in x.registers o → y ≡ answered to ((a + b) % 2 ^ 64)
+      → data_rule c n at (data_op.Add to o) ≡ Continues (label.Data (data_label.Add n ((a + b) % 2 ^ 64))) (in_context n y s) n
+  add_rule to o a b y left right is =
       answers (data_label.Add n) to ((value_of n at (operand.Register to) + value_of n at o) % 2 ^ 64) ((a + b) % 2 ^ 64) y
       (ap₂ (λ a b. (a + b) % 2 ^ 64) (value_is (operand.Register to) ∙ sym left) (value_is o ∙ sym right)) is
 
-  pub handle_row : (to : ℕ) (o : Operand) (v : ℕ) (y : ThreadContext) → v ≡ value_in x.registers o → y ≡ answered to (v / 16) → data_row c n at (data_op.Handle to o) ≡ Goes (label.Data (data_label.Handle n (v / 16))) (in_context n y s) n
-  handle_row to o v y value is = answers (data_label.Handle n) to (value_of n at o / 16) (v / 16) y (ap (λ v. v / 16) (value_is o ∙ sym value)) is
+  pub handle_rule : (to : ℕ) (o : Operand) (v : ℕ) (y : ThreadContext) → v ≡ value_in x.registers o → y ≡ answered to (v / 16) → data_rule c n at (data_op.Handle to o) ≡ Continues (label.Data (data_label.Handle n (v / 16))) (in_context n y s) n
+  handle_rule to o v y value is = answers (data_label.Handle n) to (value_of n at o / 16) (v / 16) y (ap (λ v. v / 16) (value_is o ∙ sym value)) is
 
-  pub load_row : (to w v : ℕ) (y : ThreadContext) → v ≡ word_of i w s → y ≡ answered to v → data_row c n at (data_op.Load to w) ≡ Goes (label.Data (data_label.Load n v)) (in_context n y s) n
-  load_row to w v y word is =
+  pub load_rule : (to w v : ℕ) (y : ThreadContext) → v ≡ word_of i w s → y ≡ answered to v → data_rule c n at (data_op.Load to w) ≡ Continues (label.Data (data_label.Load n v)) (in_context n y s) n
+  load_rule to w v y word is =
       answers (data_label.Load n) to (word_of (instance_of n at) w at) v y
       (ap (λ j. word_of j w at) instance_is ∙ word-context i w n x.position x.registers s ∙ sym word) is
 
-  pub store_row : (w : ℕ) (o : Operand) (v : ℕ) (u : Core) → v ≡ value_in x.registers o → u ≡ set_word i w v s
-      → data_row c n at (data_op.Store w o) ≡ Goes (label.Data (data_label.Store n v)) (with_context n (x.position + 1) x.registers u) n
-  store_row w o v u value is =
-      ap (λ v. Goes (label.Data (data_label.Store n v)) (stored n w v at) n) (value_is o ∙ sym value)
-      ∙ ap (λ new. Goes (label.Data (data_label.Store n v)) new n)
+  pub store_rule : (w : ℕ) (o : Operand) (v : ℕ) (u : Core) → v ≡ value_in x.registers o → u ≡ set_word i w v s
+      → data_rule c n at (data_op.Store w o) ≡ Continues (label.Data (data_label.Store n v)) (with_context n (x.position + 1) x.registers u) n
+  store_rule w o v u value is =
+      ap (λ v. Continues (label.Data (data_label.Store n v)) (stored n w v at) n) (value_is o ∙ sym value)
+      ∙ ap (λ new. Continues (label.Data (data_label.Store n v)) new n)
       (stored-context n s there.0 there.1 x.position x.registers w v
       ∙ ap (λ j. with_context n (x.position + 1) x.registers (set_word j w v s)) (sym instance)
       ∙ ap (with_context n (x.position + 1) x.registers) (sym is))
@@ -161,18 +161,18 @@ module _ (n i : ℕ) (s : Core) (there : (t : Thread) × (get s.threads n ≡ So
     position_is : position_of n at ≡ x.position
     position_is = position-context n s there.0 there.1 x.position x.registers
 
-    skip_where : (b : Bool) (ops : ℕ) → skip_row c n ops at b ≡ Goes (label.Data (data_label.SkipEq n)) (moved_to n (passing b ops) at) n
+    skip_where : (b : Bool) (ops : ℕ) → skip_rule c n ops at b ≡ Continues (label.Data (data_label.SkipEq n)) (moved_to n (passing b ops) at) n
     unfolding skipped advanced
-    skip_where true ops = ap₂ (λ a b. Goes (label.Data (data_label.SkipEq n)) (moved_to n (min (a + 1 + ops) b) at) n) position_is script
+    skip_where true ops = ap₂ (λ a b. Continues (label.Data (data_label.SkipEq n)) (moved_to n (min (a + 1 + ops) b) at) n) position_is script
     skip_where false ops =
         let position = position_is in
         let next : position_of n at + 1 ≡ passing false ops = omega (arith, before) in
-        ap (λ p. Goes (label.Data (data_label.SkipEq n)) (moved_to n p at) n) next
+        ap (λ p. Continues (label.Data (data_label.SkipEq n)) (moved_to n p at) n) next
 
-    pub skip_eq_row : (a b : Operand) (ops p : ℕ) → p ≡ passing (value_in x.registers a == value_in x.registers b) ops
-        → data_row c n at (data_op.SkipEq a b ops) ≡ Goes (label.Data (data_label.SkipEq n)) (with_context n p x.registers s) n
-    skip_eq_row a b ops p is =
+    pub skip_eq_rule : (a b : Operand) (ops p : ℕ) → p ≡ passing (value_in x.registers a == value_in x.registers b) ops
+        → data_rule c n at (data_op.SkipEq a b ops) ≡ Continues (label.Data (data_label.SkipEq n)) (with_context n p x.registers s) n
+    skip_eq_rule a b ops p is =
         skip_where (value_of n at a == value_of n at b) ops
-        ∙ ap₂ (λ v w. Goes (label.Data (data_label.SkipEq n)) (moved_to n (passing (v == w) ops) at) n) (value_is a) (value_is b)
-        ∙ ap (λ q. Goes (label.Data (data_label.SkipEq n)) (moved_to n q at) n) (sym is)
-        ∙ ap (λ new. Goes (label.Data (data_label.SkipEq n)) new n) (moved-context n s there.0 there.1 x.position x.registers p)
+        ∙ ap₂ (λ v w. Continues (label.Data (data_label.SkipEq n)) (moved_to n (passing (v == w) ops) at) n) (value_is a) (value_is b)
+        ∙ ap (λ q. Continues (label.Data (data_label.SkipEq n)) (moved_to n q at) n) (sym is)
+        ∙ ap (λ new. Continues (label.Data (data_label.SkipEq n)) new n) (moved-context n s there.0 there.1 x.position x.registers p)

@@ -22,7 +22,7 @@ use Rattle.task_machine.specs.declared.records.Script.TheVariants as script
 use Rattle.task_rules.specs.Scripts.{export_at, script_in, slot_script}
 use Rattle.task_turns.specs.Covered.{HasPlainExports, IsPlainExport, is_covered_op}
 use Rattle.task_turns.specs.WellFormed.{IsWellFormed}
-use Rattle.task_turns.specs.Turn.{Sits}
+use Rattle.task_turns.specs.Turn.{CoreInOrder}
 
 plain_fits : (c : Component) (o : Op) → is_covered_op o ≡ true → op_fits c o ≡ true
 plain_fits c (op.Data x) plain = refl
@@ -71,7 +71,7 @@ module _ (c : Component) (f : Callee) where
   below (Some d) e h = slice_get_within c.instances f.instance d e
 
   -- the instance of an export is there
-  pub home_there : (p : Turn) (s : Core) → Sits c p s → IsSome (export_at c f) → IsSome (get s.instances f.instance)
+  pub home_there : (p : Turn) (s : Core) → CoreInOrder c p s → IsSome (export_at c f) → IsSome (get s.instances f.instance)
   home_there p s sits there = sits.there f.instance (below (slice_get c.instances f.instance) refl there)
 
   nothing : (p : ℕ) (o : Op) → slice_get {X = Op} [] p ≡ Some o → ⊥

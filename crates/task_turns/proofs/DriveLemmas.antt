@@ -20,13 +20,13 @@ use Rattle.task_rules.specs.Stalled.{Setting}
 use Rattle.task_rules.specs.Step.{Step}
 use Rattle.task_rules.specs.Run.{Run}
 use Rattle.task_rules.specs.Outcome.{call_outcome, last_outcome, loop_outcome, main_outcome, outcome_of_label, outcome_of, or_open, open_outcome, is_at_rest, IsOutcome}
-use Rattle.task_turns.specs.declared.made.Made.{Made}
+use Rattle.task_turns.specs.declared.made.MadeStep.{MadeStep}
 use Rattle.task_machine.specs.declared.records.Turn.{Turn}
 use Rattle.task_places.proofs.OrderLemmas.{steps_make_few}
 use Rattle.task_turns.specs.Drive.{Drives, Drove, Going, IsOn, StopsShort, WasGoing}
-use Rattle.task_turns.proofs.KeptLemmas.{sits_after}
+use Rattle.task_turns.proofs.KeptLemmas.{core_in_order_after}
 use Rattle.task_turns.proofs.SettleLemmas.{step_settles}
-use Rattle.task_turns.specs.Turn.{IsAtTurn, PendsIn, Sits, Turned, Turns, given, goes_on, setting_of, state_at}
+use Rattle.task_turns.specs.Turn.{IsAtTurn, PendsIn, CoreInOrder, Turned, Turns, given, goes_on, setting_of, state_at}
 use Rattle.task_words.specs.StateView.{StateView}
 
 -- a run and then one more step
@@ -142,9 +142,9 @@ pub on_begins : (x : Setting) (before : List Label) (p : Turn) (m : Main) (t : S
 on_begins x before p m t at pends = record { going = Going-none x (state_at t.core m p) before; at = at; few = omega arith; pends = pends }
 
 module _ (x : Setting) (s : State) (before : List Label) (numbers : ℕ) (p : Turn) (m : Main) (t : StateView) (mid : List Label) (n : ℕ) (on : IsOn x s before numbers p m t mid n) where
-  module _ (made : Made) (m' : Main) (t' : StateView) (turns : Turns x p m t made m' t') (after : List Label) (pushed : after ≡ mid ++ made.label ∷ []) where
-    order_then : Sits x.component made.turn t'.core
-    order_then = sits_after x t.core t'.core m m' p made.turn made.label on.at.order turns.step
+  module _ (made : MadeStep) (m' : Main) (t' : StateView) (turns : Turns x p m t made m' t') (after : List Label) (pushed : after ≡ mid ++ made.label ∷ []) where
+    order_then : CoreInOrder x.component made.turn t'.core
+    order_then = core_in_order_after x t.core t'.core m m' p made.turn made.label on.at.order turns.step
 
     few_then : given t'.core ≤ given t.core + 2
     few_then = (steps_make_few x (state_at t.core m p) made.label (state_at t'.core m' made.turn) turns.step).all
@@ -212,7 +212,7 @@ on_turned_none x s before numbers p m m' t t' mid n steps on room h =
     (subst (λ k. Drove x s before numbers p k t mid steps outcome.Idle) (sym h.1.0) (on_rests x s before numbers p m t mid n on steps room h.0))
 
 -- the same, in the same setting
-pub turned_same : (c : Component) (ops ops' : List MainOpDef) (b b' : Bool) (p : Turn) (m : Main) (s : StateView) (made : Option Made) (m' : Main) (t : StateView) → ops ≡ ops' → b ≡ b'
+pub turned_same : (c : Component) (ops ops' : List MainOpDef) (b b' : Bool) (p : Turn) (m : Main) (s : StateView) (made : Option MadeStep) (m' : Main) (t : StateView) → ops ≡ ops' → b ≡ b'
     → Turned (setting_of c ops b) p m s made m' t → Turned (setting_of c ops' b') p m s made m' t
 turned_same c ops ops' b b' p m s made m' t script trap h = subst (λ v. Turned (setting_of c ops' v) p m s made m' t) trap (subst (λ o. Turned (setting_of c o b) p m s made m' t) script h)
 

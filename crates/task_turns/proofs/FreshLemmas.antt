@@ -10,15 +10,15 @@ use Rattle.task_machine.specs.declared.component.Component.{Component}
 use Rattle.task_machine.specs.declared.records.Turn.TheVariants as turn
 use Rattle.task_places.proofs.OrderLemmas.{opening_in_order}
 use Rattle.task_rules.proofs.Machine.{filled, get-insert, untouched}
-use Rattle.task_turns.specs.Turn.{Sits, given}
+use Rattle.task_turns.specs.Turn.{CoreInOrder, given}
 
 filled_at : {X : Type 0} (x : X) (n i : ℕ) → i < n → is_some (get (filled x n) i) ≡ true
 filled_at x ℕ.zero i below = absurd (omega arith)
 filled_at x (ℕ.suc n) i below = let rest = filled_at x n i in grind (arith, nat_tests, get-insert)
 
-pub sits_fresh : (c : Component) → CodesInCallbacks c → (n handles capacity : ℕ) → length c.instances ≤ n → Sits c turn.Main (fresh n handles capacity)
+pub core_in_order_fresh : (c : Component) → CodesInCallbacks c → (n handles capacity : ℕ) → length c.instances ≤ n → CoreInOrder c turn.Main (fresh n handles capacity)
 unfolding OpeningInOrder fresh
-sits_fresh c codes n handles capacity enough = record {
+core_in_order_fresh c codes n handles capacity enough = record {
   order = λ m. opening_in_order c codes n handles capacity m;
   there = λ i below. filled_at untouched n i (omega arith);
   handles = λ i below. filled_at no_handles n i (omega arith);

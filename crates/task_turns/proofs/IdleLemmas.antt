@@ -24,13 +24,13 @@ use Rattle.task_rules.specs.Outcome.{is_at_rest}
 use Rattle.task_rules.proofs.StopLemmas.{find_passes}
 use Rattle.task_rules.specs.Places.{HasPlace, Placed, is_at_high, is_at_low, one_if, says}
 use Rattle.task_rules.specs.Stalled.{Setting, is_idle, is_idle_trap, is_stalled, is_queued_or_finishing, is_unended_take, main_pends, works_rest}
-use Rattle.task_rules.specs.Turns.{nothing_stands}
+use Rattle.task_rules.specs.Turns.{queues_are_empty}
 use Rattle.task_rules.specs.Works.{has_live_work, has_moving_work, next_polled}
 use Rattle.task_ops.specs.Steps.{turn_after}
-use Rattle.task_ops.specs.declared.came.Came.{Came}
-use Rattle.task_ops.specs.declared.came.Came.TheVariants as came
-use Rattle.task_turns.specs.Turn.{IsFree, Makes, PendsIn, Turns, idle_line_of, state_at}
-use Rattle.task_turns.specs.declared.made.Made.{Made}
+use Rattle.task_ops.specs.declared.op_result.OpResult.{OpResult}
+use Rattle.task_ops.specs.declared.op_result.OpResult.TheVariants as op_result
+use Rattle.task_turns.specs.Turn.{IsFree, MakesStep, PendsIn, Turns, idle_line_of, state_at}
+use Rattle.task_turns.specs.declared.made.MadeStep.{MadeStep}
 use Rattle.task_words.specs.Apart.{IsBlockedUnqueued, work_entries}
 use Rattle.task_words.specs.StateView.{StateView}
 
@@ -77,9 +77,9 @@ no_idle a b c off = grind arith
 
 module _ (x : Setting) (s : Core) (m : Main) where
   -- a state that isn't idle is at no rest
-  idle_off : (p : Turn) → (is_unended_take p && main_pends x s m) ≡ false ⊎ (nothing_stands s ≡ false ⊎ works_rest s ≡ false) → is_idle x (state_at s m p) ≡ false
+  idle_off : (p : Turn) → (is_unended_take p && main_pends x s m) ≡ false ⊎ (queues_are_empty s ≡ false ⊎ works_rest s ≡ false) → is_idle x (state_at s m p) ≡ false
   unfolding is_idle
-  idle_off p off = no_idle (is_unended_take p && main_pends x s m) (nothing_stands s) (works_rest s) off
+  idle_off p off = no_idle (is_unended_take p && main_pends x s m) (queues_are_empty s) (works_rest s) off
 
   no_rest : (p : Turn) → is_idle x (state_at s m p) ≡ false → is_at_rest x (state_at s m p) ≡ false
   unfolding is_at_rest is_stalled
@@ -89,14 +89,14 @@ module _ (x : Setting) (s : Core) (m : Main) where
   pub rest_else : (p : Turn) → is_unended_take p ≡ false → is_at_rest x (state_at s m p) ≡ false
   rest_else p other = no_rest p (idle_off p (inl (ap (λ v. v && main_pends x s m) other)))
 
-  pub rest_stands : (p : Turn) → nothing_stands s ≡ false → is_at_rest x (state_at s m p) ≡ false
+  pub rest_stands : (p : Turn) → queues_are_empty s ≡ false → is_at_rest x (state_at s m p) ≡ false
   rest_stands p stands = no_rest p (idle_off p (inr (inl stands)))
 
   pub rest_moves : (p : Turn) → has_moving_work s ≡ true → is_at_rest x (state_at s m p) ≡ false
   rest_moves p moving = no_rest p (idle_off p (inr (inr (ap (λ v. not v && not (list_any (λ e. is_queued_or_finishing e.1.stage) s.works.list)) moving))))
 
   -- where the state is in order and idle, it is stalled
-  pub stalls : (p : Turn) → InOrder x.component (state_at s m p) → is_unended_take p ≡ true → nothing_stands s ≡ true → has_moving_work s ≡ false → PendsIn x s m p →
+  pub stalls : (p : Turn) → InOrder x.component (state_at s m p) → is_unended_take p ≡ true → queues_are_empty s ≡ true → has_moving_work s ≡ false → PendsIn x s m p →
       is_stalled x (state_at s m p) ≡ true
   unfolding is_idle
   stalls (turn.Take false) order take none moving pends =
@@ -104,7 +104,7 @@ module _ (x : Setting) (s : Core) (m : Main) where
       stalled_as_idle x (state_at s m (turn.Take false)) order ∙ rw none (rw pends (rw rest refl))
   stalls p order take none moving pends = absurd (cc)
 
-  pub rest_take : (b : Bool) → x.idle ≡ idle_line_of b → (p : Turn) → is_unended_take p ≡ true → InOrder x.component (state_at s m p) → nothing_stands s ≡ true → has_moving_work s ≡ false →
+  pub rest_take : (b : Bool) → x.idle ≡ idle_line_of b → (p : Turn) → is_unended_take p ≡ true → InOrder x.component (state_at s m p) → queues_are_empty s ≡ true → has_moving_work s ≡ false →
       PendsIn x s m p → is_at_rest x (state_at s m p) ≡ (has_live_work s || not b)
   unfolding is_at_rest
   rest_take b idle p take order none moving pends =
@@ -170,15 +170,15 @@ blocked_out sub s placed n at =
 -- ---- A turn in which main has no part
 
 -- the turn after an op or a taking
-pub after_free : (r : Came) → IsFree (turn_after r)
-after_free (came.Goes l n said) x s m = tt
-after_free (came.Stops l) x s m = tt
-after_free (came.Traps why) x s m = tt
-after_free (came.Fails i) x s m = tt
+pub after_free : (r : OpResult) → IsFree (turn_after r)
+after_free (op_result.Continues l n said) x s m = tt
+after_free (op_result.Stops l) x s m = tt
+after_free (op_result.Traps why) x s m = tt
+after_free (op_result.Fails i) x s m = tt
 
 pub free_at : (p q : Turn) → p ≡ q → IsFree q → IsFree p
 free_at p q same free = subst (λ (r : Turn). IsFree r) (sym same) free
 
 -- a step that main has no part in
-pub makes_turns : (x : Setting) (p : Turn) (s : StateView) (made : Made) (t : StateView) → Makes x.component p s made t → (m : Main) → PendsIn x t.core m made.turn → Turns x p m s made m t
+pub makes_turns : (x : Setting) (p : Turn) (s : StateView) (made : MadeStep) (t : StateView) → MakesStep x.component p s made t → (m : Main) → PendsIn x t.core m made.turn → Turns x p m s made m t
 makes_turns x p s made t h m pends = record { step = h.step x refl m; running = h.running; over = h.over; pends = pends }

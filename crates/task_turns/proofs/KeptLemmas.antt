@@ -9,7 +9,7 @@ use Rattle.task_machine.proofs.CommuteLemmas.{get-change}
 use Rattle.task_machine.specs.Core.{Began, Core, Main, Unscripted}
 use Rattle.task_machine.specs.Maps.{get-insert}
 use Rattle.task_machine.specs.Moves.{put_high}
-use Rattle.task_laws.specs.Wakes.{NoneBlockedOnEnd}
+use Rattle.task_laws.specs.WakeLaw.{NoneBlockedOnEnd}
 use Rattle.task_machine.specs.Read.{event_of, place_of, undelivered_end}
 use Rattle.task_machine.specs.declared.records.Place.{Place}
 use Rattle.task_machine.specs.declared.records.Subtask.{Subtask}
@@ -31,15 +31,15 @@ use Rattle.task_places.proofs.CallersSteps.{SamePlaces}
 use Rattle.task_places.proofs.CallersTrips.{is_held_on}
 use Rattle.task_rules.specs.Places.{Placed, is_there}
 use Rattle.task_rules.specs.Calls.{call_made}
-use Rattle.task_rules.specs.MainOps.{Does, Finish, MainAct, MainProgress, Start, finish_result, main_row, main_started, may_act, start_act}
+use Rattle.task_rules.specs.MainOps.{Does, Finish, MainAct, MainProgress, Start, finish_result, main_rule, main_started, may_act, start_act}
 use Rattle.task_rules.specs.Stalled.{Setting}
 use Rattle.task_rules.specs.Step.{OpenProgresses, Step}
 use Rattle.task_rules.specs.Turns.{at_turn}
-use Rattle.task_turns.specs.Kept.{FinishInOrder, MadeInOrder, RefusalInOrder, StartInOrder}
-use Rattle.task_turns.specs.Turn.{Sits, state_at}
+use Rattle.task_turns.specs.KeptTurns.{FinishInOrder, MadeInOrder, RefusalInOrder, StartInOrder}
+use Rattle.task_turns.specs.Turn.{CoreInOrder, state_at}
 use Rattle.task_places.proofs.CountedSteps.{counted_stay}
 use Rattle.task_laws.proofs.ReadyCounts.{is_woken_at}
-use Rattle.task_laws.specs.Wakes.{WakesCounted}
+use Rattle.task_laws.specs.WakeLaw.{WakesCounted}
 use Rattle.task_machine.specs.Read.{is_ready_member, is_waiter}
 
 abbrev pub setting : Component → Setting
@@ -50,8 +50,8 @@ at_turn_of : (c : Component) (s : Core) (m k : Main) (p q : Turn) {g : Bool} →
 at_turn_of c s m k p q runs b awake o = turned (state_at s m p) o k q runs b awake
 
 -- a step from such a core leads to one, with each part of main
-pub sits_after : (x : Setting) (s t : Core) (m k : Main) (p q : Turn) (l : Label) → Sits x.component p s → Step x (state_at s m p) l (state_at t k q) → Sits x.component q t
-sits_after x s t m k p q l sits step =
+pub core_in_order_after : (x : Setting) (s t : Core) (m k : Main) (p q : Turn) (l : Label) → CoreInOrder x.component p s → Step x (state_at s m p) l (state_at t k q) → CoreInOrder x.component q t
+core_in_order_after x s t m k p q l sits step =
     let after = step_in_order x (state_at s m p) l (state_at t k q) (sits.order m) step in
     record {
       order = λ j. at_turn_of x.component t k j q q after.in_place.runs (is_open q) after.awake after;
@@ -60,17 +60,17 @@ sits_after x s t m k p q l sits step =
     }
 
 pub made_in_order : MadeInOrder
-made_in_order c p s made t sits makes = sits_after (setting c) s.core t.core Unscripted Unscripted p made.turn made.label sits (makes.step (setting c) refl Unscripted)
+made_in_order c p s made t sits makes = core_in_order_after (setting c) s.core t.core Unscripted Unscripted p made.turn made.label sits (makes.step (setting c) refl Unscripted)
 
 -- An act of main that takes no running thread away is a step in main's turn. While another turn stands, no more than order in that turn
 -- is known before it.
-pub acted : (c : Component) (p : Turn) (act : MainAct) (l : MainLabel) (s t : Core) → may_act c s act ≡ true → main_row c 1 s act ≡ Does l t → ((n : ℕ) → place_of n s ≡ Some place.Running → place_of n t ≡ Some place.Running) → (Awake p s → Awake p t) → Sits c p s → Sits c p t
+pub acted : (c : Component) (p : Turn) (act : MainAct) (l : MainLabel) (s t : Core) → may_act c s act ≡ true → main_rule c 1 s act ≡ Does l t → ((n : ℕ) → place_of n s ≡ Some place.Running → place_of n t ≡ Some place.Running) → (Awake p s → Awake p t) → CoreInOrder c p s → CoreInOrder c p t
 unfolding Step at_turn
 acted c p act l s t may row kept stays sits =
     let u = state_at s Unscripted turn.Main in
     let v = state_at t Unscripted turn.Main in
     let before : InOrderIf false c u = at_turn_of c s Unscripted Unscripted p turn.Main (λ n e. absurd (cc)) false (λ e. absurd (cc)) (sits.order Unscripted) in
-    let shown : OpenProgresses u (main_row c 1 s act) (label.Main l) v =
+    let shown : OpenProgresses u (main_rule c 1 s act) (label.Main l) v =
     subst (λ (q : MainProgress). OpenProgresses u q (label.Main l) v) (sym row) (refl, refl) in
     let step : Step (setting c) u (label.Main l) v = (1, (act, (may, shown))) in
     let after = step_kept (setting c) u (label.Main l) v before step (λ n e. absurd (cc)) false (λ e. absurd (cc)) in

@@ -7,7 +7,7 @@ use Rattle.task_machine.specs.Maps.{Records, get}
 use Rattle.task_machine.specs.Read.{work_caller_of}
 use Rattle.task_machine.specs.declared.records.WorkCaller.TheVariants as callers
 use Rattle.task_machine.specs.declared.label.Label.{Label}
-use Rattle.task_machine.specs.declared.records.Made.{Made as Count}
+use Rattle.task_machine.specs.declared.records.MadeCounts.{MadeStep as Count}
 use Rattle.task_machine.specs.declared.records.Turn.{Turn}
 use Rattle.task_machine.specs.declared.records.Work.{Work}
 use Rattle.task_ops.specs.Works.{KeepsWorks, NamesWorks}
@@ -17,7 +17,7 @@ use Rattle.task_rules.specs.Stalled.{Setting}
 use Rattle.task_rules.specs.Step.{Step}
 use Rattle.task_turns.specs.Later.{SameWorks, WorksLast}
 use Rattle.task_turns.specs.Turn.{Turned, state_at}
-use Rattle.task_turns.specs.declared.made.Made.{Made}
+use Rattle.task_turns.specs.declared.made.MadeStep.{MadeStep}
 use Rattle.task_words.specs.StateView.{StateView, Tags, work_number, work_of}
 
 -- what is gone doesn't come back
@@ -61,7 +61,7 @@ last_by_works s t same = record {
   callers = λ i below is. ap (λ (m : Records Work). option_map_or (λ (w : Work). w.caller) (get m i) callers.Spawn) same.works ∙ is;
 }
 
-pub last_by_turned : (x : Setting) (p : Turn) (m n : Main) (s t : StateView) (o : Option Made) → Turned x p m s o n t → KeepsWorks s t → WorksLast s t
+pub last_by_turned : (x : Setting) (p : Turn) (m n : Main) (s t : StateView) (o : Option MadeStep) → Turned x p m s o n t → KeepsWorks s t → WorksLast s t
 last_by_turned x p m n s t (Some made) turned names = last_by_step x p made.turn m n made.label s t turned.step names
 last_by_turned x p m n s t None turned names = last_same s t turned.1.1
 

@@ -10,7 +10,7 @@ use Rattle.task_machine.specs.declared.label.MainLabel.TheVariants as main_label
 use Rattle.task_machine.specs.declared.records.Turn.{Turn}
 use Rattle.task_machine.specs.declared.records.Turn.TheVariants as turn
 use Rattle.task_machine.specs.declared.scenario.MainOpDef.{MainOpDef}
-use Rattle.task_rules.specs.MainOps.{MainProgress, act_of, line_of, main_row, op_at}
+use Rattle.task_rules.specs.MainOps.{MainProgress, act_of, line_of, main_rule, op_at}
 use Rattle.task_rules.specs.MainOps as row
 use Rattle.task_rules.specs.Outcome.{outcome_of_label}
 use Rattle.task_rules.specs.Stalled.{Setting, main_pends}
@@ -37,10 +37,10 @@ module _ (x : Setting) (m : Main) (s : Core) where
   unfolding Step
   main_step l t step = step
 
-  pends_row : (p : MainPlace) (o : MainOpDef) (progress : MainProgress) → main_row x.component (line_of p o) s (act_of p o) ≡ progress → main_pends x s (Scripted p) ≡ true → op_at x.script p ≡ Some o → progress ≡ row.Pends
-  pends_row p o (row.Does l new) is pends at = cc
-  pends_row p o row.Pends is pends at = refl
-  pends_row p o (row.Answers v) is pends at = cc
+  pends_rule : (p : MainPlace) (o : MainOpDef) (progress : MainProgress) → main_rule x.component (line_of p o) s (act_of p o) ≡ progress → main_pends x s (Scripted p) ≡ true → op_at x.script p ≡ Some o → progress ≡ row.Pends
+  pends_rule p o (row.Does l new) is pends at = cc
+  pends_rule p o row.Pends is pends at = refl
+  pends_rule p o (row.Answers v) is pends at = cc
 
   after_pends : state_at s m (settled_turn s (turn.Futures 0)) ≡ goes_to (state_at s m turn.Main) s (turn.Futures 0)
   unfolding at_turn
@@ -50,7 +50,7 @@ module _ (x : Setting) (m : Main) (s : Core) where
       → ScriptStep x (state_at s m turn.Main) p o (label.Loop loop_label.MainPends) t
   pends_script p None t at is pends to = (refl, to)
   pends_script p (Some o) t at is pends to =
-      subst (λ q. MainProgresses (state_at s m turn.Main) p o q (label.Loop loop_label.MainPends) t) (sym (pends_row p o _ refl pends at)) (refl, to)
+      subst (λ q. MainProgresses (state_at s m turn.Main) p o q (label.Loop loop_label.MainPends) t) (sym (pends_rule p o _ refl pends at)) (refl, to)
 
   pends_step : (k : Main) (t : State) → m ≡ k → main_pends x s k ≡ true → t ≡ goes_to (state_at s m turn.Main) s (turn.Futures 0) → MainStep x (state_at s m turn.Main) k (label.Loop loop_label.MainPends) t
   pends_step (Scripted p) t is pends to = pends_script p (op_at x.script p) t refl is pends to

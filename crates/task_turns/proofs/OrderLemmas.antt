@@ -9,11 +9,11 @@ use Rattle.task_laws.proofs.MemberLemmas.{members_named}
 use Rattle.task_laws.specs.Order.{InOrder, IsOf, cancelled_by, is_awaited, set_of_op, set_of_place}
 use Rattle.task_machine.specs.Core.{Core, Unscripted}
 use Rattle.task_machine.specs.Maps.{get}
-use Rattle.task_machine.specs.Read.{how_far_of, instance_of, is_stage_ended, is_under, is_waiting_on, place_of, stage_of, task_of, under_of, work_caller_of}
+use Rattle.task_machine.specs.Read.{op_progress_of, instance_of, is_stage_ended, is_under, is_waiting_on, place_of, stage_of, task_of, under_of, work_caller_of}
 use Rattle.task_machine.specs.declared.component.Component.{Component}
 use Rattle.task_machine.specs.declared.records.Call.{Call}
-use Rattle.task_machine.specs.declared.records.HowFar.{HowFar}
-use Rattle.task_machine.specs.declared.records.HowFar.TheVariants as how_far
+use Rattle.task_machine.specs.declared.records.OpProgress.{OpProgress}
+use Rattle.task_machine.specs.declared.records.OpProgress.TheVariants as op_progress
 use Rattle.task_machine.specs.declared.records.Place.{Place}
 use Rattle.task_machine.specs.declared.records.Place.TheVariants as place
 use Rattle.task_machine.specs.declared.records.Subtask.{Subtask}
@@ -25,17 +25,17 @@ use Rattle.task_machine.specs.declared.records.Work.{Work}
 use Rattle.task_machine.specs.declared.records.WorkCaller.TheVariants as work_caller
 use Rattle.task_ops.proofs.BesideLemmas.{stand_of}
 use Rattle.task_ops.proofs.BlockLemmas.{first_found}
-use Rattle.task_ops.specs.Gifts.{AllMembersNamed, MembersNamed}
+use Rattle.task_ops.specs.PickedEvents.{AllMembersNamed, MembersNamed}
 use Rattle.task_ops.specs.Running.{IsTopmost}
 use Rattle.task_ops.specs.Stays.{StaysAfter}
-use Rattle.task_ops.specs.Wakes.{WaitersTogether}
-use Rattle.task_ops.specs.declared.came.Came.{Came}
-use Rattle.task_ops.specs.declared.came.Came.TheVariants as came
+use Rattle.task_ops.specs.OpWakes.{WaitersTogether}
+use Rattle.task_ops.specs.declared.op_result.OpResult.{OpResult}
+use Rattle.task_ops.specs.declared.op_result.OpResult.TheVariants as op_result
 use Rattle.task_table.specs.declared.id.TableId.{TableId}
 use Rattle.task_turns.proofs.IdleLemmas.{ended_unqueued}
-use Rattle.task_turns.specs.Turn.{CanStrike, Sits, running_of, state_at}
+use Rattle.task_turns.specs.Turn.{CanUnwind, CoreInOrder, running_of, state_at}
 use Rattle.task_wait.specs.declared.keys.ThreadKey.{ThreadKey}
-use Rattle.task_words.specs.Live.{live_how_far, live_subtask}
+use Rattle.task_words.specs.Live.{live_op_progress, live_subtask}
 use Rattle.task_words.specs.StateView.{StateView, thread_of}
 
 pub none_some : {X : Type 0} {A : Type 0} {x : X} {o : Option X} → o ≡ None → o ≡ Some x → A
@@ -69,7 +69,7 @@ thread_at (Some t) e = (t, refl)
 
 -- ---- Sets
 
-module _ (c : Component) (p : Turn) (s : Core) (sits : Sits c p s) where
+module _ (c : Component) (p : Turn) (s : Core) (sits : CoreInOrder c p s) where
   known : InOrder c (state_at s Unscripted p)
   known = sits.order Unscripted
 
@@ -80,7 +80,7 @@ module _ (c : Component) (p : Turn) (s : Core) (sits : Sits c p s) where
   all_members_named i h x e = members_at i x (known.sets_named.home i h x e)
 
   -- the subtask that an op under way cancels
-  cancelled_there : (n : ℕ) (sub : Subtask) → cancelled_by (how_far_of n s) ≡ Some sub → live_subtask sub s ≡ sub
+  cancelled_there : (n : ℕ) (sub : Subtask) → cancelled_by (op_progress_of n s) ≡ Some sub → live_subtask sub s ≡ sub
   cancelled_there n (subtask.Guest k) e = by (get s.calls k) refl (known.cancelled n (subtask.Guest k) e)
     where
       by : (o : Option Call) → get s.calls k ≡ o → is_some (option_and_then (λ (x : Call). x.handle) o) ≡ true → subtask.Guest (if is_some (get s.calls k) then k else 0) ≡ subtask.Guest k
@@ -104,16 +104,16 @@ module _ (c : Component) (p : Turn) (s : Core) (sits : Sits c p s) where
       by (Some w) h = refl
 
   module _ (n : ℕ) (runs : place_of n s ≡ Some place.Running) where
-    calls_there : (k : ℕ) → how_far_of n s ≡ how_far.Calls (subtask.Guest k) → is_some (get s.calls k) ≡ true
+    calls_there : (k : ℕ) → op_progress_of n s ≡ op_progress.Calls (subtask.Guest k) → is_some (get s.calls k) ≡ true
     calls_there k e = elim (known.calls.inside n k e) [
       | inl under ↦ absurd (let x = sym under ∙ runs in cc)
       | inr awaited ↦ call_there k (get s.calls k) refl awaited
     ]
 
-    works_there : (i : ℕ) → how_far_of n s ≡ how_far.Calls (subtask.Host i) → is_some (get s.works i) ≡ true
+    works_there : (i : ℕ) → op_progress_of n s ≡ op_progress.Calls (subtask.Host i) → is_some (get s.works i) ≡ true
     works_there i e = work_there i n (known.works_known.called n i e).1
 
-    ended_work : (i : ℕ) → how_far_of n s ≡ how_far.Calls (subtask.Host i) → is_stage_ended (stage_of i s) ≡ true
+    ended_work : (i : ℕ) → op_progress_of n s ≡ op_progress.Calls (subtask.Host i) → is_stage_ended (stage_of i s) ≡ true
     ended_work i e = elim (known.awaited n i e).1 [
       | inl blocked ↦ absurd (let x = sym blocked ∙ runs in cc)
       | inr over ↦ over
@@ -121,7 +121,7 @@ module _ (c : Component) (p : Turn) (s : Core) (sits : Sits c p s) where
 
     pub under_way : UnderWay n s
     under_way = record {
-      names = op_names (how_far_of n s) refl;
+      names = op_names (op_progress_of n s) refl;
       sets = λ x e. some_from _ (get s.sets x) (instance_of n s) (known.waits.by_op n x (ap set_of_op e));
       members = λ x e. members_at (instance_of n s) x (known.waits.by_op n x (ap set_of_op e));
       calls = calls_there;
@@ -133,16 +133,16 @@ module _ (c : Component) (p : Turn) (s : Core) (sits : Sits c p s) where
         kept true k e = refl
         kept false k e = absurd (cc)
 
-        op_names : (h : HowFar) → how_far_of n s ≡ h → live_how_far (how_far_of n s) s ≡ how_far_of n s
-        op_names (how_far.Waits x) e = rw e (ap how_far.Waits (kept _ x (some_from _ (get s.sets x) (instance_of n s) (known.waits.by_op n x (ap set_of_op e)))))
-        op_names (how_far.Calls (subtask.Guest k)) e = rw e (ap (λ j. how_far.Calls (subtask.Guest j)) (kept _ k (calls_there k e)))
-        op_names (how_far.Calls (subtask.Host i)) e = rw e (ap (λ j. how_far.Calls (subtask.Host j)) (kept _ i (works_there i e)))
-        op_names (how_far.Cancels sub) e = rw e (ap how_far.Cancels (cancelled_there n sub (ap cancelled_by e)))
-        op_names (how_far.AwaitsEnd sub) e = rw e (ap how_far.AwaitsEnd (cancelled_there n sub (ap cancelled_by e)))
-        op_names how_far.Fresh e = rw e refl
-        op_names (how_far.Answered v) e = rw e refl
-        op_names how_far.Suspends e = rw e refl
-        op_names how_far.Yields e = rw e refl
+        op_names : (h : OpProgress) → op_progress_of n s ≡ h → live_op_progress (op_progress_of n s) s ≡ op_progress_of n s
+        op_names (op_progress.Waits x) e = rw e (ap op_progress.Waits (kept _ x (some_from _ (get s.sets x) (instance_of n s) (known.waits.by_op n x (ap set_of_op e)))))
+        op_names (op_progress.Calls (subtask.Guest k)) e = rw e (ap (λ j. op_progress.Calls (subtask.Guest j)) (kept _ k (calls_there k e)))
+        op_names (op_progress.Calls (subtask.Host i)) e = rw e (ap (λ j. op_progress.Calls (subtask.Host j)) (kept _ i (works_there i e)))
+        op_names (op_progress.Cancels sub) e = rw e (ap op_progress.Cancels (cancelled_there n sub (ap cancelled_by e)))
+        op_names (op_progress.AwaitsEnd sub) e = rw e (ap op_progress.AwaitsEnd (cancelled_there n sub (ap cancelled_by e)))
+        op_names op_progress.Fresh e = rw e refl
+        op_names (op_progress.Answered v) e = rw e refl
+        op_names op_progress.Suspends e = rw e refl
+        op_names op_progress.Yields e = rw e refl
 
   pub named_calls_there : NamedCallsThere s
   named_calls_there i h k e = by (get s.calls k) refl (known.names.there i h k e)
@@ -163,7 +163,7 @@ module _ (c : Component) (p : Turn) (s : Core) (sits : Sits c p s) where
       same_home : (i j : ℕ) (o : Option ℕ) → o ≡ Some i → o ≡ Some j → i ≡ j
       same_home i j o a b = cc
 
-module _ (c : Component) (n : ℕ) (s : StateView) (sits : Sits c (turn.Run n) s.core) where
+module _ (c : Component) (n : ℕ) (s : StateView) (sits : CoreInOrder c (turn.Run n) s.core) where
   order : InOrder c (state_at s.core Unscripted (turn.Run n))
   order = sits.order Unscripted
 
@@ -200,11 +200,11 @@ topmost : (id : TableId ThreadKey) (s : StateView) → Runner id s → IsTopmost
 topmost id s q = record { place = place.Running; stand = q.running; apart = λ p e. absurd (cc) }
 
 -- the strand of a thread that trapped is there
-pub strikes : (r : Came) (id : TableId ThreadKey) (s t : StateView) → Runner id s → StaysAfter r s t → CanStrike r (thread_of t id) t.core
-strikes (came.Goes l m said) id s t q e = tt
-strikes (came.Stops l) id s t q e = tt
-strikes (came.Traps why) id s t q e = subst (λ (v : StateView). (0 < thread_of v id) × IsTopmost (thread_of v id) v.core) (sym e) (q.live, topmost id s q)
-strikes (came.Fails i) id s t q e = subst (λ (v : StateView). (0 < thread_of v id) × IsTopmost (thread_of v id) v.core) (sym e) (q.live, topmost id s q)
+pub unwinds : (r : OpResult) (id : TableId ThreadKey) (s t : StateView) → Runner id s → StaysAfter r s t → CanUnwind r (thread_of t id) t.core
+unwinds (op_result.Continues l m said) id s t q e = tt
+unwinds (op_result.Stops l) id s t q e = tt
+unwinds (op_result.Traps why) id s t q e = subst (λ (v : StateView). (0 < thread_of v id) × IsTopmost (thread_of v id) v.core) (sym e) (q.live, topmost id s q)
+unwinds (op_result.Fails i) id s t q e = subst (λ (v : StateView). (0 < thread_of v id) × IsTopmost (thread_of v id) v.core) (sym e) (q.live, topmost id s q)
 
 -- the same thread runs where no name and not the current one is changed
 pub runs_still : (s t : StateView) → t.tags ≡ s.tags → t.current ≡ s.current → running_of t ≡ running_of s

@@ -17,7 +17,7 @@ use Rattle.task_machine.specs.declared.label.MainLabel.{MainLabel}
 use Rattle.task_machine.specs.declared.label.MainLabel.TheVariants as main_label
 use Rattle.task_machine.specs.declared.scenario.MainOpDef.{MainOpDef}
 use Rattle.task_machine.specs.declared.trap.Trap.{Trap}
-use Rattle.task_rules.specs.MainOps.{Abort, Answer, Await, Finish, MainAct, Quiet, Ready, Spawn, SpawnOpen, Start, act_of, finish_result, has_interesting, is_complete, is_ready_for_call, line_of, main_row, op_at, start_act, start_refusal, unless_pending}
+use Rattle.task_rules.specs.MainOps.{Abort, Answer, Await, Finish, MainAct, Quiet, Ready, Spawn, SpawnOpen, Start, act_of, finish_result, has_interesting, is_complete, is_ready_for_call, line_of, main_rule, op_at, start_act, start_refusal, unless_pending}
 use Rattle.task_machine.specs.Core.{Core, Main}
 use Rattle.task_machine.specs.declared.component.Component.{Component}
 use Rattle.task_machine.specs.declared.label.Label.{Label}
@@ -25,17 +25,17 @@ use Rattle.task_machine.specs.declared.label.Label.TheVariants as label
 use Rattle.task_machine.specs.declared.label.LoopLabel.TheVariants as loop_label
 use Rattle.task_machine.specs.declared.records.Turn.{Turn}
 use Rattle.task_machine.specs.declared.records.Turn.TheVariants as turn
-use Rattle.task_ops.specs.Polled.{PollMeets}
-use Rattle.task_ops.specs.declared.works.Polled.{Polled}
-use Rattle.task_ops.specs.declared.works.Polled.TheVariants as polled
+use Rattle.task_ops.specs.PolledWorks.{PollImplements}
+use Rattle.task_ops.specs.declared.work_ops.Polled.{Polled}
+use Rattle.task_ops.specs.declared.work_ops.Polled.TheVariants as polled
 use Rattle.task_rules.specs.Outcome.{outcome_of_label}
 use Rattle.task_rules.specs.Stalled.{Setting, is_pending, main_pends, pends_at}
 use Rattle.task_rules.specs.Step.{FuturesStep, Step}
 use Rattle.task_rules.specs.Step as machine
-use Rattle.task_rules.specs.Turns.{at_turn, nothing_stands, settled_futures, settled_take, settled_turn}
+use Rattle.task_rules.specs.Turns.{at_turn, queues_are_empty, settled_futures, settled_take, settled_turn}
 use Rattle.task_rules.specs.Works.{Asked, Ends, FailsNow, Poll, StillPends, next_polled, poll_of, poll_pends}
-use Rattle.task_turns.specs.Turn.{Makes, PendsIn, is_open, runs_in, state_at}
-use Rattle.task_turns.specs.declared.made.Made.{Made}
+use Rattle.task_turns.specs.Turn.{MakesStep, PendsIn, is_open, runs_in, state_at}
+use Rattle.task_turns.specs.declared.made.MadeStep.{MadeStep}
 use Rattle.task_words.specs.StateView.{StateView, thread_of}
 
 abbrev pub label_by : ℕ → Polled → Label
@@ -48,14 +48,14 @@ turn_by i (polled.Pends more) t = settled_turn t (turn.Futures i)
 turn_by i polled.Ends t = settled_turn t (turn.Take true)
 turn_by i polled.Fails t = turn.Over
 
-polled_as : (k i : ℕ) (s t : Core) (m : Main) (r : Polled) (p : Poll) → PollMeets i p s r t → machine.Polled (state_at s m (turn.Futures k)) i p (label_by i r) (state_at t m (turn_by i r t))
+polled_as : (k i : ℕ) (s t : Core) (m : Main) (r : Polled) (p : Poll) → PollImplements i p s r t → machine.Polled (state_at s m (turn.Futures k)) i p (label_by i r) (state_at t m (turn_by i r t))
 unfolding at_turn
 polled_as k i s t m r (StillPends host) h = (ap (label_by i) h.0, ap (λ (q : Polled). state_at t m (turn_by i q t)) h.0 ∙ ap (λ (u : Core). state_at u m (turn_by i (polled.Pends true) u)) h.1)
 polled_as k i s t m r (Ends v) h = (ap (label_by i) h.0, ap (λ (q : Polled). state_at t m (turn_by i q t)) h.0 ∙ ap (λ (u : Core). state_at u m (turn_by i polled.Ends u)) h.1)
 polled_as k i s t m r FailsNow h = (ap (label_by i) h.0, ap (λ (q : Polled). state_at t m (turn_by i q t)) h.0 ∙ ap (λ (u : Core). state_at u m (turn_by i polled.Fails u)) h.1)
 polled_as k i s t m r (Asked next) h = (h.0, polled_as k i s t m r (next h.0) h.1)
 
-poll_step : (k i : ℕ) (s t : Core) (m : Main) (r : Polled) → next_polled k s ≡ Some i → PollMeets i (poll_of i s) s r t → (x : Setting) → Step x (state_at s m (turn.Futures k)) (label_by i r) (state_at t m (turn_by i r t))
+poll_step : (k i : ℕ) (s t : Core) (m : Main) (r : Polled) → next_polled k s ≡ Some i → PollImplements i (poll_of i s) s r t → (x : Setting) → Step x (state_at s m (turn.Futures k)) (label_by i r) (state_at t m (turn_by i r t))
 unfolding Step
 poll_step k i s t m r next h x = subst (λ (o : Option ℕ). FuturesStep (state_at s m (turn.Futures k)) o (label_by i r) (state_at t m (turn_by i r t))) (sym next) (polled_as k i s t m r (poll_of i s) h)
 
@@ -70,11 +70,11 @@ polled_moves k i s next = by (get s.works i) (polled_is_live k s i next)
     by (Some w) is = is
 
 -- whether a live work comes after it
-pub PollMeets-more : (i : ℕ) (s : Core) (more : Bool) (t : Core) (p : Poll) → PollMeets i p s (polled.Pends more) t → more ≡ is_some (next_polled i t)
-PollMeets-more i s more t (StillPends host) h = let e : polled.Pends more ≡ polled.Pends (is_some (next_polled i t)) = h.0 in cc
-PollMeets-more i s more t (Ends v) h = absurd (let e = h.0 in cc)
-PollMeets-more i s more t FailsNow h = absurd (let e = h.0 in cc)
-PollMeets-more i s more t (Asked next) h = PollMeets-more i s more t (next h.0) h.1
+pub PollImplements-more : (i : ℕ) (s : Core) (more : Bool) (t : Core) (p : Poll) → PollImplements i p s (polled.Pends more) t → more ≡ is_some (next_polled i t)
+PollImplements-more i s more t (StillPends host) h = let e : polled.Pends more ≡ polled.Pends (is_some (next_polled i t)) = h.0 in cc
+PollImplements-more i s more t (Ends v) h = absurd (let e = h.0 in cc)
+PollImplements-more i s more t FailsNow h = absurd (let e = h.0 in cc)
+PollImplements-more i s more t (Asked next) h = PollImplements-more i s more t (next h.0) h.1
 
 pub turn_is : (n i : ℕ) (more : Bool) (t : Core) → more ≡ is_some (next_polled i t) → n ≡ i → (p : Turn) → (more ≡ is_some (next_polled n t) → p ≡ settled_turn t (turn.Futures n)) → p ≡ settled_turn t (turn.Futures i)
 turn_is n i more t is same p settles = settles (is ∙ ap (λ k. is_some (next_polled k t)) (sym same)) ∙ ap (λ k. settled_turn t (turn.Futures k)) same
@@ -89,15 +89,15 @@ take_open false = (refl, refl)
 
 none_runs : (i : ℕ) (r : Polled) (t : Core) → runs_in (turn_by i r t) ≡ None
 none_runs i (polled.Pends more) t = (futures_open i t (next_polled i t)).1
-none_runs i polled.Ends t = (take_open (nothing_stands t)).1
+none_runs i polled.Ends t = (take_open (queues_are_empty t)).1
 none_runs i polled.Fails t = refl
 
 over_by : (i : ℕ) (r : Polled) (t : Core) → is_none (outcome_of_label (label_by i r)) ≡ is_open (turn_by i r t)
 over_by i (polled.Pends more) t = sym (futures_open i t (next_polled i t)).0
-over_by i polled.Ends t = sym (take_open (nothing_stands t)).0
+over_by i polled.Ends t = sym (take_open (queues_are_empty t)).0
 over_by i polled.Fails t = refl
 
-pub poll_makes : (c : Component) (k i : ℕ) (s t : StateView) (r : Polled) (made : Made) → next_polled k s.core ≡ Some i → PollMeets i (poll_of i s.core) s.core r t.core → s.current ≡ None → t.current ≡ s.current → made.label ≡ label_by i r → made.turn ≡ turn_by i r t.core → Makes c (turn.Futures k) s made t
+pub poll_makes : (c : Component) (k i : ℕ) (s t : StateView) (r : Polled) (made : MadeStep) → next_polled k s.core ≡ Some i → PollImplements i (poll_of i s.core) s.core r t.core → s.current ≡ None → t.current ≡ s.current → made.label ≡ label_by i r → made.turn ≡ turn_by i r t.core → MakesStep c (turn.Futures k) s made t
 poll_makes c k i s t r made next meets none current label_is turn_is = record {
   step = λ x component m. subst (λ (l : Label). Step x (state_at s.core m (turn.Futures k)) l (state_at t.core m made.turn)) (sym label_is)
       (subst (λ (p : Turn). Step x (state_at s.core m (turn.Futures k)) (label_by i r) (state_at t.core m p)) (sym turn_is) (poll_step k i s.core t.core m r next meets x));
@@ -123,24 +123,24 @@ phase_same : (i j : ℕ) (host : HostDef) (s : Core) → phase_of j (poll_pends 
 unfolding poll_pends set_course on_work
 phase_same i j host s = grind (arith, nat_tests, get-change)
 
-row_same : (c : Component) (k i : ℕ) (host : HostDef) (s : Core) (act : MainAct) → is_pending (main_row c k s act) ≡ true → is_pending (main_row c k (poll_pends i host s) act) ≡ true
+rule_same : (c : Component) (k i : ℕ) (host : HostDef) (s : Core) (act : MainAct) → is_pending (main_rule c k s act) ≡ true → is_pending (main_rule c k (poll_pends i host s) act) ≡ true
 unfolding poll_pends set_course on_work has_interesting is_ready_for_call
-row_same c k i host s (Start e words) h = absurd (let none = no_start c k e words s (start_refusal s) in cc)
-row_same c k i host s (Finish (Began n)) h = finish_same k n (poll_pends i host s) s (get s.results n) ∙ h
-row_same c k i host s (Finish (Refused why)) h = absurd (cc)
-row_same c k i host s (Spawn n) h = absurd (cc)
-row_same c k i host s SpawnOpen h = absurd (cc)
-row_same c k i host s (Abort n) h = absurd (cc)
-row_same c k i host s (Await n) h =
+rule_same c k i host s (Start e words) h = absurd (let none = no_start c k e words s (start_refusal s) in cc)
+rule_same c k i host s (Finish (Began n)) h = finish_same k n (poll_pends i host s) s (get s.results n) ∙ h
+rule_same c k i host s (Finish (Refused why)) h = absurd (cc)
+rule_same c k i host s (Spawn n) h = absurd (cc)
+rule_same c k i host s SpawnOpen h = absurd (cc)
+rule_same c k i host s (Abort n) h = absurd (cc)
+rule_same c k i host s (Await n) h =
     ap (λ p. is_pending (unless_pending (is_complete p) (main_label.Await k) (poll_pends i host s))) (phase_same i n host s)
     ∙ (unless_same (is_complete (phase_of n s)) (main_label.Await k) (main_label.Await k) (poll_pends i host s) s ∙ h)
-row_same c k i host s Quiet h = unless_same (not (has_interesting s)) main_label.Quiet main_label.Quiet (poll_pends i host s) s ∙ h
-row_same c k i host s (Ready n) h = unless_same (is_ready_for_call n s) main_label.Ready main_label.Ready (poll_pends i host s) s ∙ h
-row_same c k i host s (Answer v) h = absurd (cc)
+rule_same c k i host s Quiet h = unless_same (not (has_interesting s)) main_label.Quiet main_label.Quiet (poll_pends i host s) s ∙ h
+rule_same c k i host s (Ready n) h = unless_same (is_ready_for_call n s) main_label.Ready main_label.Ready (poll_pends i host s) s ∙ h
+rule_same c k i host s (Answer v) h = absurd (cc)
 
 at_same : (x : Setting) (i : ℕ) (host : HostDef) (s : Core) (p : MainPlace) (o : Option MainOpDef) → pends_at x s p o ≡ true → pends_at x (poll_pends i host s) p o ≡ true
 at_same x i host s p None h = refl
-at_same x i host s p (Some o) h = row_same x.component (line_of p o) i host s (act_of p o) h
+at_same x i host s p (Some o) h = rule_same x.component (line_of p o) i host s (act_of p o) h
 
 pends_same : (x : Setting) (i : ℕ) (host : HostDef) (s : Core) (m : Main) → main_pends x s m ≡ true → main_pends x (poll_pends i host s) m ≡ true
 pends_same x i host s (Scripted p) h = at_same x i host s p (op_at x.script p) h
@@ -154,13 +154,13 @@ in_take : (x : Setting) (s : Core) (m : Main) (b : Bool) → PendsIn x s m (sett
 in_take x s m true = tt
 in_take x s m false = tt
 
-pending_by : (x : Setting) (i : ℕ) (s t : Core) (m : Main) (p : Poll) (r : Polled) → PollMeets i p s r t → main_pends x s m ≡ true → PendsIn x t m (turn_by i r t)
+pending_by : (x : Setting) (i : ℕ) (s t : Core) (m : Main) (p : Poll) (r : Polled) → PollImplements i p s r t → main_pends x s m ≡ true → PendsIn x t m (turn_by i r t)
 pending_by x i s t m (StillPends host) r h pends = subst (λ (q : Polled). PendsIn x t m (turn_by i q t)) (sym h.0)
     (in_futures x t m i (next_polled i t) (subst (λ (u : Core). main_pends x u m ≡ true) (sym h.1) (pends_same x i host s m pends)))
-pending_by x i s t m (Ends v) r h pends = subst (λ (q : Polled). PendsIn x t m (turn_by i q t)) (sym h.0) (in_take x t m (nothing_stands t))
+pending_by x i s t m (Ends v) r h pends = subst (λ (q : Polled). PendsIn x t m (turn_by i q t)) (sym h.0) (in_take x t m (queues_are_empty t))
 pending_by x i s t m FailsNow r h pends = subst (λ (q : Polled). PendsIn x t m (turn_by i q t)) (sym h.0) tt
 pending_by x i s t m (Asked next) r h pends = pending_by x i s t m (next h.0) r h.1 pends
 
 -- after a poll main's op pends still, where it is to
-pub poll_pending : (x : Setting) (i : ℕ) (s t : Core) (m : Main) (r : Polled) (p : Turn) → PollMeets i (poll_of i s) s r t → p ≡ turn_by i r t → main_pends x s m ≡ true → PendsIn x t m p
+pub poll_pending : (x : Setting) (i : ℕ) (s t : Core) (m : Main) (r : Polled) (p : Turn) → PollImplements i (poll_of i s) s r t → p ≡ turn_by i r t → main_pends x s m ≡ true → PendsIn x t m p
 poll_pending x i s t m r p h is pends = subst (PendsIn x t m) (sym is) (pending_by x i s t m (poll_of i s) r h pends)

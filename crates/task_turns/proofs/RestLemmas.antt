@@ -15,8 +15,8 @@ use Rattle.task_rules.specs.Stalled.{Setting, deadlock_trap, is_idle, main_pends
 use Rattle.task_rules.specs.Step.{DeadlockStep, EmptyFor, Step, TakeStep}
 use Rattle.task_rules.specs.Turns.{at_turn}
 use Rattle.task_rules.specs.Works.{has_live_work, has_moving_work}
-use Rattle.task_turns.specs.Turn.{Makes, Turns, running_of, state_at}
-use Rattle.task_turns.specs.declared.made.Made.{Made}
+use Rattle.task_turns.specs.Turn.{MakesStep, Turns, running_of, state_at}
+use Rattle.task_turns.specs.declared.made.MadeStep.{MadeStep}
 use Rattle.task_words.specs.StateView.{StateView, on_core, thread_of}
 use Rattle.task_places.proofs.IdleLemmas.{stalled_as_idle}
 use Rattle.task_laws.specs.Order.{InOrder}
@@ -31,7 +31,7 @@ rest_step x s m none moving =
     subst (λ (o : Option (Mark × Entry)). TakeStep x st o (label.Loop loop_label.Rest) (state_at s m turn.Main)) (sym none)
     (subst (λ b. EmptyFor x st b (label.Loop loop_label.Rest) (state_at s m turn.Main)) (sym moving) (refl, refl))
 
-pub rest_makes : (c : Component) (s : StateView) → s.current ≡ None → next_entry s.core ≡ None → has_moving_work s.core ≡ true → Makes c (turn.Take false) s (record { label = label.Loop loop_label.Rest; turn = turn.Main }) s
+pub rest_makes : (c : Component) (s : StateView) → s.current ≡ None → next_entry s.core ≡ None → has_moving_work s.core ≡ true → MakesStep c (turn.Take false) s (record { label = label.Loop loop_label.Rest; turn = turn.Main }) s
 rest_makes c s current none moving = record {
   step = λ x component m. rest_step x s.core m none moving;
   running = ap (option_map (λ id. thread_of s id)) current;
@@ -58,8 +58,8 @@ module _ (x : Setting) (s t : StateView) (m : Main) (current : s.current ≡ Non
       (subst (λ b. EmptyFor x st b l (state_at t.core m turn.Over)) (sym moving)
       (subst (λ b. DeadlockStep st b l (state_at t.core m turn.Over)) (sym (may x s.core m order none live rest idle pends)) (refl, ap (λ (v : StateView). state_at v.core m turn.Over) new)))
 
-  pub deadlock_turns : (made : Made) → made ≡ record { label = label.Loop (loop_label.Deadlock (deadlock_trap s.core)); turn = turn.Over } → Turns x (turn.Take false) m s made m t
-  deadlock_turns made is = subst (λ (k : Made). Turns x (turn.Take false) m s k m t) (sym is) (record {
+  pub deadlock_turns : (made : MadeStep) → made ≡ record { label = label.Loop (loop_label.Deadlock (deadlock_trap s.core)); turn = turn.Over } → Turns x (turn.Take false) m s made m t
+  deadlock_turns made is = subst (λ (k : MadeStep). Turns x (turn.Take false) m s k m t) (sym is) (record {
     step = deadlock_step;
     running = ap running_of new ∙ ap (option_map (λ id. thread_of s id)) current;
     over = refl;

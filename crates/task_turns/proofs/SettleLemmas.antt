@@ -11,12 +11,12 @@ use Rattle.task_machine.specs.declared.records.Turn.{Turn}
 use Rattle.task_machine.specs.declared.records.Turn.TheVariants as turn
 use Rattle.task_machine.specs.declared.scenario.MainOpDef.{MainOpDef}
 use Rattle.task_machine.specs.declared.words.Mark.{Mark}
-use Rattle.task_rules.specs.MainOps.{Answers, Does, MainProgress, Pends, act_of, advanced_main, line_of, main_row, op_at}
-use Rattle.task_rules.specs.Progress.{Asks, Fails, Goes, Never, Ordered, Progress, Stops, Traps}
+use Rattle.task_rules.specs.MainOps.{Answers, Does, MainProgress, Pends, act_of, advanced_main, line_of, main_rule, op_at}
+use Rattle.task_rules.specs.Progress.{Asks, Fails, Continues, Never, Ordered, Progress, Stops, Traps}
 use Rattle.task_rules.specs.Stalled.{Setting, is_unended_take, may_deadlock}
-use Rattle.task_rules.specs.Step.{DeadlockStep, EmptyFor, FuturesStep, MainProgresses, MainStep, OpenProgresses, OpenStep, Polled, Progresses, RestStep, ScriptStep, Step, TakeStep, TurnStep, did, entry_number, struck}
-use Rattle.task_rules.specs.Takes.{popped, take_row}
-use Rattle.task_rules.specs.Turns.{at_turn, nothing_stands, settled_futures, settled_take, settled_turn}
+use Rattle.task_rules.specs.Step.{DeadlockStep, EmptyFor, FuturesStep, MainProgresses, MainStep, OpenProgresses, OpenStep, Polled, Progresses, RestStep, ScriptStep, Step, TakeStep, TurnStep, did, entry_number, unwound}
+use Rattle.task_rules.specs.Takes.{popped, take_rule}
+use Rattle.task_rules.specs.Turns.{at_turn, queues_are_empty, settled_futures, settled_take, settled_turn}
 use Rattle.task_rules.specs.Works.{Asked, Ends, FailsNow, Poll, StillPends, has_moving_work, next_polled, poll_ends, poll_of, poll_pends}
 use Rattle.task_machine.specs.Write.{set_trapped}
 use Rattle.task_machine.specs.Labels.{choice_of}
@@ -28,9 +28,9 @@ settled_again s (turn.Futures n) = go (next_polled n s) refl
     go : (o : Option ℕ) → next_polled n s ≡ o → IsSettled s (settled_futures n s o)
     go None e = refl
     go (Some i) e = ap (settled_futures n s) e
-settled_again s (turn.Take true) = go (nothing_stands s) refl
+settled_again s (turn.Take true) = go (queues_are_empty s) refl
   where
-    go : (b : Bool) → nothing_stands s ≡ b → IsSettled s (settled_take true b)
+    go : (b : Bool) → queues_are_empty s ≡ b → IsSettled s (settled_take true b)
     go true e = refl
     go false e = ap (settled_take true) e
 settled_again s (turn.Take false) = refl
@@ -43,10 +43,10 @@ unfolding at_turn
 at_settled s new m p t e = subst (λ (u : State). IsSettled u.core u.turn) (sym e) (settled_again new p)
 
 progress_settles : (s : State) (base : Core) (n : ℕ) (p : Progress) (l : Label) (t : State) → Progresses s base n p l t → IsSettled t.core t.turn
-progress_settles s base n (Goes k new m) l t h = at_settled s new s.main (turn.Run m) t h.1
+progress_settles s base n (Continues k new m) l t h = at_settled s new s.main (turn.Run m) t h.1
 progress_settles s base n (Stops k new) l t h = at_settled s new s.main turn.Main t h.1
-progress_settles s base n (Traps why) l t h = at_settled s (struck n base) s.main turn.Over t h.1
-progress_settles s base n (Fails i) l t h = at_settled s (struck n base) s.main turn.Over t h.1
+progress_settles s base n (Traps why) l t h = at_settled s (unwound n base) s.main turn.Over t h.1
+progress_settles s base n (Fails i) l t h = at_settled s (unwound n base) s.main turn.Over t h.1
 progress_settles s base n Never l t h = absurd h
 progress_settles s base n (Ordered ns next) l t h = progress_settles s base n (next h.0) l t h.1.1
 progress_settles s base n (Asks next) l t h = progress_settles s base n (next h.0) l t h.1
@@ -58,7 +58,7 @@ scripted_settles s p o (Answers v) x t h = at_settled s s.core s.main turn.Over 
 
 script_settles : (x : Setting) (s : State) (p : MainPlace) (o : Option MainOpDef) (l : Label) (t : State) → ScriptStep x s p o l t → IsSettled t.core t.turn
 script_settles x s p None l t h = at_settled s s.core s.main (turn.Futures 0) t h.1
-script_settles x s p (Some o) l t h = scripted_settles s p o (main_row x.component (line_of p o) s.core (act_of p o)) l t h
+script_settles x s p (Some o) l t h = scripted_settles s p o (main_rule x.component (line_of p o) s.core (act_of p o)) l t h
 
 opened_settles : (s : State) (q : MainProgress) (x : Label) (t : State) → OpenProgresses s q x t → IsSettled t.core t.turn
 opened_settles s (Does l new) x t h = at_settled s new s.main turn.Main t h.1
@@ -67,7 +67,7 @@ opened_settles s (Answers v) x t h = at_settled s s.core s.main turn.Over t h.1
 
 open_settles : (x : Setting) (s : State) (l : Label) (t : State) → OpenStep x s l t → IsSettled t.core t.turn
 open_settles x s (label.Loop loop_label.MainPends) t h = at_settled s s.core s.main (turn.Futures 0) t h
-open_settles x s l t h = opened_settles s (main_row x.component h.0 s.core h.1.0) l t h.1.1.1
+open_settles x s l t h = opened_settles s (main_rule x.component h.0 s.core h.1.0) l t h.1.1.1
 
 main_settles : (x : Setting) (s : State) (m : Main) (l : Label) (t : State) → MainStep x s m l t → IsSettled t.core t.turn
 main_settles x s (Scripted p) l t h = script_settles x s p (op_at x.script p) l t h
@@ -97,7 +97,7 @@ empty_settles x s false l t h = deadlock_settles s (may_deadlock x s) l t h
 
 take_settles : (x : Setting) (s : State) (o : Option (Mark × Entry)) (l : Label) (t : State) → TakeStep x s o l t → IsSettled t.core t.turn
 take_settles x s None l t h = empty_settles x s (has_moving_work s.core) l t h
-take_settles x s (Some e) l t h = progress_settles s (popped e.0 s.core) (entry_number e.1) (take_row e.0 (choice_of l) (popped e.0 s.core) e.1) l t h
+take_settles x s (Some e) l t h = progress_settles s (popped e.0 s.core) (entry_number e.1) (take_rule e.0 (choice_of l) (popped e.0 s.core) e.1) l t h
 
 turn_settles : (x : Setting) (s : State) (p : Turn) (l : Label) (t : State) → TurnStep x s p l t → IsSettled t.core t.turn
 turn_settles x s turn.Main l t h = main_settles x s s.main l t h

@@ -4,7 +4,7 @@ use Rattle.order_laws.proofs.StayLemmas.{awake_stays}
 use Rattle.std.proofs.Common.{arith, refl}
 use Rattle.std.proofs.lemmas.Bool.Decides.{nat_tests}
 use Rattle.std.specs.Prelude.{false, List, None, [], ◌∷◌, true, ℕ, ◌≡◌}
-use Rattle.task_laws.specs.Wakes.{WakesCounted}
+use Rattle.task_laws.specs.WakeLaw.{WakesCounted}
 use Rattle.task_machine.specs.Core.{Core, Unscripted}
 use Rattle.task_machine.proofs.CommuteLemmas.{get-change}
 use Rattle.task_machine.specs.Maps.{get-insert}
@@ -25,14 +25,14 @@ use Rattle.task_rules.specs.Calls.{next_work, work_queued}
 use Rattle.task_rules.specs.MainOps.{Abort, Spawn, main_aborted, main_spawned}
 use Rattle.task_turns.proofs.KeptLemmas.{acted}
 use Rattle.task_rules.specs.Scripts.{op_of, script_of}
-use Rattle.task_turns.specs.Kept.{AbortInOrder, SpawnInOrder}
-use Rattle.task_turns.specs.Turn.{Sits, state_at}
+use Rattle.task_turns.specs.KeptTurns.{AbortInOrder, SpawnInOrder}
+use Rattle.task_turns.specs.Turn.{CoreInOrder, state_at}
 
 -- the component with these hosts
 abbrev with_hosts : List HostDef → Component → Component
 with_hosts hs c = record c { hosts = hs }
 
-sits_with : (c : Component) (hs : List HostDef) (p : Turn) (s : Core) → Sits c p s → Sits (with_hosts hs c) p s
+sits_with : (c : Component) (hs : List HostDef) (p : Turn) (s : Core) → CoreInOrder c p s → CoreInOrder (with_hosts hs c) p s
 unfolding op_of script_of
 sits_with c hs p s h = record { order = λ m. of_hosts hs c (state_at s m p) (h.order m); there = h.there; handles = h.handles }
 

@@ -7,7 +7,7 @@ use Rattle.label_laws.specs.Own.{is_data}
 use Rattle.task_machine.specs.Core.{Core, Main}
 use Rattle.task_machine.specs.Labels.{choice_of}
 use Rattle.task_machine.specs.Maps.{Records, get}
-use Rattle.task_machine.specs.Read.{callee_of, how_far_of, no_callee, position_of, registers_of, task_of}
+use Rattle.task_machine.specs.Read.{callee_of, op_progress_of, no_callee, position_of, registers_of, task_of}
 use Rattle.task_machine.specs.Write.{on_thread}
 use Rattle.task_machine.specs.declared.component.Callee.{Callee}
 use Rattle.task_machine.specs.declared.component.Component.{Component}
@@ -19,19 +19,19 @@ use Rattle.task_machine.specs.declared.op.Op.{Op}
 use Rattle.task_machine.specs.declared.op.Op.TheVariants as op
 use Rattle.task_machine.specs.declared.op.TaskOp.TheVariants as task
 use Rattle.task_machine.specs.declared.records.Call.{Call}
-use Rattle.task_machine.specs.declared.records.HowFar.TheVariants as how_far
+use Rattle.task_machine.specs.declared.records.OpProgress.TheVariants as op_progress
 use Rattle.task_machine.specs.declared.records.Script.{Script}
 use Rattle.task_machine.specs.declared.records.Thread.{Thread}
 use Rattle.task_machine.specs.declared.records.Turn.{Turn}
 use Rattle.task_machine.specs.declared.records.Turn.TheVariants as turn
 use Rattle.task_ops.proofs.MeetLemmas.{meeting_is_step}
-use Rattle.task_ops.specs.Came.{Meets}
-use Rattle.task_ops.specs.declared.came.Came.TheVariants as came
-use Rattle.task_rules.specs.Data.{data_row}
-use Rattle.task_rules.specs.Progress.{Goes, Progress}
+use Rattle.task_ops.specs.OpResult.{Implements}
+use Rattle.task_ops.specs.declared.op_result.OpResult.TheVariants as op_result
+use Rattle.task_rules.specs.Data.{data_rule}
+use Rattle.task_rules.specs.Progress.{Continues, Progress}
 use Rattle.task_rules.specs.Scripts.{op_of, script_in, script_of}
 use Rattle.task_rules.specs.Stalled.{Setting}
-use Rattle.task_rules.specs.Step.{Step, did, op_row}
+use Rattle.task_rules.specs.Step.{Step, did, scripted_op_rule}
 use Rattle.task_turns.proofs.ContextLemmas.{context_same, position-context, script-context}
 use Rattle.task_turns.proofs.DriveLemmas.{Run-more, on_more}
 use Rattle.task_turns.proofs.OrderLemmas.{number_at, runner, runs_still}
@@ -40,9 +40,9 @@ use Rattle.task_turns.specs.Context.{KeepsBeside, in_context, state_in}
 use Rattle.task_table.specs.declared.id.TableId.{TableId}
 use Rattle.task_turns.specs.Drive.{Computes, KeepsOn, StopsShort}
 use Rattle.task_turns.specs.Later.{SameWorks}
-use Rattle.task_turns.specs.Turn.{Sits, Turns, running_of, state_at}
+use Rattle.task_turns.specs.Turn.{CoreInOrder, Turns, running_of, state_at}
 use Rattle.task_turns.specs.declared.context.ThreadContext.{ThreadContext}
-use Rattle.task_turns.specs.declared.made.Made.{Made}
+use Rattle.task_turns.specs.declared.made.MadeStep.{MadeStep}
 use Rattle.task_words.specs.Context.{with_context}
 use Rattle.task_wait.specs.declared.keys.ThreadKey.{ThreadKey}
 use Rattle.task_words.specs.StateView.{StateView, Tags, on_core, thread_number, thread_of}
@@ -62,11 +62,11 @@ pub beside_there : (n : ℕ) (s t : StateView) → KeepsBeside s t → (u : Thre
 beside_there n s t b u e = ap (λ (ts : Records Thread). get ts n) b.threads ∙ e
 
 -- the context that the thread's record has
-pub begins : (n : ℕ) (s : Core) (t : Thread) → get s.threads n ≡ Some t → how_far_of n s ≡ how_far.Fresh → (x : ThreadContext) → x.position ≡ position_of n s → x.registers ≡ registers_of n s → in_context n x s ≡ s
+pub begins : (n : ℕ) (s : Core) (t : Thread) → get s.threads n ≡ Some t → op_progress_of n s ≡ op_progress.Fresh → (x : ThreadContext) → x.position ≡ position_of n s → x.registers ≡ registers_of n s → in_context n x s ≡ s
 begins n s t found fresh x position registers =
     ap (λ p. with_context n p x.registers s) position
     ∙ (ap (λ rs. with_context n (position_of n s) rs s) registers
-    ∙ context_same n s t found (sym (ap (λ (o : Option Thread). option_map_or (λ (u : Thread). u.how_far) o how_far.Fresh) found) ∙ fresh))
+    ∙ context_same n s t found (sym (ap (λ (o : Option Thread). option_map_or (λ (u : Thread). u.op_progress) o op_progress.Fresh) found) ∙ fresh))
 
 all_more : (test : Label → Bool) (ls : List Label) (l : Label) → list_all test ls ≡ true → test l ≡ true → list_all test (ls ++ l ∷ []) ≡ true
 all_more test [] l all one = grind (arith, one)
@@ -93,20 +93,20 @@ module _ (c : Component) (n : ℕ) (t : StateView) (th : Thread) (found : get t.
       ∙ (ap (λ p. unwrap_or (slice_get ops p) (op.Task task.Exit)) (position-context n t.core th found x.position x.registers)
       ∙ ap (λ (q : Option Op). unwrap_or q (op.Task task.Exit)) e)
 
-  module _ (o : DataOp) (l : DataLabel) (y : ThreadContext) (u : StateView) (beside : KeepsBeside t u) (row : data_row c n there o ≡ Goes (label.Data l) (in_context n y u.core) n) (here : slice_get ops x.position ≡ Some (op.Data o)) where
-    abbrev made : Made
+  module _ (o : DataOp) (l : DataLabel) (y : ThreadContext) (u : StateView) (beside : KeepsBeside t u) (row : data_rule c n there o ≡ Continues (label.Data l) (in_context n y u.core) n) (here : slice_get ops x.position ≡ Some (op.Data o)) where
+    abbrev made : MadeStep
     made = record { label = label.Data l; turn = turn.Run n }
 
-    meets : Meets (did c n there (choice_of (label.Data l))) there (goes_as (label.Data l) n) (in_context n y u.core)
+    meets : Implements (did c n there (choice_of (label.Data l))) there (goes_as (label.Data l) n) (in_context n y u.core)
     unfolding did
-    meets = subst (λ (q : Op). Meets (op_row c n there (choice_of (label.Data l)) q) there (goes_as (label.Data l) n) (in_context n y u.core)) (sym (op_there (op.Data o) here))
-        (subst (λ (p : Progress). Meets p there (goes_as (label.Data l) n) (in_context n y u.core)) (sym row) (refl, refl))
+    meets = subst (λ (q : Op). Implements (scripted_op_rule c n there (choice_of (label.Data l)) q) there (goes_as (label.Data l) n) (in_context n y u.core)) (sym (op_there (op.Data o) here))
+        (subst (λ (p : Progress). Implements p there (goes_as (label.Data l) n) (in_context n y u.core)) (sym row) (refl, refl))
 
     step : (z : Setting) → z.component ≡ c → (m : Main) → Step z (state_at there m (turn.Run n)) (label.Data l) (state_at (in_context n y u.core) m (turn.Run n))
     step z component m =
         subst (Step z (state_at there m (turn.Run n)) (label.Data l)) (settled (goes_as (label.Data l) n) there m (turn.Run n) (in_context n y u.core))
         (meeting_is_step z (state_at there m (turn.Run n)) n (goes_as (label.Data l) n) (in_context n y u.core) refl
-        (subst (λ (d : Component). Meets (did d n there (choice_of (label.Data l))) there (goes_as (label.Data l) n) (in_context n y u.core)) (sym component) meets))
+        (subst (λ (d : Component). Implements (did d n there (choice_of (label.Data l))) there (goes_as (label.Data l) n) (in_context n y u.core)) (sym component) meets))
 
     turns : (z : Setting) → z.component ≡ c → (m : Main) → Turns z (turn.Run n) m (state_in n x t) made m (state_in n y u)
     turns z component m = record {
@@ -132,7 +132,7 @@ module _ (c : Component) (n : ℕ) (t : StateView) (th : Thread) (found : get t.
     }
 
 -- what the thread that runs is, and which script it has
-pub begun : (c : Component) → (n : ℕ) (s : StateView) → Sits c (turn.Run n) s.core → get s.core.threads 0 ≡ None → running_of s ≡ Some n → (id : TableId ThreadKey) → s.current ≡ Some id
+pub begun : (c : Component) → (n : ℕ) (s : StateView) → CoreInOrder c (turn.Run n) s.core → get s.core.threads 0 ≡ None → running_of s ≡ Some n → (id : TableId ThreadKey) → s.current ≡ Some id
     → (f : Callee) (k : ℕ) (x : Script) (ops : List Op) → f ≡ callee_of k s.core → k ≡ task_of (thread_of s id) s.core → ((t : Thread) → get s.core.threads (thread_of s id) ≡ Some t → x ≡ t.script) → ops ≡ script_in c f x
     → (t : Thread) × ((get s.core.threads n ≡ Some t) × (script_of c n s.core ≡ ops))
 begun c n s order none runs id current f k x ops callee call script read =

@@ -26,7 +26,7 @@ use Rattle.task_machine.specs.declared.words.Mark.TheVariants as mark
 use Rattle.task_moves.specs.Idle.{IsJoinThere}
 use Rattle.task_laws.proofs.MemberLemmas.{members_named}
 use Rattle.task_ops.proofs.TellingLemmas.{none_under}
-use Rattle.task_ops.specs.Gifts.{MembersNamed}
+use Rattle.task_ops.specs.PickedEvents.{MembersNamed}
 use Rattle.task_ops.specs.Running.{Stand}
 use Rattle.task_places.proofs.Entries.{Cleared, First, next_first, popped_cleared}
 use Rattle.task_rules.proofs.MoveLemmas.{no_time, one_time}
@@ -35,7 +35,7 @@ use Rattle.task_rules.specs.Places.{HasPlace, Placed, entries, is_at_high, is_at
 use Rattle.task_rules.specs.Takes.{popped, rest_of}
 use Rattle.task_turns.proofs.OrderLemmas.{positive, some_from}
 use Rattle.task_turns.specs.Taken.{FindsSet, Taken}
-use Rattle.task_turns.specs.Turn.{Sits, state_at}
+use Rattle.task_turns.specs.Turn.{CoreInOrder, state_at}
 
 abbrev IsAt : Mark → Option Place → Type 0
 IsAt m o = (w : Why) × (o ≡ Some (place.Ready m w))
@@ -113,7 +113,7 @@ popped_join mark.Switch n s all = all (subtask.Guest (task_of n s))
 popped_join mark.High n s all = all (subtask.Guest (task_of n s))
 popped_join mark.Low n s all = all (subtask.Guest (task_of n s))
 
-module _ (c : Component) (ended : Bool) (s : Core) (sits : Sits c (turn.Take ended) s) (none : get s.threads 0 ≡ None) where
+module _ (c : Component) (ended : Bool) (s : Core) (sits : CoreInOrder c (turn.Take ended) s) (none : get s.threads 0 ≡ None) where
   order : InOrder c (state_at s Unscripted (turn.Take ended))
   order = sits.order Unscripted
 
@@ -160,7 +160,7 @@ queued_members : (q : Queues) (i x : ℕ) (s : Core) → MembersNamed i x s → 
 queued_members q i x s h (subtask.Guest k) ready = h (subtask.Guest k) ready
 queued_members q i x s h (subtask.Host j) ready = h (subtask.Host j) ready
 
-module _ (c : Component) (ended : Bool) (s : Core) (sits : Sits c (turn.Take ended) s) where
+module _ (c : Component) (ended : Bool) (s : Core) (sits : CoreInOrder c (turn.Take ended) s) where
   home : (n x : ℕ) → delivered_set (why_of n s) ≡ Some x → IsOf (instance_of n s) x s
   home n x e = (sits.order Unscripted).waits.by_place n x (delivered_place (place_of n s) x e)
 
@@ -178,7 +178,7 @@ module _ (c : Component) (ended : Bool) (s : Core) (sits : Sits c (turn.Take end
 
 -- ---- The entry of an ended host work
 
-module _ (c : Component) (ended : Bool) (s : Core) (sits : Sits c (turn.Take ended) s) (none : get s.works 0 ≡ None) where
+module _ (c : Component) (ended : Bool) (s : Core) (sits : CoreInOrder c (turn.Take ended) s) (none : get s.works 0 ≡ None) where
   known : InOrder c (state_at s Unscripted (turn.Take ended))
   known = sits.order Unscripted
 

@@ -11,32 +11,32 @@ use Rattle.task_machine.specs.declared.records.Turn.{Turn}
 use Rattle.task_machine.specs.declared.records.Turn.TheVariants as turn
 use Rattle.task_turns.proofs.KeptLemmas.{made_in_order}
 use Rattle.task_turns.proofs.OrderLemmas.{none_some, some_from}
-use Rattle.task_turns.specs.Stepped.{Added}
-use Rattle.task_turns.specs.Turn.{RunnerThere, Sits, Took, running_of, runs_in}
-use Rattle.task_turns.specs.declared.made.Stepped.{Stepped}
+use Rattle.task_turns.specs.StepResult.{Added}
+use Rattle.task_turns.specs.Turn.{RunnerThere, CoreInOrder, Took, running_of, runs_in}
+use Rattle.task_turns.specs.declared.made.StepResult.{StepResult}
 use Rattle.task_words.specs.StateView.{StateView, thread_of}
 
 some_eq : (a b : ℕ) → Some a ≡ Some b → a ≡ b
 some_eq a b h = cc
 
 -- It has the turn.
-pub sits_there : (c : Component) (p : Turn) (t : StateView) → Sits c p t.core → running_of t ≡ runs_in p → RunnerThere t
-sits_there c (turn.Run k) t sits runs n e =
+pub core_in_order_there : (c : Component) (p : Turn) (t : StateView) → CoreInOrder c p t.core → running_of t ≡ runs_in p → RunnerThere t
+core_in_order_there c (turn.Run k) t sits runs n e =
     let at = (sits.order Unscripted).in_place.runs k refl in
     subst (λ m. is_some (get t.core.threads m) ≡ true) (some_eq k n (sym runs ∙ e))
     (some_from (λ (x : Thread). x.place) (get t.core.threads k) place.Running at)
-sits_there c turn.Main t sits runs n e = none_some runs e
-sits_there c (turn.Futures k) t sits runs n e = none_some runs e
-sits_there c (turn.Take b) t sits runs n e = none_some runs e
-sits_there c turn.Over t sits runs n e = none_some runs e
+core_in_order_there c turn.Main t sits runs n e = none_some runs e
+core_in_order_there c (turn.Futures k) t sits runs n e = none_some runs e
+core_in_order_there c (turn.Take b) t sits runs n e = none_some runs e
+core_in_order_there c turn.Over t sits runs n e = none_some runs e
 
 -- where none runs
 pub idle_there : (t : StateView) → t.current ≡ None → RunnerThere t
 idle_there t idle n e = none_some (ap (option_map (λ i. thread_of t i)) idle) e
 
 -- after an entry was taken
-pub took_there : (c : Component) (ended : Bool) (s t : StateView) → Sits c (turn.Take ended) s.core → (q : Stepped) (before after : List Label)
+pub took_there : (c : Component) (ended : Bool) (s t : StateView) → CoreInOrder c (turn.Take ended) s.core → (q : StepResult) (before after : List Label)
     → Added (λ made. Took c ended s (Some made) t) q before after → RunnerThere t
 took_there c ended s t sits q before after h =
     let makes = h.1.1.0 in
-    sits_there c h.0.turn t (made_in_order c (turn.Take ended) s h.0 t sits makes) makes.running
+    core_in_order_there c h.0.turn t (made_in_order c (turn.Take ended) s h.0 t sits makes) makes.running

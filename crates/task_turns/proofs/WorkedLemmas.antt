@@ -11,9 +11,9 @@ use Rattle.task_machine.specs.declared.words.Mark.TheVariants as mark
 use Rattle.task_rules.specs.Calls.{work_group}
 use Rattle.task_rules.specs.Takes.{popped}
 use Rattle.task_table.specs.declared.id.TableId.{TableId}
-use Rattle.task_turns.specs.Worked.{known_entry}
+use Rattle.task_turns.specs.Worked.{tracked_entry_group}
 use Rattle.task_wait.specs.declared.keys.HostTaskKey.{HostTaskKey}
-use Rattle.task_words.specs.Groups.{known_work_group, some_if_known}
+use Rattle.task_words.specs.Groups.{tracked_work_group, some_if_tracked}
 use Rattle.task_words.specs.StateView.{StateView, on_core, work_of}
 
 -- an entry that leaves its mark leaves the works
@@ -24,7 +24,7 @@ worked_left mark.High i s = refl
 worked_left mark.Low i s = refl
 
 -- the group of the work whose entry was taken
-pub worked_is : (s u : StateView) (m : Mark) (id : TableId HostTaskKey) → u ≡ on_core (popped m) s → next_entry s.core ≡ Some (m, entry.Host (work_of s id)) → known_work_group (work_of u id) u ≡ known_entry (next_entry s.core) s
+pub worked_is : (s u : StateView) (m : Mark) (id : TableId HostTaskKey) → u ≡ on_core (popped m) s → next_entry s.core ≡ Some (m, entry.Host (work_of s id)) → tracked_work_group (work_of u id) u ≡ tracked_entry_group (next_entry s.core) s
 worked_is s u m id left next =
-    ap (λ (v : StateView). known_work_group (work_of v id) v) left
-    ∙ (ap (option_and_then (some_if_known s.tags.known)) (worked_left m (work_of s id) s.core) ∙ ap (λ (o : Option (Mark × Entry)). known_entry o s) (sym next))
+    ap (λ (v : StateView). tracked_work_group (work_of v id) v) left
+    ∙ (ap (option_and_then (some_if_tracked s.tags.tracked)) (worked_left m (work_of s id) s.core) ∙ ap (λ (o : Option (Mark × Entry)). tracked_entry_group o s) (sym next))

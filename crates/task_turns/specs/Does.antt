@@ -4,7 +4,7 @@ use Rattle.task_machine.specs.declared.label.Label.{Label}
 use Rattle.task_machine.specs.declared.label.Label.TheVariants as label
 use Rattle.task_machine.specs.declared.label.LoopLabel.TheVariants as loop_label
 use Rattle.task_machine.specs.declared.label.MainLabel.TheVariants as main_label
-use Rattle.task_turns.specs.declared.made.Made.{Made}
+use Rattle.task_turns.specs.declared.made.MadeStep.{MadeStep}
 use Rattle.task_turns.specs.declared.mains.MainStep.{MainStep}
 use Rattle.task_turns.specs.declared.mains.MainStep.TheVariants as step
 
@@ -22,6 +22,6 @@ step_shown (label.Loop loop_label.MainPends) = Some step.Pends
 step_shown _ = None
 
 -- the one that what was made shows
-abbrev pub step_of : Option Made → Option MainStep
+abbrev pub step_of : Option MadeStep → Option MainStep
 step_of None = None
 step_of (Some made) = step_shown made.label

@@ -10,7 +10,7 @@ use Rattle.task_rules.specs.Stalled.{Setting}
 use Rattle.task_rules.specs.Run.{Run}
 use Rattle.task_rules.specs.Outcome.{last_outcome, IsOutcome}
 use Rattle.task_machine.specs.declared.records.Turn.{Turn}
-use Rattle.task_turns.specs.Turn.{IsAtTurn, IsSettled, PendsIn, Sits, given, goes_on, is_open, running_of, runs_in, state_at}
+use Rattle.task_turns.specs.Turn.{IsAtTurn, IsSettled, PendsIn, CoreInOrder, given, goes_on, is_open, running_of, runs_in, state_at}
 use Rattle.task_words.specs.StateView.{StateView}
 
 -- A run of n labels was added, of which the last gives no outcome.
@@ -35,7 +35,7 @@ pub record Drove (x : Setting) (s : State) (before : List Label) (numbers : ℕ)
     (steps : ℕ) (outcome : Outcome) : Type 0 where
   pub drives : Drives x s before (state_at t.core m p) after steps outcome
   pub unfinished : is_open p ≡ goes_on outcome
-  pub order : Sits x.component p t.core
+  pub order : CoreInOrder x.component p t.core
   pub settled : IsSettled t.core p
   pub few : given t.core ≤ numbers + 2 * steps
   pub running : running_of t ≡ runs_in p

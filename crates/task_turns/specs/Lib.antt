@@ -4,10 +4,10 @@ pub mod Context
 pub mod Drive
 pub mod Does
 pub mod Taken
-pub mod Kept
+pub mod KeptTurns
 pub mod Main
 pub mod WellFormed
 pub mod Ran
 pub mod Later
-pub mod Stepped
+pub mod StepResult
 pub mod Worked

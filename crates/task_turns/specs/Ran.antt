@@ -1,14 +1,14 @@
 -- What a step of the running thread did, which host it polled first, and which work it made.
 use Rattle.std.specs.Prelude.{None, Option, Some, true, ℕ, ◌+◌, ◌<◌, ◌^◌, ◌≡◌, ◌⊎◌}
-pub use Rattle.op_dispatch.specs.Did.{DidOp, StandsBefore, row_of}
-use Rattle.op_dispatch.specs.Goes.{given}
+pub use Rattle.op_dispatch.specs.Did.{DidOp, StandsBefore, scripted_rule_of}
+use Rattle.op_dispatch.specs.Continues.{given}
 use Rattle.op_dispatch.specs.Makes.{makes, takes_memory}
 use Rattle.op_dispatch.specs.Polls.{polled_host}
 use Rattle.op_dispatch.specs.declared.done.Done.{Done}
 use Rattle.subtask_ops.specs.First.{first_heard}
 use Rattle.task_machine.specs.Core.{Core}
 use Rattle.task_machine.specs.Maps.{get}
-use Rattle.task_machine.specs.Read.{course_of, how_far_of}
+use Rattle.task_machine.specs.Read.{course_of, op_progress_of}
 use Rattle.task_machine.specs.declared.component.Component.{Component}
 use Rattle.task_machine.specs.declared.component.HostDef.{HostDef}
 use Rattle.task_machine.specs.declared.records.Course.TheVariants as course
@@ -26,11 +26,11 @@ use Rattle.task_words.specs.StateView.{StateView, thread_of, work_of}
 abbrev pub WorkMade : HostPoll → Option HostDef → Option (TableId HostTaskKey) → StateView → StateView → Type 0
 WorkMade answer polled (Some id) s t =
     (host : HostDef) × ((left : HostDef) × ((polled ≡ Some host) × ((first_heard host answer ≡ Later left) ×
-    ((work_of t id ≡ s.core.made.works + 1) × (course_of (work_of t id) t.core ≡ course.Goes left)))))
+    ((work_of t id ≡ s.core.made.works + 1) × (course_of (work_of t id) t.core ≡ course.Continues left)))))
 WorkMade answer polled None s t = (polled ≡ None) ⊎ (get t.core.works (s.core.made.works + 1) ≡ None)
 
 pub record RanPolls (answer : HostPoll) (c : Component) (n : ℕ) (s : StateView) (ran : Ran) (t : StateView) : Type 0 where
-  pub polled : ran.polled ≡ polled_host c (how_far_of n s.core) (op_of c n s.core)
+  pub polled : ran.polled ≡ polled_host c (op_progress_of n s.core) (op_of c n s.core)
   pub work : WorkMade answer ran.polled ran.work s t
 
 -- ---- The op that is done
@@ -41,7 +41,7 @@ DidHere answer c id s done t = DidOp answer c (op_of c (thread_of s id) s.core) 
 
 -- few threads, works, sets and groups were made, if that op makes one
 abbrev pub MakesFew : Component → ℕ → Core → Type 0
-MakesFew c n s = makes (how_far_of n s) (op_of c n s) ≡ true → given s < 2 ^ 61
+MakesFew c n s = makes (op_progress_of n s) (op_of c n s) ≡ true → given s < 2 ^ 61
 
 -- it may take memory, and nothing is changed
 abbrev pub WantsMemory : Component → ℕ → StateView → StateView → Type 0

@@ -9,7 +9,7 @@ use Rattle.task_machine.specs.declared.records.Subtask.TheVariants as subtask
 use Rattle.task_machine.specs.declared.records.Why.TheVariants as why
 use Rattle.task_machine.specs.declared.words.Mark.{Mark}
 use Rattle.task_moves.specs.Idle.{IsJoinThere}
-use Rattle.task_ops.specs.Gifts.{MembersNamed}
+use Rattle.task_ops.specs.PickedEvents.{MembersNamed}
 use Rattle.task_ops.specs.Running.{Stand}
 use Rattle.task_words.specs.Live.{delivered_set}
 

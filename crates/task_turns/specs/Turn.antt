@@ -10,19 +10,19 @@ use Rattle.task_machine.specs.declared.component.Component.{Component}
 use Rattle.task_machine.specs.declared.records.Turn.{Turn}
 use Rattle.task_machine.specs.declared.records.Turn.TheVariants as turn
 use Rattle.task_ops.specs.Running.{IsTopmost}
-use Rattle.task_ops.specs.declared.came.Came.{Came}
-use Rattle.task_ops.specs.declared.came.Came.TheVariants as came
+use Rattle.task_ops.specs.declared.op_result.OpResult.{OpResult}
+use Rattle.task_ops.specs.declared.op_result.OpResult.TheVariants as op_result
 use Rattle.task_machine.specs.declared.outcome.Outcome.{Outcome}
 use Rattle.task_machine.specs.declared.outcome.Outcome.TheVariants as outcome
 use Rattle.task_machine.specs.declared.scenario.IdleLine.{IdleLine}
 use Rattle.task_machine.specs.declared.scenario.IdleLine.TheVariants as idle_line
 use Rattle.task_machine.specs.declared.scenario.MainOpDef.{MainOpDef}
-pub use Rattle.op_dispatch.specs.Goes.{GoesOn, Shows, given, running_of}
+pub use Rattle.op_dispatch.specs.Continues.{OpGoesOn, Shows, given, running_of}
 use Rattle.task_rules.specs.Outcome.{is_at_rest, outcome_of_label}
 use Rattle.task_rules.specs.Stalled.{Setting, main_pends}
 use Rattle.task_rules.specs.Step.{Step}
 use Rattle.task_rules.specs.Turns.{settled_turn}
-use Rattle.task_turns.specs.declared.made.Made.{Made}
+use Rattle.task_turns.specs.declared.made.MadeStep.{MadeStep}
 use Rattle.task_words.specs.StateView.{StateView}
 
 -- the state with this core and this part of main, at this turn
@@ -30,7 +30,7 @@ abbrev pub state_at : Core → Main → Turn → State
 state_at s m p = record { version = One; core = s; main = m; turn = p }
 
 -- The core is in order at this turn, whatever main's part is, and each instance of the component is there, with its table of handles.
-pub record Sits (c : Component) (p : Turn) (s : Core) : Type 0 where
+pub record CoreInOrder (c : Component) (p : Turn) (s : Core) : Type 0 where
   pub order : (m : Main) → InOrder c (state_at s m p)
   pub there : HasInstances c s
   pub handles : HasHandles c s
@@ -46,7 +46,7 @@ RunnerThere s = (n : ℕ) → running_of s ≡ Some n → is_some (get s.core.th
 
 -- The step that was made is one of the machine, whatever main's part, its script and the idle line are. Its label gives an outcome exactly
 -- where the run is over.
-pub record Makes (c : Component) (p : Turn) (s : StateView) (made : Made) (t : StateView) : Type 0 where
+pub record MakesStep (c : Component) (p : Turn) (s : StateView) (made : MadeStep) (t : StateView) : Type 0 where
   pub step : (x : Setting) → x.component ≡ c → (m : Main) → Step x (state_at s.core m p) made.label (state_at t.core m made.turn)
   pub running : running_of t ≡ runs_in made.turn
   pub over : is_none (outcome_of_label made.label) ≡ is_open made.turn
@@ -73,20 +73,20 @@ IsSettled s p = settled_turn s p ≡ p
 
 -- The run may go on with this turn: the core is in order, the turn's thread runs, and the turn is settled and not over.
 pub record IsAtTurn (c : Component) (p : Turn) (s : StateView) : Type 0 where
-  pub order : Sits c p s.core
+  pub order : CoreInOrder c p s.core
   pub running : running_of s ≡ runs_in p
   pub settled : IsSettled s.core p
   pub unfinished : is_open p ≡ true
 
 -- The step that was made is one of the machine, and its label gives an outcome exactly where the run is over.
-pub record Turns (x : Setting) (p : Turn) (m : Main) (s : StateView) (made : Made) (m' : Main) (t : StateView) : Type 0 where
+pub record Turns (x : Setting) (p : Turn) (m : Main) (s : StateView) (made : MadeStep) (m' : Main) (t : StateView) : Type 0 where
   pub step : Step x (state_at s.core m p) made.label (state_at t.core m' made.turn)
   pub running : running_of t ≡ runs_in made.turn
   pub over : is_none (outcome_of_label made.label) ≡ is_open made.turn
   pub pends : PendsIn x t.core m' made.turn
 
 -- A step was made, or nothing can go on and that is no deadlock, and nothing is changed.
-abbrev pub Turned : Setting → Turn → Main → StateView → Option Made → Main → StateView → Type 0
+abbrev pub Turned : Setting → Turn → Main → StateView → Option MadeStep → Main → StateView → Type 0
 Turned x p m s (Some made) m' t = Turns x p m s made m' t
 Turned x p m s None m' t = (is_at_rest x (state_at s.core m p) ≡ true) × ((m' ≡ m) × (t ≡ s))
 
@@ -99,23 +99,23 @@ abbrev pub setting_of : Component → List MainOpDef → (trap_on_idle : Bool) �
 setting_of c ops b = record { component = c; script = ops; idle = idle_line_of b }
 
 -- it goes on or stops, and hasn't trapped
-abbrev pub is_going : Came → Bool
-is_going (came.Goes l m said) = true
-is_going (came.Stops l) = true
+abbrev pub is_going : OpResult → Bool
+is_going (op_result.Continues l m said) = true
+is_going (op_result.Stops l) = true
 is_going _ = false
 
 -- the strand of a thread that trapped is there
-abbrev pub CanStrike : Came → ℕ → Core → Type 0
-CanStrike (came.Traps why) n s = (0 < n) × IsTopmost n s
-CanStrike (came.Fails i) n s = (0 < n) × IsTopmost n s
-CanStrike _ n s = Unit {0}
+abbrev pub CanUnwind : OpResult → ℕ → Core → Type 0
+CanUnwind (op_result.Traps why) n s = (0 < n) × IsTopmost n s
+CanUnwind (op_result.Fails i) n s = (0 < n) × IsTopmost n s
+CanUnwind _ n s = Unit {0}
 
 -- the same of a turn in which main has no part, whatever main is
-abbrev pub TurnedBeside : Component → (trap_on_idle : Bool) → Turn → StateView → Option Made → StateView → Type 0
+abbrev pub TurnedBeside : Component → (trap_on_idle : Bool) → Turn → StateView → Option MadeStep → StateView → Type 0
 TurnedBeside c b p s made t =
     (x : Setting) → x.component ≡ c → x.idle ≡ idle_line_of b → (m : Main) → PendsIn x s.core m p → Turned x p m s made m t
 
 -- nothing stood there and nothing is changed, or a step was made
-abbrev pub Took : Component → Bool → StateView → Option Made → StateView → Type 0
+abbrev pub Took : Component → Bool → StateView → Option MadeStep → StateView → Type 0
 Took c ended s None t = (next_entry s.core ≡ None) × (t ≡ s)
-Took c ended s (Some made) t = Makes c (turn.Take ended) s made t × IsFree made.turn
+Took c ended s (Some made) t = MakesStep c (turn.Take ended) s made t × IsFree made.turn

@@ -4,12 +4,12 @@ use Rattle.std.specs.Prelude.{Option, option_and_then, ℕ}
 use Rattle.task_machine.specs.declared.records.Entry.{Entry}
 use Rattle.task_machine.specs.declared.records.Turn.{Turn}
 use Rattle.task_machine.specs.declared.words.Mark.{Mark}
-use Rattle.task_words.specs.Groups.{some_if_known}
+use Rattle.task_words.specs.Groups.{some_if_tracked}
 use Rattle.task_words.specs.StateView.{StateView}
 
-abbrev pub known_worked : StateView → Turn → Option ℕ
-known_worked s p = option_and_then (some_if_known s.tags.known) (worked_group s.core p)
+abbrev pub tracked_worked_group : StateView → Turn → Option ℕ
+tracked_worked_group s p = option_and_then (some_if_tracked s.tags.tracked) (worked_group s.core p)
 
 -- that of the entry that is taken
-abbrev pub known_entry : Option (Mark × Entry) → StateView → Option ℕ
-known_entry e s = option_and_then (some_if_known s.tags.known) (entry_group e s.core)
+abbrev pub tracked_entry_group : Option (Mark × Entry) → StateView → Option ℕ
+tracked_entry_group e s = option_and_then (some_if_tracked s.tags.tracked) (entry_group e s.core)

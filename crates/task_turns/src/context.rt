@@ -4,14 +4,14 @@ ghost use Rattle.task_machine.specs.Maps.{get};
 ghost use Rattle.task_machine.specs.Read.{instance_of, position_of, registers_of};
 ghost use Rattle.task_machine.specs.declared.component.Component.{Component};
 ghost use Rattle.task_machine.specs.declared.records.Thread.{Thread};
-ghost use Rattle.task_rules.specs.Data.{data_row};
-ghost use Rattle.task_rules.specs.Progress.{Goes};
+ghost use Rattle.task_rules.specs.Data.{data_rule};
+ghost use Rattle.task_rules.specs.Progress.{Continues};
 ghost use Rattle.task_rules.specs.Scripts.{script_of, value_in};
 ghost use Rattle.task_turns.specs.Context.{KeepsBeside, in_context};
 ghost use Rattle.task_words.specs.StateView.{thread_of};
 
 use task_machine::{DataLabel, DataOp, Label, Operand};
-use task_words::{ThreadId, Words};
+use task_words::{ThreadId, Primitives};
 
 /// A thread's context: its place in its script, from 0, and its registers. A loop over ops works
 /// with it apart from the thread's record, and writes it back in the end.
@@ -22,7 +22,7 @@ pub struct ThreadContext {
 }
 
 /// The context of a thread.
-pub(crate) fn context_of<W: Words>(w: &W, thread: ThreadId) -> ThreadContext
+pub(crate) fn context_of<W: Primitives>(w: &W, thread: ThreadId) -> ThreadContext
     requires { 0 < thread_of (W.view w.now) thread }
     ensures position { result.position ≡ position_of (thread_of (W.view w.now) thread) (W.view w.now).core }
     ensures registers { result.registers ≡ registers_of (thread_of (W.view w.now) thread) (W.view w.now).core }
@@ -72,7 +72,7 @@ fn place_after(context: &ThreadContext, left: Operand, right: Operand, ops: u32,
 /// A thread that is there, of this instance and at this context before its script's end, does an op on registers
 /// and words. Its record keeps the context of before. It is inlined so that a label is made where it stands.
 #[inline(always)]
-pub(crate) fn computes_in<W: Words>(
+pub(crate) fn computes_in<W: Primitives>(
     w: &mut W,
     context: &mut ThreadContext,
     number: u64,
@@ -83,7 +83,7 @@ pub(crate) fn computes_in<W: Words>(
     requires there { (t : Thread) × (get (W.view w.old).core.threads number ≡ Some t) }
     requires instance { instance ≡ instance_of number (W.view w.old).core }
     requires before { context.old.position < end }
-    ensures row { (c : Component) → length (script_of c number (in_context number context.old (W.view w.old).core)) ≡ end → data_row c number (in_context number context.old (W.view w.old).core) op.now ≡ Goes (Label.Data result) (in_context number context.new (W.view w.new).core) number }
+    ensures row { (c : Component) → length (script_of c number (in_context number context.old (W.view w.old).core)) ≡ end → data_rule c number (in_context number context.old (W.view w.old).core) op.now ≡ Continues (Label.Data result) (in_context number context.new (W.view w.new).core) number }
     ensures beside { KeepsBeside (W.view w.old) (W.view w.new) }
 {
     match op {

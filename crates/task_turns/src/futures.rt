@@ -3,29 +3,29 @@ ghost use Rattle.std.specs.Prelude.{◌≡◌, ◌<◌, None, Some, true};
 ghost use Rattle.task_machine.specs.Core.{Main};
 ghost use Rattle.task_machine.specs.declared.component.Component.{Component};
 ghost use Rattle.task_machine.specs.declared.records.Subtask.TheVariants as subtasks;
-ghost use Rattle.task_ops.specs.Polled.{PolledTo, TellsPoll};
+ghost use Rattle.task_ops.specs.PolledWorks.{PolledTo, TellsPoll};
 ghost use Rattle.task_ops.specs.Works.{KeepsTold};
 ghost use Rattle.task_rules.specs.Stalled.{Setting, main_pends};
 ghost use Rattle.task_rules.specs.Works.{next_polled, poll_of};
-ghost use Rattle.task_turns.specs.Turn.{Makes, PendsIn};
+ghost use Rattle.task_turns.specs.Turn.{MakesStep, PendsIn};
 ghost use Rattle.task_words.specs.Apart.{IsBlockedUnqueued, work_entries};
 ghost use Rattle.task_words.specs.StateView.{work_of};
 
-use crate::made::Made;
+use crate::made::MadeStep;
 use crate::settles::{turn_after_end, turn_where};
 use task_machine::{Label, LoopLabel, Turn};
-use task_ops::{Polled, Told, poll_work};
-use task_words::{Words, WorkId};
+use task_ops::{Polled, PollNews, poll_work};
+use task_words::{Primitives, WorkId};
 
 /// The next live work past those with numbers up to `polled`, which has this number, was polled, and told this.
 #[inline(always)]
-pub(crate) fn step_poll<W: Words>(
+pub(crate) fn step_poll<W: Primitives>(
     w: &mut W,
     work: WorkId,
     number: u64,
     polled: u64,
-    told: Told,
-) -> Made
+    told: PollNews,
+) -> MadeStep
     requires live { 0 < number }
     requires number { number ≡ work_of (W.view w.old) work }
     requires next { next_polled polled (W.view w.old).core ≡ Some (work_of (W.view w.old) work) }
@@ -33,21 +33,21 @@ pub(crate) fn step_poll<W: Words>(
     requires current { (W.view w.old).current ≡ None }
     requires blocked { IsBlockedUnqueued (subtasks.Host (work_of (W.view w.old) work)) (W.view w.old).core }
     requires unqueued { work_entries (work_of (W.view w.old) work) (W.view w.old).core.queues.high ≡ 0 }
-    ensures makes { (c : Component) → Makes c (Turn.Futures polled) (W.view w.old) result (W.view w.new) }
+    ensures makes { (c : Component) → MakesStep c (Turn.Futures polled) (W.view w.old) result (W.view w.new) }
     ensures pends { (x : Setting) → (m : Main) → main_pends x (W.view w.old).core m ≡ true → PendsIn x (W.view w.new).core m result.turn }
     ensures core { PolledTo told (work_of (W.view w.old) work) (poll_of (work_of (W.view w.old) work) (W.view w.old).core) (W.view w.old).core (W.view w.new).core }
     ensures works { KeepsTold (W.view w.old) (W.view w.new) }
 {
     match poll_work(w, work, told) {
-        Polled::Pends { more } => Made {
+        Polled::Pends { more } => MadeStep {
             label: Label::Loop(LoopLabel::FuturePends(number)),
             turn: turn_where(number, more),
         },
-        Polled::Ends => Made {
+        Polled::Ends => MadeStep {
             label: Label::Loop(LoopLabel::FutureEnds(number)),
             turn: turn_after_end(w),
         },
-        Polled::Fails => Made {
+        Polled::Fails => MadeStep {
             label: Label::Loop(LoopLabel::FutureFails(number)),
             turn: Turn::Over,
         },

@@ -1,5 +1,5 @@
 //! What turns and the calls of a host keep in order, as laws.
-ghost use Rattle.task_turns.specs.Kept.{FinishInOrder, MadeInOrder, RefusalInOrder, StartInOrder};
+ghost use Rattle.task_turns.specs.KeptTurns.{FinishInOrder, MadeInOrder, RefusalInOrder, StartInOrder};
 
 /// A step that was made from a state in order leads to one.
 pub fn made_in_order()

@@ -4,37 +4,37 @@ ghost use Rattle.task_ops.specs.Steps.{core_after, label_of, turn_after};
 ghost use Rattle.task_ops.specs.Running.{IsTopmost};
 ghost use Rattle.task_ops.specs.Works.{KeepsTold};
 ghost use Rattle.task_rules.specs.Outcome.{last_outcome, outcome_of_label};
-ghost use Rattle.task_rules.specs.Step.{struck};
-ghost use Rattle.task_turns.specs.Stepped.{Shown, Stands, stepped_by};
-ghost use Rattle.task_turns.specs.Turn.{CanStrike, GoesOn, is_going, is_open, running_of, runs_in};
+ghost use Rattle.task_rules.specs.Step.{unwound};
+ghost use Rattle.task_turns.specs.StepResult.{Shown, Stands, stepped_by};
+ghost use Rattle.task_turns.specs.Turn.{CanUnwind, OpGoesOn, is_going, is_open, running_of, runs_in};
 ghost use Rattle.task_words.specs.StateView.{thread_of};
 
 use label_trace::PackedLabels;
 use task_machine::{
     CallLabel, HostDef, Label, LoopLabel, MainLabel, NoMemory, Outcome, Trap, Turn,
 };
-use task_ops::{Came, strike};
-use task_words::{ThreadId, Words, WorkId};
+use task_ops::{OpResult, strike};
+use task_words::{ThreadId, Primitives, WorkId};
 
 /// A step that was made: its label, and whose turn it is then.
 #[derive(Clone, Copy)]
-pub struct Made {
+pub struct MadeStep {
     pub label: Label,
     pub turn: Turn,
 }
 
 /// A step that was made, whose label is in the trace.
 #[derive(Clone, Copy)]
-pub enum Stepped {
+pub enum StepResult {
     /// Whose turn it is then. `computed` says that the step did an op on registers and words, which another seems to follow.
-    Goes { turn: Turn, computed: bool },
+    Continues { turn: Turn, computed: bool },
     /// The run is over.
     Over(Outcome),
 }
 
 /// The same in two registers, as an answer of a function that isn't inlined: without the outcome, which the label gives.
 #[derive(Clone, Copy)]
-pub(crate) enum Brief {
+pub(crate) enum PackedStep {
     /// No entry stood, and nothing was made.
     Nothing,
     /// Main's turn comes.
@@ -52,7 +52,7 @@ pub(crate) enum Brief {
 /// A step of the running thread that was made: the host that was polled first in it, and the work that was made.
 #[derive(Clone, Copy)]
 pub struct Ran {
-    pub made: Made,
+    pub made: MadeStep,
     pub polled: Option<HostDef>,
     pub work: Option<WorkId>,
 }
@@ -61,7 +61,7 @@ pub struct Ran {
 #[derive(Clone, Copy)]
 pub enum RunStep {
     /// It was made, polled no host, and its label is in the trace.
-    Shown(Stepped),
+    Shown(StepResult),
     /// Its op calls a host, and isn't done.
     Calls,
 }
@@ -82,7 +82,7 @@ fn outcome_of(label: Label) -> Option<Outcome>
 
 /// Adds the label of a step that was made to the trace. Where memory is wanting, nothing is added.
 #[inline(always)]
-pub fn put(trace: &mut PackedLabels, made: Made) -> Result<Stepped, NoMemory>
+pub fn put(trace: &mut PackedLabels, made: MadeStep) -> Result<StepResult, NoMemory>
     requires over { is_none (outcome_of_label made.label) ≡ is_open made.turn }
     ensures stands { IfOk result (λ stepped. Stands stepped trace.old made trace.new) }
     ensures err { OnErr result (trace.new ≡ trace.old) }
@@ -92,13 +92,13 @@ pub fn put(trace: &mut PackedLabels, made: Made) -> Result<Stepped, NoMemory>
     };
     // The label is looked at only where the run is over.
     let Turn::Over = made.turn else {
-        return Ok(Stepped::Goes {
+        return Ok(StepResult::Continues {
             turn: made.turn,
             computed: false,
         });
     };
     match outcome_of(made.label) {
-        Some(outcome) => Ok(Stepped::Over(outcome)),
+        Some(outcome) => Ok(StepResult::Over(outcome)),
         None => unreachable!(),
     }
 }
@@ -117,34 +117,34 @@ fn last_outcome(trace: &PackedLabels) -> Option<Outcome>
 
 // The step after which the run is over. It is inlined, so that what this needs in memory is made where a run is over.
 #[inline(always)]
-fn over_by(brief: Brief, trace: &PackedLabels) -> Option<Stepped>
-    ensures over { brief ≡ Brief.Over → result ≡ option_map (λ outcome. Stepped.Over outcome) (last_outcome trace.now) }
-    ensures none { brief ≢ Brief.Over → result ≡ None }
+fn over_by(brief: PackedStep, trace: &PackedLabels) -> Option<StepResult>
+    ensures over { brief ≡ PackedStep.Over → result ≡ option_map (λ outcome. StepResult.Over outcome) (last_outcome trace.now) }
+    ensures none { brief ≢ PackedStep.Over → result ≡ None }
 {
-    let Brief::Over = brief else {
+    let PackedStep::Over = brief else {
         return None;
     };
     match last_outcome(trace) {
-        Some(outcome) => Some(Stepped::Over(outcome)),
+        Some(outcome) => Some(StepResult::Over(outcome)),
         None => None,
     }
 }
 
 /// The step that was made, whose label is the last one in the trace. None where nothing stood, and where memory was wanting.
 #[inline(always)]
-pub(crate) fn stepped_by(brief: Brief, trace: &PackedLabels) -> Option<Stepped>
+pub(crate) fn stepped_by(brief: PackedStep, trace: &PackedLabels) -> Option<StepResult>
     ensures { result ≡ stepped_by brief trace.now }
 {
     match brief {
-        Brief::Stops => Some(Stepped::Goes {
+        PackedStep::Stops => Some(StepResult::Continues {
             turn: Turn::Main,
             computed: false,
         }),
-        Brief::Runs(thread) => Some(Stepped::Goes {
+        PackedStep::Runs(thread) => Some(StepResult::Continues {
             turn: Turn::Run { thread },
             computed: false,
         }),
-        Brief::Computes(thread) => Some(Stepped::Goes {
+        PackedStep::Computes(thread) => Some(StepResult::Continues {
             turn: Turn::Run { thread },
             computed: true,
         }),
@@ -154,31 +154,31 @@ pub(crate) fn stepped_by(brief: Brief, trace: &PackedLabels) -> Option<Stepped>
 
 /// Adds the label of a step after which main's turn comes. Where memory is wanting, nothing is added.
 #[inline(always)]
-pub(crate) fn put_stop(trace: &mut PackedLabels, made: Made) -> Brief
+pub(crate) fn put_stop(trace: &mut PackedLabels, made: MadeStep) -> PackedStep
     requires over { is_none (outcome_of_label made.label) ≡ is_open made.turn }
     requires turn { made.turn ≡ Turn.Main }
     ensures stands { IfSome (stepped_by result trace.new) (λ stepped. Stands stepped trace.old made trace.new) }
     ensures err { IfNone (stepped_by result trace.new) (trace.new ≡ trace.old) }
-    ensures made { result ≢ Brief.Nothing }
+    ensures made { result ≢ PackedStep.Nothing }
 {
     let Ok(()) = trace.push(made.label) else {
-        return Brief::Full;
+        return PackedStep::Full;
     };
-    Brief::Stops
+    PackedStep::Stops
 }
 
 // The strand of the thread is gone, and none runs.
-fn fell<W: Words>(w: &mut W, thread: ThreadId, label: Label) -> Made
+fn fell<W: Primitives>(w: &mut W, thread: ThreadId, label: Label) -> MadeStep
     requires live { 0 < thread_of (W.view w.old) thread }
     requires top { IsTopmost (thread_of (W.view w.old) thread) (W.view w.old).core }
-    ensures core { (W.view w.new).core ≡ struck (thread_of (W.view w.old) thread) (W.view w.old).core }
+    ensures core { (W.view w.new).core ≡ unwound (thread_of (W.view w.old) thread) (W.view w.old).core }
     ensures current { (W.view w.new).current ≡ None }
     ensures made { result ≡ record { label = label; turn = Turn.Over } }
     ensures works { KeepsTold (W.view w.old) (W.view w.new) }
 {
     strike(w, thread);
     w.set_current(None);
-    Made {
+    MadeStep {
         label,
         turn: Turn::Over,
     }
@@ -186,34 +186,34 @@ fn fell<W: Words>(w: &mut W, thread: ThreadId, label: Label) -> Made
 
 /// What an op that came to this shows. A strand that trapped is taken away.
 #[inline(always)]
-pub(crate) fn made_of<W: Words>(w: &mut W, thread: ThreadId, came: Came) -> Made
-    requires strikes { CanStrike came (thread_of (W.view w.old) thread) (W.view w.old).core }
-    requires goes { GoesOn came (W.view w.old) }
-    ensures core { (W.view w.new).core ≡ core_after (thread_of (W.view w.old) thread) came (W.view w.old).core }
+pub(crate) fn made_of<W: Primitives>(w: &mut W, thread: ThreadId, op_result: OpResult) -> MadeStep
+    requires unwinds { CanUnwind op_result (thread_of (W.view w.old) thread) (W.view w.old).core }
+    requires goes { OpGoesOn op_result (W.view w.old) }
+    ensures core { (W.view w.new).core ≡ core_after (thread_of (W.view w.old) thread) op_result (W.view w.old).core }
     ensures running { running_of (W.view w.new) ≡ runs_in result.turn }
-    ensures tags { is_going came ≡ true → (W.view w.new).tags ≡ (W.view w.old).tags }
-    ensures label { result.label ≡ label_of (thread_of (W.view w.old) thread) came }
-    ensures turn { result.turn ≡ turn_after came }
+    ensures tags { is_going op_result ≡ true → (W.view w.new).tags ≡ (W.view w.old).tags }
+    ensures label { result.label ≡ label_of (thread_of (W.view w.old) thread) op_result }
+    ensures turn { result.turn ≡ turn_after op_result }
     ensures over { is_none (outcome_of_label result.label) ≡ is_open result.turn }
     ensures works { KeepsTold (W.view w.old) (W.view w.new) }
 {
-    match came {
-        Came::Goes(label, next, _) => Made {
+    match op_result {
+        OpResult::Continues(label, next, _) => MadeStep {
             label,
             turn: Turn::Run { thread: next },
         },
-        Came::Stops(label) => {
+        OpResult::Stops(label) => {
             w.set_current(None);
-            Made {
+            MadeStep {
                 label,
                 turn: Turn::Main,
             }
         }
-        Came::Traps(trap) => {
+        OpResult::Traps(trap) => {
             let number = w.number(thread);
             fell(w, thread, Label::Loop(LoopLabel::Trap(trap, number)))
         }
-        Came::Fails(work) => {
+        OpResult::Fails(work) => {
             let number = w.number(thread);
             fell(w, thread, Label::Call(CallLabel::Fails(number, work)))
         }
@@ -224,77 +224,77 @@ pub(crate) fn made_of<W: Words>(w: &mut W, thread: ThreadId, came: Came) -> Made
 // rare.
 #[cold]
 #[inline(never)]
-fn show_fall<W: Words>(w: &mut W, thread: ThreadId, trace: &mut PackedLabels, came: Came) -> Brief
-    requires strikes { CanStrike came (thread_of (W.view w.old) thread) (W.view w.old).core }
-    requires goes { GoesOn came (W.view w.old) }
-    requires falls { turn_after came ≡ Turn.Over }
-    ensures shown { IfSome (stepped_by result trace.new) (λ stepped. Shown thread came (W.view w.old) trace.old stepped (W.view w.new) trace.new) }
+fn show_unwind<W: Primitives>(w: &mut W, thread: ThreadId, trace: &mut PackedLabels, op_result: OpResult) -> PackedStep
+    requires unwinds { CanUnwind op_result (thread_of (W.view w.old) thread) (W.view w.old).core }
+    requires goes { OpGoesOn op_result (W.view w.old) }
+    requires falls { turn_after op_result ≡ Turn.Over }
+    ensures shown { IfSome (stepped_by result trace.new) (λ stepped. Shown thread op_result (W.view w.old) trace.old stepped (W.view w.new) trace.new) }
     ensures works { KeepsTold (W.view w.old) (W.view w.new) }
     ensures err { IfNone (stepped_by result trace.new) (trace.new ≡ trace.old) }
-    ensures made { result ≢ Brief.Nothing }
+    ensures made { result ≢ PackedStep.Nothing }
 {
-    let made = made_of(w, thread, came);
+    let made = made_of(w, thread, op_result);
     let Ok(()) = trace.push(made.label) else {
-        return Brief::Full;
+        return PackedStep::Full;
     };
-    Brief::Over
+    PackedStep::Over
 }
 
 // Adds what a trap shows to the trace. It is inlined, so that what a trap needs in memory is made where one comes.
 #[inline(always)]
-fn show_trap<W: Words>(w: &mut W, thread: ThreadId, trace: &mut PackedLabels, trap: Trap) -> Brief
-    requires strikes { CanStrike (Came.Traps trap) (thread_of (W.view w.old) thread) (W.view w.old).core }
-    requires goes { GoesOn (Came.Traps trap) (W.view w.old) }
-    ensures shown { IfSome (stepped_by result trace.new) (λ stepped. Shown thread (Came.Traps trap) (W.view w.old) trace.old stepped (W.view w.new) trace.new) }
+fn show_trap<W: Primitives>(w: &mut W, thread: ThreadId, trace: &mut PackedLabels, trap: Trap) -> PackedStep
+    requires unwinds { CanUnwind (OpResult.Traps trap) (thread_of (W.view w.old) thread) (W.view w.old).core }
+    requires goes { OpGoesOn (OpResult.Traps trap) (W.view w.old) }
+    ensures shown { IfSome (stepped_by result trace.new) (λ stepped. Shown thread (OpResult.Traps trap) (W.view w.old) trace.old stepped (W.view w.new) trace.new) }
     ensures works { KeepsTold (W.view w.old) (W.view w.new) }
     ensures err { IfNone (stepped_by result trace.new) (trace.new ≡ trace.old) }
-    ensures made { result ≢ Brief.Nothing }
+    ensures made { result ≢ PackedStep.Nothing }
 {
-    show_fall(w, thread, trace, Came::Traps(trap))
+    show_unwind(w, thread, trace, OpResult::Traps(trap))
 }
 
 // The same of a host that failed.
 #[inline(always)]
-fn show_failure<W: Words>(w: &mut W, thread: ThreadId, trace: &mut PackedLabels, work: u64) -> Brief
-    requires strikes { CanStrike (Came.Fails work) (thread_of (W.view w.old) thread) (W.view w.old).core }
-    requires goes { GoesOn (Came.Fails work) (W.view w.old) }
-    ensures shown { IfSome (stepped_by result trace.new) (λ stepped. Shown thread (Came.Fails work) (W.view w.old) trace.old stepped (W.view w.new) trace.new) }
+fn show_failure<W: Primitives>(w: &mut W, thread: ThreadId, trace: &mut PackedLabels, work: u64) -> PackedStep
+    requires unwinds { CanUnwind (OpResult.Fails work) (thread_of (W.view w.old) thread) (W.view w.old).core }
+    requires goes { OpGoesOn (OpResult.Fails work) (W.view w.old) }
+    ensures shown { IfSome (stepped_by result trace.new) (λ stepped. Shown thread (OpResult.Fails work) (W.view w.old) trace.old stepped (W.view w.new) trace.new) }
     ensures works { KeepsTold (W.view w.old) (W.view w.new) }
     ensures err { IfNone (stepped_by result trace.new) (trace.new ≡ trace.old) }
-    ensures made { result ≢ Brief.Nothing }
+    ensures made { result ≢ PackedStep.Nothing }
 {
-    show_fall(w, thread, trace, Came::Fails(work))
+    show_unwind(w, thread, trace, OpResult::Fails(work))
 }
 
 /// Adds what an op that came to this shows to the trace. A strand that trapped is taken away. `computed` says that
 /// the op was on registers and words, and another seems to follow. It is inlined, so that a label is packed where it is made.
 #[inline(always)]
-pub(crate) fn show<W: Words>(
+pub(crate) fn show<W: Primitives>(
     w: &mut W,
     thread: ThreadId,
     trace: &mut PackedLabels,
-    came: Came,
+    op_result: OpResult,
     computed: bool,
-) -> Brief
-    requires strikes { CanStrike came (thread_of (W.view w.old) thread) (W.view w.old).core }
-    requires goes { GoesOn came (W.view w.old) }
-    ensures shown { IfSome (stepped_by result trace.new) (λ stepped. Shown thread came (W.view w.old) trace.old stepped (W.view w.new) trace.new) }
+) -> PackedStep
+    requires unwinds { CanUnwind op_result (thread_of (W.view w.old) thread) (W.view w.old).core }
+    requires goes { OpGoesOn op_result (W.view w.old) }
+    ensures shown { IfSome (stepped_by result trace.new) (λ stepped. Shown thread op_result (W.view w.old) trace.old stepped (W.view w.new) trace.new) }
     ensures works { KeepsTold (W.view w.old) (W.view w.new) }
     ensures err { IfNone (stepped_by result trace.new) (trace.new ≡ trace.old) }
-    ensures made { result ≢ Brief.Nothing }
+    ensures made { result ≢ PackedStep.Nothing }
 {
-    let (label, answer) = match came {
-        Came::Goes(label, next, _) if computed => (label, Brief::Computes(next)),
-        Came::Goes(label, next, _) => (label, Brief::Runs(next)),
-        Came::Stops(label) => {
+    let (label, answer) = match op_result {
+        OpResult::Continues(label, next, _) if computed => (label, PackedStep::Computes(next)),
+        OpResult::Continues(label, next, _) => (label, PackedStep::Runs(next)),
+        OpResult::Stops(label) => {
             w.set_current(None);
-            (label, Brief::Stops)
+            (label, PackedStep::Stops)
         }
-        Came::Traps(trap) => return show_trap(w, thread, trace, trap),
-        Came::Fails(work) => return show_failure(w, thread, trace, work),
+        OpResult::Traps(trap) => return show_trap(w, thread, trace, trap),
+        OpResult::Fails(work) => return show_failure(w, thread, trace, work),
     };
     let Ok(()) = trace.push(label) else {
-        return Brief::Full;
+        return PackedStep::Full;
     };
     answer
 }

@@ -7,10 +7,10 @@ ghost use Rattle.task_turns.specs.Main.{Steps};
 ghost use Rattle.task_turns.specs.Turn.{Turns, running_of};
 ghost use Rattle.task_words.specs.StateView.{StateView};
 
-use crate::made::Made;
+use crate::made::MadeStep;
 use crate::settles::turn_where;
 use task_machine::{Label, LoopLabel, MainLabel, Turn};
-use task_words::Words;
+use task_words::Primitives;
 
 /// What main's next op came to.
 #[derive(Clone, Copy)]
@@ -25,21 +25,21 @@ pub enum MainStep {
 
 /// What main's step shows, in the state that it has left. Where main waits, the live works are polled, or else an
 /// entry is taken.
-pub fn made_by_main<W: Words>(w: &W, step: MainStep) -> Made
+pub fn made_by_main<W: Primitives>(w: &W, step: MainStep) -> MadeStep
     requires { running_of (W.view w.now) ≡ None }
     ensures label { result.label ≡ label_of_step step }
     ensures turns { (x : Setting) → (m new : Main) → (s : StateView) → Steps x.component x.script m s.core step new (W.view w.now).core → Turns x Turn.Main m s result new (W.view w.now) }
 {
     match step {
-        MainStep::Did(label) => Made {
+        MainStep::Did(label) => MadeStep {
             label,
             turn: Turn::Main,
         },
-        MainStep::Pends => Made {
+        MainStep::Pends => MadeStep {
             label: Label::Loop(LoopLabel::MainPends),
             turn: turn_where(0, w.next_polled(0).is_some()),
         },
-        MainStep::Answer(value) => Made {
+        MainStep::Answer(value) => MadeStep {
             label: Label::Main(MainLabel::Answer(value)),
             turn: Turn::Over,
         },

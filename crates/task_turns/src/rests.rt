@@ -6,26 +6,26 @@ ghost use Rattle.task_ops.specs.Works.{KeepsTold};
 ghost use Rattle.task_rules.specs.Outcome.{outcome_of_label};
 ghost use Rattle.task_rules.specs.Stalled.{Setting, main_pends, works_rest};
 ghost use Rattle.task_rules.specs.Works.{has_live_work, has_moving_work};
-ghost use Rattle.task_turns.specs.Turn.{Sits, Turns, is_open};
+ghost use Rattle.task_turns.specs.Turn.{CoreInOrder, Turns, is_open};
 
-use crate::made::Made;
+use crate::made::MadeStep;
 use task_machine::{IdleLine, Label, LoopLabel, Turn};
 use task_ops::deadlock;
-use task_words::Words;
+use task_words::Primitives;
 
 /// Nothing can go on, no work is live, and main waits: the store is trapped.
-pub(crate) fn step_deadlock<W: Words>(w: &mut W) -> Made
+pub(crate) fn step_deadlock<W: Primitives>(w: &mut W) -> MadeStep
     requires current { (W.view w.old).current ≡ None }
     requires none { next_entry (W.view w.old).core ≡ None }
     requires moving { has_moving_work (W.view w.old).core ≡ false }
     requires live { has_live_work (W.view w.old).core ≡ false }
     requires rest { works_rest (W.view w.old).core ≡ true }
-    ensures turns { (x : Setting) → Sits x.component (Turn.Take false) (W.view w.old).core → x.idle ≡ IdleLine.Trap → (m : Main) → main_pends x (W.view w.old).core m ≡ true → Turns x (Turn.Take false) m (W.view w.old) result m (W.view w.new) }
+    ensures turns { (x : Setting) → CoreInOrder x.component (Turn.Take false) (W.view w.old).core → x.idle ≡ IdleLine.Trap → (m : Main) → main_pends x (W.view w.old).core m ≡ true → Turns x (Turn.Take false) m (W.view w.old) result m (W.view w.new) }
     ensures over { is_none (outcome_of_label result.label) ≡ is_open result.turn }
     ensures current { (W.view w.new).current ≡ None }
     ensures works { KeepsTold (W.view w.old) (W.view w.new) }
 {
-    Made {
+    MadeStep {
         label: Label::Loop(deadlock(w)),
         turn: Turn::Over,
     }

@@ -4,30 +4,30 @@ ghost use Rattle.op_dispatch.specs.Polls.{polled_host};
 ghost use Rattle.op_dispatch.specs.Runner.{Runner};
 ghost use Rattle.std.specs.Prelude.{◌≡◌, ◌+◌, ◌<◌, ◌^◌, IfNone, IfOk, IfSome, OnErr, OnOk, OnSome, Some, is_some, true};
 ghost use Rattle.task_machine.specs.Maps.{get};
-ghost use Rattle.task_machine.specs.Read.{how_far_of, instance_of, position_of};
+ghost use Rattle.task_machine.specs.Read.{op_progress_of, instance_of, position_of};
 ghost use Rattle.task_machine.specs.declared.component.Component.{Component};
 ghost use Rattle.task_machine.specs.declared.op.Op.TheVariants as ops;
 ghost use Rattle.task_machine.specs.declared.op.TaskOp.TheVariants as task_ops;
 ghost use Rattle.task_ops.specs.Works.{KeepsTold, NamesTold};
 ghost use Rattle.task_rules.specs.Scripts.{op_of};
-ghost use Rattle.task_turns.specs.Ran.{DidHere, MakesFew, RanPolls, StandsBefore, WantsMemory, WorkMade, row_of};
-ghost use Rattle.task_turns.specs.Stepped.{CallsHost, RowRan, RowShown, RowStep, RunAdded, Shown, StepPolls, stepped_by};
-ghost use Rattle.task_turns.specs.Turn.{CanStrike, GoesOn, IsFree, Makes, Sits, given, running_of};
+ghost use Rattle.task_turns.specs.Ran.{DidHere, MakesFew, RanPolls, StandsBefore, WantsMemory, WorkMade, scripted_rule_of};
+ghost use Rattle.task_turns.specs.StepResult.{CallsHost, RuleRan, RuleShown, RuleStep, RunAdded, Shown, StepPolls, stepped_by};
+ghost use Rattle.task_turns.specs.Turn.{CanUnwind, OpGoesOn, IsFree, MakesStep, CoreInOrder, given, running_of};
 ghost use Rattle.task_turns.specs.WellFormed.{IsWellFormed};
 ghost use Rattle.task_words.specs.StateView.{thread_of};
 
-use crate::made::{Brief, Ran, RunStep, made_of, show, stepped_by};
+use crate::made::{PackedStep, Ran, RunStep, made_of, show, stepped_by};
 use label_trace::PackedLabels;
 use op_dispatch::{
     Done, do_host_call, do_op, do_plain_op, exit, finish, is_host_call, op_at, script_ops,
 };
 use task_machine::{Component, DataOp, HostPoll, Label, NoMemory, Op, TaskLabel, Turn};
-use task_ops::{Came, compute};
-use task_words::{ThreadId, Words};
+use task_ops::{OpResult, compute};
+use task_words::{ThreadId, Primitives};
 
 /// The running thread does the op at its place; it exits at its script's end. An open host that it polls first has answered
 /// so. Memory is wanting only for an op that may take some, and then all is as before.
-pub fn run_op<W: Words>(
+pub fn run_op<W: Primitives>(
     component: &Component,
     w: &mut W,
     thread: ThreadId,
@@ -46,7 +46,7 @@ pub fn run_op<W: Words>(
     match op_at(body, point.position) {
         Some(op) => do_op(component, w, thread, op, body.len() as u32, answer),
         None => Ok(Done {
-            came: exit(w, thread),
+            op_result: exit(w, thread),
             polled: None,
             work: None,
         }),
@@ -55,7 +55,7 @@ pub fn run_op<W: Words>(
 
 // An op of the thread's script on registers and words is done. `more` says that another seems to follow.
 #[inline(never)]
-fn run_data<W: Words>(
+fn run_data<W: Primitives>(
     component: &Component,
     w: &mut W,
     thread: ThreadId,
@@ -63,10 +63,10 @@ fn run_data<W: Words>(
     end: u32,
     trace: &mut PackedLabels,
     more: bool,
-) -> Brief
+) -> PackedStep
     requires runner { Runner thread (W.view w.old) }
     requires within { StandsBefore end component.now (thread_of (W.view w.old) thread) (W.view w.old).core }
-    ensures shown { IfSome (stepped_by result trace.new) (λ stepped. RowShown (row_of component.now (ops.Data op.now) thread (W.view w.old)) thread (W.view w.old) trace.old stepped (W.view w.new) trace.new) }
+    ensures shown { IfSome (stepped_by result trace.new) (λ stepped. RuleShown (scripted_rule_of component.now (ops.Data op.now) thread (W.view w.old)) thread (W.view w.old) trace.old stepped (W.view w.new) trace.new) }
     ensures works { OnSome (stepped_by result trace.new) (KeepsTold (W.view w.old) (W.view w.new)) }
     ensures err { IfNone (stepped_by result trace.new) (trace.new ≡ trace.old) }
 {
@@ -76,19 +76,19 @@ fn run_data<W: Words>(
         0 => unreachable!(),
         _ => {}
     }
-    let came = compute(w, thread, *op, end);
-    show(w, thread, trace, came, more)
+    let op_result = compute(w, thread, *op, end);
+    show(w, thread, trace, op_result, more)
 }
 
 // Another op of the thread's script that calls no host is done and ended. It is out of line, so that its ops are there once.
 #[inline(never)]
-fn run_plain<W: Words>(
+fn run_plain<W: Primitives>(
     component: &Component,
     w: &mut W,
     thread: ThreadId,
     op: &Op,
     trace: &mut PackedLabels,
-) -> Brief
+) -> PackedStep
     requires runner { Runner thread (W.view w.old) }
     requires plain { is_plain op.now ≡ true }
     requires fits { op_fits component.now op.now ≡ true }
@@ -96,7 +96,7 @@ fn run_plain<W: Words>(
     requires position { position_of (thread_of (W.view w.old) thread) (W.view w.old).core + 1 < 2 ^ 32 }
     requires handles { is_some (get (W.view w.old).core.handles (instance_of (thread_of (W.view w.old) thread) (W.view w.old).core)) ≡ true }
     requires few { given (W.view w.old).core < 2 ^ 61 }
-    ensures shown { IfSome (stepped_by result trace.new) (λ stepped. RowShown (row_of component.now op.now thread (W.view w.old)) thread (W.view w.old) trace.old stepped (W.view w.new) trace.new) }
+    ensures shown { IfSome (stepped_by result trace.new) (λ stepped. RuleShown (scripted_rule_of component.now op.now thread (W.view w.old)) thread (W.view w.old) trace.old stepped (W.view w.new) trace.new) }
     ensures works { OnSome (stepped_by result trace.new) (NamesTold (W.view w.old) (W.view w.new)) }
     ensures err { IfNone (stepped_by result trace.new) (trace.new ≡ trace.old) }
 {
@@ -105,44 +105,44 @@ fn run_plain<W: Words>(
         0 => unreachable!(),
         _ => {}
     }
-    let Ok(came) = do_plain_op(component, w, thread, op) else {
-        return Brief::Full;
+    let Ok(op_result) = do_plain_op(component, w, thread, op) else {
+        return PackedStep::Full;
     };
-    finish(w, thread, op, came);
-    show(w, thread, trace, came, false)
+    finish(w, thread, op, op_result);
+    show(w, thread, trace, op_result, false)
 }
 
 // The same as `show`. The exit of a thread that wakes none is told apart from the other labels, as most exits are so.
 #[inline(always)]
-fn show_exit<W: Words>(w: &mut W, thread: ThreadId, trace: &mut PackedLabels, came: Came) -> Brief
-    requires strikes { CanStrike came (thread_of (W.view w.old) thread) (W.view w.old).core }
-    requires goes { GoesOn came (W.view w.old) }
-    ensures shown { IfSome (stepped_by result trace.new) (λ stepped. Shown thread came (W.view w.old) trace.old stepped (W.view w.new) trace.new) }
+fn show_exit<W: Primitives>(w: &mut W, thread: ThreadId, trace: &mut PackedLabels, op_result: OpResult) -> PackedStep
+    requires unwinds { CanUnwind op_result (thread_of (W.view w.old) thread) (W.view w.old).core }
+    requires goes { OpGoesOn op_result (W.view w.old) }
+    ensures shown { IfSome (stepped_by result trace.new) (λ stepped. Shown thread op_result (W.view w.old) trace.old stepped (W.view w.new) trace.new) }
     ensures works { KeepsTold (W.view w.old) (W.view w.new) }
     ensures err { IfNone (stepped_by result trace.new) (trace.new ≡ trace.old) }
 {
-    if let Came::Goes(Label::Task(TaskLabel::Exit(number)), next, answer) = came {
-        let came = Came::Goes(Label::Task(TaskLabel::Exit(number)), next, answer);
-        return show(w, thread, trace, came, false);
+    if let OpResult::Continues(Label::Task(TaskLabel::Exit(number)), next, answer) = op_result {
+        let op_result = OpResult::Continues(Label::Task(TaskLabel::Exit(number)), next, answer);
+        return show(w, thread, trace, op_result, false);
     }
-    show(w, thread, trace, came, false)
+    show(w, thread, trace, op_result, false)
 }
 
 // The thread exits at its script's end.
 #[inline(never)]
-fn run_exit<W: Words>(w: &mut W, thread: ThreadId, trace: &mut PackedLabels) -> Brief
+fn run_exit<W: Primitives>(w: &mut W, thread: ThreadId, trace: &mut PackedLabels) -> PackedStep
     requires runner { Runner thread (W.view w.old) }
-    ensures shown { IfSome (stepped_by result trace.new) (λ stepped. (c : Component) → RowShown (row_of c (ops.Task task_ops.Exit) thread (W.view w.old)) thread (W.view w.old) trace.old stepped (W.view w.new) trace.new) }
+    ensures shown { IfSome (stepped_by result trace.new) (λ stepped. (c : Component) → RuleShown (scripted_rule_of c (ops.Task task_ops.Exit) thread (W.view w.old)) thread (W.view w.old) trace.old stepped (W.view w.new) trace.new) }
     ensures works { OnSome (stepped_by result trace.new) (KeepsTold (W.view w.old) (W.view w.new)) }
     ensures err { IfNone (stepped_by result trace.new) (trace.new ≡ trace.old) }
 {
-    let came = exit(w, thread);
-    show_exit(w, thread, trace, came)
+    let op_result = exit(w, thread);
+    show_exit(w, thread, trace, op_result)
 }
 
 // The op of the thread's script, which ends at `end`, is a call of a host. It is done and ended.
 #[inline(never)]
-fn run_host<W: Words>(
+fn run_host<W: Primitives>(
     component: &Component,
     w: &mut W,
     thread: ThreadId,
@@ -154,17 +154,17 @@ fn run_host<W: Words>(
     requires calls { calls_host op.now ≡ true }
     requires within { position_of (thread_of (W.view w.old) thread) (W.view w.old).core < end }
     requires few { given (W.view w.old).core < 2 ^ 61 }
-    ensures ran { IfOk result (λ ran. RowRan (row_of component.now op.now thread (W.view w.old)) thread (W.view w.old) ran.made (W.view w.new)) }
-    ensures polled { IfOk result (λ ran. ran.polled ≡ polled_host component.now (how_far_of (thread_of (W.view w.old) thread) (W.view w.old).core) op.now) }
+    ensures ran { IfOk result (λ ran. RuleRan (scripted_rule_of component.now op.now thread (W.view w.old)) thread (W.view w.old) ran.made (W.view w.new)) }
+    ensures polled { IfOk result (λ ran. ran.polled ≡ polled_host component.now (op_progress_of (thread_of (W.view w.old) thread) (W.view w.old).core) op.now) }
     ensures work { IfOk result (λ ran. WorkMade answer ran.polled ran.work (W.view w.old) (W.view w.new)) }
     ensures works { OnOk result (NamesTold (W.view w.old) (W.view w.new)) }
 {
     let _end = end;
     let Op::Call(call) = op else { unreachable!() };
     let done = do_host_call(component, w, thread, call, answer)?;
-    finish(w, thread, op, done.came);
+    finish(w, thread, op, done.op_result);
     Ok(Ran {
-        made: made_of(w, thread, done.came),
+        made: made_of(w, thread, done.op_result),
         polled: done.polled,
         work: done.work,
     })
@@ -174,7 +174,7 @@ fn run_host<W: Words>(
 // After an op on registers and words it is seen whether the next one is such an op too, so that others aren't looked for in
 // vain.
 #[inline(always)]
-fn run_by<W: Words>(
+fn run_by<W: Primitives>(
     component: &Component,
     w: &mut W,
     thread: ThreadId,
@@ -190,8 +190,8 @@ fn run_by<W: Words>(
     requires within { StandsBefore end component.now (thread_of (W.view w.old) thread) (W.view w.old).core }
     requires handles { is_some (get (W.view w.old).core.handles (instance_of (thread_of (W.view w.old) thread) (W.view w.old).core)) ≡ true }
     requires few { given (W.view w.old).core < 2 ^ 61 }
-    ensures step { IfOk result (λ step. RowStep (row_of component.now op.now thread (W.view w.old)) thread (W.view w.old) trace.old step (W.view w.new) trace.new) }
-    ensures polls { IfOk result (λ step. StepPolls (polled_host component.now (how_far_of (thread_of (W.view w.old) thread) (W.view w.old).core) op.now) op.now step) }
+    ensures step { IfOk result (λ step. RuleStep (scripted_rule_of component.now op.now thread (W.view w.old)) thread (W.view w.old) trace.old step (W.view w.new) trace.new) }
+    ensures polls { IfOk result (λ step. StepPolls (polled_host component.now (op_progress_of (thread_of (W.view w.old) thread) (W.view w.old).core) op.now) op.now step) }
     ensures works { OnOk result (NamesTold (W.view w.old) (W.view w.new)) }
     ensures err { OnErr result (trace.new ≡ trace.old) }
 {
@@ -219,17 +219,17 @@ fn run_by<W: Words>(
 /// host nothing is done, since that is asked for by `step_call`. Where memory is wanting, nothing is added, and nothing is
 /// said of the state.
 #[inline(always)]
-pub fn step_run<W: Words>(
+pub fn step_run<W: Primitives>(
     component: &Component,
     w: &mut W,
     number: u64,
     trace: &mut PackedLabels,
 ) -> Result<RunStep, NoMemory>
     requires covered { IsWellFormed component.now }
-    requires order { Sits component.now (Turn.Run number) (W.view w.old).core }
+    requires order { CoreInOrder component.now (Turn.Run number) (W.view w.old).core }
     requires runs { running_of (W.view w.old) ≡ Some number }
     requires few { given (W.view w.old).core < 2 ^ 61 }
-    ensures ran { IfOk result (λ step. RunAdded (λ ran. (Makes component.now (Turn.Run number) (W.view w.old) ran.made (W.view w.new) × IsFree ran.made.turn) × ((answer : HostPoll) → RanPolls answer component.now number (W.view w.old) ran (W.view w.new))) (CallsHost component.now number (W.view w.old) (W.view w.new)) step trace.old trace.new) }
+    ensures ran { IfOk result (λ step. RunAdded (λ ran. (MakesStep component.now (Turn.Run number) (W.view w.old) ran.made (W.view w.new) × IsFree ran.made.turn) × ((answer : HostPoll) → RanPolls answer component.now number (W.view w.old) ran (W.view w.new))) (CallsHost component.now number (W.view w.old) (W.view w.new)) step trace.old trace.new) }
     ensures works { OnOk result (NamesTold (W.view w.old) (W.view w.new)) }
     ensures err { OnErr result (trace.new ≡ trace.old) }
 {
@@ -264,18 +264,18 @@ pub fn step_run<W: Words>(
 /// has answered so if it is open, and the work that was made are answered, and the label is still to be added. Where memory is
 /// wanting, nothing is said of the state. It is out of line, so that what it answers is there only where a host is called.
 #[inline(never)]
-pub fn step_call<W: Words>(
+pub fn step_call<W: Primitives>(
     component: &Component,
     w: &mut W,
     number: u64,
     answer: HostPoll,
 ) -> Result<Ran, NoMemory>
     requires covered { IsWellFormed component.now }
-    requires order { Sits component.now (Turn.Run number) (W.view w.old).core }
+    requires order { CoreInOrder component.now (Turn.Run number) (W.view w.old).core }
     requires runs { running_of (W.view w.old) ≡ Some number }
     requires calls { calls_host (op_of component.now number (W.view w.old).core) ≡ true }
     requires few { given (W.view w.old).core < 2 ^ 61 }
-    ensures ran { IfOk result (λ ran. (Makes component.now (Turn.Run number) (W.view w.old) ran.made (W.view w.new) × IsFree ran.made.turn) × RanPolls answer component.now number (W.view w.old) ran (W.view w.new)) }
+    ensures ran { IfOk result (λ ran. (MakesStep component.now (Turn.Run number) (W.view w.old) ran.made (W.view w.new) × IsFree ran.made.turn) × RanPolls answer component.now number (W.view w.old) ran (W.view w.new)) }
     ensures works { OnOk result (NamesTold (W.view w.old) (W.view w.new)) }
 {
     let _number = number;

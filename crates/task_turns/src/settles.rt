@@ -1,11 +1,11 @@
 //! Whose turn comes where the machine moves on without a label.
 ghost use Rattle.std.specs.Prelude.{◌≡◌, is_some, true};
 ghost use Rattle.task_machine.specs.Core.{Core};
-ghost use Rattle.task_rules.specs.Turns.{nothing_stands, settled_turn};
+ghost use Rattle.task_rules.specs.Turns.{queues_are_empty, settled_turn};
 ghost use Rattle.task_rules.specs.Works.{next_polled};
 
 use task_machine::Turn;
-use task_words::Words;
+use task_words::Primitives;
 
 // The turn after the works with numbers up to this one were polled, where `more` says whether one is left.
 pub(crate) fn turn_where(polled: u64, more: bool) -> Turn
@@ -19,8 +19,8 @@ pub(crate) fn turn_where(polled: u64, more: bool) -> Turn
 }
 
 // Whether nothing is queued.
-pub(crate) fn nothing_stands<W: Words>(w: &W) -> bool
-    ensures { result ≡ nothing_stands (W.view w.now).core }
+pub(crate) fn queues_are_empty<W: Primitives>(w: &W) -> bool
+    ensures { result ≡ queues_are_empty (W.view w.now).core }
 {
     match w.next_entry() {
         Some(_) => false,
@@ -29,10 +29,10 @@ pub(crate) fn nothing_stands<W: Words>(w: &W) -> bool
 }
 
 /// The turn after a work has ended.
-pub(crate) fn turn_after_end<W: Words>(w: &W) -> Turn
+pub(crate) fn turn_after_end<W: Primitives>(w: &W) -> Turn
     ensures { result ≡ settled_turn (W.view w.now).core (Turn.Take true) }
 {
-    if nothing_stands(w) {
+    if queues_are_empty(w) {
         Turn::Main
     } else {
         Turn::Take { ended: true }

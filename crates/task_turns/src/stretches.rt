@@ -1,35 +1,35 @@
 //! A stretch of ops on registers and words, which the running thread does one after another. It works with the
 //! thread's context, which is written back in the end, so that no op looks the thread up.
 ghost use Rattle.std.specs.Prelude.{◌≡◌, ◌≤◌, IfOk, OnErr, Some, true};
-ghost use Rattle.task_machine.specs.Read.{how_far_of};
-ghost use Rattle.task_machine.specs.declared.records.HowFar.TheVariants as how_far;
+ghost use Rattle.task_machine.specs.Read.{op_progress_of};
+ghost use Rattle.task_machine.specs.declared.records.OpProgress.TheVariants as op_progress;
 ghost use Rattle.task_turns.specs.Later.{SameWorks};
 ghost use Rattle.task_turns.specs.WellFormed.{IsWellFormed};
 ghost use Rattle.task_turns.specs.Drive.{Computes, KeepsOn, StopsShort};
-ghost use Rattle.task_turns.specs.Turn.{Sits, running_of};
+ghost use Rattle.task_turns.specs.Turn.{CoreInOrder, running_of};
 ghost use Rattle.task_words.specs.StateView.{thread_of};
 
 use crate::context::{computes_in, context_of};
 use label_trace::PackedLabels;
 use op_dispatch::{op_at, script_ops};
 use task_machine::{Component, Label, NoMemory, Op, Turn};
-use task_words::{HowFarId, ThreadId, Words};
+use task_words::{OpProgressId, ThreadId, Primitives};
 
 // The op at the thread's position is on registers and words, and hasn't begun.
-fn is_plain<W: Words>(w: &W, thread: ThreadId, script: &[Op], position: u32) -> bool
-    ensures fresh { result ≡ true → how_far_of (thread_of (W.view w.now) thread) (W.view w.now).core ≡ how_far.Fresh }
+fn is_plain<W: Primitives>(w: &W, thread: ThreadId, script: &[Op], position: u32) -> bool
+    ensures fresh { result ≡ true → op_progress_of (thread_of (W.view w.now) thread) (W.view w.now).core ≡ op_progress.Fresh }
 {
     let Some(Op::Data(_)) = op_at(script, position) else {
         return false;
     };
-    matches!(w.how_far(thread), HowFarId::Fresh)
+    matches!(w.op_progress(thread), OpProgressId::Fresh)
 }
 
 /// The running thread, which has this number, does its ops on registers and words one after another, up to another
 /// op, to its script's end or to so many labels, of which some were added before. Answers how many labels were
 /// added then. It is out of line, so that a turn without such ops saves no registers.
 #[inline(never)]
-pub(crate) fn stretch<W: Words>(
+pub(crate) fn stretch<W: Primitives>(
     component: &Component,
     w: &mut W,
     number: u64,
@@ -38,7 +38,7 @@ pub(crate) fn stretch<W: Words>(
     steps: u32,
 ) -> Result<u32, NoMemory>
     requires covered { IsWellFormed component.now }
-    requires order { Sits component.now (Turn.Run number) (W.view w.old).core }
+    requires order { CoreInOrder component.now (Turn.Run number) (W.view w.old).core }
     requires runs { running_of (W.view w.old) ≡ Some number }
     requires few { added ≤ steps }
     ensures few { IfOk result (λ k. (added ≤ k) × (k ≤ steps)) }

@@ -1,10 +1,10 @@
 //! The turns of a run in which main has no part.
-ghost use Rattle.task_turns.specs.Worked.{known_worked};
+ghost use Rattle.task_turns.specs.Worked.{tracked_worked_group};
 ghost use Rattle.std.specs.Prelude.{◌≡◌, ◌≤◌, IfOk, IfSome, None, Some, false, is_none, OnErr, OnOk};
 ghost use Rattle.task_laws.specs.Order.{WorksQueued};
 ghost use Rattle.task_machine.specs.Core.{Main};
 ghost use Rattle.task_machine.specs.Read.{next_entry};
-ghost use Rattle.task_ops.specs.Polled.{PolledTo, TellsPoll};
+ghost use Rattle.task_ops.specs.PolledWorks.{PolledTo, TellsPoll};
 ghost use Rattle.task_ops.specs.Works.{KeepsTold};
 ghost use Rattle.task_rules.specs.Outcome.{is_at_rest, outcome_of_label};
 ghost use Rattle.task_rules.specs.Places.{Placed};
@@ -13,24 +13,24 @@ ghost use Rattle.task_rules.specs.Works.{next_polled, poll_of};
 ghost use Rattle.task_turns.specs.Later.{SameWorks};
 ghost use Rattle.task_turns.specs.WellFormed.{IsWellFormed};
 ghost use Rattle.task_turns.specs.Drive.{Computes, KeepsOn, StopsShort};
-ghost use Rattle.task_turns.specs.Stepped.{AddedOrNone};
-ghost use Rattle.task_turns.specs.Turn.{IsAtTurn, PendsIn, RunnerThere, Sits, TurnedBeside, Turns, idle_line_of, is_open, running_of, runs_in, state_at};
+ghost use Rattle.task_turns.specs.StepResult.{AddedOrNone};
+ghost use Rattle.task_turns.specs.Turn.{IsAtTurn, PendsIn, RunnerThere, CoreInOrder, TurnedBeside, Turns, idle_line_of, is_open, running_of, runs_in, state_at};
 ghost use Rattle.task_words.specs.StateView.{work_of};
 
 use crate::futures::step_poll;
-use crate::made::{Brief, Made, Stepped, put, stepped_by};
+use crate::made::{PackedStep, MadeStep, StepResult, put, stepped_by};
 use crate::rests::step_deadlock;
-use crate::settles::nothing_stands;
+use crate::settles::queues_are_empty;
 use crate::stretches::stretch;
 use crate::takes::step_take;
 use label_trace::PackedLabels;
 use task_machine::{Component, Label, LoopLabel, NoMemory, Turn};
-use task_ops::Told;
-use task_words::{Words, WorkId};
+use task_ops::PollNews;
+use task_words::{Primitives, WorkId};
 
 /// The live work that is next, past those with numbers up to `polled`, has this number; it was polled, and told this.
 #[inline(always)]
-pub fn poll<W: Words>(w: &mut W, work: WorkId, number: u64, polled: u64, told: Told) -> Made
+pub fn poll<W: Primitives>(w: &mut W, work: WorkId, number: u64, polled: u64, told: PollNews) -> MadeStep
     requires placed { Placed (W.view w.old).core }
     requires works { WorksQueued (W.view w.old).core }
     requires current { (W.view w.old).current ≡ None }
@@ -46,17 +46,17 @@ pub fn poll<W: Words>(w: &mut W, work: WorkId, number: u64, polled: u64, told: T
 }
 
 // Nothing stands, and no work ended in this turn.
-fn rest<W: Words>(w: &mut W, trap_on_idle: bool) -> Option<Made>
+fn rest<W: Primitives>(w: &mut W, trap_on_idle: bool) -> Option<MadeStep>
     requires works { WorksQueued (W.view w.old).core }
     requires current { (W.view w.old).current ≡ None }
     requires none { next_entry (W.view w.old).core ≡ None }
-    ensures turned { (c : Component) → Sits c (Turn.Take false) (W.view w.old).core → TurnedBeside c trap_on_idle (Turn.Take false) (W.view w.old) result (W.view w.new) }
+    ensures turned { (c : Component) → CoreInOrder c (Turn.Take false) (W.view w.old).core → TurnedBeside c trap_on_idle (Turn.Take false) (W.view w.old) result (W.view w.new) }
     ensures over { IfSome result (λ made. is_none (outcome_of_label made.label) ≡ is_open made.turn) }
     ensures current { (W.view w.new).current ≡ None }
     ensures works { KeepsTold (W.view w.old) (W.view w.new) }
 {
     if w.has_moving_work() {
-        return Some(Made {
+        return Some(MadeStep {
             label: Label::Loop(LoopLabel::Rest),
             turn: Turn::Main,
         });
@@ -72,24 +72,24 @@ fn rest<W: Words>(w: &mut W, trap_on_idle: bool) -> Option<Made>
 
 /// The next entry is taken, or else it is seen what it is that nothing stands. What that shows is added to
 /// the trace. Where memory is wanting, nothing is added, and nothing is said of the state.
-pub fn take<W: Words>(
+pub fn take<W: Primitives>(
     component: &Component,
     w: &mut W,
     ended: bool,
     trap_on_idle: bool,
     trace: &mut PackedLabels,
     worked: &mut Option<u64>,
-) -> Result<Option<Stepped>, NoMemory>
+) -> Result<Option<StepResult>, NoMemory>
     requires unworked { worked.old ≡ None }
     requires at { IsAtTurn component.now (Turn.Take ended) (W.view w.old) }
-    ensures worked { worked.new ≡ known_worked (W.view w.old) (Turn.Take ended) }
+    ensures worked { worked.new ≡ tracked_worked_group (W.view w.old) (Turn.Take ended) }
     ensures turned { IfOk result (λ stepped. AddedOrNone (λ made. TurnedBeside component.now trap_on_idle (Turn.Take ended) (W.view w.old) made (W.view w.new)) stepped trace.old trace.new) }
     ensures there { OnOk result (RunnerThere (W.view w.new)) }
     ensures works { OnOk result (KeepsTold (W.view w.old) (W.view w.new)) }
     ensures err { OnErr result (trace.new ≡ trace.old) }
 {
     let brief = step_take(component, w, ended, trace, worked);
-    let Brief::Nothing = brief else {
+    let PackedStep::Nothing = brief else {
         let Some(stepped) = stepped_by(brief, trace) else {
             return Err(NoMemory);
         };
@@ -110,7 +110,7 @@ pub fn take<W: Words>(
 /// The ops on registers and words that come next, where a thread runs. They are looked for only where such an op
 /// made the last label and another seems to follow it, since ops mostly come alone.
 #[inline(always)]
-pub fn compute<W: Words>(
+pub fn compute<W: Primitives>(
     component: &Component,
     w: &mut W,
     computed: bool,
@@ -120,7 +120,7 @@ pub fn compute<W: Words>(
     steps: u32,
 ) -> Result<u32, NoMemory>
     requires covered { IsWellFormed component.now }
-    requires order { Sits component.now turn (W.view w.old).core }
+    requires order { CoreInOrder component.now turn (W.view w.old).core }
     requires runs { running_of (W.view w.old) ≡ runs_in turn }
     requires few { added ≤ steps }
     ensures few { IfOk result (λ k. (added ≤ k) × (k ≤ steps)) }
@@ -147,13 +147,13 @@ fn is_take(turn: Turn) -> bool
 }
 
 /// Whether nothing can go on in this turn, and that is no deadlock.
-pub fn is_idle<W: Words>(w: &W, turn: Turn, trap_on_idle: bool) -> bool
-    ensures { (x : Setting) → Sits x.component turn (W.view w.now).core → x.idle ≡ idle_line_of trap_on_idle → (m : Main) → PendsIn x (W.view w.now).core m turn → is_at_rest x (state_at (W.view w.now).core m turn) ≡ result }
+pub fn is_idle<W: Primitives>(w: &W, turn: Turn, trap_on_idle: bool) -> bool
+    ensures { (x : Setting) → CoreInOrder x.component turn (W.view w.now).core → x.idle ≡ idle_line_of trap_on_idle → (m : Main) → PendsIn x (W.view w.now).core m turn → is_at_rest x (state_at (W.view w.now).core m turn) ≡ result }
 {
     if !is_take(turn) {
         return false;
     }
-    if !nothing_stands(w) {
+    if !queues_are_empty(w) {
         return false;
     }
     if w.has_moving_work() {

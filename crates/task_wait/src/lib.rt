@@ -5,7 +5,7 @@
 
 mod codes;
 mod keys;
-mod laws;
+mod wait_laws;
 mod set;
 
 pub use codes::{BLOCKED, EXIT, Event, WAIT, YIELD, unpack_callback_code};
@@ -13,7 +13,7 @@ pub use keys::{
     GroupKey, GuestTaskKey, HostTaskKey, SetKey, ThreadKey, TransmitKey, Waitable, WaitableCommon,
     WaiterKey,
 };
-pub use laws::{
+pub use wait_laws::{
     callback_code_unpacks, packed_status_unpacks, waitables_by_kind_and_id,
     waiters_by_task_and_thread,
 };

@@ -2,7 +2,7 @@
 use Rattle.std.specs.Prelude.{ℕ, List, true}
 use Rattle.task_machine.specs.Core.{Core}
 use Rattle.task_machine.specs.Write.{on_thread, set_do_not_enter, set_place, set_script}
-use Rattle.task_machine.specs.declared.records.HowFar.TheVariants as how_far
+use Rattle.task_machine.specs.declared.records.OpProgress.TheVariants as op_progress
 use Rattle.task_machine.specs.declared.records.Place.TheVariants as place
 use Rattle.task_machine.specs.declared.records.Script.TheVariants as script
 use Rattle.task_machine.specs.declared.words.Given.{Given}
@@ -11,7 +11,7 @@ use Rattle.task_rules.specs.Sets.{set_given}
 
 -- the thread n is about to begin the op at this place of its script, with these registers
 unfoldable pub with_context : ℕ → (position : ℕ) → (registers : List ℕ) → Core → Core
-with_context n p rs = on_thread n (λ t. record t { position = p; registers = rs; how_far = how_far.Fresh })
+with_context n p rs = on_thread n (λ t. record t { position = p; registers = rs; op_progress = op_progress.Fresh })
 
 -- the thread n of the instance is given v in r0, r1 and r2, and runs the react script from its start
 unfoldable pub activating : ℕ → (instance : ℕ) → Given → Core → Core

@@ -1,6 +1,6 @@
 pub mod StateView
 pub mod Groups
-pub mod Becomes
+pub mod BecomesRecord
 pub mod Names
 pub mod Live
 pub mod Apart

@@ -3,8 +3,8 @@ use Rattle.std.specs.Prelude.{Option, None, Some, ℕ, if◌then◌else◌, is_s
 use Rattle.task_machine.specs.declared.records.Caller.{Caller}
 use Rattle.task_machine.specs.declared.records.Caller.TheVariants as caller
 use Rattle.task_machine.specs.declared.records.Delivery.TheVariants as delivery
-use Rattle.task_machine.specs.declared.records.HowFar.{HowFar}
-use Rattle.task_machine.specs.declared.records.HowFar.TheVariants as how_far
+use Rattle.task_machine.specs.declared.records.OpProgress.{OpProgress}
+use Rattle.task_machine.specs.declared.records.OpProgress.TheVariants as op_progress
 use Rattle.task_machine.specs.declared.records.Join.{Join}
 use Rattle.task_machine.specs.declared.records.Join.TheVariants as join
 use Rattle.task_machine.specs.declared.records.Subtask.{Subtask}
@@ -29,12 +29,12 @@ abbrev pub live_subtask : Subtask → Core → Subtask
 live_subtask (subtask.Guest k) s = subtask.Guest (kept_in s.calls k)
 live_subtask (subtask.Host i) s = subtask.Host (kept_in s.works i)
 
-abbrev pub live_how_far : HowFar → Core → HowFar
-live_how_far (how_far.Waits x) s = how_far.Waits (live_set x s)
-live_how_far (how_far.Calls sub) s = how_far.Calls (live_subtask sub s)
-live_how_far (how_far.Cancels sub) s = how_far.Cancels (live_subtask sub s)
-live_how_far (how_far.AwaitsEnd sub) s = how_far.AwaitsEnd (live_subtask sub s)
-live_how_far h s = h
+abbrev pub live_op_progress : OpProgress → Core → OpProgress
+live_op_progress (op_progress.Waits x) s = op_progress.Waits (live_set x s)
+live_op_progress (op_progress.Calls sub) s = op_progress.Calls (live_subtask sub s)
+live_op_progress (op_progress.Cancels sub) s = op_progress.Cancels (live_subtask sub s)
+live_op_progress (op_progress.AwaitsEnd sub) s = op_progress.AwaitsEnd (live_subtask sub s)
+live_op_progress h s = h
 
 abbrev pub live_join : Join → Core → Join
 live_join join.Nowhere s = join.Nowhere

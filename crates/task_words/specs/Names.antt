@@ -6,8 +6,8 @@ use Rattle.task_machine.specs.declared.records.Delivery.{Delivery}
 use Rattle.task_machine.specs.declared.records.Delivery.TheVariants as delivery
 use Rattle.task_machine.specs.declared.records.Entry.{Entry}
 use Rattle.task_machine.specs.declared.records.Entry.TheVariants as entry
-use Rattle.task_machine.specs.declared.records.HowFar.{HowFar}
-use Rattle.task_machine.specs.declared.records.HowFar.TheVariants as how_far
+use Rattle.task_machine.specs.declared.records.OpProgress.{OpProgress}
+use Rattle.task_machine.specs.declared.records.OpProgress.TheVariants as op_progress
 use Rattle.task_machine.specs.declared.records.Join.{Join}
 use Rattle.task_machine.specs.declared.records.Join.TheVariants as join
 use Rattle.task_machine.specs.declared.records.Place.{Place}
@@ -25,8 +25,8 @@ use Rattle.task_words.specs.declared.names.DeliveryId.{DeliveryId}
 use Rattle.task_words.specs.declared.names.DeliveryId.TheVariants as deliveries
 use Rattle.task_words.specs.declared.names.EntryId.{EntryId}
 use Rattle.task_words.specs.declared.names.EntryId.TheVariants as entries
-use Rattle.task_words.specs.declared.names.HowFarId.{HowFarId}
-use Rattle.task_words.specs.declared.names.HowFarId.TheVariants as how_fars
+use Rattle.task_words.specs.declared.names.OpProgressId.{OpProgressId}
+use Rattle.task_words.specs.declared.names.OpProgressId.TheVariants as op_progresses
 use Rattle.task_words.specs.declared.names.JoinId.{JoinId}
 use Rattle.task_words.specs.declared.names.JoinId.TheVariants as joins
 use Rattle.task_words.specs.declared.names.PlaceId.{PlaceId}
@@ -68,15 +68,15 @@ place_in tags (places.Blocked sub) = place.Blocked (subtask_in tags sub)
 place_in tags (places.Held w) = place.Held (why_in tags w)
 place_in tags places.Suspended = place.Suspended
 
-abbrev pub how_far_in : Tags → HowFarId → HowFar
-how_far_in tags how_fars.Fresh = how_far.Fresh
-how_far_in tags (how_fars.Waits id) = how_far.Waits (set_number tags id)
-how_far_in tags (how_fars.Calls sub) = how_far.Calls (subtask_in tags sub)
-how_far_in tags (how_fars.Answered v) = how_far.Answered v
-how_far_in tags (how_fars.Cancels sub) = how_far.Cancels (subtask_in tags sub)
-how_far_in tags (how_fars.AwaitsEnd sub) = how_far.AwaitsEnd (subtask_in tags sub)
-how_far_in tags how_fars.Suspends = how_far.Suspends
-how_far_in tags how_fars.Yields = how_far.Yields
+abbrev pub op_progress_in : Tags → OpProgressId → OpProgress
+op_progress_in tags op_progresses.Fresh = op_progress.Fresh
+op_progress_in tags (op_progresses.Waits id) = op_progress.Waits (set_number tags id)
+op_progress_in tags (op_progresses.Calls sub) = op_progress.Calls (subtask_in tags sub)
+op_progress_in tags (op_progresses.Answered v) = op_progress.Answered v
+op_progress_in tags (op_progresses.Cancels sub) = op_progress.Cancels (subtask_in tags sub)
+op_progress_in tags (op_progresses.AwaitsEnd sub) = op_progress.AwaitsEnd (subtask_in tags sub)
+op_progress_in tags op_progresses.Suspends = op_progress.Suspends
+op_progress_in tags op_progresses.Yields = op_progress.Yields
 
 abbrev pub join_in : Tags → JoinId → Join
 join_in tags joins.Nowhere = join.Nowhere

@@ -19,7 +19,7 @@ pub record Tags : Type 0 where
   pub calls : List (Option Tag)
   pub sets : List (Option Tag)
   pub works : List (Option Tag)
-  pub known : List ℕ
+  pub tracked : List ℕ
 
 pub record StateView : Type 0 where
   pub core : Core
@@ -69,20 +69,20 @@ abbrev pub with_current : Option (TableId ThreadKey) → StateView → StateView
 with_current id s = record { core = s.core; tags = s.tags; current = id }
 
 -- Each id that named something names it still, and these groups are known.
-pub record KeepsTo (known : List ℕ) (old new : Tags) : Type 0 where
+pub record KeepsTo (tracked : List ℕ) (old new : Tags) : Type 0 where
   pub threads : (id : TableId ThreadKey) → 0 < thread_number old id → thread_number new id ≡ thread_number old id
   pub calls : (id : TableId GuestTaskKey) → 0 < call_number old id → call_number new id ≡ call_number old id
   pub sets : (id : TableId SetKey) → 0 < set_number old id → set_number new id ≡ set_number old id
   pub works : (id : TableId HostTaskKey) → 0 < work_number old id → work_number new id ≡ work_number old id
-  pub same : new.known ≡ known
+  pub same : new.tracked ≡ tracked
 
 -- the groups that were known
 abbrev pub Keeps : Tags → Tags → Type 0
-Keeps old new = KeepsTo old.known old new
+Keeps old new = KeepsTo old.tracked old new
 
 -- the same, and one more
 abbrev pub KeepsWith : ℕ → Tags → Tags → Type 0
-KeepsWith g old new = KeepsTo (old.known ++ g ∷ []) old new
+KeepsWith g old new = KeepsTo (old.tracked ++ g ∷ []) old new
 
 -- What may have lost its name, by kind; 0 where nothing of the kind has.
 pub record Lost : Type 0 where
@@ -113,4 +113,4 @@ pub record KeepsBut (lost : Lost) (old new : Tags) : Type 0 where
   pub sets : (id : TableId SetKey) → set_number old id ≢ lost.set → set_number new id ≡ set_number old id
   pub works : (id : TableId HostTaskKey) → work_number old id ≢ lost.work → work_number new id ≡ work_number old id
   pub gone : (id : TableId ThreadKey) → thread_number old id ≡ lost.thread → thread_number new id ≡ 0
-  pub same : new.known ≡ old.known
+  pub same : new.tracked ≡ old.tracked

@@ -4,32 +4,32 @@
 //! which nothing stands: a read of it answers the machine's default, a write of it changes nothing.
 #![tactic(auto)]
 
-mod calls;
-mod instances;
+mod call_primitives;
+mod instance_primitives;
 mod names;
-mod places;
-mod queues;
-mod results;
-mod sets;
-mod state;
-mod subtasks;
-mod threads;
+mod place_primitives;
+mod queue_primitives;
+mod result_primitives;
+mod set_primitives;
+mod state_primitives;
+mod subtask_primitives;
+mod thread_primitives;
 mod view;
-mod works;
+mod work_primitives;
 
-pub use calls::CallWords;
-pub use instances::InstanceWords;
+pub use call_primitives::CallPrimitives;
+pub use instance_primitives::InstancePrimitives;
 pub use names::{
-    CallId, CallerId, DeliveryId, EntryId, HowFarId, JoinId, PlaceId, SetId, SubtaskId, ThreadAt,
+    CallId, CallerId, DeliveryId, EntryId, OpProgressId, JoinId, PlaceId, SetId, SubtaskId, ThreadAt,
     ThreadId, WhyId, WorkCallerId, WorkId,
 };
-pub use places::PlaceWords;
-pub use queues::QueueWords;
-pub use results::ResultWords;
-pub use sets::SetWords;
-pub use state::StateWords;
-pub use subtasks::SubtaskWords;
+pub use place_primitives::PlacePrimitives;
+pub use queue_primitives::QueuePrimitives;
+pub use result_primitives::ResultPrimitives;
+pub use set_primitives::SetPrimitives;
+pub use state_primitives::StatePrimitives;
+pub use subtask_primitives::SubtaskPrimitives;
 pub use task_machine::NoMemory;
-pub use threads::ThreadWords;
-pub use view::{View, Words};
-pub use works::WorkWords;
+pub use thread_primitives::ThreadPrimitives;
+pub use view::{View, Primitives};
+pub use work_primitives::WorkPrimitives;

@@ -50,7 +50,7 @@ pub enum PlaceId {
 
 /// How far the op at a thread's position has come.
 #[derive(Clone, Copy)]
-pub enum HowFarId {
+pub enum OpProgressId {
     Fresh,
     Waits(SetId),
     Calls(SubtaskId),

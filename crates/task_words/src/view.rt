@@ -3,16 +3,16 @@ ghost use Rattle.task_machine.specs.Maps.{get};
 ghost use Rattle.task_rules.specs.Notices.{is_in};
 ghost use Rattle.task_words.specs.StateView.{StateView, with_current};
 
-use crate::calls::CallWords;
-use crate::instances::InstanceWords;
+use crate::call_primitives::CallPrimitives;
+use crate::instance_primitives::InstancePrimitives;
 use crate::names::ThreadId;
-use crate::places::PlaceWords;
-use crate::queues::QueueWords;
-use crate::results::ResultWords;
-use crate::sets::SetWords;
-use crate::subtasks::SubtaskWords;
-use crate::threads::ThreadWords;
-use crate::works::WorkWords;
+use crate::place_primitives::PlacePrimitives;
+use crate::queue_primitives::QueuePrimitives;
+use crate::result_primitives::ResultPrimitives;
+use crate::set_primitives::SetPrimitives;
+use crate::subtask_primitives::SubtaskPrimitives;
+use crate::thread_primitives::ThreadPrimitives;
+use crate::work_primitives::WorkPrimitives;
 
 /// A state that contracts see as a core, what each id names, and the thread that runs.
 pub trait View {
@@ -32,16 +32,16 @@ pub trait View {
         ensures calls { get (view self.now).core.calls 0 ≡ None }
         ensures sets { get (view self.now).core.sets 0 ≡ None }
         ensures works { get (view self.now).core.works 0 ≡ None }
-        ensures groups { is_in (view self.now).tags.known 0 ≡ false };
+        ensures groups { is_in (view self.now).tags.tracked 0 ≡ false };
 }
 
 /// All words.
-pub trait Words: ThreadWords
-    + PlaceWords
-    + CallWords
-    + WorkWords
-    + SubtaskWords
-    + SetWords
-    + InstanceWords
-    + QueueWords
-    + ResultWords {}
+pub trait Primitives: ThreadPrimitives
+    + PlacePrimitives
+    + CallPrimitives
+    + WorkPrimitives
+    + SubtaskPrimitives
+    + SetPrimitives
+    + InstancePrimitives
+    + QueuePrimitives
+    + ResultPrimitives {}

@@ -9,7 +9,7 @@ Gives (Err errors.Bad) read = read ≡ None
 Gives (Err errors.NoMemory) read = Unit {0}
 
 -- The same of a step that changes what it is given: it becomes the value.
-abbrev pub Becomes : {X : Type 0} → X → Result (Unit {0}) LineError → Option X → Type 0
-Becomes now (Ok u) read = read ≡ Some now
-Becomes now (Err errors.Bad) read = read ≡ None
-Becomes now (Err errors.NoMemory) read = Unit {0}
+abbrev pub BecomesValue : {X : Type 0} → X → Result (Unit {0}) LineError → Option X → Type 0
+BecomesValue now (Ok u) read = read ≡ Some now
+BecomesValue now (Err errors.Bad) read = read ≡ None
+BecomesValue now (Err errors.NoMemory) read = Unit {0}

@@ -3,7 +3,7 @@ use Rattle.task_laws.proofs.{WakeCounts.woken_at, WakeCounts.woken_place}
 use Rattle.task_places.proofs.{Balance.Balance, Balance.balanced, RestLemmas.is_rest}
 use Rattle.task_places.proofs.CountedSteps.{waiter_any}
 use Rattle.task_rules.specs.Works.{is_ended_work}
-use Rattle.task_places.proofs.Laws.{[], admits, any_at, ap, arith, Bool, by_number, callers_of, CallersGoOn, Core, event_of, false, get, get-change, goes_on_at, goes_on_within, has_waiter, how_far_of, HowFar, if◌then◌else◌, inl, inr, InsideOps, is_behind_of, is_inside, is_some, is_there, is_woken_at, Mark, nat_tests, None, NoneAdmitted, NoneBlockedOnEnd, on_thread, Option, option_map, option_map_or, Place, place_of, push_high, put_high, Records, refl, says, set_place, Some, Subtask, suc, sym, Thread, times, true, undelivered_end, unwrap_or, WakesCounted, Why, zero, ℕ, ⊎_elim, ◌∙◌, ◌≡◌, ◌⊎◌}
+use Rattle.task_places.proofs.Laws.{[], admits, any_at, ap, arith, Bool, by_number, callers_of, CallersGoOn, Core, event_of, false, get, get-change, goes_on_at, goes_on_within, has_waiter, op_progress_of, OpProgress, if◌then◌else◌, inl, inr, InsideOps, is_behind_of, is_inside, is_some, is_there, is_woken_at, Mark, nat_tests, None, NoneAdmitted, NoneBlockedOnEnd, on_thread, Option, option_map, option_map_or, Place, place_of, push_high, put_high, Records, refl, says, set_place, Some, Subtask, suc, sym, Thread, times, true, undelivered_end, unwrap_or, WakesCounted, Why, zero, ℕ, ⊎_elim, ◌∙◌, ◌≡◌, ◌⊎◌}
 use Rattle.std.proofs.Common.{ap₂}
 use Rattle.task_laws.proofs.WakeTableLemmas.{waiting_of}
 use Rattle.task_machine.specs.Read.{is_waiter, is_waiting_on}
@@ -11,8 +11,8 @@ use Rattle.wake_laws.specs.Stands.{CallersBehind, NoWakeLost, OneBlocked, Switch
 
 -- ---- From core to core
 
-abbrev pub GoesOn : Core → ℕ → Type 0
-GoesOn s n = (k : ℕ) × (goes_on_within k s n ≡ true)
+abbrev pub EaseGoesOn : Core → ℕ → Type 0
+EaseGoesOn s n = (k : ℕ) × (goes_on_within k s n ≡ true)
 
 -- Who is left out: nobody is behind such a thread, who is under one is one too, and none is behind another at the end.
 pub record Leaves (out : ℕ → Type 0) (s t : Core) : Type 0 where
@@ -22,15 +22,15 @@ pub record Leaves (out : ℕ → Type 0) (s t : Core) : Type 0 where
 
 -- each thread stays where it is, or goes on, or is left out
 abbrev pub Goes : (ℕ → Type 0) → Core → Core → Type 0
-Goes out s t = (n : ℕ) → (place_of n t ≡ place_of n s) ⊎ (GoesOn t n ⊎ out n)
+Goes out s t = (n : ℕ) → (place_of n t ≡ place_of n s) ⊎ (EaseGoesOn t n ⊎ out n)
 
 module _ (out : ℕ → Type 0) (s t : Core) (leaves : Leaves out s t) (goes : Goes out s t) where
-  keeps_on : (k n : ℕ) → goes_on_within k s n ≡ true → (out n → ⊥) → GoesOn t n
+  keeps_on : (k n : ℕ) → goes_on_within k s n ≡ true → (out n → ⊥) → EaseGoesOn t n
   keeps_on zero n h here = absurd (grind arith)
   keeps_on (suc k) n h here = ⊎_elim (λ same. by (λ m. keeps_on k m) same (place_of n s) refl h) (λ r. ⊎_elim (λ g. g) (λ o. absurd (here o)) r) (goes n)
     where
-      by : ((m : ℕ) → goes_on_within k s m ≡ true → (out m → ⊥) → GoesOn t m) → place_of n t ≡ place_of n s → (o : Option Place) → place_of n s ≡ o →
-          goes_on_at (goes_on_within k s) o ≡ true → GoesOn t n
+      by : ((m : ℕ) → goes_on_within k s m ≡ true → (out m → ⊥) → EaseGoesOn t m) → place_of n t ≡ place_of n s → (o : Option Place) → place_of n s ≡ o →
+          goes_on_at (goes_on_within k s) o ≡ true → EaseGoesOn t n
       by rec same (Some (Place.Ready m w)) at h = (suc zero, grind (arith, same, at))
       by rec same (Some Place.Running) at h = (suc zero, grind (arith, same, at))
       by rec same (Some (Place.Under m)) at h = let r = rec m h (λ o. here (leaves.under n m at o)) in (suc r.0, let on = r.1 in grind (arith, same, at, on))
@@ -54,7 +54,7 @@ is_still p = is_rest p
 -- What is asked of two cores, so that no wake is lost in the second where none is in the first.
 pub record Moves (s t : Core) : Type 0 where
   pub callers : CallersGoOn s → CallersGoOn t
-  pub still : (n : ℕ) (p : Place) → is_still p ≡ true → place_of n t ≡ Some p → (place_of n s ≡ Some p) × (how_far_of n t ≡ how_far_of n s)
+  pub still : (n : ℕ) (p : Place) → is_still p ≡ true → place_of n t ≡ Some p → (place_of n s ≡ Some p) × (op_progress_of n t ≡ op_progress_of n s)
   pub admits : (n : ℕ) (w : Why) → place_of n t ≡ Some (Place.Held w) → admits n t w ≡ admits n s w
   pub events : (n : ℕ) (sub : Subtask) → place_of n t ≡ Some (Place.Blocked sub) → (event_of sub t ≡ event_of sub s) ⊎ (undelivered_end (event_of sub t) ≡ None)
   pub works : (sub : Subtask) → is_ended_work sub t ≡ is_ended_work sub s
@@ -62,7 +62,7 @@ pub record Moves (s t : Core) : Type 0 where
   pub behind : CallersBehind s → CallersBehind t
   pub switch : SwitchReady s → SwitchReady t
 
-outside : (p : Place) (f : HowFar) → is_still p ≡ false → is_inside p f ≡ true
+outside : (p : Place) (f : OpProgress) → is_still p ≡ false → is_inside p f ≡ true
 outside p f h = grind arith
 
 module _ {s t : Core} (m : Moves s t) where
@@ -72,9 +72,9 @@ module _ {s t : Core} (m : Moves s t) where
   inside_kept : InsideOps s → InsideOps t
   inside_kept h n p at = by (is_still p) refl
     where
-      by : (b : Bool) → is_still p ≡ b → is_inside p (how_far_of n t) ≡ true
+      by : (b : Bool) → is_still p ≡ b → is_inside p (op_progress_of n t) ≡ true
       by true is = let r = m.still n p is at in ap (is_inside p) r.1 ∙ h n p r.0
-      by false is = outside p (how_far_of n t) is
+      by false is = outside p (op_progress_of n t) is
 
   alone_kept : OneBlocked s → OneBlocked t
   alone_kept h n k sub at too = h n k sub (m.still n (Place.Blocked sub) refl at).0 (m.still k (Place.Blocked sub) refl too).0
@@ -114,7 +114,7 @@ module _ {s t : Core} (m : Moves s t) where
 -- Who waits or is blocked may become ready; else all threads stay where they are.
 pub record Eases (s t : Core) : Type 0 where
   pub place : (n : ℕ) → (place_of n t ≡ place_of n s) ⊎ ((p : Place) × ((place_of n s ≡ Some p) × ((is_rest p ≡ true) × ((w : Why) × (place_of n t ≡ Some (Place.Ready Mark.High w))))))
-  pub far : (n : ℕ) → how_far_of n t ≡ how_far_of n s
+  pub far : (n : ℕ) → op_progress_of n t ≡ op_progress_of n s
   pub admits : (n : ℕ) (w : Why) → admits n t w ≡ admits n s w
   pub callers : t.callers ≡ s.callers
   pub switch : t.queues.switch ≡ s.queues.switch
@@ -132,7 +132,7 @@ eases_after {s = s} {t = t} {u = u} a b = record {
 pub eases_same : (s t : Core) → t.threads ≡ s.threads → t.callers ≡ s.callers → t.queues.switch ≡ s.queues.switch → ((n : ℕ) (w : Why) → admits n t w ≡ admits n s w) → Eases s t
 eases_same s t threads callers switch same = record {
   place = λ n. inl (ap (λ (r : Records Thread). option_map (λ (u : Thread). u.place) (get r n)) threads);
-  far = λ n. ap (λ (r : Records Thread). option_map_or (λ (u : Thread). u.how_far) (get r n) HowFar.Fresh) threads;
+  far = λ n. ap (λ (r : Records Thread). option_map_or (λ (u : Thread). u.op_progress) (get r n) OpProgress.Fresh) threads;
   admits = same;
   callers = callers;
   switch = switch;
@@ -159,7 +159,7 @@ module _ {s t : Core} (e : Eases s t) where
   eased_goes : Goes nobody s t
   eased_goes n = ⊎_elim inl (λ r. inr (inl (suc zero, let at = r.1.1.1.1 in grind (arith, at)))) (e.place n)
 
-  eased_still : (n : ℕ) (p : Place) → is_still p ≡ true → place_of n t ≡ Some p → (place_of n s ≡ Some p) × (how_far_of n t ≡ how_far_of n s)
+  eased_still : (n : ℕ) (p : Place) → is_still p ≡ true → place_of n t ≡ Some p → (place_of n s ≡ Some p) × (op_progress_of n t ≡ op_progress_of n s)
   eased_still n p still at = (⊎_elim (λ same. sym same ∙ at) (λ r. absurd (let now = r.1.1.1.1 in grind arith)) (e.place n), e.far n)
 
   eased_behind : CallersBehind s → CallersBehind t
@@ -181,7 +181,7 @@ module _ {s t : Core} (e : Eases s t) where
   -- who is woken stays so
   pub eased_woken : (y n : ℕ) → is_woken_at y n s ≡ true → is_woken_at y n t ≡ true
   eased_woken y n on = let was = sym (woken_at y n s) ∙ on in let far = e.far n in woken_at y n t ∙
-      ⊎_elim (λ same. ap (λ (o : Option Place). woken_place y o (how_far_of n t)) same ∙ (ap (λ (f : HowFar). woken_place y (place_of n s) f) far ∙ was))
+      ⊎_elim (λ same. ap (λ (o : Option Place). woken_place y o (op_progress_of n t)) same ∙ (ap (λ (f : OpProgress). woken_place y (place_of n s) f) far ∙ was))
       (λ r. absurd (let at = r.1.0 in let rest = r.1.1.0 in grind (arith, was, at, rest))) (e.place n)
 
   pub eased_moves : ((n : ℕ) (sub : Subtask) → place_of n t ≡ Some (Place.Blocked sub) → (event_of sub t ≡ event_of sub s) ⊎ (undelivered_end (event_of sub t) ≡ None)) →

@@ -2,25 +2,25 @@
 use Rattle.task_machine.specs.declared.op.Op.{Op}
 use Rattle.task_places.proofs.BlockedLemmas.{inside_of}
 use Rattle.task_laws.proofs.Words.{subtask_handle}
-use Rattle.task_places.proofs.Laws.{ap, arith, Bool, cancelled_by, cancelled_call, Component, Core, get, how_far_of, HowFar, inl, InOrderFor, inr, is_some, nat_tests, None, Option, Place, place_of, refl, Some, State, Subtask, true, ℕ, ⊎_elim, ◌≡◌, ◌⊎◌}
+use Rattle.task_places.proofs.Laws.{ap, arith, Bool, cancelled_by, cancelled_call, Component, Core, get, op_progress_of, OpProgress, inl, InOrderFor, inr, is_some, nat_tests, None, Option, Place, place_of, refl, Some, State, Subtask, true, ℕ, ⊎_elim, ◌≡◌, ◌⊎◌}
 use Rattle.wake_laws.specs.Stands.{CallersBehind, OneBlocked, OrderStands, OrderStandsAs, SwitchReady}
 use Rattle.task_machine.specs.declared.records.Call.{Call}
 use Rattle.task_rules.specs.Places.{Placed}
 
 module _ {g : Bool} {ops : ℕ → Op} {c : Component} {s : State} (h : InOrderFor g ops c s) where
   -- inside a call: its caller alone
-  both_call : (n m k : ℕ) → place_of n s.core ≡ Some (Place.Blocked (Subtask.Guest k)) → how_far_of n s.core ≡ HowFar.Calls (Subtask.Guest k) →
-      how_far_of m s.core ≡ HowFar.Calls (Subtask.Guest k) → n ≡ m
+  both_call : (n m k : ℕ) → place_of n s.core ≡ Some (Place.Blocked (Subtask.Guest k)) → op_progress_of n s.core ≡ OpProgress.Calls (Subtask.Guest k) →
+      op_progress_of m s.core ≡ OpProgress.Calls (Subtask.Guest k) → n ≡ m
   both_call n m k at far too = ⊎_elim (λ under. absurd (grind arith)) (λ awaited. by (get s.core.calls k) refl) (h.calls.inside n k far)
     where
       by : (o : Option Call) → get s.core.calls k ≡ o → n ≡ m
       by None is = absurd (⊎_elim (λ under. absurd (grind arith)) (λ awaited. absurd (grind arith)) (h.calls.inside n k far))
       by (Some r) is = let mine = (h.names.called n k far r is).0 in let other = (h.names.called m k too r is).0 in grind arith
 
-  both_host : (n m i : ℕ) → how_far_of n s.core ≡ HowFar.Calls (Subtask.Host i) → how_far_of m s.core ≡ HowFar.Calls (Subtask.Host i) → n ≡ m
+  both_host : (n m i : ℕ) → op_progress_of n s.core ≡ OpProgress.Calls (Subtask.Host i) → op_progress_of m s.core ≡ OpProgress.Calls (Subtask.Host i) → n ≡ m
   both_host n m i far too = let mine = (h.works_known.called n i far).1 in let other = (h.works_known.called m i too).1 in grind arith
 
-  both_await : (n m : ℕ) (sub : Subtask) → how_far_of n s.core ≡ HowFar.AwaitsEnd sub → how_far_of m s.core ≡ HowFar.AwaitsEnd sub → n ≡ m
+  both_await : (n m : ℕ) (sub : Subtask) → op_progress_of n s.core ≡ OpProgress.AwaitsEnd sub → op_progress_of m s.core ≡ OpProgress.AwaitsEnd sub → n ≡ m
   both_await n m (Subtask.Guest k) far too =
       let named = h.cancelled n (Subtask.Guest k) (ap cancelled_by far) in
       let mine = h.watched n (Subtask.Guest k) (ap cancelled_by far) in let other = h.watched m (Subtask.Guest k) (ap cancelled_by too) in grind (arith, nat_tests)
@@ -28,7 +28,7 @@ module _ {g : Bool} {ops : ℕ → Op} {c : Component} {s : State} (h : InOrderF
       let named = h.cancelled n (Subtask.Host i) (ap cancelled_by far) in
       let mine = h.watched n (Subtask.Host i) (ap cancelled_by far) in let other = h.watched m (Subtask.Host i) (ap cancelled_by too) in grind (arith, nat_tests)
 
-  host_apart : {A : Type 0} (n m i : ℕ) → how_far_of n s.core ≡ HowFar.Calls (Subtask.Host i) → how_far_of m s.core ≡ HowFar.AwaitsEnd (Subtask.Host i) → A
+  host_apart : {A : Type 0} (n m i : ℕ) → op_progress_of n s.core ≡ OpProgress.Calls (Subtask.Host i) → op_progress_of m s.core ≡ OpProgress.AwaitsEnd (Subtask.Host i) → A
   host_apart n m i far too =
       let own = (h.works_known.called n i far).1 in
       let named = h.cancelled m (Subtask.Host i) (ap cancelled_by too) in
@@ -40,10 +40,10 @@ module _ {g : Bool} {ops : ℕ → Op} {c : Component} {s : State} (h : InOrderF
       handle_some None e = absurd (grind arith)
 
   one_blocked : OneBlocked s.core
-  one_blocked n m sub at too = by sub at too (inside_of sub (how_far_of n s.core) (h.inside n (Place.Blocked sub) at)) (inside_of sub (how_far_of m s.core) (h.inside m (Place.Blocked sub) too))
+  one_blocked n m sub at too = by sub at too (inside_of sub (op_progress_of n s.core) (h.inside n (Place.Blocked sub) at)) (inside_of sub (op_progress_of m s.core) (h.inside m (Place.Blocked sub) too))
     where
       by : (sub : Subtask) → place_of n s.core ≡ Some (Place.Blocked sub) → place_of m s.core ≡ Some (Place.Blocked sub) →
-          (how_far_of n s.core ≡ HowFar.Calls sub) ⊎ (how_far_of n s.core ≡ HowFar.AwaitsEnd sub) → (how_far_of m s.core ≡ HowFar.Calls sub) ⊎ (how_far_of m s.core ≡ HowFar.AwaitsEnd sub) → n ≡ m
+          (op_progress_of n s.core ≡ OpProgress.Calls sub) ⊎ (op_progress_of n s.core ≡ OpProgress.AwaitsEnd sub) → (op_progress_of m s.core ≡ OpProgress.Calls sub) ⊎ (op_progress_of m s.core ≡ OpProgress.AwaitsEnd sub) → n ≡ m
       by sub at too (inr far) (inr other) = both_await n m sub far other
       by (Subtask.Guest k) at too (inl far) (inl other) = both_call n m k at far other
       by (Subtask.Guest k) at too (inl far) (inr other) = absurd (h.calls.apart n m k far (ap cancelled_call other))

@@ -7,7 +7,7 @@ use Rattle.task_places.proofs.{Balance.Balance, Balance.Gained, Balance.Quiet, B
 use Rattle.task_places.proofs.CountedSteps.{waiter_any}
 use Rattle.task_rules.proofs.FreeLemmas.{evented_join}
 use Rattle.task_machine.specs.Moves.{may_publish, may_wake_joined, unblocked, wake_joined}
-use Rattle.task_places.proofs.Laws.{admits, ap, arith, Bool, by_number, Core, event_of, false, found_none, get, get-change, how_far_of, inl, inr, is_callback_waiter, is_in_set, is_ready_member, is_some, is_woken_at, Join, join_of, joins, Mark, may_wake, MemberGift, nat_tests, NoGift, None, numbers, on_call, on_thread, on_work, Option, option_map, option_map_or, OwnEvent, OwnGift, Place, place_of, published, push_high, put_high, Records, refl, same_subtask, set_cancel_delivered, set_event, set_join, set_own_event, set_place, Some, Status, subst, Subtask, sym, taken, Thread, true, undelivered_end, wake, wake_why, waken_by, wakes_joined, wakes_one, Why, ℕ, ⊎_elim, ◌==◌, ◌∙◌, ◌≡◌, ◌⊎◌}
+use Rattle.task_places.proofs.Laws.{admits, ap, arith, Bool, by_number, Core, event_of, false, found_none, get, get-change, op_progress_of, inl, inr, is_callback_waiter, is_in_set, is_ready_member, is_some, is_woken_at, Join, join_of, joins, Mark, may_wake, PickedMember, nat_tests, NothingPicked, None, numbers, on_call, on_thread, on_work, Option, option_map, option_map_or, TaskEvent, PickedTaskEvent, Place, place_of, published, push_high, put_high, Records, refl, same_subtask, set_cancel_delivered, set_event, set_join, set_task_event, set_place, Some, Status, subst, Subtask, sym, taken, Thread, true, undelivered_end, wake, wake_why, waken_by, wakes_joined, wakes_one, Why, ℕ, ⊎_elim, ◌==◌, ◌∙◌, ◌≡◌, ◌⊎◌}
 use Rattle.task_machine.specs.Read.{blocked_on, is_at, is_blocked_on, is_waiter, is_waiting_on}
 use Rattle.task_rules.proofs.WalkMoves.{blocked_at}
 use Rattle.task_rules.specs.Sets.{may_wake_new}
@@ -132,20 +132,20 @@ unblocked_eases sub (Some k) u at = eases_put k (Place.Blocked sub) Why.Resumpti
 -- who waited and is woken is woken for the set
 module _ (y m : ℕ) (s : Core) (h : NoWakeLost s) (waits : is_waiter y m s ≡ true) where
   asleep : is_woken_at y m s ≡ false
-  asleep = let r = waiting_of y (place_of m s) waits in woken_at y m s ∙ ap (λ (o : Option Place). woken_place y o (how_far_of m s)) r.1
+  asleep = let r = waiting_of y (place_of m s) waits in woken_at y m s ∙ ap (λ (o : Option Place). woken_place y o (op_progress_of m s)) r.1
 
-  awake : (u : Core) → place_of m u ≡ place_of m s → how_far_of m u ≡ how_far_of m s → how_far_of m (wake y (Some m) u) ≡ how_far_of m s → is_woken_at y m (wake y (Some m) u) ≡ true
+  awake : (u : Core) → place_of m u ≡ place_of m s → op_progress_of m u ≡ op_progress_of m s → op_progress_of m (wake y (Some m) u) ≡ op_progress_of m s → is_woken_at y m (wake y (Some m) u) ≡ true
   awake u place far after =
       let r = waiting_of y (place_of m s) waits in
       let now = wakes_one y m u (ap (λ (o : Option Place). option_map_or (is_waiting_on y) o false) place ∙ waits) in
-      woken_at y m (wake y (Some m) u) ∙ (ap (λ (o : Option Place). woken_place y o (how_far_of m (wake y (Some m) u))) now ∙ (ap (woken_place y (Some (Place.Ready Mark.High (wake_why y (is_callback_waiter m u))))) after ∙
+      woken_at y m (wake y (Some m) u) ∙ (ap (λ (o : Option Place). woken_place y o (op_progress_of m (wake y (Some m) u))) now ∙ (ap (woken_place y (Some (Place.Ready Mark.High (wake_why y (is_callback_waiter m u))))) after ∙
       by r.0 r.1 (ap (λ (o : Option Place). callback_in o) (place ∙ r.1))))
     where
       callback_in : Option Place → Bool
       callback_in (Some (Place.Waiting x c)) = c
       callback_in o = false
 
-      by : (c : Bool) → place_of m s ≡ Some (Place.Waiting y c) → callback_in (place_of m u) ≡ c → woken_place y (Some (Place.Ready Mark.High (wake_why y (is_callback_waiter m u)))) (how_far_of m s) ≡ true
+      by : (c : Bool) → place_of m s ≡ Some (Place.Waiting y c) → callback_in (place_of m u) ≡ c → woken_place y (Some (Place.Ready Mark.High (wake_why y (is_callback_waiter m u)))) (op_progress_of m s) ≡ true
       by true at is = grind (arith, nat_tests, at, place)
       by false at is = let inside = h.inside m (Place.Waiting y false) at in grind (arith, nat_tests, at, place, inside)
 
@@ -195,11 +195,11 @@ take_keeps = take_event_keeps
 abbrev SameEvents : Core → Core → Type 0
 SameEvents s t = (d : Subtask) → (event_of d t ≡ event_of d s) × (join_of d t ≡ join_of d s)
 
-owed_eases : (e : Option OwnEvent) (k : ℕ) (s : Core) → Eases s (set_own_event k e s) × SameEvents s (set_own_event k e s)
-unfolding set_own_event on_call
-owed_eases e k s = (on_call_eases k (λ c. record c { own_event = e }) s (λ c. (refl, refl)), same)
+owed_eases : (e : Option TaskEvent) (k : ℕ) (s : Core) → Eases s (set_task_event k e s) × SameEvents s (set_task_event k e s)
+unfolding set_task_event on_call
+owed_eases e k s = (on_call_eases k (λ c. record c { task_event = e }) s (λ c. (refl, refl)), same)
   where
-    same : SameEvents s (record s { calls = change k (λ c. record c { own_event = e }) s.calls })
+    same : SameEvents s (record s { calls = change k (λ c. record c { task_event = e }) s.calls })
     same (Subtask.Guest j) = (grind (arith, nat_tests, get-change), grind (arith, nat_tests, get-change))
     same (Subtask.Host j) = (refl, refl)
 
@@ -211,25 +211,25 @@ delivered_eases k s = (on_call_eases k (λ c. record c { cancel_delivered = true
     same (Subtask.Guest j) = (grind (arith, nat_tests, get-change), grind (arith, nat_tests, get-change))
     same (Subtask.Host j) = (refl, refl)
 
-own_eases : (e : OwnEvent) (k : ℕ) (s : Core) → Eases s (taken (OwnGift e) k s) × SameEvents s (taken (OwnGift e) k s)
+own_eases : (e : TaskEvent) (k : ℕ) (s : Core) → Eases s (taken (PickedTaskEvent e) k s) × SameEvents s (taken (PickedTaskEvent e) k s)
 unfolding taken
-own_eases OwnEvent.None k s = owed_eases None k s
-own_eases OwnEvent.Cancelled k s =
+own_eases TaskEvent.None k s = owed_eases None k s
+own_eases TaskEvent.Cancelled k s =
     let a = owed_eases None k s in
-    let b = delivered_eases k (set_own_event k None s) in
+    let b = delivered_eases k (set_task_event k None s) in
     (eases_after a.0 b.0, λ d. ((b.1 d).0 ∙ (a.1 d).0, (b.1 d).1 ∙ (a.1 d).1))
 
-own_works : (e : OwnEvent) (k : ℕ) (s : Core) → (taken (OwnGift e) k s).works ≡ s.works
-unfolding taken set_own_event set_cancel_delivered on_call
-own_works OwnEvent.None k s = refl
-own_works OwnEvent.Cancelled k s = refl
+own_works : (e : TaskEvent) (k : ℕ) (s : Core) → (taken (PickedTaskEvent e) k s).works ≡ s.works
+unfolding taken set_task_event set_cancel_delivered on_call
+own_works TaskEvent.None k s = refl
+own_works TaskEvent.Cancelled k s = refl
 
 pub give_keeps : GiveKeeps
 unfolding GiveKeeps taken
-give_keeps (OwnGift e) k s h = let r = own_eases e k s in moves_keep (eased_moves r.0 (λ n d at. inl (r.1 d).0) (λ d. ended_as d s (taken (OwnGift e) k s) (own_works e k s))
-    (λ y j now was. Quiet (λ d on. let q = r.1 d in member_as y d s (taken (OwnGift e) k s) q.0 q.1 on) (eased_woken r.0 y))) h
-give_keeps (MemberGift sub) k s h = take_event_keeps sub s h
-give_keeps NoGift k s h = h
+give_keeps (PickedTaskEvent e) k s h = let r = own_eases e k s in moves_keep (eased_moves r.0 (λ n d at. inl (r.1 d).0) (λ d. ended_as d s (taken (PickedTaskEvent e) k s) (own_works e k s))
+    (λ y j now was. Quiet (λ d on. let q = r.1 d in member_as y d s (taken (PickedTaskEvent e) k s) q.0 q.1 on) (eased_woken r.0 y))) h
+give_keeps (PickedMember sub) k s h = take_event_keeps sub s h
+give_keeps NothingPicked k s h = h
 
 -- ---- Publishing
 

@@ -2,9 +2,9 @@
 use Rattle.task_laws.proofs.{WakeCounts.woken_at, WakeCounts.woken_place}
 use Rattle.task_places.proofs.StayMoves.{behind_place, resumed_place}
 use Rattle.task_places.proofs.Balance.{Quiet}
-use Rattle.task_places.proofs.Laws.{[], admits, ap, arith, behind, behind_one, Bool, by_number, callers_of, Core, false, foot_from, foot_of, get-insert, how_far_of, HowFar, if◌then◌else◌, inl, inr, insert, is_at, is_at_switch, is_behind_of, is_some, is_there, is_woken_at, List, Mark, nat_tests, newest, None, older, on_thread, Option, option_map_or, passed_on, Place, place_of, push_high, put_high, put_switch, refl, resumed_all, resumed_callers, says, set_callers, set_place, set_place_is, set_switch, shifted_calls, shifted_far, shifted_works, Some, Stop, stopped, subst, suc, sym, times, times-newest, true, under_of, under_place, unwrap_or, Why, zero, ℕ, ⊎_elim, ◌+◌, ◌==◌, ◌∙◌, ◌∷◌, ◌≡◌, ◌≤◌, ◌⊎◌}
+use Rattle.task_places.proofs.Laws.{[], admits, ap, arith, behind, behind_one, Bool, by_number, callers_of, Core, false, foot_from, foot_of, get-insert, op_progress_of, OpProgress, if◌then◌else◌, inl, inr, insert, is_at, is_at_switch, is_behind_of, is_some, is_there, is_woken_at, List, Mark, nat_tests, newest, None, older, on_thread, Option, option_map_or, passed_on, Place, place_of, push_high, put_high, put_switch, refl, resumed_all, resumed_callers, says, set_callers, set_place, set_place_is, set_switch, shifted_calls, shifted_far, shifted_works, Some, Stop, stopped, subst, suc, sym, times, times-newest, true, under_of, under_place, unwrap_or, Why, zero, ℕ, ⊎_elim, ◌+◌, ◌==◌, ◌∙◌, ◌∷◌, ◌≡◌, ◌≤◌, ◌⊎◌}
 use Rattle.task_places.proofs.BlockedLemmas.{ended_as}
-use Rattle.wake_laws.proofs.EaseLemmas.{callers_kept, GoesOn, is_still, Moves, moves_keep, nobody, none_leaves}
+use Rattle.wake_laws.proofs.EaseLemmas.{callers_kept, EaseGoesOn, is_still, Moves, moves_keep, nobody, none_leaves}
 use Rattle.wake_laws.proofs.MoveLemmas.{event_as, member_as}
 use Rattle.wake_laws.specs.Stands.{CallersBehind, NoWakeLost, StopKeeps, SwitchReady}
 use Rattle.task_rules.proofs.StopLemmas.{foot_there}
@@ -122,32 +122,32 @@ module _ (f : ℕ) (s : Core) (h : NoWakeLost s) where
       (newest_stands cs m none (λ k one. let r = is_listed k one in (ap (λ (o : Option Place). is_some o) r.0, one_listed k one)) (sym (ap (λ (v : Core). v.queues.switch) e) ∙ is))
 
   -- up from a thread that goes on
-  up_goes : (k i : ℕ) → GoesOn t i → GoesOn t (foot_from k u i)
+  up_goes : (k i : ℕ) → EaseGoesOn t i → EaseGoesOn t (foot_from k u i)
   up_goes zero i g = g
   up_goes (suc k) i g = by (λ v. up_goes k v) (under_of i u) refl
     where
-      by : ((v : ℕ) → GoesOn t v → GoesOn t (foot_from k u v)) → (o : Option ℕ) → under_of i u ≡ o → GoesOn t (option_map_or (foot_from k u) (under_of i u) i)
-      by rec None is = subst (λ (o : Option ℕ). GoesOn t (option_map_or (foot_from k u) o i)) (sym is) g
+      by : ((v : ℕ) → EaseGoesOn t v → EaseGoesOn t (foot_from k u v)) → (o : Option ℕ) → under_of i u ≡ o → EaseGoesOn t (option_map_or (foot_from k u) (under_of i u) i)
+      by rec None is = subst (λ (o : Option ℕ). EaseGoesOn t (option_map_or (foot_from k u) o i)) (sym is) g
       by rec (Some v) is =
           let at : place_of v s ≡ Some (Place.Under i) = under_place i v u is in
           let now = stays v (λ b. absurd (grind (arith, at, b))) ∙ at in
-          subst (λ (o : Option ℕ). GoesOn t (option_map_or (foot_from k u) o i)) (sym is) (rec v (suc g.0, let on = g.1 in grind (arith, now, on)))
+          subst (λ (o : Option ℕ). EaseGoesOn t (option_map_or (foot_from k u) o i)) (sym is) (rec v (suc g.0, let on = g.1 in grind (arith, now, on)))
 
-  foot_goes : (m : ℕ) → s.queues.switch ≡ Some m → GoesOn t (foot_of m u)
+  foot_goes : (m : ℕ) → s.queues.switch ≡ Some m → EaseGoesOn t (foot_of m u)
   unfolding foot_of
   foot_goes m is =
       let at = at_switch m is in let now = stays m (λ b. absurd (let here = at.1 in grind (arith, here, b))) ∙ at.1 in
       up_goes _ m (suc zero, grind (arith, now))
 
-  goes : (j : ℕ) → (place_of j t ≡ place_of j s) ⊎ (GoesOn t j ⊎ nobody j)
+  goes : (j : ℕ) → (place_of j t ≡ place_of j s) ⊎ (EaseGoesOn t j ⊎ nobody j)
   goes j = by (place_of j s) refl
     where
-      by : (o : Option Place) → place_of j s ≡ o → (place_of j t ≡ place_of j s) ⊎ (GoesOn t j ⊎ nobody j)
+      by : (o : Option Place) → place_of j s ≡ o → (place_of j t ≡ place_of j s) ⊎ (EaseGoesOn t j ⊎ nobody j)
       by None is = inl (absent j is ∙ sym is)
       by (Some p) is = ⊎_elim (λ e. inl e.0) (λ r. inr (inl (⊎_elim (λ y. (suc zero, let at = y.1.1 in grind (arith, at)))
           (λ m. let g = foot_goes m.0 m.1.0 in (suc g.0, let at = m.1.1 in let on = g.1 in grind (arith, at, on))) r.1))) (comes j (ap (λ (o : Option Place). is_some o) is))
 
-  still : (j : ℕ) (p : Place) → is_still p ≡ true → place_of j t ≡ Some p → (place_of j s ≡ Some p) × (how_far_of j t ≡ how_far_of j s)
+  still : (j : ℕ) (p : Place) → is_still p ≡ true → place_of j t ≡ Some p → (place_of j s ≡ Some p) × (op_progress_of j t ≡ op_progress_of j s)
   still j p kind at = (by (place_of j s) refl, shifted_far shifted j)
     where
       by : (o : Option Place) → place_of j s ≡ o → place_of j s ≡ Some p
@@ -167,7 +167,7 @@ module _ (f : ℕ) (s : Core) (h : NoWakeLost s) where
   woken y n on =
       let was = sym (woken_at y n s) ∙ on in
       let same = stays n (λ b. absurd (grind (arith, was, b))) in
-      woken_at y n t ∙ (ap (λ (o : Option Place). woken_place y o (how_far_of n t)) same ∙ (ap (λ (g : HowFar). woken_place y (place_of n s) g) (shifted_far shifted n) ∙ was))
+      woken_at y n t ∙ (ap (λ (o : Option Place). woken_place y o (op_progress_of n t)) same ∙ (ap (λ (g : OpProgress). woken_place y (place_of n s) g) (shifted_far shifted n) ∙ was))
 
   there_same : (j : ℕ) → is_there j t ≡ is_there j s
   there_same j = let same = shifted.threads j in grind (arith, same)

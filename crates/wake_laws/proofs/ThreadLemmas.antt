@@ -3,7 +3,7 @@ use Rattle.task_laws.proofs.{WakeCounts.woken_at, WakeCounts.woken_place}
 use Rattle.task_laws.proofs.Words.{call_instance, is_deletable, remove}
 use Rattle.task_machine.specs.Moves.{call_settled, departed, ended, exited_if, freed_thread_handle, group_settled, interest_settled, is_finished, is_group_done}
 use Rattle.task_machine.specs.Read.{call_group, thread_handle_of}
-use Rattle.task_places.proofs.Laws.{[], admits, ap, arith, Bool, by_number, callers_of, CallersGoOn, Core, event_of, false, free_thread_handle, get, get-change, get-remove, how_far_of, HowFar, if◌then◌else◌, inl, inr, instance_of, is_behind_of, is_explicit, is_inside_wait, is_ready_member, is_some, is_there, is_woken_at, is_woken_for, join_of, kind_of, nat_tests, None, on_call, on_thread, Option, option_map, option_map_or, Place, place_of, refl, remove_call, remove_group, remove_thread, says, set_exited, set_place, set_uninteresting, Some, subst, Subtask, suc, sym, task_of, Thread, times, true, undelivered_end, Why, zero, ℕ, ⊎_elim, ◌==◌, ◌∙◌, ◌≡◌, ◌⊎◌}
+use Rattle.task_places.proofs.Laws.{[], admits, ap, arith, Bool, by_number, callers_of, CallersGoOn, Core, event_of, false, free_thread_handle, get, get-change, get-remove, op_progress_of, OpProgress, if◌then◌else◌, inl, inr, instance_of, is_behind_of, is_explicit, is_inside_wait, is_ready_member, is_some, is_there, is_woken_at, is_woken_for, join_of, kind_of, nat_tests, None, on_call, on_thread, Option, option_map, option_map_or, Place, place_of, refl, remove_call, remove_group, remove_thread, says, set_exited, set_place, set_uninteresting, Some, subst, Subtask, suc, sym, task_of, Thread, times, true, undelivered_end, Why, zero, ℕ, ⊎_elim, ◌==◌, ◌∙◌, ◌≡◌, ◌⊎◌}
 use Rattle.task_places.proofs.Balance.{Quiet}
 use Rattle.task_places.proofs.StrandFeet.{under_none, Down, down_further, Here, last_under, lowest}
 use Rattle.task_rules.proofs.CallThreads.{no_thread_left}
@@ -124,8 +124,8 @@ module _ (n : ℕ) (s : Core) (may : MayLeave n s) (h : NoWakeLost s) where
   apart_at : (j : ℕ) (p : Place) → place_of j t ≡ Some p → (j == n) ≡ false
   apart_at j p at = by_number j n _ (λ is. absurd (let gone = gone_thread in grind (arith, gone, at, is))) (λ apart. apart)
 
-  still : (j : ℕ) (p : Place) → is_still p ≡ true → place_of j t ≡ Some p → (place_of j s ≡ Some p) × (how_far_of j t ≡ how_far_of j s)
-  still j p kind at = let apart = apart_at j p at in (sym (stays j apart) ∙ at, ap (λ (o : Option Thread). option_map_or (λ (u : Thread). u.how_far) o HowFar.Fresh) (other_thread j apart))
+  still : (j : ℕ) (p : Place) → is_still p ≡ true → place_of j t ≡ Some p → (place_of j s ≡ Some p) × (op_progress_of j t ≡ op_progress_of j s)
+  still j p kind at = let apart = apart_at j p at in (sym (stays j apart) ∙ at, ap (λ (o : Option Thread). option_map_or (λ (u : Thread). u.op_progress) o OpProgress.Fresh) (other_thread j apart))
 
   admitted : (j : ℕ) (w : Why) → place_of j t ≡ Some (Place.Held w) → admits j t w ≡ admits j s w
   admitted j w at = by w (calls (task_of j s))
@@ -233,11 +233,11 @@ module _ (n : ℕ) (p : Place) (s : Core) (off : is_off p ≡ true) (there : is_
   unfolding set_place on_thread
   own = grind (arith, nat_tests, get-change, there)
 
-  far : (j : ℕ) → how_far_of j v ≡ how_far_of j s
+  far : (j : ℕ) → op_progress_of j v ≡ op_progress_of j s
   unfolding set_place on_thread
   far j = grind (arith, nat_tests, get-change)
 
-  placed_still : (j : ℕ) (q : Place) → is_still q ≡ true → place_of j v ≡ Some q → (place_of j s ≡ Some q) × (how_far_of j v ≡ how_far_of j s)
+  placed_still : (j : ℕ) (q : Place) → is_still q ≡ true → place_of j v ≡ Some q → (place_of j s ≡ Some q) × (op_progress_of j v ≡ op_progress_of j s)
   placed_still j q kind at = by_number j n _ (λ is. absurd (let here = own in grind (arith, here, at, is, kind, off))) (λ apart. (sym (other j apart) ∙ at, far j))
 
   placed_behind : CallersBehind v
@@ -272,13 +272,13 @@ module _ (n : ℕ) (p : Place) (s : Core) (off : is_off p ≡ true) (there : is_
     where
       stays_woken : (y j : ℕ) → is_woken_at y j s ≡ true → is_woken_at y j v ≡ true
       stays_woken y j on = by_number j n _ (λ is. ap (λ (i : ℕ). is_woken_at y i v) is ∙ woken y (ap (λ (i : ℕ). is_woken_at y i s) (sym is) ∙ on))
-          (λ apart. woken_at y j v ∙ (ap (λ (o : Option Place). woken_place y o (how_far_of j v)) (other j apart) ∙ (ap (λ (f : HowFar). woken_place y (place_of j s) f) (far j) ∙ (sym (woken_at y j s) ∙ on))))
+          (λ apart. woken_at y j v ∙ (ap (λ (o : Option Place). woken_place y o (op_progress_of j v)) (other j apart) ∙ (ap (λ (f : OpProgress). woken_place y (place_of j s) f) (far j) ∙ (sym (woken_at y j s) ∙ on))))
 
 pub run_keeps : RunKeeps
 unfolding RunKeeps
 run_keeps n s may h = moves_keep (placed_moves n Place.Running s refl may.there may.switch may.behind h
     (callers_kept nobody s t (none_leaves s t) (λ j. by_number j n _ (λ is. inr (inl (suc zero, grind (arith, at, is)))) (λ apart. inl (other n Place.Running s refl may.there may.switch may.behind h j apart))))
-    (λ y on. woken_at y n t ∙ (ap (λ (o : Option Place). woken_place y o (how_far_of n t)) at ∙ (ap (is_inside_wait y) (far n Place.Running s refl may.there may.switch may.behind h n) ∙ may.inside y on)))) h
+    (λ y on. woken_at y n t ∙ (ap (λ (o : Option Place). woken_place y o (op_progress_of n t)) at ∙ (ap (is_inside_wait y) (far n Place.Running s refl may.there may.switch may.behind h n) ∙ may.inside y on)))) h
   where
     t : Core
     t = set_place n Place.Running s
@@ -326,6 +326,6 @@ suspended_runs m n s apart may = record {
   there = let was = may.there in grind (arith, nat_tests, get-change, was, apart);
   switch = may.switch;
   behind = λ f at. may.behind f (grind (arith, nat_tests, get-change, at, apart));
-  inside = λ x on. let far : how_far_of n (set_place m Place.Suspended s) ≡ how_far_of n s = grind (arith, nat_tests, get-change) in
+  inside = λ x on. let far : op_progress_of n (set_place m Place.Suspended s) ≡ op_progress_of n s = grind (arith, nat_tests, get-change) in
       ap (is_inside_wait x) far ∙ may.inside x (grind (arith, nat_tests, get-change, on, apart));
 }

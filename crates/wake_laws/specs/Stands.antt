@@ -3,10 +3,10 @@ use Rattle.task_machine.specs.declared.op.Op.{Op}
 use Rattle.std.specs.Prelude.{Bool, None, Option, Some, [], false, if◌then◌else◌, true, ℕ, ◌==◌, ◌≡◌, ◌⊎◌}
 use Rattle.task_laws.specs.Order.{InOrder, InOrderAs, InsideOps, Strands, is_open}
 use Rattle.task_laws.specs.WakeTable.{is_woken}
-use Rattle.task_laws.specs.Wakes.{BehindFeet, CallersGoOn, NoneAdmitted, NoneBlockedOnEnd, WakesCounted}
+use Rattle.task_laws.specs.WakeLaw.{BehindFeet, CallersGoOn, NoneAdmitted, NoneBlockedOnEnd, WakesCounted}
 use Rattle.task_machine.specs.Core.{Core, State}
-use Rattle.task_machine.specs.Moves.{Gift, ended, may_publish, published, stopped, taken, wake_joined}
-use Rattle.task_machine.specs.Read.{callers_of, event_of, foot_of, has_ready_member, how_far_of, is_at, is_inside_wait, join_of, place_of, under_of}
+use Rattle.task_machine.specs.Moves.{PickedEvent, ended, may_publish, published, stopped, taken, wake_joined}
+use Rattle.task_machine.specs.Read.{callers_of, event_of, foot_of, has_ready_member, op_progress_of, is_at, is_inside_wait, join_of, place_of, under_of}
 use Rattle.task_machine.specs.Write.{set_event, set_join, set_place}
 use Rattle.task_machine.specs.declared.component.Component.{Component}
 use Rattle.task_machine.specs.declared.label.Label.{Label}
@@ -64,37 +64,37 @@ WaitsFindNothing = (x : Setting) (s : State) (l : Label) (t : State) → InOrder
 
 -- ---- Moves
 
-abbrev pub Keeps : Core → Core → Type 0
-Keeps s t = NoWakeLost s → NoWakeLost t
+abbrev pub KeepsWakes : Core → Core → Type 0
+KeepsWakes s t = NoWakeLost s → NoWakeLost t
 
 -- a subtask gets an event, who is blocked on it goes on, and this waiter of its set, if there is one, is woken
 unfoldable pub PublishKeeps : Type 0
-PublishKeeps = (sub : Subtask) (e : Status) (w : Option ℕ) (s : Core) → may_publish sub w s ≡ true → Keeps s (published sub e w s)
+PublishKeeps = (sub : Subtask) (e : Status) (w : Option ℕ) (s : Core) → may_publish sub w s ≡ true → KeepsWakes s (published sub e w s)
 
 -- a waiter of the set of a subtask that has an event is woken, if there is one
 unfoldable pub WakeKeeps : Type 0
-WakeKeeps = (sub : Subtask) (w : Option ℕ) (s : Core) → may_publish sub w s ≡ true → Keeps s (wake_joined (join_of sub s) w s)
+WakeKeeps = (sub : Subtask) (w : Option ℕ) (s : Core) → may_publish sub w s ≡ true → KeepsWakes s (wake_joined (join_of sub s) w s)
 
 -- a subtask leaves its set and joins the other one, if one is given, of which this waiter is woken where the subtask has an event
 unfoldable pub JoinKeeps : Type 0
 JoinKeeps = (sub : Subtask) (x w : Option ℕ) (s : Core) → may_wake_new (event_of sub s) x w s ≡ true →
-    Keeps s (wakes_joined (event_of sub s) x w (set_join sub (joins x) s))
+    KeepsWakes s (wakes_joined (event_of sub s) x w (set_join sub (joins x) s))
 
 -- the event of a subtask is taken
 unfoldable pub TakeKeeps : Type 0
-TakeKeeps = (sub : Subtask) (s : Core) → Keeps s (set_event sub None s)
+TakeKeeps = (sub : Subtask) (s : Core) → KeepsWakes s (set_event sub None s)
 
 -- what is given to a call is taken
 unfoldable pub GiveKeeps : Type 0
-GiveKeeps = (g : Gift) (k : ℕ) (s : Core) → Keeps s (taken g k s)
+GiveKeeps = (g : PickedEvent) (k : ℕ) (s : Core) → KeepsWakes s (taken g k s)
 
 -- the first entry of a mark is taken
 unfoldable pub PopKeeps : Type 0
-PopKeeps = (m : Mark) (s : Core) → Keeps s (popped m s)
+PopKeeps = (m : Mark) (s : Core) → KeepsWakes s (popped m s)
 
 -- a strand stops
 unfoldable pub StopKeeps : Type 0
-StopKeeps = (f : ℕ) (s : Core) → Keeps s (stopped f s)
+StopKeeps = (f : ℕ) (s : Core) → KeepsWakes s (stopped f s)
 
 -- The thread is there, stands at no mark and is behind nobody, and nobody is behind it or under it. It isn't woken: its item isn't in hand,
 -- and it isn't inside a wait in which it was resumed.
@@ -108,28 +108,28 @@ pub record MayLeave (n : ℕ) (s : Core) : Type 0 where
 
 -- a thread ends
 unfoldable pub EndKeeps : Type 0
-EndKeeps = (n : ℕ) (s : Core) → MayLeave n s → Keeps s (ended n s)
+EndKeeps = (n : ℕ) (s : Core) → MayLeave n s → KeepsWakes s (ended n s)
 
 -- The thread is there, stands at no mark and is behind nobody. Where it is woken for a set, it is inside a wait on that set.
 pub record MayComeToRun (n : ℕ) (s : Core) : Type 0 where
   pub there : is_there n s ≡ true
   pub switch : (m : ℕ) → s.queues.switch ≡ Some m → (m == n) ≡ false
   pub behind : (f : ℕ) → place_of n s ≡ Some (place.Behind f) → ⊥
-  pub inside : (x : ℕ) → is_woken x n s ≡ true → is_inside_wait x (how_far_of n s) ≡ true
+  pub inside : (x : ℕ) → is_woken x n s ≡ true → is_inside_wait x (op_progress_of n s) ≡ true
 
 -- a thread runs
 unfoldable pub RunKeeps : Type 0
-RunKeeps = (n : ℕ) (s : Core) → MayComeToRun n s → Keeps s (set_place n place.Running s)
+RunKeeps = (n : ℕ) (s : Core) → MayComeToRun n s → KeepsWakes s (set_place n place.Running s)
 
 -- The thread runs, outside of a wait. Nobody is behind the foot of its strand, where those who are under another rise in number, each under
 -- one alone, and nobody is under a thread that another one is behind.
 pub record MaySuspend (n : ℕ) (s : Core) : Type 0 where
   pub runs : place_of n s ≡ Some place.Running
-  pub outside : (x : ℕ) → is_inside_wait x (how_far_of n s) ≡ false
+  pub outside : (x : ℕ) → is_inside_wait x (op_progress_of n s) ≡ false
   pub callers : callers_of (foot_of n s) s ≡ []
   pub strands : Strands s
   pub feet : BehindFeet s
 
 -- a thread that ran is suspended
 unfoldable pub SuspendKeeps : Type 0
-SuspendKeeps = (n : ℕ) (s : Core) → MaySuspend n s → Keeps s (set_place n place.Suspended s)
+SuspendKeeps = (n : ℕ) (s : Core) → MaySuspend n s → KeepsWakes s (set_place n place.Suspended s)

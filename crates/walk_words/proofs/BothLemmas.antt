@@ -3,7 +3,7 @@ use Rattle.task_records.proofs.Core.{[], ap, ap₂, arith, Bool, ChangesOnly, Ch
 use Rattle.std.proofs.lemmas.Bool.{or_left, or_right}
 use Rattle.task_records.specs.declared.parts.CoreParts.{CoreParts}
 use Rattle.task_index.proofs.Walks.{in_has}
-use Rattle.table_order.specs.declared.seat_links.Seat.{Seat}
+use Rattle.table_order.specs.declared.ordered_lists.OrderKey.{OrderKey}
 use Rattle.walk_words.proofs.MergeLemmas.{comes_before, has_merged, left_leads, right_leads}
 use Rattle.walk_words.proofs.ReleaseLemmas.{admitted_held, admitted_is, names_same, next_unqueued, step_puts}
 use Rattle.walk_words.specs.Held.{Releases, is_admitted}
@@ -11,33 +11,33 @@ use Rattle.walk_words.specs.Merged.{merged}
 use Rattle.walk_words.specs.Walks.{at_place, of_node}
 
 -- the first of both is the first of the one, or of the other
-abbrev LeadsLeft : (xs ys : List (ℕ × Seat)) → ℕ × Seat → Type 0
-LeadsLeft xs ys e = (es : List (ℕ × Seat)) × ((xs ≡ e ∷ es) × (merged xs ys ≡ e ∷ merged es ys))
+abbrev LeadsLeft : (xs ys : List (ℕ × OrderKey)) → ℕ × OrderKey → Type 0
+LeadsLeft xs ys e = (es : List (ℕ × OrderKey)) × ((xs ≡ e ∷ es) × (merged xs ys ≡ e ∷ merged es ys))
 
-abbrev LeadsRight : (xs ys : List (ℕ × Seat)) → ℕ × Seat → Type 0
-LeadsRight xs ys e = (es : List (ℕ × Seat)) × ((ys ≡ e ∷ es) × (merged xs ys ≡ e ∷ merged xs es))
+abbrev LeadsRight : (xs ys : List (ℕ × OrderKey)) → ℕ × OrderKey → Type 0
+LeadsRight xs ys e = (es : List (ℕ × OrderKey)) × ((ys ≡ e ∷ es) × (merged xs ys ≡ e ∷ merged xs es))
 
-leads_of : (xs ys : List (ℕ × Seat)) (e : ℕ × Seat) → head_of (merged xs ys) ≡ Some e → LeadsLeft xs ys e ⊎ LeadsRight xs ys e
+leads_of : (xs ys : List (ℕ × OrderKey)) (e : ℕ × OrderKey) → head_of (merged xs ys) ≡ Some e → LeadsLeft xs ys e ⊎ LeadsRight xs ys e
 leads_of [] [] e head = absurd (cc)
-leads_of [] (y ∷ ys) e head = let same = ap (λ (k : ℕ × Seat). k ∷ ys) (same_Some y e head) in inr (ys, (same, same))
-leads_of (x ∷ xs) [] e head = let same = same_Some x e head in inl (xs, (ap (λ (k : ℕ × Seat). k ∷ xs) same, ap (λ (k : ℕ × Seat). k ∷ merged xs []) same))
+leads_of [] (y ∷ ys) e head = let same = ap (λ (k : ℕ × OrderKey). k ∷ ys) (same_Some y e head) in inr (ys, (same, same))
+leads_of (x ∷ xs) [] e head = let same = same_Some x e head in inl (xs, (ap (λ (k : ℕ × OrderKey). k ∷ xs) same, ap (λ (k : ℕ × OrderKey). k ∷ merged xs []) same))
 leads_of (x ∷ xs) (y ∷ ys) e head = go (comes_before y x) refl
   where
     go : (t : Bool) → comes_before y x ≡ t → LeadsLeft (x ∷ xs) (y ∷ ys) e ⊎ LeadsRight (x ∷ xs) (y ∷ ys) e
     go true on =
         let is = right_leads x y xs ys on in
         let same = same_Some y e (sym (ap head_of is) ∙ head) in
-        inr (ys, (ap (λ (k : ℕ × Seat). k ∷ ys) same, is ∙ ap (λ (k : ℕ × Seat). k ∷ merged (x ∷ xs) ys) same))
+        inr (ys, (ap (λ (k : ℕ × OrderKey). k ∷ ys) same, is ∙ ap (λ (k : ℕ × OrderKey). k ∷ merged (x ∷ xs) ys) same))
     go false off =
         let is = left_leads x y xs ys off in
         let same = same_Some x e (sym (ap head_of is) ∙ head) in
-        inl (xs, (ap (λ (k : ℕ × Seat). k ∷ xs) same, is ∙ ap (λ (k : ℕ × Seat). k ∷ merged xs (y ∷ ys)) same))
+        inl (xs, (ap (λ (k : ℕ × OrderKey). k ∷ xs) same, is ∙ ap (λ (k : ℕ × OrderKey). k ∷ merged xs (y ∷ ys)) same))
 
-pub head_with : (n : ℕ) (o : Option (ℕ × Seat)) → Some n ≡ option_map (λ e. e.0) o → (v : Seat) × (o ≡ Some (n, v))
+pub head_with : (n : ℕ) (o : Option (ℕ × OrderKey)) → Some n ≡ option_map (λ e. e.0) o → (v : OrderKey) × (o ≡ Some (n, v))
 head_with n None is = absurd (cc)
 head_with n (Some (m, v)) is = (v, ap (λ k. Some (k, v)) (sym (same_Some n m is)))
 
-pub none_left : (l : List (ℕ × Seat)) → None ≡ option_map {U = ℕ} (λ e. e.0) (head_of l) → l ≡ []
+pub none_left : (l : List (ℕ × OrderKey)) → None ≡ option_map {U = ℕ} (λ e. e.0) (head_of l) → l ≡ []
 none_left [] is = refl
 none_left (e ∷ es) is = absurd (cc)
 
@@ -49,26 +49,26 @@ all_kept test (n ∷ ns) each =
     ∙ ap (λ (l : List ℕ). n ∷ l) (all_kept test ns (λ k h. each k (or_right _ _ h)))
 
 -- the first of both left its chain
-record Led (a b : CoreParts) (c d : ℕ) (e : ℕ × Seat) : Type 0 where
-  rest : List (ℕ × Seat)
+record Led (a b : CoreParts) (c d : ℕ) (e : ℕ × OrderKey) : Type 0 where
+  rest : List (ℕ × OrderKey)
   before : merged (entries a.places c) (entries a.places d) ≡ e ∷ rest
   after : merged (entries b.places c) (entries b.places d) ≡ rest
   others : (n : ℕ) → (n ≡ e.0 → ⊥) → link_of b.places n ≡ link_of a.places n
   chain : IsSome (list_of b.places c)
   other : IsSome (list_of b.places d)
 
-module _ (a : CoreParts) (links : IsLinks a.places) (c d : ℕ) (e : ℕ × Seat) (head : head_of (merged (entries a.places c) (entries a.places d)) ≡ Some e) where
+module _ (a : CoreParts) (links : IsLinks a.places) (c d : ℕ) (e : ℕ × OrderKey) (head : head_of (merged (entries a.places c) (entries a.places d)) ≡ Some e) where
   leads : LeadsLeft (entries a.places c) (entries a.places d) e ⊎ LeadsRight (entries a.places c) (entries a.places d) e
   leads = leads_of (entries a.places c) (entries a.places d) e head
 
-  headed : (es : List (ℕ × Seat)) × (merged (entries a.places c) (entries a.places d) ≡ e ∷ es)
+  headed : (es : List (ℕ × OrderKey)) × (merged (entries a.places c) (entries a.places d) ≡ e ∷ es)
   headed = by leads
     where
-      by : LeadsLeft (entries a.places c) (entries a.places d) e ⊎ LeadsRight (entries a.places c) (entries a.places d) e → (es : List (ℕ × Seat)) × (merged (entries a.places c) (entries a.places d) ≡ e ∷ es)
+      by : LeadsLeft (entries a.places c) (entries a.places d) e ⊎ LeadsRight (entries a.places c) (entries a.places d) e → (es : List (ℕ × OrderKey)) × (merged (entries a.places c) (entries a.places d) ≡ e ∷ es)
       by (inl (es, (is, all))) = (_, all)
       by (inr (es, (is, all))) = (_, all)
 
-  linked_in : (x : ℕ) (es : List (ℕ × Seat)) → entries a.places x ≡ e ∷ es → (v : Seat) × (link_of a.places e.0 ≡ Some (x, v))
+  linked_in : (x : ℕ) (es : List (ℕ × OrderKey)) → entries a.places x ≡ e ∷ es → (v : OrderKey) × (link_of a.places e.0 ≡ Some (x, v))
   linked_in x es is = links.entered e.0 x (subst (In e.0) (sym is) (inl refl))
 
   -- the node that leads is in a chain
@@ -99,13 +99,13 @@ module _ (a : CoreParts) (links : IsLinks a.places) (c d : ℕ) (e : ℕ × Seat
         apart : c ≡ d → ⊥
         apart same = by leads
           where
-            number : ℕ × Seat → ℕ
+            number : ℕ × OrderKey → ℕ
             number k = of_node a k.0
 
-            at_head : (es : List (ℕ × Seat)) → has (of_node a e.0) (map (λ k. of_node a k.0) (e ∷ es)) ≡ true
+            at_head : (es : List (ℕ × OrderKey)) → has (of_node a e.0) (map (λ k. of_node a k.0) (e ∷ es)) ≡ true
             at_head es = ap (λ b. b || has (of_node a e.0) (map (λ k. of_node a k.0) es)) (eq-eqb (of_node a e.0) (of_node a e.0) refl)
 
-            once_rest : (l : List (ℕ × Seat)) → merged (entries a.places c) (entries a.places d) ≡ e ∷ l → has (of_node a e.0) (map (λ k. of_node a k.0) l) ≡ false
+            once_rest : (l : List (ℕ × OrderKey)) → merged (entries a.places c) (entries a.places d) ≡ e ∷ l → has (of_node a e.0) (map (λ k. of_node a k.0) l) ≡ false
             once_rest l is = (subst (λ m. Once (map (λ k. of_node a k.0) m)) is was.once).0
 
             by : LeadsLeft (entries a.places c) (entries a.places d) e ⊎ LeadsRight (entries a.places c) (entries a.places d) e → ⊥
@@ -120,12 +120,12 @@ module _ (a : CoreParts) (links : IsLinks a.places) (c d : ℕ) (e : ℕ × Seat
                 let off = once_rest (merged (entries a.places c) es) all in
                 let bad = sym on ∙ off in cc
 
-        gone : (x : ℕ) (es : List (ℕ × Seat)) → entries a.places x ≡ e ∷ es → ChangesOnly a.places b.places x e.0 es None
+        gone : (x : ℕ) (es : List (ℕ × OrderKey)) → entries a.places x ≡ e ∷ es → ChangesOnly a.places b.places x e.0 es None
         gone x es is =
             let link = linked_in x es is in
             let less : without e.0 (entries a.places x) ≡ es = ap (without e.0) is ∙ ap (λ t. cond t es (e ∷ without e.0 es)) (eq-eqb e.0 e.0 refl) in
-            subst (λ (l : List (ℕ × Seat)). ChangesOnly a.places b.places x e.0 l None) less
-            (subst (λ (l : List (Spot Seat)). ChangesOnly a.places l x e.0 (without e.0 (entries a.places x)) None) (sym (takes ∙ ap (λ o. removed_by e.0 o a.places) link.1))
+            subst (λ (l : List (ℕ × OrderKey)). ChangesOnly a.places b.places x e.0 l None) less
+            (subst (λ (l : List (Spot OrderKey)). ChangesOnly a.places l x e.0 (without e.0 (entries a.places x)) None) (sym (takes ∙ ap (λ o. removed_by e.0 o a.places) link.1))
             (ChangesOnly-unlinked a.places x e.0 (without e.0 (entries a.places x)) (links.listed e.0 x link.0 link.1).0 (made_linked a.places e.0 x link.0 link.1)))
 
         led : Led a b c d e
@@ -163,8 +163,8 @@ module _ (a : CoreParts) (links : IsLinks a.places) (c d : ℕ) (e : ℕ × Seat
 
         pub both_smaller : length (merged (entries b.places c) (entries b.places d)) < length (merged (entries a.places c) (entries a.places d))
         both_smaller =
-            let after : length (merged (entries b.places c) (entries b.places d)) ≡ length led.rest = ap (λ (l : List (ℕ × Seat)). length l) led.after in
-            let before : length (merged (entries a.places c) (entries a.places d)) ≡ length (e ∷ led.rest) = ap (λ (l : List (ℕ × Seat)). length l) led.before in
+            let after : length (merged (entries b.places c) (entries b.places d)) ≡ length led.rest = ap (λ (l : List (ℕ × OrderKey)). length l) led.after in
+            let before : length (merged (entries a.places c) (entries a.places d)) ≡ length (e ∷ led.rest) = ap (λ (l : List (ℕ × OrderKey)). length l) led.before in
             omega (arith, after, before)
 
         rest_was : Releases i s all a (e ∷ led.rest)

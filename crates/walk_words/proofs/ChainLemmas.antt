@@ -1,20 +1,20 @@
 -- The threads of a chain of places, by their numbers.
-use Rattle.task_records.proofs.Core.{HeldIn, StartsIn, ap, arith, bare, blocked_on, BlockedOn, Bool, eq-eqb, eqb-true, false, Filing, first_at, get, get-records, IfSome, is_blocked_on, is_under, IsLinks, IsMembers, IsMembers-walked, IsSome, IsSound, key_in, list_of, None, number_in, Option, option_map, option_map_or, parts_of, passes_at, Place, place_at, place_chain, place_filing, Placed, records, refl, same_Some, same_subtask, seen, Some, Subtask, suc, sym, TableId, Thread, thread_key, thread_of, ThreadKey, true, under_of, UnderOf, Where, where_at, zero, ℕ, ◌<◌, ◌∙◌, ◌≡◌}
+use Rattle.task_records.proofs.Core.{HeldIn, StartsIn, ap, arith, bare, blocked_on, BlockedOn, Bool, eq-eqb, eqb-true, false, Filing, first_at, get, get-records, IfSome, is_blocked_on, is_under, IsLinks, IsMembers, IsMembers-walked, IsSome, IsSoundCore, key_in, list_of, None, number_in, Option, option_map, option_map_or, parts_of, passes_at, Place, place_at, place_chain, place_filing, Placed, records, refl, same_Some, same_subtask, seen, Some, Subtask, suc, sym, TableId, Thread, thread_key, thread_of, ThreadKey, true, under_of, UnderOf, Where, where_at, zero, ℕ, ◌<◌, ◌∙◌, ◌≡◌}
 use Rattle.task_rules.specs.Places.{is_for_start}
 use Rattle.std.specs.Prelude.{◌&&◌, if◌then◌else◌}
 use Rattle.task_machine.specs.Read.{is_at}
-use Rattle.task_records.specs.declared.{parts.CoreParts.CoreParts, single.Single.Single, threads.GuestThread.GuestThread}
+use Rattle.task_records.specs.declared.{parts.CoreParts.CoreParts, single.Single.Single, thread_records.GuestThread.GuestThread}
 use Rattle.task_rules.proofs.StopLemmas.{find_passes}
 use Rattle.place_words.proofs.FiledLemmas.{place_tests, places_filed}
 use Rattle.walk_words.proofs.LeastLemmas.{least_at}
 use Rattle.walk_words.specs.Least.{least_of}
-use Rattle.walk_words.specs.Walks.{at_seat, of_chain}
-use Rattle.table_order.specs.declared.seat_links.Seat.{Seat}
-use Rattle.task_records.specs.Places.{thread_seat}
+use Rattle.walk_words.specs.Walks.{at_order_key, of_chain}
+use Rattle.table_order.specs.declared.ordered_lists.OrderKey.{OrderKey}
+use Rattle.task_records.specs.RecordPlaces.{thread_order_key}
 
 -- ---- The chain of a list that a test of places finds
 
-module _ (a : CoreParts) (sound : IsSound a) (k : Where) (c : ℕ) (chain : place_chain (bare (parts_of a)) k ≡ Some c) where
+module _ (a : CoreParts) (sound : IsSoundCore a) (k : Where) (c : ℕ) (chain : place_chain (bare (parts_of a)) k ≡ Some c) where
   pub chain_live : IsSome (list_of a.places c)
   chain_live = (places_filed a sound).live k c chain
 
@@ -27,16 +27,16 @@ module _ (a : CoreParts) (sound : IsSound a) (k : Where) (c : ℕ) (chain : plac
         by None is = rw is refl
         by (Some t) is = rw is refl
 
-    reads : (r : ℕ) (p : Placed (Single GuestThread)) (f : Filing Where Seat) (x : ℕ × Thread) → place_at a.threads r ≡ Some p → place_filing r p.serial p.entry ≡ Some f → thread_key p.entry ≡ Some x → at_seat a f.value ≡ x.0
+    reads : (r : ℕ) (p : Placed (Single GuestThread)) (f : Filing Where OrderKey) (x : ℕ × Thread) → place_at a.threads r ≡ Some p → place_filing r p.serial p.entry ≡ Some f → thread_key p.entry ≡ Some x → at_order_key a f.value ≡ x.0
     reads r p f x at says key =
-        ap (λ (g : Filing Where Seat). at_seat a g.value) (sym (same_Some (record { node = p.entry.item.node.index; key = where_at p.entry.item.instance p.entry.item.barred p.entry.item.thread.place; value = thread_seat r p.entry.item }) f says))
+        ap (λ (g : Filing Where OrderKey). at_order_key a g.value) (sym (same_Some (record { node = p.entry.item.node.index; key = where_at p.entry.item.instance p.entry.item.barred p.entry.item.thread.place; value = thread_order_key r p.entry.item }) f says))
         ∙ (ap (λ o. number_in (key_in thread_key o)) at ∙ ap number_in key)
 
     -- has just those that pass
     pub chain_members : IsMembers (λ n. is_at n (seen a).core test) (of_chain a c)
-    unfolding IsSound
+    unfolding IsSoundCore
     chain_members =
-        let walked = IsMembers-walked place_filing (place_chain (bare (parts_of a))) a.threads a.places (places_filed a sound) k c chain thread_key (λ (e : ℕ × Thread). test e.1.place) (place_tests k test passes filed) links sound.tables.threads.apart (at_seat a) reads in
+        let walked = IsMembers-walked place_filing (place_chain (bare (parts_of a))) a.threads a.places (places_filed a sound) k c chain thread_key (λ (e : ℕ × Thread). test e.1.place) (place_tests k test passes filed) links sound.tables.threads.apart (at_order_key a) reads in
         record { once = walked.once; are = λ n. walked.are n ∙ sym (tested n) }
 
     -- so the least of it is the machine's first
@@ -115,9 +115,9 @@ blocked_filed sub i o Place.Suspended is = absurd (cc)
 
 -- ---- As the records of a thread and of a subtask have them
 
-module _ (a : CoreParts) (sound : IsSound a) where
+module _ (a : CoreParts) (sound : IsSoundCore a) where
   none_zero : get (seen a).core.threads 0 ≡ None
-  unfolding IsSound seen
+  unfolding IsSoundCore seen
   none_zero = get-records thread_key a.threads.places 0 ∙ sound.tables.threads.above_zero
 
   -- a thread that is found has a number above 0

@@ -1,5 +1,5 @@
 -- A poll that is counted, and the search for the live work after it.
-use Rattle.task_records.proofs.Core.{ap, ap₂, AreLinked, arith, bare, Bool, cond, entries, false, filings, filings_at, following, IsLinks, is_moving, is_some, is_stage_live, IsSome, IsSound, item_at, item_of, link_of, live_chain, live_value, live_work, next_polled, Node, None, not, Ok, on_core, one_if_passes, Option, parts_of, refl, same_Some, seen, set_course, Some, stage_of, Stage, suc, sym, TableId, true, Work, work_of, zero, ℕ, ◌&&◌, ◌+◌, ◌||◌, ◌∙◌, ◌≡◌, ◌≤◌}
+use Rattle.task_records.proofs.Core.{ap, ap₂, AreLinked, arith, bare, Bool, cond, entries, false, filings, filings_at, following, IsLinks, is_moving, is_some, is_stage_live, IsSome, IsSoundCore, item_at, item_of, link_of, live_chain, live_value, live_work, next_polled, Node, None, not, Ok, on_core, one_if_passes, Option, parts_of, refl, same_Some, seen, set_course, Some, stage_of, Stage, suc, sym, TableId, true, Work, work_of, zero, ℕ, ◌&&◌, ◌+◌, ◌||◌, ◌∙◌, ◌≡◌, ◌≤◌}
 use Rattle.std.specs.Option.{option_map, option_map_or}
 use Rattle.std.specs.Prelude.{Err, IsOk, Result}
 use Rattle.place_words.proofs.HearLemmas.{bare_placed, bare_stands, stands}
@@ -19,7 +19,7 @@ use Rattle.task_machine.specs.declared.words.Phase.TheVariants as phases
 use Rattle.task_records.proofs.ReadLemmas.{work_read, work_unread}
 use Rattle.task_records.proofs.WriteLemmas.{moved_sound, moved_writes}
 use Rattle.task_records.specs.Kinds.{entry_of}
-use Rattle.task_records.specs.declared.{parts.CoreParts.CoreParts, works.HostWork.HostWork, works.LiveWork.LiveWork}
+use Rattle.task_records.specs.declared.{parts.CoreParts.CoreParts, work_records.WorkRecord.WorkRecord, work_records.LiveWork.LiveWork}
 use Rattle.task_rules.specs.Works.{heard, poll_of, poll_pends, polled_again, polled_course, polled_in}
 use Rattle.task_table.specs.Changes.{with_entry}
 use Rattle.task_table.specs.declared.error.ResourceTableError.{ResourceTableError}
@@ -42,16 +42,16 @@ heard_open host_poll.Pending left is = is
 heard_open (host_poll.Value v) left is = absurd is
 heard_open host_poll.Failed left is = absurd is
 
-again_never : (host left : HostDef) → PendsWith left (polled_again host) → is_never (courses.Goes left) ≡ is_never (courses.Goes host)
-again_never (host_def.Settled None v) left is = ap (λ (e : HostDef). is_never (courses.Goes e)) is
+again_never : (host left : HostDef) → PendsWith left (polled_again host) → is_never (courses.Continues left) ≡ is_never (courses.Continues host)
+again_never (host_def.Settled None v) left is = ap (λ (e : HostDef). is_never (courses.Continues e)) is
 again_never (host_def.Settled (Some zero) None) left is = absurd is
 again_never (host_def.Settled (Some zero) (Some v)) left is = absurd is
-again_never (host_def.Settled (Some (suc n)) v) left is = ap (λ (e : HostDef). is_never (courses.Goes e)) is
-again_never host_def.Open left is = ap (λ (e : HostDef). is_never (courses.Goes e)) (heard_open is.0 left is.1)
+again_never (host_def.Settled (Some (suc n)) v) left is = ap (λ (e : HostDef). is_never (courses.Continues e)) is
+again_never host_def.Open left is = ap (λ (e : HostDef). is_never (courses.Continues e)) (heard_open is.0 left is.1)
 
 -- it is to end just where it was
-never_same : (c : Course) (left : HostDef) → PendsWith left (polled_course c) → is_never (courses.Goes left) ≡ is_never c
-never_same (courses.Goes d) left is = again_never d left is
+never_same : (c : Course) (left : HostDef) → PendsWith left (polled_course c) → is_never (courses.Continues left) ≡ is_never c
+never_same (courses.Continues d) left is = again_never d left is
 never_same (courses.Value v) left is = absurd is
 never_same courses.NoValue left is = absurd is
 
@@ -64,7 +64,7 @@ mapped_some f (Some x) = refl
 reflexive : (n : ℕ) → n ≤ n
 reflexive n = omega arith
 
-module _ (a : CoreParts) (sound : IsSound a) where
+module _ (a : CoreParts) (sound : IsSoundCore a) where
   -- the walk goes on behind the node of a work, past its number
   pub stands_walk : (node number : ℕ) → StandsLive node number a → (c : ℕ) → a.live ≡ Some c → IsLinks a.polled → AreLinked a.polled c (entries a.polled c) → (other : Option (ℕ × LiveWork)) → other ≡ following node a.polled →
       Walk (HasNext number (entries a.polled c)) (entries a.polled c) other
@@ -81,8 +81,8 @@ more_at x n m b same is = is ∙ ap (λ (k : ℕ). is_some (next_polled k (seen 
 -- ---- The record of the work
 
 -- nothing hangs on where the search for the next live work begins
-begun_sound : (a : CoreParts) (o : Option Node) → IsSound a → IsSound (record a { polled_last = o })
-unfolding IsSound
+begun_sound : (a : CoreParts) (o : Option Node) → IsSoundCore a → IsSoundCore (record a { polled_last = o })
+unfolding IsSoundCore
 begun_sound a o sound = sound
 
 begun_seen : (a : CoreParts) (o : Option Node) → seen (record a { polled_last = o }) ≡ seen a
@@ -90,18 +90,18 @@ unfolding seen
 begun_seen a o = refl
 
 -- an id that names nothing names no live work
-pub none_lives : (a : CoreParts) (sound : IsSound a) (id : TableId HostTaskKey) (why : ResourceTableError) → Err why ≡ item_at item_of a.works id.rep id.serial → is_stage_live (stage_of (work_of (seen a) id) (seen a).core) ≡ true → ⊥
+pub none_lives : (a : CoreParts) (sound : IsSoundCore a) (id : TableId HostTaskKey) (why : ResourceTableError) → Err why ≡ item_at item_of a.works id.rep id.serial → is_stage_live (stage_of (work_of (seen a) id) (seen a).core) ≡ true → ⊥
 none_lives a sound id why is live = let none = ap (λ (o : Option Work). is_stage_live (option_map_or (λ (w : Work). w.stage) o Stage.Ended)) (work_unread a sound id why is) in let no : ◌≡◌ {A = Bool} false true = none ∙ live in cc
 
 -- so that of a live work names a record
-pub lives_there : (a : CoreParts) (sound : IsSound a) (id : TableId HostTaskKey) → is_stage_live (stage_of (work_of (seen a) id) (seen a).core) ≡ true → IsOk (item_at item_of a.works id.rep id.serial)
+pub lives_there : (a : CoreParts) (sound : IsSoundCore a) (id : TableId HostTaskKey) → is_stage_live (stage_of (work_of (seen a) id) (seen a).core) ≡ true → IsOk (item_at item_of a.works id.rep id.serial)
 lives_there a sound id live = by (item_at item_of a.works id.rep id.serial) refl
   where
-    by : (r : Result HostWork ResourceTableError) → r ≡ item_at item_of a.works id.rep id.serial → IsOk r
+    by : (r : Result WorkRecord ResourceTableError) → r ≡ item_at item_of a.works id.rep id.serial → IsOk r
     by (Ok g) is = refl
     by (Err why) is = absurd (none_lives a sound id why is live)
 
-module _ (a : CoreParts) (sound : IsSound a) (id : TableId HostTaskKey) (g : HostWork) (is : Ok g ≡ item_at item_of a.works id.rep id.serial) where
+module _ (a : CoreParts) (sound : IsSoundCore a) (id : TableId HostTaskKey) (g : WorkRecord) (is : Ok g ≡ item_at item_of a.works id.rep id.serial) where
   poll_is : poll_of (work_of (seen a) id) (seen a).core ≡ polled_in g.work.phase g.work.course
   unfolding poll_of
   poll_is =
@@ -113,7 +113,7 @@ module _ (a : CoreParts) (sound : IsSound a) (id : TableId HostTaskKey) (g : Hos
 
   -- the live work has its node in the chain
   pub stands_live : is_stage_live (stage_of (work_of (seen a) id) (seen a).core) ≡ true → StandsLive g.live.index g.number a
-  unfolding IsSound
+  unfolding IsSoundCore
   stands_live live = by a.live refl some
     where
       some : IsSome a.live
@@ -137,8 +137,8 @@ module _ (a : CoreParts) (sound : IsSound a) (id : TableId HostTaskKey) (g : Hos
         link = filed_link (live_chain (bare (parts_of a))) a.polled (filings live_work a.works) (polled_filed a sound) tt c at id.rep filing filed (ap (λ b. cond b (Some tt) None) here);
       }
 
-  module _ (c : Course) (left : HostDef) (pends : PendsWith left (poll_of (work_of (seen a) id) (seen a).core)) (new : c ≡ courses.Goes left) (node : Node) where
-    abbrev written : HostWork
+  module _ (c : Course) (left : HostDef) (pends : PendsWith left (poll_of (work_of (seen a) id) (seen a).core)) (new : c ≡ courses.Continues left) (node : Node) where
+    abbrev written : WorkRecord
     written = record g { work = record g.work { course = c } }
 
     counted : a.kept.moving + one_if_passes is_moving (Some g.work) ≡ a.kept.moving + one_if_passes is_moving (Some written.work)
@@ -150,9 +150,9 @@ module _ (a : CoreParts) (sound : IsSound a) (id : TableId HostTaskKey) (g : Hos
     abbrev after : CoreParts
     after = record a { works = with_entry id.rep (entry_of written) a.works; polled_last = Some node }
 
-    pub count_sound : IsSound after
+    pub count_sound : IsSoundCore after
     count_sound = begun_sound _ _ (moved_sound a sound id g is written refl a.kept.moving counted)
 
     pub count_seen : seen after ≡ on_core (poll_pends (work_of (seen a) id) left) (seen a)
     unfolding poll_pends set_course
-    count_seen = begun_seen _ _ ∙ moved_writes a sound id g is written refl a.kept.moving counted (λ w. record w { course = courses.Goes left }) (ap (λ (d : Course). record g.work { course = d }) (sym new))
+    count_seen = begun_seen _ _ ∙ moved_writes a sound id g is written refl a.kept.moving counted (λ w. record w { course = courses.Continues left }) (ap (λ (d : Course). record g.work { course = d }) (sym new))

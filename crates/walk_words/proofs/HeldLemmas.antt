@@ -1,11 +1,11 @@
 -- The chain of an instance's held threads has just these.
-use Rattle.task_records.proofs.Core.{[], admitted_held, admitted_permute, ap, ap₂, bare, bare_thread, Bool, call_instance, cond, Core, eq-eqb, eqb-true, false, Filing, filter, found_permute, found_record_at, get, get-records, has, HasHome, head_of, held_why, HeldIn, if◌then◌else◌, instance_of, is_held_in, is_nil, is_some, IsLinks, IsMembers, IsMembers-nothing, IsMembers-walked, IsPermutation, IsSome, IsSound, key_in, List, list_any, map, Node, None, not, number_in, on_item, Once, Option, option_and_then, option_map, option_map_or, parts_of, passes_in, Place, place_at, place_chain, place_filing, Placed, record_found, records, refl, same_Some, seen, slice_get, slice_get-map, Some, StartsIn, subst, sym, Tests, Thread, thread_key, true, Where, where_at, Why, ℕ, ◌&&◌, ◌++◌, ◌==◌, ◌||◌, ◌∙◌, ◌∷◌, ◌≡◌}
+use Rattle.task_records.proofs.Core.{[], admitted_held, admitted_permute, ap, ap₂, bare, bare_thread, Bool, call_instance, cond, Core, eq-eqb, eqb-true, false, Filing, filter, found_permute, found_record_at, get, get-records, has, HasHome, head_of, held_why, HeldIn, if◌then◌else◌, instance_of, is_held_in, is_nil, is_some, IsLinks, IsMembers, IsMembers-nothing, IsMembers-walked, IsPermutation, IsSome, IsSoundCore, key_in, List, list_any, map, Node, None, not, number_in, on_item, Once, Option, option_and_then, option_map, option_map_or, parts_of, passes_in, Place, place_at, place_chain, place_filing, Placed, record_found, records, refl, same_Some, seen, slice_get, slice_get-map, Some, StartsIn, subst, sym, Tests, Thread, thread_key, true, Where, where_at, Why, ℕ, ◌&&◌, ◌++◌, ◌==◌, ◌||◌, ◌∙◌, ◌∷◌, ◌≡◌}
 use Rattle.std.proofs.Math.Bool.{or_assoc}
 use Rattle.std.proofs.lemmas.Bool.{and_parts, or_right}
 use Rattle.task_machine.specs.Read.{kind_of}
 use Rattle.task_rules.specs.Places.{is_for_start}
 use Rattle.std.proofs.lemmas.List.Sorted.{list_any-IsPermutation}
-use Rattle.task_records.specs.declared.{instances.InstanceRecord.InstanceRecord, parts.CoreParts.CoreParts, single.Single.Single, threads.GuestThread.GuestThread}
+use Rattle.task_records.specs.declared.{instance_records.InstanceRecord.InstanceRecord, parts.CoreParts.CoreParts, single.Single.Single, thread_records.GuestThread.GuestThread}
 use Rattle.task_words.specs.Held.{held_in}
 use Rattle.task_records.proofs.HomeLemmas.{bare_instance, bare_kind}
 use Rattle.task_records.specs.Sound.{bare_instance as bare_record}
@@ -13,9 +13,9 @@ use Rattle.place_words.proofs.FiledLemmas.{places_filed}
 use Rattle.queue_words.proofs.BareLemmas.{place_mapped}
 use Rattle.queue_words.proofs.CallerLemmas.{apart_as, none_as}
 use Rattle.walk_words.specs.Held.{agrees, held_where, in_list, is_admitted, listed_at, listed_in}
-use Rattle.walk_words.specs.Walks.{at_seat, of_chain}
-use Rattle.table_order.specs.declared.seat_links.Seat.{Seat}
-use Rattle.task_records.specs.Places.{thread_seat}
+use Rattle.walk_words.specs.Walks.{at_order_key, of_chain}
+use Rattle.table_order.specs.declared.ordered_lists.OrderKey.{OrderKey}
+use Rattle.task_records.specs.RecordPlaces.{thread_order_key}
 use Rattle.task_words.specs.Barred.{bars_start}
 
 -- a thread with its instance, and whether its start is barred
@@ -70,10 +70,10 @@ held_passes starts i j b Place.Suspended is = absurd (cc)
 
 held_tests : (starts : Bool) (i : ℕ) → Tests place_filing held_key (held_where starts i) (holds_in starts i)
 held_tests starts i = record {
-  passes = λ rep serial e f says is_k. ((e.item.number, (e.item.thread, (e.item.instance, e.item.barred))), (refl, held_passes starts i e.item.instance e.item.barred e.item.thread.place (ap (λ (g : Filing Where Seat). g.key) (same_Some (record { node = e.item.node.index; key = where_at e.item.instance e.item.barred e.item.thread.place; value = thread_seat rep e.item }) f says) ∙ is_k)));
+  passes = λ rep serial e f says is_k. ((e.item.number, (e.item.thread, (e.item.instance, e.item.barred))), (refl, held_passes starts i e.item.instance e.item.barred e.item.thread.place (ap (λ (g : Filing Where OrderKey). g.key) (same_Some (record { node = e.item.node.index; key = where_at e.item.instance e.item.barred e.item.thread.place; value = thread_order_key rep e.item }) f says) ∙ is_k)));
   filed = λ rep serial e x says is.
       let one = and_parts _ _ (ap (holds_in starts i) (same_Some (e.item.number, (e.item.thread, (e.item.instance, e.item.barred))) x says) ∙ is) in
-      (record { node = e.item.node.index; key = where_at e.item.instance e.item.barred e.item.thread.place; value = thread_seat rep e.item }, (refl, held_filed starts i e.item.instance e.item.barred e.item.thread.place one.0 one.1));
+      (record { node = e.item.node.index; key = where_at e.item.instance e.item.barred e.item.thread.place; value = thread_order_key rep e.item }, (refl, held_filed starts i e.item.instance e.item.barred e.item.thread.place one.0 one.1));
 }
 
 none_in : (b : Bool) → (b && false) ≡ false
@@ -170,15 +170,15 @@ two_members i s xs ys a b = record {
   are = λ n. has_append n xs ys ∙ (ap₂ (λ c d. c || d) (a.are n) (b.are n) ∙ listed_either i n s);
 }
 
-module _ (a : CoreParts) (sound : IsSound a) where
+module _ (a : CoreParts) (sound : IsSoundCore a) where
   home_at : (r : ℕ) (q : Placed (Single GuestThread)) → place_at a.threads r ≡ Some q → HasHome (bare (parts_of a)) (bare_thread q.entry.item)
-  unfolding IsSound
+  unfolding IsSoundCore
   home_at r q at = sound.whole.named.threads r _ (place_mapped (on_item bare_thread) a.threads r q at)
 
   module _ (starts : Bool) (i n : ℕ) where
     -- a thread that stands at a place is listed as its entry says
     held_at : (r : ℕ) (t : Thread) (j : ℕ) (c : Bool) (o : Option (Placed (Single GuestThread))) → place_at a.threads r ≡ o → key_in held_key o ≡ Some (n, (t, (j, c))) → listed_in starts i (seen a).core n ≡ holds_in starts i (n, (t, (j, c)))
-    unfolding seen IsSound
+    unfolding seen IsSoundCore
     held_at r t j c None at is = absurd (cc)
     held_at r t j c (Some q) at is =
         let g = q.entry.item in
@@ -199,16 +199,16 @@ module _ (a : CoreParts) (sound : IsSound a) where
         sym (ap (λ o. (call_instance (option_map_or (λ (t : Thread). t.call) o 0) (seen a).core == i) && listed_at starts (seen a).core o) none ∙ none_in _)
     held_is (Some (t, (j, c))) is = let one = record_found held_key a.threads.places n (t, (j, c)) (sym (get-records held_key a.threads.places n) ∙ is) in sym (held_at one.0 t j c (place_at a.threads one.0) refl one.1)
 
-  reads : (r : ℕ) (p : Placed (Single GuestThread)) (f : Filing Where Seat) (x : ℕ × (Thread × (ℕ × Bool))) → place_at a.threads r ≡ Some p → place_filing r p.serial p.entry ≡ Some f → held_key p.entry ≡ Some x → at_seat a f.value ≡ x.0
+  reads : (r : ℕ) (p : Placed (Single GuestThread)) (f : Filing Where OrderKey) (x : ℕ × (Thread × (ℕ × Bool))) → place_at a.threads r ≡ Some p → place_filing r p.serial p.entry ≡ Some f → held_key p.entry ≡ Some x → at_order_key a f.value ≡ x.0
   reads r p f x at says key =
-      ap (λ (g : Filing Where Seat). at_seat a g.value) (sym (same_Some (record { node = p.entry.item.node.index; key = where_at p.entry.item.instance p.entry.item.barred p.entry.item.thread.place; value = thread_seat r p.entry.item }) f says))
+      ap (λ (g : Filing Where OrderKey). at_order_key a g.value) (sym (same_Some (record { node = p.entry.item.node.index; key = where_at p.entry.item.instance p.entry.item.barred p.entry.item.thread.place; value = thread_order_key r p.entry.item }) f says))
       ∙ (ap (λ o. number_in (key_in thread_key o)) at ∙ ap number_in key)
 
   -- each of the two chains has just those that are listed there
   pub listed_members : IsLinks a.places → (starts : Bool) (i c : ℕ) → place_chain (bare (parts_of a)) (held_where starts i) ≡ Some c → IsMembers (listed_in starts i (seen a).core) (of_chain a c)
-  unfolding IsSound
+  unfolding IsSoundCore
   listed_members links starts i c chain =
-      let walked = IsMembers-walked place_filing (place_chain (bare (parts_of a))) a.threads a.places (places_filed a sound) (held_where starts i) c chain held_key (holds_in starts i) (held_tests starts i) links (apart_as (λ (g : GuestThread). g.number) (λ (g : GuestThread). g.thread) (λ (g : GuestThread). (g.thread, (g.instance, g.barred))) a.threads.places sound.tables.threads.apart) (at_seat a) reads in
+      let walked = IsMembers-walked place_filing (place_chain (bare (parts_of a))) a.threads a.places (places_filed a sound) (held_where starts i) c chain held_key (holds_in starts i) (held_tests starts i) links (apart_as (λ (g : GuestThread). g.number) (λ (g : GuestThread). g.thread) (λ (g : GuestThread). (g.thread, (g.instance, g.barred))) a.threads.places sound.tables.threads.apart) (at_order_key a) reads in
       record { once = walked.once; are = λ n. walked.are n ∙ held_is starts i n (get (records held_key a.threads.places) n) refl }
 
   -- both together have just those that are held

@@ -1,5 +1,5 @@
 -- The order of a release: of which of an instance's two chains the admitted threads come.
-use Rattle.task_records.proofs.Core.{[], admitted_held, admitted_permute, ap, ap₂, arith, bare, Bool, cond, entries, eq-eqb, false, filter, has, head_of, HeldIn, is_held_in, IsLinks, IsMembers, IsPermutation, IsSound, List, map, ne_eqb, Node, None, not, Once, Option, option_map, parts_of, place_chain, refl, seen, Some, StartsIn, subst, sym, true, ℕ, ◌&&◌, ◌++◌, ◌==◌, ◌||◌, ◌∙◌, ◌∷◌, ◌≡◌}
+use Rattle.task_records.proofs.Core.{[], admitted_held, admitted_permute, ap, ap₂, arith, bare, Bool, cond, entries, eq-eqb, false, filter, has, head_of, HeldIn, is_held_in, IsLinks, IsMembers, IsPermutation, IsSoundCore, List, map, ne_eqb, Node, None, not, Once, Option, option_map, parts_of, place_chain, refl, seen, Some, StartsIn, subst, sym, true, ℕ, ◌&&◌, ◌++◌, ◌==◌, ◌||◌, ◌∙◌, ◌∷◌, ◌≡◌}
 use Rattle.std.proofs.lemmas.Bool.{or_parts, or_right}
 use Rattle.std.proofs.lemmas.Bool.Decides.{nat_tests}
 use Rattle.std.specs.Prelude.{is_some, nat_lt}
@@ -42,7 +42,7 @@ some_above : (n : ℕ) → nat_lt 0 n ≡ true → (n == 0) ≡ false
 some_above ℕ.zero is = absurd (cc)
 some_above (ℕ.suc n) is = ne_eqb (ℕ.suc n) 0 (λ same. omega (arith, same))
 
-module _ (a : CoreParts) (sound : IsSound a) (links : IsLinks a.places) (i c d : ℕ) (chain : place_chain (bare (parts_of a)) (HeldIn i) ≡ Some c) (starts : place_chain (bare (parts_of a)) (StartsIn i) ≡ Some d) where
+module _ (a : CoreParts) (sound : IsSoundCore a) (links : IsLinks a.places) (i c d : ℕ) (chain : place_chain (bare (parts_of a)) (HeldIn i) ≡ Some c) (starts : place_chain (bare (parts_of a)) (StartsIn i) ≡ Some d) where
   others_are : IsMembers (listed_in false i (seen a).core) (of_chain a c)
   others_are = listed_members a sound links false i c chain
 

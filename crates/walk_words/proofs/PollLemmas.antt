@@ -1,8 +1,8 @@
 -- The first of the live works above a number is what the machine polls next.
-use Rattle.task_records.proofs.Core.{[], ap, ap₂, AreLinked, arith, bare, bare_work, Bool, cond, entries, eq-eqb, eqb-true, false, Filing, filings, filings_at, first_number, ge_from_not_lt, get, get-records, has, head_of, inl, inr, is_live, is_lt, is_some, is_sorted, is_stage_live, IsAscending, IsIndex, IsIndex-same, IsLeast, IsLinks, IsMembers-numbers, IsMembers-walked, IsSome, IsSound, key_in, link_of, link_says, List, list_of, live_after, live_chain, live_order, live_value, live_work, map, nat_cmp, nat_lt, next_polled, None, number_at, number_in, number_in_link, numbers, on_item, Option, Ordering, ordering_then, parts_of, passes_at, passes_in, place_at, place_at-mapped, Placed, placed_as, record_at, record_found, records, refl, Rises, said, same_Some, seen, Some, some_pair_parts, split, Spot, Stage, subst, sym, T, Tests, true, unsigned_tied, Work, work_key, ℕ, ◌&&◌, ◌++◌, ◌<◌, ◌==◌, ◌∙◌, ◌∷◌, ◌≡◌, ◌≤◌}
+use Rattle.task_records.proofs.Core.{[], ap, ap₂, AreLinked, arith, bare, bare_work, Bool, cond, entries, eq-eqb, eqb-true, false, Filing, filings, filings_at, first_number, ge_from_not_lt, get, get-records, has, head_of, inl, inr, is_live, is_lt, is_some, is_sorted, is_stage_live, IsAscending, IsIndex, IsIndex-same, IsLeast, IsLinks, IsMembers-numbers, IsMembers-walked, IsSome, IsSoundCore, key_in, link_of, link_says, List, list_of, live_after, live_chain, live_order, live_value, live_work, map, nat_cmp, nat_lt, next_polled, None, number_at, number_in, number_in_link, numbers, on_item, Option, Ordering, ordering_then, parts_of, passes_at, passes_in, place_at, place_at-mapped, Placed, placed_as, record_at, record_found, records, refl, Rises, said, same_Some, seen, Some, some_pair_parts, split, Spot, Stage, subst, sym, T, Tests, true, unsigned_tied, Work, work_key, ℕ, ◌&&◌, ◌++◌, ◌<◌, ◌==◌, ◌∙◌, ◌∷◌, ◌≡◌, ◌≤◌}
 use Rattle.std.proofs.lemmas.Bool.{and_parts, or_cases, or_parts, or_right}
 use Rattle.std.specs.List.{find}
-use Rattle.task_records.specs.declared.{parts.CoreParts.CoreParts, single.Single.Single, works.HostWork.HostWork, works.LiveWork.LiveWork}
+use Rattle.task_records.specs.declared.{parts.CoreParts.CoreParts, single.Single.Single, work_records.WorkRecord.WorkRecord, work_records.LiveWork.LiveWork}
 use Rattle.std.specs.FinMap.Entries as entry_list
 use Rattle.std.specs.declared.cmp.Ordering.TheVariants.{Less, Equal, Greater}
 use Rattle.place_words.specs.Moved.{live_key}
@@ -160,12 +160,12 @@ module _ (links : List (Spot LiveWork)) (c : ℕ) (linked : AreLinked links c (e
       by [] none parts = absurd (cc)
       by (x ∷ b) first parts = linked_there links c walk.front e b (subst (λ y. AreLinked links c (walk.front ++ y ∷ b)) (same_Some x e first) (subst (AreLinked links c) parts linked))
 
-module _ (a : CoreParts) (sound : IsSound a) where
+module _ (a : CoreParts) (sound : IsSoundCore a) where
   pub polled_filed : IsIndex (live_chain (bare (parts_of a))) a.polled (filings live_work a.works)
-  unfolding IsSound filings
+  unfolding IsSoundCore filings
   polled_filed = IsIndex-same (live_chain (bare (parts_of a))) a.polled _ sound.whole.chained.polled (filings live_work a.works) (λ r. sym (ap (said live_work r) (place_at-mapped (on_item bare_work) a.works r) ∙ by r (place_at a.works r)))
     where
-      by : (r : ℕ) (o : Option (Placed (Single HostWork))) → said live_work r (placed_as (on_item bare_work) o) ≡ said live_work r o
+      by : (r : ℕ) (o : Option (Placed (Single WorkRecord))) → said live_work r (placed_as (on_item bare_work) o) ≡ said live_work r o
       by r None = refl
       by r (Some p) = refl
 
@@ -173,7 +173,7 @@ module _ (a : CoreParts) (sound : IsSound a) where
   polled_live c is = polled_filed.live tt c is
 
   pub chain_rises : (c : ℕ) → a.live ≡ Some c → Rises a.polled (Some c)
-  unfolding IsSound
+  unfolding IsSoundCore
   chain_rises c is = subst (Rises a.polled) is sound.whole.chained.rising
 
   is_key : (x : Stage) → live_key x ≡ Some tt → is_stage_live x ≡ true
@@ -189,7 +189,7 @@ module _ (a : CoreParts) (sound : IsSound a) where
     filed = λ rep serial e x says is. (record { node = e.item.live.index; key = live_key e.item.work.stage; value = live_value rep e.item }, (refl, ap (λ b. cond b (Some tt) None) (ap (λ (y : ℕ × Work). is_live y.1) (same_Some (e.item.number, e.item.work) x says) ∙ is)));
   }
 
-  reads : (r : ℕ) (p : Placed (Single HostWork)) (f : Filing (Unit {0}) LiveWork) (x : ℕ × Work) → place_at a.works r ≡ Some p → live_work r p.serial p.entry ≡ Some f → work_key p.entry ≡ Some x → f.value.number ≡ x.0
+  reads : (r : ℕ) (p : Placed (Single WorkRecord)) (f : Filing (Unit {0}) LiveWork) (x : ℕ × Work) → place_at a.works r ≡ Some p → live_work r p.serial p.entry ≡ Some f → work_key p.entry ≡ Some x → f.value.number ≡ x.0
   reads r p f x at says key =
       ap (λ (g : Filing (Unit {0}) LiveWork). g.value.number) (sym (same_Some (record { node = p.entry.item.live.index; key = live_key p.entry.item.work.stage; value = live_value r p.entry.item }) f says))
       ∙ ap (λ (y : ℕ × Work). y.0) (same_Some (p.entry.item.number, p.entry.item.work) x key)
@@ -201,7 +201,7 @@ module _ (a : CoreParts) (sound : IsSound a) where
       let said = link_says (live_chain (bare (parts_of a))) a.polled (filings live_work a.works) polled_filed tt c is o.0 o.1.0 o.1.1.0 v (ap (link_of a.polled) o.1.1.1 ∙ link) in
       subst (λ w. number_in (record_at work_key a.works.places w.place) ≡ w.number) said.1 (by o.0 o.1.0 (place_at a.works o.0) refl o.1.1.0)
     where
-      by : (r : ℕ) (f : Filing (Unit {0}) LiveWork) (q : Option (Placed (Single HostWork))) → place_at a.works r ≡ q → filings live_work a.works r ≡ Some f → number_in (record_at work_key a.works.places f.value.place) ≡ f.value.number
+      by : (r : ℕ) (f : Filing (Unit {0}) LiveWork) (q : Option (Placed (Single WorkRecord))) → place_at a.works r ≡ q → filings live_work a.works r ≡ Some f → number_in (record_at work_key a.works.places f.value.place) ≡ f.value.number
       by r f None at filed = absurd (let none = sym (filings_at live_work a.works r None at) ∙ filed in cc)
       by r f (Some q) at filed =
           subst (λ (g : Filing (Unit {0}) LiveWork). number_in (record_at work_key a.works.places g.value.place) ≡ g.value.number) (same_Some (record { node = q.entry.item.live.index; key = live_key q.entry.item.work.stage; value = live_value r q.entry.item }) f (sym (filings_at live_work a.works r (Some q) at) ∙ filed))
@@ -214,7 +214,7 @@ module _ (a : CoreParts) (sound : IsSound a) where
 
     -- the first of the chain above p is polled next
     pub next_is : (c : ℕ) → a.live ≡ Some c → IsLinks a.polled → AreLinked a.polled c (entries a.polled c) → find (nat_lt p) (live_numbers (entries a.polled c)) ≡ next_polled p (seen a).core
-    unfolding IsSound
+    unfolding IsSoundCore
     next_is c is links linked =
         let members = IsMembers-walked live_work (live_chain (bare (parts_of a))) a.works a.polled polled_filed tt c is work_key (λ (e : ℕ × Work). is_live e.1) live_tests links sound.tables.works.apart (λ (v : LiveWork). v.number) reads in
         one_first (λ k. passes_at (λ (e : ℕ × Work). is_live e.1) (records work_key a.works.places) k && nat_lt p k) (find (nat_lt p) (live_numbers (entries a.polled c))) (next_polled p (seen a).core)
@@ -225,10 +225,10 @@ module _ (a : CoreParts) (sound : IsSound a) where
 
     -- where the chain was not made there is no work
     pub none_polled : a.live ≡ None → None ≡ next_polled p (seen a).core
-    unfolding IsSound
+    unfolding IsSoundCore
     none_polled none = one_first (λ k. passes_at (λ (e : ℕ × Work). is_live e.1) (records work_key a.works.places) k && nat_lt p k) None (next_polled p (seen a).core) (λ k is. absurd (nobody k (get (records work_key a.works.places) k) refl is)) machine_first
       where
-        nowhere : (r : ℕ) (x : ℕ × Work) (o : Option (Placed (Single HostWork))) → place_at a.works r ≡ o → key_in work_key o ≡ Some x → ⊥
+        nowhere : (r : ℕ) (x : ℕ × Work) (o : Option (Placed (Single WorkRecord))) → place_at a.works r ≡ o → key_in work_key o ≡ Some x → ⊥
         nowhere r x None at is = absurd (cc)
         nowhere r x (Some q) at is = let some = (sound.whole.counted.works r _ (place_mapped (on_item bare_work) a.works r q at)).1 in let no = subst IsSome none some in absurd (cc)
 

@@ -1,7 +1,7 @@
 -- A release, thread by thread: who was put at high leaves the others as they were.
-use Rattle.task_records.proofs.Core.{[], admits, ap, ap₂, arith, bare, Bool, Call, cond, Core, entries, Entry, eq-eqb, Err, ExportKind, false, Filing, filings, filings_at, filter, following, get, get-change_other, has, held_why, held_why_of, In, inl, inr, Instance, instance_of, is_at_high, is_at_low, is_entry_of, is_held_admitted, is_held_in, is_some, is_sync, IsLinks, IsSome, IsSound, IsUnqueued, item_at, item_of, key_in, link_of, List, map, Mark, ne_eqb, no_callee, None, not, number_in, number_in_link, Ok, on_core, on_thread, Once, one_if, Option, option_and_then, option_map, option_map_or, parts_of, Place, place_at, place_chain, place_filing, place_of, push_high, put_high, refl, released, released_one, removed, ResourceTableError, Result, same_Some, says, seen, set_place, Some, Spot, stand, StateView, subst, suc, sym, TableId, task_of, Thread, thread_key, thread_of, ThreadKey, true, Where, where_at, Why, with_core, zero, ℕ, ◌&&◌, ◌++◌, ◌+◌, ◌<◌, ◌==◌, ◌||◌, ◌∙◌, ◌∷◌, ◌≡◌}
+use Rattle.task_records.proofs.Core.{[], admits, ap, ap₂, arith, bare, Bool, Call, cond, Core, entries, Entry, eq-eqb, Err, ExportKind, false, Filing, filings, filings_at, filter, following, get, get-change_other, has, held_why, held_why_of, In, inl, inr, Instance, instance_of, is_at_high, is_at_low, is_entry_of, is_held_admitted, is_held_in, is_some, is_sync, IsLinks, IsSome, IsSoundCore, IsUnqueued, item_at, item_of, key_in, link_of, List, map, Mark, ne_eqb, no_callee, None, not, number_in, number_in_link, Ok, on_core, on_thread, Once, one_if, Option, option_and_then, option_map, option_map_or, parts_of, Place, place_at, place_chain, place_filing, place_of, push_high, put_high, refl, released, released_one, removed, ResourceTableError, Result, same_Some, says, seen, set_place, Some, Spot, stand, StateView, subst, suc, sym, TableId, task_of, Thread, thread_key, thread_of, ThreadKey, true, Where, where_at, Why, with_core, zero, ℕ, ◌&&◌, ◌++◌, ◌+◌, ◌<◌, ◌==◌, ◌||◌, ◌∙◌, ◌∷◌, ◌≡◌}
 use Rattle.std.proofs.lemmas.Bool.{or_right}
-use Rattle.task_records.specs.declared.{parts.CoreParts.CoreParts, single.Single.Single, threads.GuestThread.GuestThread}
+use Rattle.task_records.specs.declared.{parts.CoreParts.CoreParts, single.Single.Single, thread_records.GuestThread.GuestThread}
 use Rattle.task_rules.specs.Places.{Placed}
 use Rattle.task_records.proofs.HomeLemmas.{no_thread}
 use Rattle.task_records.proofs.KindLemmas.{item_stands}
@@ -12,9 +12,9 @@ use Rattle.place_words.proofs.FiledLemmas.{places_filed}
 use Rattle.queue_words.proofs.BareLemmas.{one_place}
 use Rattle.walk_words.proofs.WalkLemmas.{out_others, out_smaller, walk_more, walk_out, walk_smaller}
 use Rattle.walk_words.specs.Held.{IsUntouched, Releases, is_admitted}
-use Rattle.walk_words.specs.Walks.{Walk, at_place, at_seat, left_from, of_node}
-use Rattle.table_order.specs.declared.seat_links.Seat.{Seat}
-use Rattle.task_records.specs.Places.{thread_seat}
+use Rattle.walk_words.specs.Walks.{Walk, at_place, at_order_key, left_from, of_node}
+use Rattle.table_order.specs.declared.ordered_lists.OrderKey.{OrderKey}
+use Rattle.task_records.specs.RecordPlaces.{thread_order_key}
 
 -- ---- Admission looks at the thread's record, at calls and at instances
 
@@ -172,41 +172,41 @@ release_begins i a left placed once held = record {
 -- the numbers of the nodes that are left stay, where another one left
 pub names_same : {P : Type 0} (a b : CoreParts) (node : ℕ) → ((r : ℕ) → at_place b r ≡ at_place a r) → ((n : ℕ) → (n ≡ node → ⊥) → link_of b.places n ≡ link_of a.places n) → (left : List (ℕ × P)) → (In node left → ⊥) → map (λ e. of_node b e.0) left ≡ map (λ e. of_node a e.0) left
 names_same a b node places links [] out = refl
-names_same a b node places links (e ∷ es) out = ap₂ (λ n (ns : List ℕ). n ∷ ns) (ap (number_in_link (at_seat b)) (links e.0 (λ is. out (inl (sym is)))) ∙ by (link_of a.places e.0)) (names_same a b node places links es (λ i. out (inr i)))
+names_same a b node places links (e ∷ es) out = ap₂ (λ n (ns : List ℕ). n ∷ ns) (ap (number_in_link (at_order_key b)) (links e.0 (λ is. out (inl (sym is)))) ∙ by (link_of a.places e.0)) (names_same a b node places links es (λ i. out (inr i)))
   where
-    by : (o : Option (ℕ × Seat)) → number_in_link (at_seat b) o ≡ number_in_link (at_seat a) o
+    by : (o : Option (ℕ × OrderKey)) → number_in_link (at_order_key b) o ≡ number_in_link (at_order_key a) o
     by None = refl
     by (Some k) = places k.1.place
 
 -- ---- The node of a thread
 
-module _ (a : CoreParts) (sound : IsSound a) (c node : ℕ) (v : Seat) (link : link_of a.places node ≡ Some (c, v)) (id : TableId ThreadKey) (g : GuestThread) (is : Ok g ≡ item_at item_of a.threads id.rep id.serial) (named : g.number ≡ of_node a node) where
+module _ (a : CoreParts) (sound : IsSoundCore a) (c node : ℕ) (v : OrderKey) (link : link_of a.places node ≡ Some (c, v)) (id : TableId ThreadKey) (g : GuestThread) (is : Ok g ≡ item_at item_of a.threads id.rep id.serial) (named : g.number ≡ of_node a node) where
   pub own_node : g.node.index ≡ node
-  unfolding IsSound
+  unfolding IsSoundCore
   own_node = by o.0 o.1.0 o.1.1.0 o.1.1.1 (place_at a.threads o.0) refl
     where
-      o : (r : ℕ) × ((f : Filing Where Seat) × ((filings place_filing a.threads r ≡ Some f) × (f.node ≡ node)))
+      o : (r : ℕ) × ((f : Filing Where OrderKey) × ((filings place_filing a.threads r ≡ Some f) × (f.node ≡ node)))
       o = (places_filed a sound).owner node c v link
 
-      value : (f : Filing Where Seat) (x : Option ℕ) → option_map {U = ℕ × Seat} (λ d. (d, f.value)) x ≡ Some (c, v) → f.value ≡ v
+      value : (f : Filing Where OrderKey) (x : Option ℕ) → option_map {U = ℕ × OrderKey} (λ d. (d, f.value)) x ≡ Some (c, v) → f.value ≡ v
       value f None same = absurd (cc)
-      value f (Some d) same = ap (λ (y : ℕ × Seat). y.1) (same_Some (d, f.value) (c, v) same)
+      value f (Some d) same = ap (λ (y : ℕ × OrderKey). y.1) (same_Some (d, f.value) (c, v) same)
 
-      by : (r : ℕ) (f : Filing Where Seat) → filings place_filing a.threads r ≡ Some f → f.node ≡ node → (q : Option (Standing (Single GuestThread))) → place_at a.threads r ≡ q → g.node.index ≡ node
+      by : (r : ℕ) (f : Filing Where OrderKey) → filings place_filing a.threads r ≡ Some f → f.node ≡ node → (q : Option (Standing (Single GuestThread))) → place_at a.threads r ≡ q → g.node.index ≡ node
       by r f filed at None there = absurd (let none = sym (filings_at place_filing a.threads r None there) ∙ filed in cc)
       by r f filed at (Some q) there =
-          let says = same_Some (record { node = q.entry.item.node.index; key = where_at q.entry.item.instance q.entry.item.barred q.entry.item.thread.place; value = thread_seat r q.entry.item }) f (sym (filings_at place_filing a.threads r (Some q) there) ∙ filed) in
+          let says = same_Some (record { node = q.entry.item.node.index; key = where_at q.entry.item.instance q.entry.item.barred q.entry.item.thread.place; value = thread_order_key r q.entry.item }) f (sym (filings_at place_filing a.threads r (Some q) there) ∙ filed) in
           let is_value : f.value ≡ v = value f (option_and_then (place_chain (bare (parts_of a))) f.key) (sym ((places_filed a sound).has_link r f filed) ∙ (ap (link_of a.places) at ∙ link)) in
-          let place : r ≡ v.place = ap (λ (x : Filing Where Seat). x.value.place) says ∙ ap (λ (s : Seat). s.place) is_value in
-          let number : q.entry.item.number ≡ of_node a node = sym (ap (number_in_link (at_seat a)) link ∙ (ap (at_place a) (sym place) ∙ ap (λ o. number_in (key_in thread_key o)) there)) in
+          let place : r ≡ v.place = ap (λ (x : Filing Where OrderKey). x.value.place) says ∙ ap (λ (s : OrderKey). s.place) is_value in
+          let number : q.entry.item.number ≡ of_node a node = sym (ap (number_in_link (at_order_key a)) link ∙ (ap (at_place a) (sym place) ∙ ap (λ o. number_in (key_in thread_key o)) there)) in
           let one = item_stands (λ (x : GuestThread). x.number) (λ (x : GuestThread). x.thread) a.threads a.made.threads sound.tables.threads id.rep id.serial g is in
           let own : one.0.entry.item.number ≡ q.entry.item.number = ap (λ (e : Single GuestThread). e.item.number) one.1.1.1 ∙ (named ∙ sym number) in
           let same : id.rep ≡ r = one_place (λ (x : GuestThread). x.number) (λ (x : GuestThread). x.thread) a.threads a.made.threads sound.tables.threads id.rep r one.0 q one.1.0 there own in
           let entry : one.0 ≡ q = same_Some one.0 q (sym one.1.0 ∙ (ap (place_at a.threads) same ∙ there)) in
-          sym (ap (λ (e : Single GuestThread). e.item.node.index) one.1.1.1) ∙ (ap (λ (p : Standing (Single GuestThread)). p.entry.item.node.index) entry ∙ (ap (λ (x : Filing Where Seat). x.node) says ∙ at))
+          sym (ap (λ (e : Single GuestThread). e.item.node.index) one.1.1.1) ∙ (ap (λ (p : Standing (Single GuestThread)). p.entry.item.node.index) entry ∙ (ap (λ (x : Filing Where OrderKey). x.node) says ∙ at))
 
 -- a thread that is held is there
-pub held_positive : (a : CoreParts) → IsSound a → (n : ℕ) → IsSome (held_why_of n (seen a).core) → 0 < n
+pub held_positive : (a : CoreParts) → IsSoundCore a → (n : ℕ) → IsSome (held_why_of n (seen a).core) → 0 < n
 held_positive a sound n held = by n held
   where
     none_there : held_why_of 0 (seen a).core ≡ None
@@ -217,17 +217,17 @@ held_positive a sound n held = by n held
     by (suc m) is = omega arith
 
 -- what leaves with the node of a thread leaves with the node that stands for it
-pub leaves : (a : CoreParts) → IsSound a → (id : TableId ThreadKey) → 0 < thread_of (seen a) id → (node : ℕ) → IsSome (link_of a.places node) → thread_of (seen a) id ≡ of_node a node → (new : List (Spot Seat)) → ((g : GuestThread) → Ok g ≡ item_at item_of a.threads id.rep id.serial → new ≡ removed g.node.index a.places) → new ≡ removed node a.places
+pub leaves : (a : CoreParts) → IsSoundCore a → (id : TableId ThreadKey) → 0 < thread_of (seen a) id → (node : ℕ) → IsSome (link_of a.places node) → thread_of (seen a) id ≡ of_node a node → (new : List (Spot OrderKey)) → ((g : GuestThread) → Ok g ≡ item_at item_of a.threads id.rep id.serial → new ≡ removed g.node.index a.places) → new ≡ removed node a.places
 leaves a sound id live node linked named new takes = by (item_at item_of a.threads id.rep id.serial) refl (link_of a.places node) refl linked
   where
-    by : (o : Result GuestThread ResourceTableError) → o ≡ item_at item_of a.threads id.rep id.serial → (l : Option (ℕ × Seat)) → link_of a.places node ≡ l → IsSome l → new ≡ removed node a.places
+    by : (o : Result GuestThread ResourceTableError) → o ≡ item_at item_of a.threads id.rep id.serial → (l : Option (ℕ × OrderKey)) → link_of a.places node ≡ l → IsSome l → new ≡ removed node a.places
     by o is None link some = absurd (cc)
     by (Err e) is (Some k) link some = absurd (let zero = thread_unnamed a id e is in omega (arith, live, zero))
     by (Ok g) is (Some k) link some = takes g is ∙ ap (λ n. removed n a.places) (own_node a sound k.0 node k.1 link id g is (thread_named a id g is ∙ named))
 
 -- ---- A step of the walk
 
-module _ (i : ℕ) (s : StateView) (all : List ℕ) (a : CoreParts) (links : IsLinks a.places) (c : ℕ) (next : Option (ℕ × Seat)) (e : ℕ × Seat) (walk : Walk (Releases i s all a) (entries a.places c) next) (is : next ≡ Some e) (other : Option (ℕ × Seat)) (other_is : other ≡ following e.0 a.places) (b : CoreParts) (stays : is_admitted i (seen a).core (of_node a e.0) ≡ false → b ≡ a) where
+module _ (i : ℕ) (s : StateView) (all : List ℕ) (a : CoreParts) (links : IsLinks a.places) (c : ℕ) (next : Option (ℕ × OrderKey)) (e : ℕ × OrderKey) (walk : Walk (Releases i s all a) (entries a.places c) next) (is : next ≡ Some e) (other : Option (ℕ × OrderKey)) (other_is : other ≡ following e.0 a.places) (b : CoreParts) (stays : is_admitted i (seen a).core (of_node a e.0) ≡ false → b ≡ a) where
   pub kept_smaller : is_admitted i (seen a).core (of_node a e.0) ≡ false → left_from other (entries b.places c) < left_from next (entries a.places c)
   kept_smaller off = subst (λ (x : CoreParts). left_from other (entries x.places c) < left_from next (entries a.places c)) (sym (stays off)) (walk_smaller (Releases i s all a) a.places c links next e walk is other other_is)
 

@@ -8,7 +8,7 @@ use Rattle.task_machine.specs.Moves.{held_why_of, released}
 use Rattle.task_machine.specs.Read.{held_why, instance_of, is_held_admitted, kind_of}
 use Rattle.task_machine.specs.declared.records.Thread.{Thread}
 use Rattle.task_machine.specs.declared.records.Why.{Why}
-use Rattle.task_records.specs.Places.{HeldIn, StartsIn, Where}
+use Rattle.task_records.specs.RecordPlaces.{HeldIn, StartsIn, Where}
 use Rattle.task_records.specs.Seen.{seen}
 use Rattle.task_records.specs.declared.parts.CoreParts.{CoreParts}
 use Rattle.task_rules.specs.Places.{is_for_start}

@@ -1,18 +1,18 @@
 -- Two chains as one list, by the seats of their nodes.
 use Rattle.std.specs.Ordering.{is_lt}
 use Rattle.std.specs.Prelude.{ℕ, if◌then◌else◌, List, [], ◌∷◌, map}
-use Rattle.table_order.specs.declared.seat_links.Seat.{Seat}
+use Rattle.table_order.specs.declared.ordered_lists.OrderKey.{OrderKey}
 use Rattle.task_links.specs.Links.{entries}
-use Rattle.table_order.specs.Seats.{seat_order}
+use Rattle.table_order.specs.OrderKeys.{order_key_order}
 use Rattle.task_records.specs.declared.parts.CoreParts.{CoreParts}
 use Rattle.walk_words.specs.Walks.{of_node}
 
-abbrev pub into : ℕ × Seat → (List (ℕ × Seat) → List (ℕ × Seat)) → List (ℕ × Seat) → List (ℕ × Seat)
+abbrev pub into : ℕ × OrderKey → (List (ℕ × OrderKey) → List (ℕ × OrderKey)) → List (ℕ × OrderKey) → List (ℕ × OrderKey)
 into x rest [] = x ∷ rest []
-into x rest (y ∷ ys) = if is_lt (seat_order y.1 x.1) then y ∷ into x rest ys else x ∷ rest (y ∷ ys)
+into x rest (y ∷ ys) = if is_lt (order_key_order y.1 x.1) then y ∷ into x rest ys else x ∷ rest (y ∷ ys)
 
 -- always the entry of the lesser seat of the two that come first
-abbrev pub merged : List (ℕ × Seat) → List (ℕ × Seat) → List (ℕ × Seat)
+abbrev pub merged : List (ℕ × OrderKey) → List (ℕ × OrderKey) → List (ℕ × OrderKey)
 merged [] ys = ys
 merged (x ∷ xs) ys = into x (merged xs) ys
 

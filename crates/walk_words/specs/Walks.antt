@@ -1,27 +1,27 @@
 -- A walk through a chain, from its first node on.
 use Rattle.std.specs.List.{find}
 use Rattle.std.specs.Prelude.{◌≡◌, ◌==◌, ◌++◌, ℕ, if◌then◌else◌, List, [], ◌∷◌, Option, None, Some, length, map, nat_lt}
-use Rattle.table_order.specs.declared.seat_links.Seat.{Seat}
+use Rattle.table_order.specs.declared.ordered_lists.OrderKey.{OrderKey}
 use Rattle.task_index.specs.Walks.{number_at, walked}
 use Rattle.task_links.specs.Links.{head_of, link_of}
 use Rattle.task_records.specs.Keys.{thread_key}
 use Rattle.task_records.specs.declared.parts.CoreParts.{CoreParts}
-use Rattle.task_records.specs.declared.works.LiveWork.{LiveWork}
+use Rattle.task_records.specs.declared.work_records.LiveWork.{LiveWork}
 use Rattle.task_table.specs.Records.{number_in, record_at}
 
 -- the number of the thread at a place
 abbrev pub at_place : CoreParts → ℕ → ℕ
 at_place a place = number_in (record_at thread_key a.threads.places place)
 
-abbrev pub at_seat : CoreParts → Seat → ℕ
-at_seat a seat = at_place a seat.place
+abbrev pub at_order_key : CoreParts → OrderKey → ℕ
+at_order_key a order_key = at_place a order_key.place
 
 -- the number of the thread that a node stands for, and those of a chain, in order
 abbrev pub of_node : CoreParts → ℕ → ℕ
-of_node a n = number_at (at_seat a) a.places n
+of_node a n = number_at (at_order_key a) a.places n
 
 abbrev pub of_chain : CoreParts → ℕ → List ℕ
-of_chain a c = walked (at_seat a) a.places c
+of_chain a c = walked (at_order_key a) a.places c
 
 -- the numbers of works in the chain of the live ones
 abbrev pub live_numbers : List (ℕ × LiveWork) → List ℕ

@@ -5,7 +5,7 @@ ghost use Rattle.task_links.specs.Links.{IsLinks, list_of};
 ghost use Rattle.task_machine.specs.Moves.{held_why_of};
 ghost use Rattle.task_machine.specs.Read.{admits, admitted_held, is_held_admitted, is_nil};
 ghost use Rattle.task_machine.specs.declared.records.Why.TheVariants as whys;
-ghost use Rattle.task_records.specs.Seen.{IsSound, seen};
+ghost use Rattle.task_records.specs.Seen.{IsSoundCore, seen};
 ghost use Rattle.task_words.specs.Held.{held_in};
 ghost use Rattle.task_words.specs.StateView.{thread_of};
 ghost use Rattle.walk_words.specs.Walks.{of_chain};
@@ -19,7 +19,7 @@ use task_words::ThreadId;
 // Whether a start of the thread may begin. The instance is asked first: where it is open, no record of a call is looked at.
 #[inline(always)]
 fn admits_start(parts: &CoreParts, thread: ThreadId) -> bool
-    requires { IsSound parts.now }
+    requires { IsSoundCore parts.now }
     ensures { result ≡ admits (thread_of (seen parts.now) thread) (seen parts.now).core whys.Start }
 {
     let instance = instance_of(parts, thread);
@@ -32,7 +32,7 @@ fn admits_start(parts: &CoreParts, thread: ThreadId) -> bool
 // Whether such an entry of the thread may begin.
 #[inline(always)]
 fn admits(parts: &CoreParts, thread: ThreadId, why: Why) -> bool
-    requires { IsSound parts.now }
+    requires { IsSoundCore parts.now }
     ensures { result ≡ admits (thread_of (seen parts.now) thread) (seen parts.now).core why }
 {
     match why {
@@ -45,7 +45,7 @@ fn admits(parts: &CoreParts, thread: ThreadId, why: Why) -> bool
 /// Whether the thread is held in the instance and is admitted now.
 #[inline(always)]
 pub(crate) fn is_admitted(parts: &CoreParts, instance: u32, thread: ThreadId) -> bool
-    requires { IsSound parts.now }
+    requires { IsSoundCore parts.now }
     ensures { result ≡ is_held_admitted instance (seen parts.now).core (thread_of (seen parts.now) thread) (held_why_of (thread_of (seen parts.now) thread) (seen parts.now).core) }
 {
     match task_records::thread(parts, thread) {
@@ -58,7 +58,7 @@ pub(crate) fn is_admitted(parts: &CoreParts, instance: u32, thread: ThreadId) ->
 }
 
 fn some_admitted(parts: &CoreParts, instance: u32, chain: usize) -> bool
-    requires sound { IsSound parts.now }
+    requires sound { IsSoundCore parts.now }
     requires live { IsSome (list_of parts.now.places chain) }
     ensures is { result ≡ list_any (λ n. is_held_admitted instance (seen parts.now).core n (held_why_of n (seen parts.now).core)) (of_chain parts.now chain) }
     ensures links { IsLinks parts.now.places }
@@ -76,7 +76,7 @@ fn some_admitted(parts: &CoreParts, instance: u32, chain: usize) -> bool
 /// Whether a held thread of the instance is admitted. Where the instance is open, all are but the barred starts, which are
 /// where no backpressure is; where it is shut, none of these is, and the others are looked at.
 pub fn has_admitted(parts: &CoreParts, instance: u32) -> bool
-    requires { IsSound parts.now }
+    requires { IsSoundCore parts.now }
     ensures { result ≡ not (is_nil (admitted_held instance (seen parts.now).core)) }
 {
     match task_records::instance(parts, instance) {
@@ -103,7 +103,7 @@ fn has_any(parts: &CoreParts, chain: usize) -> bool
 
 /// Whether some thread of the instance is held.
 pub fn has_held(parts: &CoreParts, instance: u32) -> bool
-    requires { IsSound parts.now }
+    requires { IsSoundCore parts.now }
     ensures { result ≡ not (is_nil (held_in instance (seen parts.now).core)) }
 {
     match task_records::instance(parts, instance) {

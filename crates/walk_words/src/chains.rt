@@ -14,7 +14,7 @@ pub(crate) fn node_thread(parts: &CoreParts, node: Node) -> ThreadId
     ensures { thread_of (seen parts.now) result ≡ of_node parts.now node.index }
 {
     match parts.places.get(node) {
-        Some((_, seat)) => thread_at(parts, seat.place),
+        Some((_, order_key)) => thread_at(parts, order_key.place),
         None => unreachable!(),
     }
 }
@@ -26,14 +26,14 @@ pub(crate) fn held_thread(parts: &CoreParts, node: Node) -> ThreadId
     ensures { thread_of (seen parts.now) result ≡ of_node parts.now node.index }
 {
     match parts.places.get(node) {
-        Some((_, seat)) => standing_thread(parts, seat.place),
+        Some((_, order_key)) => standing_thread(parts, order_key.place),
         None => unreachable!(),
     }
 }
 
 /// The law that each node of a chain has its seat there. It does nothing.
 #[inline(always)]
-pub(crate) fn nodes_have_seats(parts: &CoreParts, chain: usize)
+pub(crate) fn nodes_have_order_keys(parts: &CoreParts, chain: usize)
     requires { IsSome (list_of parts.now.places chain) }
     ensures linked { AreLinked parts.now.places chain (entries parts.now.places chain) }
     ensures links { IsLinks parts.now.places }

@@ -2,7 +2,7 @@
 ghost use Rattle.std.specs.Prelude.{◌≡◌, ◌<◌, IfSome, IsSome, option_map};
 ghost use Rattle.task_links.specs.Links.{IsLinks, list_of};
 ghost use Rattle.task_machine.specs.Read.{blocked_on, under_of};
-ghost use Rattle.task_records.specs.Seen.{IsSound, seen};
+ghost use Rattle.task_records.specs.Seen.{IsSoundCore, seen};
 ghost use Rattle.task_words.specs.Names.{number_in, subtask_in};
 ghost use Rattle.task_words.specs.StateView.{thread_of};
 ghost use Rattle.walk_words.specs.Least.{least_of, lesser};
@@ -15,7 +15,7 @@ use task_words::{SubtaskId, ThreadId};
 
 // Of a thread and of one that was found before that of the smaller number.
 fn lesser(parts: &CoreParts, least: Option<ThreadId>, thread: ThreadId) -> ThreadId
-    requires { IsSound parts.now }
+    requires { IsSoundCore parts.now }
     ensures { thread_of (seen parts.now) result ≡ lesser (option_map (λ id. thread_of (seen parts.now) id) least) (thread_of (seen parts.now) thread) }
 {
     match least {
@@ -32,7 +32,7 @@ fn lesser(parts: &CoreParts, least: Option<ThreadId>, thread: ThreadId) -> Threa
 
 #[inline(always)]
 fn least(parts: &CoreParts, chain: usize) -> Option<ThreadId>
-    requires sound { IsSound parts.now }
+    requires sound { IsSoundCore parts.now }
     requires live { IsSome (list_of parts.now.places chain) }
     ensures is { option_map (λ id. thread_of (seen parts.now) id) result ≡ least_of (of_chain parts.now chain) }
     ensures links { IsLinks parts.now.places }
@@ -50,7 +50,7 @@ fn least(parts: &CoreParts, chain: usize) -> Option<ThreadId>
 /// machine has come there itself one thread at most is under another, so that takes constant time.
 #[inline(always)]
 pub fn under(parts: &CoreParts, thread: ThreadId) -> Option<ThreadId>
-    requires sound { IsSound parts.now }
+    requires sound { IsSoundCore parts.now }
     requires live { 0 < thread_of (seen parts.now) thread }
     ensures is { option_map (λ id. thread_of (seen parts.now) id) result ≡ under_of (thread_of (seen parts.now) thread) (seen parts.now).core }
     ensures live { IfSome result (λ id. 0 < thread_of (seen parts.now) id) }
@@ -62,7 +62,7 @@ pub fn under(parts: &CoreParts, thread: ThreadId) -> Option<ThreadId>
 /// The thread that is blocked on a subtask: of those in the chain that of the least number. Where the machine has come
 /// there itself one thread at most is blocked on a subtask, so that takes constant time.
 pub fn blocked_on(parts: &CoreParts, subtask: SubtaskId) -> Option<ThreadId>
-    requires sound { IsSound parts.now }
+    requires sound { IsSoundCore parts.now }
     requires live { 0 < number_in (seen parts.now).tags subtask }
     ensures is { option_map (λ id. thread_of (seen parts.now) id) result ≡ blocked_on (subtask_in (seen parts.now).tags subtask) (seen parts.now).core }
     ensures live { IfSome result (λ id. 0 < thread_of (seen parts.now) id) }

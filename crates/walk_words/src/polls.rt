@@ -6,8 +6,8 @@ ghost use Rattle.task_links.specs.Links.{AreLinked, IsLinks, entries, list_of};
 ghost use Rattle.task_machine.specs.Read.{is_stage_live, stage_of};
 ghost use Rattle.task_machine.specs.declared.component.HostDef.{HostDef as Left};
 ghost use Rattle.task_machine.specs.declared.records.Course.TheVariants as courses;
-ghost use Rattle.task_records.specs.Places.{Rises};
-ghost use Rattle.task_records.specs.Seen.{IsSound, seen};
+ghost use Rattle.task_records.specs.RecordPlaces.{Rises};
+ghost use Rattle.task_records.specs.Seen.{IsSoundCore, seen};
 ghost use Rattle.task_rules.specs.Works.{next_polled, poll_of, poll_pends, polled_course};
 ghost use Rattle.task_words.specs.Polls.{PendsWith};
 ghost use Rattle.task_words.specs.StateView.{on_core, work_of};
@@ -49,7 +49,7 @@ fn first_from(
     polled: u64,
     start: Option<(Node, LiveWork)>,
 ) -> Option<WorkId>
-    requires sound { IsSound parts.now }
+    requires sound { IsSoundCore parts.now }
     requires is { parts.now.live ≡ Some chain }
     requires walk { Walk (HasNext polled (entries parts.now.polled chain)) (entries parts.now.polled chain) (option_map (λ e. (e.0.index, e.1)) start) }
     requires links { IsLinks parts.now.polled }
@@ -68,7 +68,7 @@ fn first_from(
 
 // The first work of the chain whose number is above this one.
 fn first_above(parts: &CoreParts, chain: usize, polled: u64) -> Option<WorkId>
-    requires sound { IsSound parts.now }
+    requires sound { IsSoundCore parts.now }
     requires is { parts.now.live ≡ Some chain }
     ensures { option_map (λ id. work_of (seen parts.now) id) result ≡ next_polled polled (seen parts.now).core }
 {
@@ -79,7 +79,7 @@ fn first_above(parts: &CoreParts, chain: usize, polled: u64) -> Option<WorkId>
 /// The live work that is polled next, where those with numbers up to this one were. Where this one is the number of the
 /// work that was polled last, or 0, that takes constant time.
 pub fn next_polled(parts: &CoreParts, polled: u64) -> Option<WorkId>
-    requires { IsSound parts.now }
+    requires { IsSoundCore parts.now }
     ensures { option_map (λ id. work_of (seen parts.now) id) result ≡ next_polled polled (seen parts.now).core }
 {
     match parts.live {
@@ -91,7 +91,7 @@ pub fn next_polled(parts: &CoreParts, polled: u64) -> Option<WorkId>
 // Whether a live work stands after this node, whose work has this number.
 #[inline(always)]
 fn has_more(parts: &CoreParts, node: Node, number: u64) -> bool
-    requires sound { IsSound parts.now }
+    requires sound { IsSoundCore parts.now }
     requires stands { StandsLive node.index number parts.now }
     ensures { result ≡ is_some (next_polled number (seen parts.now).core) }
 {
@@ -107,9 +107,9 @@ fn has_more(parts: &CoreParts, node: Node, number: u64) -> bool
 // One poll fewer is left, where so many are. An open work stays open.
 #[inline(always)]
 fn count_down(course: &mut Course)
-    ensures { (left : Left) → PendsWith left (polled_course course.old) → course.new ≡ courses.Goes left }
+    ensures { (left : Left) → PendsWith left (polled_course course.old) → course.new ≡ courses.Continues left }
 {
-    if let Course::Goes {
+    if let Course::Continues {
         host: HostDef::Settled {
             polls: Some(polls),
             ..
@@ -123,14 +123,14 @@ fn count_down(course: &mut Course)
 /// A live work is pending at its poll: one poll fewer is left of it, or it is never to end, as before. Answers whether a
 /// live work comes after it.
 pub fn count_poll(parts: &mut CoreParts, work: WorkId) -> bool
-    requires sound { IsSound parts.old }
+    requires sound { IsSoundCore parts.old }
     requires live { is_stage_live (stage_of (work_of (seen parts.old) work) (seen parts.old).core) ≡ true }
     requires pends { (left : Left) × PendsWith left (poll_of (work_of (seen parts.old) work) (seen parts.old).core) }
-    ensures sound { IsSound parts.new }
+    ensures sound { IsSoundCore parts.new }
     ensures new { (left : Left) → PendsWith left (poll_of (work_of (seen parts.old) work) (seen parts.old).core) → seen parts.new ≡ on_core (poll_pends (work_of (seen parts.old) work) left) (seen parts.old) }
     ensures more { result ≡ is_some (next_polled (work_of (seen parts.old) work) (seen parts.new).core) }
 {
-    let entry = parts.works.known_mut(work);
+    let entry = parts.works.get_mut_unchecked(work);
     count_down(&mut entry.work.course);
     let number = entry.number;
     let node = entry.live;

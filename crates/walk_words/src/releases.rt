@@ -6,12 +6,12 @@ ghost use Rattle.task_machine.specs.Moves.{held_why_of, put_high, released};
 ghost use Rattle.task_machine.specs.Read.{admitted_held, backpressure_of, may_not_enter};
 ghost use Rattle.task_machine.specs.declared.records.Why.{Why};
 ghost use Rattle.task_records.specs.Kinds.{item_of};
-ghost use Rattle.task_records.specs.Places.{HeldIn, StartsIn, place_chain};
-ghost use Rattle.task_records.specs.Seen.{IsSound, parts_of, seen};
+ghost use Rattle.task_records.specs.RecordPlaces.{HeldIn, StartsIn, place_chain};
+ghost use Rattle.task_records.specs.Seen.{IsSoundCore, parts_of, seen};
 ghost use Rattle.task_records.specs.Sound.{bare};
-ghost use Rattle.task_records.specs.declared.threads.GuestThread.{GuestThread};
+ghost use Rattle.task_records.specs.declared.thread_records.GuestThread.{GuestThread};
 ghost use Rattle.task_rules.specs.Places.{Placed};
-ghost use Rattle.task_table.specs.Answers.{item_at};
+ghost use Rattle.task_table.specs.TableAnswers.{item_at};
 ghost use Rattle.task_words.specs.Apart.{IsUnqueued};
 ghost use Rattle.task_words.specs.StateView.{on_core, thread_of};
 ghost use Rattle.walk_words.specs.Held.{is_admitted};
@@ -20,7 +20,7 @@ ghost use Rattle.walk_words.specs.Order.{AreInOrder};
 ghost use Rattle.walk_words.specs.Walks.{at_place, of_chain, of_node};
 
 use crate::admissions::is_admitted;
-use crate::chains::{held_thread, node_thread, nodes_have_seats};
+use crate::chains::{held_thread, node_thread, nodes_have_order_keys};
 use place_words::unhold;
 use queue_words::push_high;
 use task_records::{CoreParts, Node};
@@ -29,11 +29,11 @@ use task_words::ThreadId;
 // A held thread is put at high, and leaves the chain of the held ones.
 #[inline(always)]
 fn put_high(parts: &mut CoreParts, thread: ThreadId)
-    requires sound { IsSound parts.old }
+    requires sound { IsSoundCore parts.old }
     requires live { 0 < thread_of (seen parts.old) thread }
     requires held { IsSome (held_why_of (thread_of (seen parts.old) thread) (seen parts.old).core) }
     requires unqueued { IsUnqueued (thread_of (seen parts.old) thread) (seen parts.old).core }
-    ensures sound { IsSound parts.new }
+    ensures sound { IsSoundCore parts.new }
     ensures new { (w : Why) → held_why_of (thread_of (seen parts.old) thread) (seen parts.old).core ≡ Some w → seen parts.new ≡ on_core (put_high (thread_of (seen parts.old) thread) w) (seen parts.old) }
     ensures numbers { (r : ℕ) → at_place parts.new r ≡ at_place parts.old r }
     ensures left { (g : GuestThread) → Ok g ≡ item_at item_of parts.old.threads thread.rep thread.serial → parts.new.places ≡ removed g.node.index parts.old.places }
@@ -47,11 +47,11 @@ fn put_high(parts: &mut CoreParts, thread: ThreadId)
 // The held thread of a node is put at high. It is inlined, as all of an instance are where it opens.
 #[inline(always)]
 fn raise_node(parts: &mut CoreParts, node: Node)
-    requires sound { IsSound parts.old }
+    requires sound { IsSoundCore parts.old }
     requires link { IsSome (link_of parts.old.places node.index) }
     requires unqueued { IsUnqueued (of_node parts.old node.index) (seen parts.old).core }
     requires held { IsSome (held_why_of (of_node parts.old node.index) (seen parts.old).core) }
-    ensures sound { IsSound parts.new }
+    ensures sound { IsSoundCore parts.new }
     ensures puts { (w : Why) → held_why_of (of_node parts.old node.index) (seen parts.old).core ≡ Some w → seen parts.new ≡ on_core (put_high (of_node parts.old node.index) w) (seen parts.old) }
     ensures left { parts.new.places ≡ removed node.index parts.old.places }
     ensures numbers { (r : ℕ) → at_place parts.new r ≡ at_place parts.old r }
@@ -64,10 +64,10 @@ fn raise_node(parts: &mut CoreParts, node: Node)
 
 // The held thread of a node is put at high, if it is admitted.
 fn release_node(parts: &mut CoreParts, instance: u32, node: Node)
-    requires sound { IsSound parts.old }
+    requires sound { IsSoundCore parts.old }
     requires link { IsSome (link_of parts.old.places node.index) }
     requires unqueued { IsUnqueued (of_node parts.old node.index) (seen parts.old).core }
-    ensures sound { IsSound parts.new }
+    ensures sound { IsSoundCore parts.new }
     ensures stays { is_admitted instance (seen parts.old).core (of_node parts.old node.index) ≡ false → parts.new ≡ parts.old }
     ensures puts { is_admitted instance (seen parts.old).core (of_node parts.old node.index) ≡ true → (w : Why) → held_why_of (of_node parts.old node.index) (seen parts.old).core ≡ Some w → seen parts.new ≡ on_core (put_high (of_node parts.old node.index) w) (seen parts.old) }
     ensures left { is_admitted instance (seen parts.old).core (of_node parts.old node.index) ≡ true → parts.new.places ≡ removed node.index parts.old.places }
@@ -83,12 +83,12 @@ fn release_node(parts: &mut CoreParts, instance: u32, node: Node)
 
 // Puts those of a chain of held threads at high that are admitted, from its first on.
 fn release_chain(parts: &mut CoreParts, instance: u32, chain: usize)
-    requires sound { IsSound parts.old }
+    requires sound { IsSoundCore parts.old }
     requires placed { Placed (seen parts.old).core }
     requires live { IsSome (list_of parts.old.places chain) }
     requires once { Once (of_chain parts.old chain) }
     requires held { (n : ℕ) → has n (of_chain parts.old chain) ≡ true → is_held_in instance (seen parts.old).core n ≡ true }
-    ensures sound { IsSound parts.new }
+    ensures sound { IsSoundCore parts.new }
     ensures picks { AreInOrder parts.old (filter (is_admitted instance (seen parts.old).core) (of_chain parts.old chain)) }
     ensures new { seen parts.new ≡ on_core (released (filter (is_admitted instance (seen parts.old).core) (of_chain parts.old chain))) (seen parts.old) }
 {
@@ -108,8 +108,8 @@ fn first_of(parts: &CoreParts, chain: usize, other: usize) -> Option<Node>
     ensures links { IsLinks parts.now.places }
 {
     match parts.places.first(chain) {
-        Some((node, seat)) => match parts.places.first(other) {
-            Some((second, before)) => Some(if before < seat { second } else { node }),
+        Some((node, order_key)) => match parts.places.first(other) {
+            Some((second, before)) => Some(if before < order_key { second } else { node }),
             None => Some(node),
         },
         None => match parts.places.first(other) {
@@ -121,19 +121,19 @@ fn first_of(parts: &CoreParts, chain: usize, other: usize) -> Option<Node>
 
 // Puts all of two chains of held threads at high, by their seats: all are admitted.
 fn release_both(parts: &mut CoreParts, instance: u32, chain: usize, other: usize)
-    requires sound { IsSound parts.old }
+    requires sound { IsSoundCore parts.old }
     requires placed { Placed (seen parts.old).core }
     requires chain { IsSome (list_of parts.old.places chain) }
     requires other { IsSome (list_of parts.old.places other) }
     requires once { Once (of_both parts.old chain other) }
     requires held { (n : ℕ) → has n (of_both parts.old chain other) ≡ true → is_held_in instance (seen parts.old).core n ≡ true }
     requires admitted { (n : ℕ) → has n (of_both parts.old chain other) ≡ true → is_admitted instance (seen parts.old).core n ≡ true }
-    ensures sound { IsSound parts.new }
+    ensures sound { IsSoundCore parts.new }
     ensures picks { AreInOrder parts.old (of_both parts.old chain other) }
     ensures new { seen parts.new ≡ on_core (released (of_both parts.old chain other)) (seen parts.old) }
 {
-    nodes_have_seats(parts, chain);
-    nodes_have_seats(parts, other);
+    nodes_have_order_keys(parts, chain);
+    nodes_have_order_keys(parts, other);
     parts.places.chains_are_ordered();
     while let Some(node) = first_of(parts, chain, other) {
         raise_node(parts, node);
@@ -143,12 +143,12 @@ fn release_both(parts: &mut CoreParts, instance: u32, chain: usize, other: usize
 // Releases from the chains of an instance, whose barred starts are kept out or aren't.
 #[inline(never)]
 fn release_some(parts: &mut CoreParts, instance: u32, held: usize, starts: usize, kept_out: bool)
-    requires sound { IsSound parts.old }
+    requires sound { IsSoundCore parts.old }
     requires placed { Placed (seen parts.old).core }
     requires held { place_chain (bare (parts_of parts.old)) (HeldIn instance) ≡ Some held }
     requires starts { place_chain (bare (parts_of parts.old)) (StartsIn instance) ≡ Some starts }
     requires kept_out { (may_not_enter instance (seen parts.old).core || nat_lt 0 (backpressure_of instance (seen parts.old).core)) ≡ kept_out }
-    ensures sound { IsSound parts.new }
+    ensures sound { IsSoundCore parts.new }
     ensures new { (order : List ℕ) × (IsPermutation (admitted_held instance (seen parts.old).core) order × (seen parts.new ≡ on_core (released order) (seen parts.old))) }
     ensures picks { (order : List ℕ) × (AreInOrder parts.old order × (IsPermutation (admitted_held instance (seen parts.old).core) order × (seen parts.new ≡ on_core (released order) (seen parts.old)))) }
 {
@@ -164,9 +164,9 @@ fn release_some(parts: &mut CoreParts, instance: u32, held: usize, starts: usize
 /// themselves in the resource table. Where the instance is open it looks at none that stays.
 #[inline(always)]
 pub fn release(parts: &mut CoreParts, instance: u32)
-    requires sound { IsSound parts.old }
+    requires sound { IsSoundCore parts.old }
     requires placed { Placed (seen parts.old).core }
-    ensures sound { IsSound parts.new }
+    ensures sound { IsSoundCore parts.new }
     ensures new { (order : List ℕ) × (IsPermutation (admitted_held instance (seen parts.old).core) order × (seen parts.new ≡ on_core (released order) (seen parts.old))) }
     ensures picks { (order : List ℕ) × (AreInOrder parts.old order × (IsPermutation (admitted_held instance (seen parts.old).core) order × (seen parts.new ≡ on_core (released order) (seen parts.old)))) }
 {

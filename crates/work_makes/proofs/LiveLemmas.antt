@@ -1,15 +1,15 @@
 -- The chain of the live works is made: no work is there yet.
 use Rattle.task_records.proofs.SoundLemmas.{sound_of_whole}
-use Rattle.task_records.proofs.Core.{[], ap, bare, ChainOf, false, Filing, filings, HasHome, inl, is_some, IsAscending, IsCallNamed, IsSome, IsSound, IsWhole, IsWorkNamed, list_of, list_or_nil, live_chain, live_order, live_work, None, Option, Parts, parts_of, place_at, Placed, refl, Renames, said, Some, spot_list, subst, sym, table_use, Unmade, ℕ, ◌∙◌, ◌≡◌}
-use Rattle.task_records.specs.declared.{calls.GuestTask.GuestTask, parts.CoreParts.CoreParts, single.Single.Single, threads.GuestThread.GuestThread, works.HostWork.HostWork, works.LiveWork.LiveWork}
+use Rattle.task_records.proofs.Core.{[], ap, bare, ChainOf, false, Filing, filings, HasHome, inl, is_some, IsAscending, IsCallNamed, IsSome, IsSoundCore, IsWhole, IsWorkNamed, list_of, list_or_nil, live_chain, live_order, live_work, None, Option, CoreImage, parts_of, place_at, Placed, refl, Renames, said, Some, spot_list, subst, sym, table_use, Unmade, ℕ, ◌∙◌, ◌≡◌}
+use Rattle.task_records.specs.declared.{call_records.GuestTask.GuestTask, parts.CoreParts.CoreParts, single.Single.Single, thread_records.GuestThread.GuestThread, work_records.WorkRecord.WorkRecord, work_records.LiveWork.LiveWork}
 use Rattle.make_words.proofs.LooseLemmas.{IsIndex-opened}
 
 pub none_there : {X : Type 0} (o : Option X) → is_some o ≡ false → o ≡ None
 none_there None is = refl
 none_there (Some x) is = absurd (cc)
 
-module _ (p : Parts) (whole : IsWhole p) (none : p.live ≡ None) (c : ℕ) (empty : list_of p.polled c ≡ Some []) where
-  abbrev pub opened : Parts
+module _ (p : CoreImage) (whole : IsWhole p) (none : p.live ≡ None) (c : ℕ) (empty : list_of p.polled c ≡ Some []) where
+  abbrev pub opened : CoreImage
   opened = record p { live = Some c }
 
   no_chain : {X : Type 0} (d : ℕ) → p.live ≡ Some d → X
@@ -22,17 +22,17 @@ module _ (p : Parts) (whole : IsWhole p) (none : p.live ≡ None) (c : ℕ) (emp
       none_some : IsSome p.live → ⊥
       none_some some = absurd (let two : IsSome {T = ℕ} None = subst IsSome none some in cc)
 
-      by : (o : Option (Placed (Single HostWork))) → place_at p.works r ≡ o → said live_work r o ≡ Some f → ⊥
+      by : (o : Option (Placed (Single WorkRecord))) → place_at p.works r ≡ o → said live_work r o ≡ Some f → ⊥
       by None at is = absurd (cc)
       by (Some q) at is = none_some (whole.counted.works r q at).1
 
   home_same : (g : GuestThread) → HasHome p g → HasHome opened g
-  home_same g h = record { call = h.call; there = h.there; instance = h.instance; barred = h.barred; within = h.within; place = h.place; how_far = h.how_far }
+  home_same g h = record { call = h.call; there = h.there; instance = h.instance; barred = h.barred; within = h.within; place = h.place; op_progress = h.op_progress }
 
   call_same : (g : GuestTask) → IsCallNamed p g → IsCallNamed opened g
   call_same g h = record { caller = h.caller; first = h.first; join = h.join; group = h.group; positive = h.positive }
 
-  work_same : (w : HostWork) → IsWorkNamed p w → IsWorkNamed opened w
+  work_same : (w : WorkRecord) → IsWorkNamed p w → IsWorkNamed opened w
   work_same w h = record { caller = h.caller; join = h.join; group = h.group }
 
   pub opened_whole : IsWhole opened
@@ -51,11 +51,11 @@ module _ (p : Parts) (whole : IsWhole p) (none : p.live ≡ None) (c : ℕ) (emp
       polled = IsIndex-opened (live_chain p) (live_chain opened) p.polled tt (λ j. inl refl) (λ j other. absurd (other refl)) c refl (record { empty = empty; apart = λ k at. no_chain c at }) (filings live_work p.works) whole.chained.polled no_work;
       rising = subst (IsAscending live_order) (sym (ap list_or_nil empty)) tt;
       marks = whole.chained.marks;
-      shelves = whole.chained.shelves;
+      instance_queues = whole.chained.instance_queues;
       low = whole.chained.low;
       behind = whole.chained.behind;
     };
-    nodes = record { marks = whole.nodes.marks; shelves = whole.nodes.shelves; callers = whole.nodes.callers; works = whole.nodes.works; apart = whole.nodes.apart };
+    nodes = record { marks = whole.nodes.marks; instance_queues = whole.nodes.instance_queues; callers = whole.nodes.callers; works = whole.nodes.works; apart = whole.nodes.apart };
     counted = record {
       kept = record { used = whole.counted.kept.used; groups = whole.counted.kept.groups; live = whole.counted.kept.live };
       calls = whole.counted.calls;
@@ -70,10 +70,10 @@ module _ (p : Parts) (whole : IsWhole p) (none : p.live ≡ None) (c : ℕ) (emp
     };
   }
 
-module _ (a b : CoreParts) (sound : IsSound b) (only : b ≡ record a { polled = b.polled }) (none : is_some a.live ≡ false) (c : ℕ) (names : Renames a.polled b.polled c Unmade (ChainOf [])) where
+module _ (a b : CoreParts) (sound : IsSoundCore b) (only : b ≡ record a { polled = b.polled }) (none : is_some a.live ≡ false) (c : ℕ) (names : Renames a.polled b.polled c Unmade (ChainOf [])) where
   none_live : b.live ≡ None
   none_live = ap (λ (x : CoreParts). x.live) only ∙ none_there a.live none
 
-  pub live_opened_sound : IsSound (record b { live = Some c })
-  unfolding IsSound
+  pub live_opened_sound : IsSoundCore (record b { live = Some c })
+  unfolding IsSoundCore
   live_opened_sound = sound_of_whole b (record b { live = Some c }) refl sound (opened_whole (bare (parts_of b)) sound.whole none_live c (ap spot_list names.names))

@@ -1,14 +1,14 @@
 -- A host work more, as a core: it is sound, and contracts see just that.
 use Rattle.std.specs.Prelude.{vec_capacity}
-use Rattle.task_records.proofs.KnownLemmas.{ended_alike}
-use Rattle.task_records.proofs.Core.{[], add_work, ap, ap₂, AreApart, arith, AtPlace, bare, bare_call, bare_work, Call, call_key, call_number, calls_of, cond, Core, core_of, count_by-le-length, count_work, Each, EachEntry, Entry, eq-eqb, eqb-true, false, filter, get, get-records, group_key, GroupKey, HasNumber, High, HostTaskKey, inl, inr, is_aborted, is_host_call, is_moving, is_never, is_of_group, is_some, is_stage_live, IsGroupKept, IsSeated, IsSome, IsSound, IsTable, IsWhole, item_at, item_of, Keeps, key_in, kinds, length, List, loose_call, loose_work, map, mapped, mapped-pushed, nat_lt, ne_eqb, next_place, None, not, number_in, Ok, on_item, one_if_passes, Option, option_map, option_map_or, Parts, parts_of, passing, pushed, Records, records, refl, row, same_Some, seen, set_number, size, size-records-le, Some, SoundTable, subst, suc, sym, Table, table_len, TableId, Target, thread_number, true, uninterested, unmoved, Work, work_caller_target, work_entries, work_key, work_of, ℕ, ◌&&◌, ◌+◌, ◌<◌, ◌==◌, ◌^◌, ◌||◌, ◌∙◌, ◌∷◌, ◌≡◌, ◌≤◌, numbers, known_of}
-use Rattle.task_records.specs.declared.{calls.GuestTask.GuestTask, calls.TaskGroup.TaskGroup, parts.CoreParts.CoreParts, parts.Kept.Kept, single.Single.Single, threads.Queued.Queued, works.HostWork.HostWork}
+use Rattle.task_records.proofs.TrackedLemmas.{ended_alike}
+use Rattle.task_records.proofs.Core.{[], add_work, ap, ap₂, AreApart, arith, AtPlace, bare, bare_call, bare_work, Call, call_key, call_number, calls_of, cond, Core, core_of, count_by-le-length, count_work, Each, EachEntry, Entry, eq-eqb, eqb-true, false, filter, get, get-records, group_key, GroupKey, HasNumber, High, HostTaskKey, inl, inr, is_aborted, is_host_call, is_moving, is_never, is_of_group, is_some, is_stage_live, IsGroupKept, IsKeyed, IsSome, IsSoundCore, IsTable, IsWhole, item_at, item_of, Keeps, key_in, kinds, length, List, loose_call, loose_work, map, mapped, mapped-pushed, nat_lt, ne_eqb, next_place, None, not, number_in, Ok, on_item, one_if_passes, Option, option_map, option_map_or, CoreImage, parts_of, passing, pushed, Records, records, refl, row, same_Some, seen, set_number, size, size-records-le, Some, SoundTable, subst, suc, sym, Table, table_len, TableId, Target, thread_number, true, uninterested, unmoved, Work, work_caller_target, work_entries, work_key, work_of, ℕ, ◌&&◌, ◌+◌, ◌<◌, ◌==◌, ◌^◌, ◌||◌, ◌∙◌, ◌∷◌, ◌≡◌, ◌≤◌, numbers, tracked_of}
+use Rattle.task_records.specs.declared.{call_records.GuestTask.GuestTask, call_records.TaskGroup.TaskGroup, parts.CoreParts.CoreParts, parts.CachedCounts.CachedCounts, single.Single.Single, thread_records.Queued.Queued, work_records.WorkRecord.WorkRecord}
 use Rattle.make_words.proofs.MoreLemmas.{early, passing_more, table_bare}
 use Rattle.make_words.proofs.RestoreLemmas.{handles_grown}
 use Rattle.place_words.specs.Moved.{Alike}
 use Rattle.queue_words.proofs.RowLemmas.{row_known}
-use Rattle.queue_words.proofs.SeatLemmas.{seat_of}
-use Rattle.queue_words.specs.Seats.{is_entry_of_work}
+use Rattle.queue_words.proofs.OrderKeyLemmas.{order_key_of}
+use Rattle.queue_words.specs.OrderKeys.{is_entry_of_work}
 use Rattle.removal_words.proofs.BareTables.{sound_mapped}
 use Rattle.removal_words.proofs.GroupLemmas.{numbers_alike}
 use Rattle.removal_words.proofs.RewriteLemmas.{each_rewritten, rewritten_alike}
@@ -18,15 +18,15 @@ use Rattle.task_records.proofs.KindLemmas.{item_number, item_read, item_stands, 
 use Rattle.task_records.proofs.MakeLemmas.{number_kept, number_new, records_more, table_more}
 use Rattle.task_records.proofs.ReadLemmas.{work_shown}
 use Rattle.work_makes.proofs.WorkMoreLemmas.{at_more, more, more_whole, works_counted}
-use Rattle.work_makes.specs.Loose.{AreWorkLoose, nodes_of}
+use Rattle.work_makes.specs.LooseWorks.{AreWorkLoose, nodes_of}
 use Rattle.work_makes.specs.Raised.{GroupHere, IsHere, IsWorkNext, Raises, group_name, raised, record_for}
-use Rattle.work_makes.specs.declared.nodes.WorkNodes.{WorkNodes}
-use Rattle.work_makes.specs.declared.requests.WorkRequest.{WorkRequest}
+use Rattle.work_makes.specs.declared.work_nodes.WorkNodes.{WorkNodes}
+use Rattle.work_makes.specs.declared.work_requests.WorkRequest.{WorkRequest}
 
-abbrev number : HostWork → ℕ
+abbrev number : WorkRecord → ℕ
 number w = w.number
 
-abbrev machine : HostWork → Work
+abbrev machine : WorkRecord → Work
 machine w = w.work
 
 abbrev group_number : TaskGroup → ℕ
@@ -47,20 +47,20 @@ places_few key t table apart =
 pub same_tags : (a b : CoreParts) → a ≡ b → Keeps (seen a).tags (seen b).tags
 same_tags a b same = subst (λ (x : CoreParts). Keeps (seen a).tags (seen x).tags) same (record { threads = λ t some. refl; calls = λ k some. refl; sets = λ x some. refl; works = λ w some. refl; same = refl })
 
-module _ (a : CoreParts) (sound : IsSound a) where
-  abbrev bared : Parts
+module _ (a : CoreParts) (sound : IsSoundCore a) where
+  abbrev bared : CoreImage
   bared = bare (parts_of a)
 
   whole : IsWhole bared
-  unfolding IsSound
+  unfolding IsSoundCore
   whole = sound.whole
 
   works_sound : SoundTable work_key bared.works a.made.works
-  unfolding IsSound
+  unfolding IsSoundCore
   works_sound = sound_mapped number machine bare_work (λ w. unmoved (loose_work w)) (λ x. refl) (λ x. refl) a.works a.made.works sound.tables.works
 
   groups_sound : SoundTable group_key a.groups a.made.groups
-  unfolding IsSound
+  unfolding IsSoundCore
   groups_sound = sound.tables.groups
 
   -- the next work has no entry yet
@@ -73,15 +73,15 @@ module _ (a : CoreParts) (sound : IsSound a) where
       by_entry q m few (Entry.Push j) is es none = let same = eqb-true m j is in ap (λ b. cond b (suc (work_entries (a.made.works + 1) es)) (work_entries (a.made.works + 1) es)) (ne_eqb (a.made.works + 1) j (λ here. omega arith)) ∙ none
       by_entry q m few (Entry.Host j) is es none = let same = eqb-true m j is in ap (λ b. cond b (suc (work_entries (a.made.works + 1) es)) (work_entries (a.made.works + 1) es)) (ne_eqb (a.made.works + 1) j (λ here. omega arith)) ∙ none
 
-      by_row : (qs : List Queued) → Each (IsSeated bared) qs → work_entries (a.made.works + 1) (map (λ (q : Queued). q.entry) qs) ≡ 0
+      by_row : (qs : List Queued) → Each (IsKeyed bared) qs → work_entries (a.made.works + 1) (map (λ (q : Queued). q.entry) qs) ≡ 0
       by_row [] known = refl
-      by_row (q ∷ qs) known = elim (seat_of bared q known.0) [
-        | inl seat ↦ ap (λ (x : Queued). work_entries (a.made.works + 1) (x.entry ∷ map (λ (y : Queued). y.entry) qs)) (sym seat.is) ∙ by_row qs known.1
-        | inr seat ↦ by_entry q seat.placed.entry.item.number (early number machine bared.works a.made.works works_sound q.place seat.placed seat.at) q.entry seat.entry (map (λ (y : Queued). y.entry) qs) (by_row qs known.1)
+      by_row (q ∷ qs) known = elim (order_key_of bared q known.0) [
+        | inl order_key ↦ ap (λ (x : Queued). work_entries (a.made.works + 1) (x.entry ∷ map (λ (y : Queued). y.entry) qs)) (sym order_key.is) ∙ by_row qs known.1
+        | inr order_key ↦ by_entry q order_key.placed.entry.item.number (early number machine bared.works a.made.works works_sound q.place order_key.placed order_key.at) q.entry order_key.entry (map (λ (y : Queued). y.entry) qs) (by_row qs known.1)
       ]
 
   pub groups_few : (r : TaskGroup) → IsIn r a.groups → r.calls + 1 < 2 ^ 64
-  unfolding IsSound
+  unfolding IsSoundCore
   groups_few r there =
       let placed = item_stands group_number group_calls a.groups a.made.groups groups_sound there.0 there.1.0 r there.1.1 in
       let s = core_of bared in
@@ -94,7 +94,7 @@ module _ (a : CoreParts) (sound : IsSound a) where
       let few_works = places_few work_key bared.works works_sound.table works_sound.apart in
       omega arith
 
-  module _ (g : HostWork) (next : IsWorkNext bared (bare_work g)) (loose : AreWorkLoose bared (nodes_of g)) (high : IsSome a.high) (live : IsSome a.live) (groups : Table (Single TaskGroup)) (group : Option (TableId GroupKey)) (raises : Raises a.groups groups g.work.group group) (used : ℕ) (is_used : used ≡ a.kept.used + cond (is_host_call g.work) 1 0) where
+  module _ (g : WorkRecord) (next : IsWorkNext bared (bare_work g)) (loose : AreWorkLoose bared (nodes_of g)) (high : IsSome a.high) (live : IsSome a.live) (groups : Table (Single TaskGroup)) (group : Option (TableId GroupKey)) (raises : Raises a.groups groups g.work.group group) (used : ℕ) (is_used : used ≡ a.kept.used + cond (is_host_call g.work) 1 0) where
     alike : Alike uncalled groups a.groups
     alike = by g.work.group group raises
       where
@@ -113,20 +113,20 @@ module _ (a : CoreParts) (sound : IsSound a) where
         by (Some n) None l = absurd l
         by (Some n) (Some k) l = subst (λ (t : Table (Single TaskGroup)). SoundTable group_key t a.made.groups) (sym l.1.1.1) (table_written group_number group_calls a.groups a.made.groups groups_sound k.rep k.serial l.0 l.1.0 (record l.0 { calls = l.0.calls + 1 }) refl)
 
-    abbrev pub work_made : Table (Single HostWork) → CoreParts
+    abbrev pub work_made : Table (Single WorkRecord) → CoreParts
     work_made t = record a { works = t; groups = groups; made = record a.made { works = a.made.works + 1 }; kept = record a.kept { used = used } }
 
-    abbrev pub works_now : Table (Single HostWork)
+    abbrev pub works_now : Table (Single WorkRecord)
     works_now = pushed (record { item = g }) a.works
 
-    abbrev bare_kept : Kept
+    abbrev bare_kept : CachedCounts
     bare_kept = record a.kept { used = used; interesting = 0; moving = 0 }
 
-    abbrev grown : Parts
+    abbrev grown : CoreImage
     grown = more bared whole works_sound (bare_work g) next loose high live groups alike bare_kept
 
     bare_grown : bare (parts_of (work_made works_now)) ≡ grown
-    bare_grown = ap (λ (t : Table (Single HostWork)). record grown { works = t }) (mapped-pushed (on_item bare_work) a.works (record { item = g }))
+    bare_grown = ap (λ (t : Table (Single WorkRecord)). record grown { works = t }) (mapped-pushed (on_item bare_work) a.works (record { item = g }))
 
     counted : (n : ℕ) → calls_of n (core_of grown) ≡ calls_of n (core_of bared) + cond (is_of_group n g.work) 1 0
     counted = works_counted bared whole works_sound (bare_work g) next loose high live groups alike bare_kept
@@ -167,13 +167,13 @@ module _ (a : CoreParts) (sound : IsSound a) where
     moves_not = ap (λ b. b && (not (is_never g.work.course) || is_aborted g.work.phase)) (ap is_stage_live next.stage)
 
     named_still : (rep : ℕ) (t : Target) → AtPlace bared rep t → AtPlace (bare (parts_of (work_made works_now))) rep t
-    named_still rep t at = subst (λ (q : Parts). AtPlace q rep t) (sym bare_grown) (at_more bared whole works_sound (bare_work g) next loose high live groups alike bare_kept rep t at)
+    named_still rep t at = subst (λ (q : CoreImage). AtPlace q rep t) (sym bare_grown) (at_more bared whole works_sound (bare_work g) next loose high live groups alike bare_kept rep t at)
 
     live_same : filter (nat_lt a.finished) (numbers (records group_key groups.places)) ≡ filter (nat_lt a.finished) (numbers (records group_key a.groups.places))
     live_same = ap (filter (nat_lt a.finished)) (numbers_alike groups a.groups alike)
 
-    sound_with : IsTable works_now → IsSound (work_made works_now)
-    unfolding IsSound seen
+    sound_with : IsTable works_now → IsSoundCore (work_made works_now)
+    unfolding IsSoundCore seen
     sound_with table = record {
       tables = record {
         threads = sound.tables.threads;
@@ -199,35 +199,35 @@ module _ (a : CoreParts) (sound : IsSound a) where
     with_maps ws gs = record (seen a).core { works = ws; groups = gs; made = record (seen a).core.made { works = a.made.works + 1 } }
 
     core_with : (seen (work_made works_now)).core ≡ add_work g.number g.work (count_work (seen a).core)
-    unfolding seen add_work count_work IsSound
+    unfolding seen add_work count_work IsSoundCore
     core_with = ap₂ with_maps (records_more number machine a.works a.made.works sound.tables.works g next.number) (ap (filter (nat_lt a.finished)) (numbers_alike groups a.groups alike))
 
     tags_with : Keeps (seen a).tags (seen (work_made works_now)).tags
-    unfolding seen IsSound set_number call_number thread_number
+    unfolding seen IsSoundCore set_number call_number thread_number
     tags_with = record {
       threads = λ t some. refl;
       calls = λ k some. refl;
       sets = λ x some. refl;
       works = λ w some. work_shown (work_made works_now) w ∙ (number_kept number machine a.works a.made.works sound.tables.works g next.number w.rep w.serial (subst (λ (n : ℕ). 0 < n) (work_shown a w) some) ∙ sym (work_shown a w));
-      same = ap (λ gs. known_of a.ended.items gs a.made.groups) live_same;
+      same = ap (λ gs. tracked_of a.ended.items gs a.made.groups) live_same;
     }
 
     named_with : (id : TableId HostTaskKey) → id.rep ≡ next_place a.works → id.serial ≡ a.works.given → work_of (seen (work_made works_now)) id ≡ a.made.works + 1
-    unfolding IsSound
+    unfolding IsSoundCore
     named_with id rep serial = work_shown (work_made works_now) id ∙ (number_new number machine a.works a.made.works sound.tables.works g next.number id.rep id.serial rep serial ∙ next.number)
 
-    module _ (t : Table (Single HostWork)) (are : t ≡ works_now) where
-      pub made_sound : IsTable t → IsSound (work_made t)
-      made_sound table = subst (λ (u : Table (Single HostWork)). IsSound (work_made u)) (sym are) (sound_with (subst (λ (u : Table (Single HostWork)). IsTable u) are table))
+    module _ (t : Table (Single WorkRecord)) (are : t ≡ works_now) where
+      pub made_sound : IsTable t → IsSoundCore (work_made t)
+      made_sound table = subst (λ (u : Table (Single WorkRecord)). IsSoundCore (work_made u)) (sym are) (sound_with (subst (λ (u : Table (Single WorkRecord)). IsTable u) are table))
 
       pub made_core : (seen (work_made t)).core ≡ add_work g.number g.work (count_work (seen a).core)
-      made_core = ap (λ (u : Table (Single HostWork)). (seen (work_made u)).core) are ∙ core_with
+      made_core = ap (λ (u : Table (Single WorkRecord)). (seen (work_made u)).core) are ∙ core_with
 
       pub made_tags : Keeps (seen a).tags (seen (work_made t)).tags
-      made_tags = subst (λ (u : Table (Single HostWork)). Keeps (seen a).tags (seen (work_made u)).tags) (sym are) tags_with
+      made_tags = subst (λ (u : Table (Single WorkRecord)). Keeps (seen a).tags (seen (work_made u)).tags) (sym are) tags_with
 
       pub made_named : (id : TableId HostTaskKey) → id.rep ≡ next_place a.works → id.serial ≡ a.works.given → work_of (seen (work_made t)) id ≡ a.made.works + 1
-      made_named id rep serial = subst (λ (u : Table (Single HostWork)). work_of (seen (work_made u)) id ≡ a.made.works + 1) (sym are) (named_with id rep serial)
+      made_named id rep serial = subst (λ (u : Table (Single WorkRecord)). work_of (seen (work_made u)) id ≡ a.made.works + 1) (sym are) (named_with id rep serial)
 
 -- ---- The group that a work is made in
 
@@ -236,9 +236,9 @@ raises_of t None o is here u raised_is = subst (λ (x : Option ℕ). Raises t u 
 raises_of t (Some g) o is here u raised_is = subst (λ (x : Option ℕ). Raises t u x (Some g.0)) (sym is) (g.1, (here, (refl, raised_is)))
 
 -- The record of a request is the next.
-module _ (a : CoreParts) (sound : IsSound a) where
+module _ (a : CoreParts) (sound : IsSoundCore a) where
   group_positive : (id : TableId GroupKey) (r : TaskGroup) → Ok r ≡ item_at item_of a.groups id.rep id.serial → 0 < r.number
-  unfolding IsSound
+  unfolding IsSoundCore
   group_positive id r here = by r.number refl
     where
       reads : Some r.calls ≡ get (records group_key a.groups.places) r.number
@@ -249,7 +249,7 @@ module _ (a : CoreParts) (sound : IsSound a) where
       by (suc n) is = omega (arith, is)
 
   group_known : (id : TableId GroupKey) (r : TaskGroup) → Ok r ≡ item_at item_of a.groups id.rep id.serial → HasNumber group_key a.groups id.rep r.number × (0 < r.number)
-  unfolding IsSound
+  unfolding IsSoundCore
   group_known id r here =
       let placed = item_stands group_number group_calls a.groups a.made.groups sound.tables.groups id.rep id.serial r here in
       (ap (λ o. number_in (key_in group_key o)) placed.1.0 ∙ ap (λ (e : Single TaskGroup). e.item.number) placed.1.1.1, group_positive id r here)
@@ -258,8 +258,8 @@ module _ (a : CoreParts) (sound : IsSound a) where
   group_next None here n is = absurd (cc)
   group_next (Some g) here n is = subst (λ (m : ℕ). HasNumber group_key a.groups g.0.rep m × (0 < m)) (same_Some g.1.number n is) (group_known g.0 g.1 here)
 
-  pub record_next : (q : WorkRequest) (group : GroupHere) (nodes : WorkNodes) → IsHere a.groups group → AtPlace (parts_of a) q.maker (work_caller_target q.caller) → (g : HostWork) → g ≡ record_for (a.made.works + 1) q group nodes → IsWorkNext (bare (parts_of a)) (bare_work g)
-  record_next q group nodes here caller g is = subst (λ (w : HostWork). IsWorkNext (bare (parts_of a)) (bare_work w)) (sym is) (record {
+  pub record_next : (q : WorkRequest) (group : GroupHere) (nodes : WorkNodes) → IsHere a.groups group → AtPlace (parts_of a) q.maker (work_caller_target q.caller) → (g : WorkRecord) → g ≡ record_for (a.made.works + 1) q group nodes → IsWorkNext (bare (parts_of a)) (bare_work g)
+  record_next q group nodes here caller g is = subst (λ (w : WorkRecord). IsWorkNext (bare (parts_of a)) (bare_work w)) (sym is) (record {
     number = refl;
     stage = refl;
     event = refl;

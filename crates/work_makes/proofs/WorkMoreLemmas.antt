@@ -1,23 +1,23 @@
 -- Parts with one host work more, whose nodes and chain hung on nothing: they are whole.
-use Rattle.task_records.proofs.Core.{ap, AreChained, AreCounted, arith, AtPlace, BlockedOn, Bool, CallOf, calls_of, cases_eq, cond, core_of, EachEntry, Entry, entry_seated, false, filings, filter, group_key, HasHome, HasNumber, HaveRowNodes, HeldIn, host_entry, inl, inr, is_host_call, is_in_set, is_live, is_of_group, is_of_instance, is_stage_live, IsCallNamed, IsGroupKept, IsSeated, IsSome, IsWhole, IsWorkNamed, join_target, kinds, length, live_chain, live_value, nat_lt, None, Nothing, one_if_passes, Option, part, Parts, passing, place_chain, place_filing, Placed, push_entry, pushed, ready_in, ready_work_chain, refl, row, row_chain, SetOf, shelf_chain, Some, SoundTable, Status, subst, Subtask, sym, Table, table_use, Target, ThreadOf, UnderOf, WaitsOn, Where, Work, work_key, WorkOf, ℕ, ◌+◌, ◌<◌, ◌∙◌, ◌≡◌, ◌⊎◌, StartsIn}
-use Rattle.task_records.specs.declared.{calls.GuestTask.GuestTask, calls.TaskGroup.TaskGroup, parts.Kept.Kept, single.Single.Single, threads.GuestThread.GuestThread, threads.Queued.Queued, works.HostWork.HostWork}
+use Rattle.task_records.proofs.Core.{ap, AreChained, AreCounted, arith, AtPlace, BlockedOn, Bool, CallOf, calls_of, cases_eq, cond, core_of, EachEntry, Entry, entry_keyed, false, filings, filter, group_key, HasHome, HasNumber, HaveRowNodes, HeldIn, host_entry, inl, inr, is_host_call, is_in_set, is_live, is_of_group, is_of_instance, is_stage_live, IsCallNamed, IsGroupKept, IsKeyed, IsSome, IsWhole, IsWorkNamed, join_target, kinds, length, live_chain, live_value, nat_lt, None, Nothing, one_if_passes, Option, part, CoreImage, passing, place_chain, place_filing, Placed, push_entry, pushed, ready_in, ready_work_chain, refl, row, row_chain, SetOf, instance_queue_chain, Some, SoundTable, Status, subst, Subtask, sym, Table, table_use, Target, ThreadOf, UnderOf, WaitsOn, Where, Work, work_key, WorkOf, ℕ, ◌+◌, ◌<◌, ◌∙◌, ◌≡◌, ◌⊎◌, StartsIn}
+use Rattle.task_records.specs.declared.{call_records.GuestTask.GuestTask, call_records.TaskGroup.TaskGroup, parts.CachedCounts.CachedCounts, single.Single.Single, thread_records.GuestThread.GuestThread, thread_records.Queued.Queued, work_records.WorkRecord.WorkRecord}
 use Rattle.make_words.proofs.FreshLemmas.{chain_new, chain_other, each_more}
 use Rattle.make_words.proofs.LooseLemmas.{IsIndex-opened}
-use Rattle.make_words.proofs.MoreLemmas.{IsRows-known, index_more, new_or_old, nodes_more, passing_more, seat_stays}
+use Rattle.make_words.proofs.MoreLemmas.{IsRows-known, index_more, new_or_old, nodes_more, passing_more, order_key_stays}
 use Rattle.place_words.proofs.AlikeLemmas.{number_alike}
 use Rattle.place_words.specs.Moved.{Alike}
 use Rattle.removal_words.proofs.GroupLemmas.{numbers_alike}
 use Rattle.removal_words.specs.Counted.{uncalled}
 use Rattle.strand_words.proofs.ThreadPushLemmas.{none_in_list}
 use Rattle.task_records.proofs.MakeLemmas.{stands_more}
-use Rattle.work_makes.specs.Loose.{AreWorkLoose, nodes_of}
+use Rattle.work_makes.specs.LooseWorks.{AreWorkLoose, nodes_of}
 use Rattle.work_makes.specs.Raised.{IsWorkNext}
-use Rattle.task_records.specs.Places.{member_seat}
+use Rattle.task_records.specs.RecordPlaces.{member_order_key}
 
-abbrev number : HostWork → ℕ
+abbrev number : WorkRecord → ℕ
 number w = w.number
 
-abbrev machine : HostWork → Work
+abbrev machine : WorkRecord → Work
 machine w = w.work
 
 abbrev host_in : Where → ℕ
@@ -35,8 +35,8 @@ blocked_is n (BlockedOn (Subtask.Host i)) = elim (cases_eq i n) [
   | inr other ↦ inr (λ same. other (ap host_in same))
 ]
 
-module _ (p : Parts) (whole : IsWhole p) (sound : SoundTable work_key p.works p.made.works) (g : HostWork) (next : IsWorkNext p g) (loose : AreWorkLoose p (nodes_of g)) (high : IsSome p.high) (live : IsSome p.live) (groups : Table (Single TaskGroup)) (alike : Alike uncalled groups p.groups) (kept : Kept) where
-  abbrev pub more : Parts
+module _ (p : CoreImage) (whole : IsWhole p) (sound : SoundTable work_key p.works p.made.works) (g : WorkRecord) (next : IsWorkNext p g) (loose : AreWorkLoose p (nodes_of g)) (high : IsSome p.high) (live : IsSome p.live) (groups : Table (Single TaskGroup)) (alike : Alike uncalled groups p.groups) (kept : CachedCounts) where
+  abbrev pub more : CoreImage
   more = record p { works = pushed (record { item = g }) p.works; groups = groups; made = record p.made { works = p.made.works + 1 }; kept = kept }
 
   later : p.made.works < g.number
@@ -62,12 +62,12 @@ module _ (p : Parts) (whole : IsWhole p) (sound : SoundTable work_key p.works p.
   group_more r n at = number_alike uncalled groups p.groups alike (λ (x : TaskGroup). x.number) (λ x. refl) (λ (x : TaskGroup). x.calls) (λ (k : ℕ). 0) (λ x. refl) r ∙ at
 
   home_more : (h : GuestThread) → HasHome p h → HasHome more h
-  home_more h home = record { call = home.call; there = home.there; instance = home.instance; barred = home.barred; within = home.within; place = at_more h.beside _ home.place; how_far = at_more h.awaited _ home.how_far }
+  home_more h home = record { call = home.call; there = home.there; instance = home.instance; barred = home.barred; within = home.within; place = at_more h.beside _ home.place; op_progress = at_more h.awaited _ home.op_progress }
 
   call_more : (x : GuestTask) → IsCallNamed p x → IsCallNamed more x
   call_more x named = record { caller = at_more x.maker _ named.caller; first = at_more x.first (ThreadOf x.number) named.first; join = at_more x.joined _ named.join; group = group_more x.group x.call.group named.group; positive = named.positive }
 
-  work_more : (w : HostWork) → IsWorkNamed p w → IsWorkNamed more w
+  work_more : (w : WorkRecord) → IsWorkNamed p w → IsWorkNamed more w
   work_more w named = record { caller = at_more w.maker _ named.caller; join = at_more w.joined _ named.join; group = λ n at. let one = named.group n at in (group_more w.group n one.0, one.1) }
 
   new_named : IsWorkNamed more g
@@ -77,13 +77,13 @@ module _ (p : Parts) (whole : IsWhole p) (sound : SoundTable work_key p.works p.
     group = λ n at. let one = next.group n at in (group_more g.group n one.0, one.1);
   }
 
-  entry_more : (q : Queued) → IsSeated p q → IsSeated more q
+  entry_more : (q : Queued) → IsKeyed p q → IsKeyed more q
   entry_more q is_q = by q.entry is_q
     where
-      by : (e : Entry) → entry_seated p e q.place ≡ Some q → entry_seated more e q.place ≡ Some q
+      by : (e : Entry) → entry_keyed p e q.place ≡ Some q → entry_keyed more e q.place ≡ Some q
       by (Entry.Thread n) at = at
-      by (Entry.Push i) at = seat_stays p.works g sound.table push_entry q.place q at
-      by (Entry.Host i) at = seat_stays p.works g sound.table host_entry q.place q at
+      by (Entry.Push i) at = order_key_stays p.works g sound.table push_entry q.place q at
+      by (Entry.Host i) at = order_key_stays p.works g sound.table host_entry q.place q at
 
   -- ---- Keys
 
@@ -93,10 +93,10 @@ module _ (p : Parts) (whole : IsWhole p) (sound : SoundTable work_key p.works p.
   place_others (HeldIn i) other = refl
   place_others (UnderOf n) other = refl
   place_others (BlockedOn (Subtask.Guest k)) other = refl
-  place_others (BlockedOn (Subtask.Host i)) other = chain_other number machine (λ (x : HostWork). x.blocked) p.works g sound.table sound.apart (sound.later g.number later) i (λ same. other (ap (λ m. BlockedOn (Subtask.Host m)) same))
+  place_others (BlockedOn (Subtask.Host i)) other = chain_other number machine (λ (x : WorkRecord). x.blocked) p.works g sound.table sound.apart (sound.later g.number later) i (λ same. other (ap (λ m. BlockedOn (Subtask.Host m)) same))
 
   has_blocked : place_chain more (BlockedOn (Subtask.Host g.number)) ≡ Some g.blocked
-  has_blocked = chain_new number machine (λ (x : HostWork). x.blocked) p.works g sound.table sound.apart (sound.later g.number later)
+  has_blocked = chain_new number machine (λ (x : WorkRecord). x.blocked) p.works g sound.table sound.apart (sound.later g.number later)
 
   not_live : is_live g.work ≡ false
   not_live = ap is_stage_live next.stage
@@ -106,11 +106,11 @@ module _ (p : Parts) (whole : IsWhole p) (sound : SoundTable work_key p.works p.
     places = IsIndex-opened (place_chain p) (place_chain more) p.places (BlockedOn (Subtask.Host g.number)) (blocked_is g.number) place_others g.blocked has_blocked loose.blocked (filings place_filing p.threads) whole.chained.places
         (none_in_list (kinds p) p.threads (BlockedOn (Subtask.Host g.number)) (λ rep q at. (whole.named.threads rep q at).place) (λ rep at. let few = at.0 in let is = later in omega arith));
     ready_calls = whole.chained.ready_calls;
-    ready_works = index_more p.works g sound.table (λ h. h.ready.index) (λ h. ready_in h.work.event h.work.join) (λ r h. member_seat h.entry r) p.ready_works loose.ready (ready_work_chain p) whole.chained.ready_works (ap (λ (e : Option Status). ready_in e g.work.join) next.event);
+    ready_works = index_more p.works g sound.table (λ h. h.ready.index) (λ h. ready_in h.work.event h.work.join) (λ r h. member_order_key h.entry r) p.ready_works loose.ready (ready_work_chain p) whole.chained.ready_works (ap (λ (e : Option Status). ready_in e g.work.join) next.event);
     polled = index_more p.works g sound.table (λ h. h.live.index) (λ h. cond (is_stage_live h.work.stage) (Some tt) None) live_value p.polled loose.live (live_chain p) whole.chained.polled (ap (λ b. cond b (Some tt) None) not_live);
     rising = whole.chained.rising;
-    marks = IsRows-known (row_chain p) (λ q. q.mark.index) (IsSeated p) (IsSeated more) p.marks (row p) entry_more whole.chained.marks;
-    shelves = IsRows-known (shelf_chain p) (λ q. q.shelf.index) (IsSeated p) (IsSeated more) p.shelves (part is_of_instance (row p)) entry_more whole.chained.shelves;
+    marks = IsRows-known (row_chain p) (λ q. q.mark.index) (IsKeyed p) (IsKeyed more) p.marks (row p) entry_more whole.chained.marks;
+    instance_queues = IsRows-known (instance_queue_chain p) (λ q. q.instance_queue.index) (IsKeyed p) (IsKeyed more) p.instance_queues (part is_of_instance (row p)) entry_more whole.chained.instance_queues;
     low = whole.chained.low;
     behind = whole.chained.behind;
   }
@@ -118,11 +118,11 @@ module _ (p : Parts) (whole : IsWhole p) (sound : SoundTable work_key p.works p.
   nodes_kept : HaveRowNodes more
   nodes_kept = record {
     marks = whole.nodes.marks;
-    shelves = whole.nodes.shelves;
+    instance_queues = whole.nodes.instance_queues;
     callers = whole.nodes.callers;
-    works = nodes_more p.works g sound.table (λ (h : HostWork). h.mark.index) p.marks loose.mark whole.nodes.works;
+    works = nodes_more p.works g sound.table (λ (h : WorkRecord). h.mark.index) p.marks loose.mark whole.nodes.works;
     apart = λ r s q w at_q at_w same. elim (new_or_old p.works g sound.table s w at_w) [
-      | inl new ↦ loose.no_thread r q at_q (same ∙ ap (λ (z : Placed (Single HostWork)). z.entry.item.mark.index) new.1)
+      | inl new ↦ loose.no_thread r q at_q (same ∙ ap (λ (z : Placed (Single WorkRecord)). z.entry.item.mark.index) new.1)
       | inr old ↦ whole.nodes.apart r s q w at_q old same
     ];
   }
@@ -163,7 +163,7 @@ module _ (p : Parts) (whole : IsWhole p) (sound : SoundTable work_key p.works p.
       finished = whole.counted.finished;
       high = whole.counted.high;
       low = whole.counted.low;
-      works = each_more (λ (w : HostWork). IsSome p.high × IsSome p.live) p.works g sound.table whole.counted.works (high, live);
+      works = each_more (λ (w : WorkRecord). IsSome p.high × IsSome p.live) p.works g sound.table whole.counted.works (high, live);
       results = whole.counted.results;
     }
 

@@ -1,2 +1,2 @@
-pub mod Loose
+pub mod LooseWorks
 pub mod Raised

@@ -3,25 +3,25 @@ use Rattle.std.specs.Option.{option_map_or}
 use Rattle.std.specs.Prelude.{◌≡◌, ◌+◌, ◌<◌, ℕ, Ok, Option, None, Some, option_map}
 use Rattle.task_machine.specs.declared.records.Join.TheVariants as join
 use Rattle.task_machine.specs.declared.records.Stage.TheVariants as stage
-use Rattle.task_records.specs.Image.{Parts}
+use Rattle.task_records.specs.Image.{CoreImage}
 use Rattle.task_records.specs.Keys.{group_key}
 use Rattle.task_records.specs.Kinds.{entry_of, item_of}
 use Rattle.task_records.specs.Names.{AtPlace, HasNumber, work_caller_target}
-use Rattle.task_records.specs.declared.calls.TaskGroup.{TaskGroup}
+use Rattle.task_records.specs.declared.call_records.TaskGroup.{TaskGroup}
 use Rattle.task_records.specs.declared.parts.CoreParts.{CoreParts}
 use Rattle.task_records.specs.declared.single.Single.{Single}
-use Rattle.task_records.specs.declared.works.HostWork.{HostWork}
+use Rattle.task_records.specs.declared.work_records.WorkRecord.{WorkRecord}
 use Rattle.task_rules.specs.Calls.{new_work}
-use Rattle.task_table.specs.Answers.{item_at}
+use Rattle.task_table.specs.TableAnswers.{item_at}
 use Rattle.task_table.specs.Changes.{next_place, pushed, with_entry}
 use Rattle.task_table.specs.Table.{Table}
 use Rattle.task_table.specs.declared.id.TableId.{TableId}
 use Rattle.task_wait.specs.declared.keys.GroupKey.{GroupKey}
-use Rattle.work_makes.specs.declared.nodes.WorkNodes.{WorkNodes}
-use Rattle.work_makes.specs.declared.requests.WorkRequest.{WorkRequest}
+use Rattle.work_makes.specs.declared.work_nodes.WorkNodes.{WorkNodes}
+use Rattle.work_makes.specs.declared.work_requests.WorkRequest.{WorkRequest}
 
 -- It has the next number, is queued, has no event and is in no set; who called is there, and so is its group.
-pub record IsWorkNext (p : Parts) (w : HostWork) : Type 0 where
+pub record IsWorkNext (p : CoreImage) (w : WorkRecord) : Type 0 where
   pub number : w.number ≡ p.made.works + 1
   pub stage : w.work.stage ≡ stage.Queued
   pub event : w.work.event ≡ None
@@ -53,7 +53,7 @@ abbrev pub group_name : GroupHere → Option ℕ
 group_name group = option_map (λ (g : TableId GroupKey × TaskGroup). g.1.number) group
 
 -- The record of a work that is made.
-abbrev pub record_for : ℕ → WorkRequest → GroupHere → WorkNodes → HostWork
+abbrev pub record_for : ℕ → WorkRequest → GroupHere → WorkNodes → WorkRecord
 record_for number q group nodes = record {
   number = number;
   work = new_work q.caller q.host (group_name group);
@@ -68,7 +68,7 @@ record_for number q group nodes = record {
 }
 
 -- What the push of a work's record changed.
-pub record PushesWork (a b : CoreParts) (w : HostWork) (group : GroupHere) (id : ℕ) (used : ℕ) : Type 0 where
+pub record PushesWork (a b : CoreParts) (w : WorkRecord) (group : GroupHere) (id : ℕ) (used : ℕ) : Type 0 where
   pub works : b.works ≡ pushed (entry_of w) a.works
   pub at : id ≡ next_place a.works
   pub only :

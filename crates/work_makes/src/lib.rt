@@ -2,14 +2,14 @@
 //! first, so that what was made for nothing hangs on nothing and isn't seen.
 #![tactic(auto)]
 
-mod calls;
-mod entries;
-mod marks;
-mod nodes;
+mod called_works;
+mod work_entries;
+mod work_marks;
+mod work_nodes;
 mod queued;
-mod requests;
-mod works;
+mod work_requests;
+mod spawned_works;
 
-pub use calls::queue_call;
-pub use entries::queue_push;
+pub use called_works::queue_call;
+pub use work_entries::queue_push;
 pub use queued::{queue_spawn, queue_sync_call};

@@ -2,18 +2,18 @@ ghost use Rattle.std.specs.Prelude.{◌≡◌, ◌+◌, ◌<◌, ◌^◌, IsSome
 ghost use Rattle.task_machine.specs.Read.{fits, thread_group};
 ghost use Rattle.task_machine.specs.declared.records.WorkCaller.TheVariants as callers;
 ghost use Rattle.task_records.specs.Names.{AtPlace, work_caller_target};
-ghost use Rattle.task_records.specs.Seen.{IsSound, parts_of, seen};
+ghost use Rattle.task_records.specs.Seen.{IsSoundCore, parts_of, seen};
 ghost use Rattle.task_records.specs.Sound.{bare};
 ghost use Rattle.task_rules.specs.Calls.{next_work, work_queued};
-ghost use Rattle.task_words.specs.Becomes.{Makes, names_work};
+ghost use Rattle.task_words.specs.BecomesRecord.{MakesRecord, names_work};
 ghost use Rattle.task_words.specs.StateView.{thread_of};
-ghost use Rattle.work_makes.specs.Loose.{AreWorkLoose};
+ghost use Rattle.work_makes.specs.LooseWorks.{AreWorkLoose};
 ghost use Rattle.work_makes.specs.Raised.{IsHere, group_name};
 
-use crate::entries::queue_push;
-use crate::nodes::{WorkNodes, new_work_nodes};
-use crate::requests::{WorkRequest, record_for};
-use crate::works::push_work;
+use crate::work_entries::queue_push;
+use crate::work_nodes::{WorkNodes, new_work_nodes};
+use crate::work_requests::{WorkRequest, record_for};
+use crate::spawned_works::push_work;
 use record_words::number;
 use strand_words::group_of;
 use task_machine::{HostDef, NoMemory, WorkCaller};
@@ -30,7 +30,7 @@ fn queue_work(
     group: Option<(TableId<GroupKey>, TaskGroup)>,
     nodes: WorkNodes,
 ) -> Result<WorkId, NoMemory>
-    requires sound { IsSound parts.old }
+    requires sound { IsSoundCore parts.old }
     requires few { (seen parts.old).core.made.works + 1 < 2 ^ 64 }
     requires room { is_some group ≡ true → fits 1 (seen parts.old).core ≡ true }
     requires caller { AtPlace (parts_of parts.old) request.maker (work_caller_target request.caller) }
@@ -38,8 +38,8 @@ fn queue_work(
     requires loose { AreWorkLoose (bare (parts_of parts.old)) nodes }
     requires high { IsSome parts.old.high }
     requires live { IsSome parts.old.live }
-    ensures sound { IsSound parts.new }
-    ensures new { Makes (names_work (next_work (seen parts.old).core)) (work_queued request.caller request.host (group_name group) (seen parts.old).core) (seen parts.old) result (seen parts.new) }
+    ensures sound { IsSoundCore parts.new }
+    ensures new { MakesRecord (names_work (next_work (seen parts.old).core)) (work_queued request.caller request.host (group_name group) (seen parts.old).core) (seen parts.old) result (seen parts.new) }
 {
     let number = parts.made.works + 1;
     let work = record_for(number, request, group, nodes);
@@ -54,10 +54,10 @@ fn queue_work(
 
 /// Makes a spawned work, and its push. Where memory is wanting, all is as before.
 pub fn queue_spawn(parts: &mut CoreParts, host: HostDef) -> Result<WorkId, NoMemory>
-    requires sound { IsSound parts.old }
+    requires sound { IsSoundCore parts.old }
     requires few { (seen parts.old).core.made.works + 1 < 2 ^ 64 }
-    ensures sound { IsSound parts.new }
-    ensures new { Makes (names_work (next_work (seen parts.old).core)) (work_queued callers.Spawn host None (seen parts.old).core) (seen parts.old) result (seen parts.new) }
+    ensures sound { IsSoundCore parts.new }
+    ensures new { MakesRecord (names_work (next_work (seen parts.old).core)) (work_queued callers.Spawn host None (seen parts.old).core) (seen parts.old) result (seen parts.new) }
 {
     let request = WorkRequest {
         caller: WorkCaller::Spawn,
@@ -81,12 +81,12 @@ fn queue_sync_call_at(
     host: HostDef,
     entry: u32,
 ) -> Result<WorkId, NoMemory>
-    requires sound { IsSound parts.old }
+    requires sound { IsSoundCore parts.old }
     requires live { 0 < thread_of (seen parts.old) thread }
     requires few { (seen parts.old).core.made.works + 1 < 2 ^ 64 }
     requires room { fits 1 (seen parts.old).core ≡ true }
-    ensures sound { IsSound parts.new }
-    ensures new { Makes (names_work (next_work (seen parts.old).core)) (work_queued (callers.Sync (thread_of (seen parts.old) thread)) host (Some (thread_group (thread_of (seen parts.old) thread) (seen parts.old).core)) (seen parts.old).core) (seen parts.old) result (seen parts.new) }
+    ensures sound { IsSoundCore parts.new }
+    ensures new { MakesRecord (names_work (next_work (seen parts.old).core)) (work_queued (callers.Sync (thread_of (seen parts.old) thread)) host (Some (thread_group (thread_of (seen parts.old) thread) (seen parts.old).core)) (seen parts.old).core) (seen parts.old) result (seen parts.new) }
 {
     let caller = WorkCaller::Sync {
         thread: number(parts, thread),
@@ -111,18 +111,18 @@ fn queue_sync_call_at(
 
 /// Makes the work of a thread's `call_sync`, in the thread's group, and its push. Where memory is
 /// wanting, all is as before.
-#[tactic(auto, unfolding(task_records::specs::Seen::seen, task_records::specs::Seen::IsSound))]
+#[tactic(auto, unfolding(task_records::specs::Seen::seen, task_records::specs::Seen::IsSoundCore))]
 pub fn queue_sync_call(
     parts: &mut CoreParts,
     thread: ThreadId,
     host: HostDef,
 ) -> Result<WorkId, NoMemory>
-    requires sound { IsSound parts.old }
+    requires sound { IsSoundCore parts.old }
     requires live { 0 < thread_of (seen parts.old) thread }
     requires few { (seen parts.old).core.made.works + 1 < 2 ^ 64 }
     requires room { fits 1 (seen parts.old).core ≡ true }
-    ensures sound { IsSound parts.new }
-    ensures new { Makes (names_work (next_work (seen parts.old).core)) (work_queued (callers.Sync (thread_of (seen parts.old) thread)) host (Some (thread_group (thread_of (seen parts.old) thread) (seen parts.old).core)) (seen parts.old).core) (seen parts.old) result (seen parts.new) }
+    ensures sound { IsSoundCore parts.new }
+    ensures new { MakesRecord (names_work (next_work (seen parts.old).core)) (work_queued (callers.Sync (thread_of (seen parts.old) thread)) host (Some (thread_group (thread_of (seen parts.old) thread) (seen parts.old).core)) (seen parts.old).core) (seen parts.old) result (seen parts.new) }
 {
     let entry = parts.table_places.take()?;
     match queue_sync_call_at(parts, thread, host, entry) {

@@ -35,7 +35,7 @@ loop-line-preserved c =
       cells = does.cells ∙ inv.cells;
       places = does.places ∙ inv.split;
       counts = does.counts ∙ ap (λ (n : ℕ). replicate n 0) as_long;
-      wanting = does.first.1;
+      out_of_memory = does.first.1;
     } in
     record {
       new = subst (λ (all : List Aborter). AreNew (map spawn_cell first) (map split_count first) 0 all) (sym c.in_ok-add.ensures.ok)

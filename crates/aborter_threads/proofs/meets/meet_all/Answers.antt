@@ -3,7 +3,7 @@ use Rattle.std.specs.Prelude.{ℕ, [], ◌∷◌}
 use Rattle.std.specs.Vec.Iter.{into_iter_items}
 use Rattle.aborter_threads.proofs.MeetLemmas.{later_more, later_none, no_items}
 use Rattle.aborter_threads.proofs.NewLemmas.{at_err}
-use Rattle.aborter_threads.specs.Aborters.{CanMeet, MetInPart, NoneWanting, with_all}
+use Rattle.aborter_threads.specs.Aborters.{CanMeet, MetInPart, NoneOutOfMemory, with_all}
 use Rattle.aborter_threads.specs.Counts.{later, met_count, met_of}
 use Rattle.aborter_threads.specs.declared.line.Aborter.{Aborter}
 use Rattle.shared_works.specs.Views.{spawn_cell}
@@ -21,7 +21,7 @@ loop-aborter-init c =
       count = refl;
       met = refl;
       part = λ news was. was;
-      wanting = λ none. none;
+      out_of_memory = λ none. none;
     }
 
 pub meet_each-requires-clause-cells : goal.meet_each-requires-clause-cells
@@ -51,7 +51,7 @@ loop-aborter-preserved c =
       met = ap (with_all rest) does.met ∙ (ap (λ (all : List Aborter). with_all all (map met_of c.loop-aborter.cells.items)) (sym steps) ∙ inv.met);
       part = λ news left. inv.part news (subst (λ (all : List Aborter). MetInPart all (map met_of c.loop-aborter.cells.items) news) (sym steps)
           (inr (subst (λ mss. MetInPart rest mss news) does.met left)));
-      wanting = λ none. inv.wanting (subst (λ (all : List Aborter). NoneWanting all) (sym steps) (does.wanting, none));
+      out_of_memory = λ none. inv.out_of_memory (subst (λ (all : List Aborter). NoneOutOfMemory all) (sym steps) (does.out_of_memory, none));
     }
 
 pub returns-clause-count : goal.returns-clause-count
@@ -70,12 +70,12 @@ returns-clause-met c =
     ap (λ (all : List Aborter). with_all all (map met_of c.loop-aborter.cells.items)) (sym none)
     ∙ (inv.met ∙ ap (λ (all : List Aborter). with_all all (map met_of c.args.cells.now.items)) gives)
 
-pub returns-clause-wanting : goal.returns-clause-wanting
-returns-clause-wanting c =
+pub returns-clause-out_of_memory : goal.returns-clause-out_of_memory
+returns-clause-out_of_memory c =
     let inv = c.loop-aborter.invariant in
     let gives = c.into_iter-aborter-iterator.ensures.into_iter_gives.0 in
     let none : into_iter_items c.loop-aborter.aborter-iterator ≡ [] = no_items _ (sym inv.ends ∙ c.in-None.ensures.steps.0) in
-    subst (λ (all : List Aborter). NoneWanting all) gives (inv.wanting (subst (λ (all : List Aborter). NoneWanting all) (sym none) tt))
+    subst (λ (all : List Aborter). NoneOutOfMemory all) gives (inv.out_of_memory (subst (λ (all : List Aborter). NoneOutOfMemory all) (sym none) tt))
 
 pub returns-in_err-meet_each-clause-cells : goal.returns-in_err-meet_each-clause-cells
 returns-in_err-meet_each-clause-cells c = c.meet_each.ensures.cells ∙ c.loop-aborter.invariant.cells

@@ -1,6 +1,6 @@
 use Rattle.std.proofs.Common.{List, ℕ, ◌≡◌, length, map}
 use Rattle.std.specs.Vec.Iter.{into_iter_items, into_iter_len}
-use Rattle.aborter_threads.specs.Aborters.{CanMeet, MetInPart, NoneWanting, with_all}
+use Rattle.aborter_threads.specs.Aborters.{CanMeet, MetInPart, NoneOutOfMemory, with_all}
 use Rattle.aborter_threads.specs.Counts.{later, met_count, met_of}
 use Rattle.shared_works.specs.Views.{own_list, spawn_cell, split_count}
 use Rattle.aborter_threads.proofs.meets.meet_all.Given as goal
@@ -18,5 +18,5 @@ invariant-loop-aborter l = record {
       ≡ with_all (into_iter_items l.initial.aborter-iterator) (map met_of l.initial.cells.items);
   part : (news : List (List (ℕ × ℕ))) → MetInPart (into_iter_items l.aborter-iterator) (map met_of l.cells.items) news →
       MetInPart (into_iter_items l.initial.aborter-iterator) (map met_of l.initial.cells.items) news;
-  wanting : NoneWanting (into_iter_items l.aborter-iterator) → NoneWanting (into_iter_items l.initial.aborter-iterator);
+  out_of_memory : NoneOutOfMemory (into_iter_items l.aborter-iterator) → NoneOutOfMemory (into_iter_items l.initial.aborter-iterator);
 }

@@ -181,5 +181,5 @@ returns-in_err-meet-clause-refused c =
           ∙ ap (λ (qs : List AborterPass). with_each n (take i (counts_in qs)) (map met_of cs)) gives)),
     )
 
-pub returns-then-wanting-clause-refused : goal.returns-then-wanting-clause-refused
-returns-then-wanting-clause-refused c = (0, refl)
+pub returns-then-out_of_memory-clause-refused : goal.returns-then-out_of_memory-clause-refused
+returns-then-out_of_memory-clause-refused c = (0, refl)

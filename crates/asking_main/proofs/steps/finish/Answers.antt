@@ -22,7 +22,7 @@ returns-clause-step g c =
     let thread = c.in-Some.begun.now.call.thread in
     let fin = c.in-Ready.ensures.finishes in
     stepped_quietly asking_says g.H.HostWork.course d (step.Did (label.Main (main_label.Finish c.number_of.result c.in-Ready.value))) c.args.main.now s _ t (ap (λ k. k.listeners) c.finish_call_concurrent.ensures.rest)
-    (ap (λ (v : StateView). v.tags.known) fin.1) (did_finish d s.state t.state thread c.number_of.result c.in-Ready.value fin) refl c.requires.may.asked (finish_keeps d s.state t.state thread c.in-Ready.value fin) refl tt tt
+    (ap (λ (v : StateView). v.tags.tracked) fin.1) (did_finish d s.state t.state thread c.number_of.result c.in-Ready.value fin) refl c.requires.may.asked (finish_keeps d s.state t.state thread c.in-Ready.value fin) refl tt tt
     ((c.finish_call_concurrent.ensures.keeps d).works g.H.HostWork.course c.requires.may.works)
 
 pub returns-in_default-finish_call_concurrent-clause-step : goal.returns-in_default-finish_call_concurrent-clause-step
@@ -33,5 +33,5 @@ returns-in_default-finish_call_concurrent-clause-step g c =
     let same = c.in_default-finish_call_concurrent.ensures.finishes.1 in
     let steps : Steps d [] Unscripted s.state.core step.Pends Unscripted t.state.core = rw same (pends_now d s.state.core) in
     stepped_quietly asking_says g.H.HostWork.course d step.Pends c.args.main.now s _ t (ap (λ k. k.listeners) c.finish_call_concurrent.ensures.rest)
-    (ap (λ (v : StateView). v.tags.known) same) steps refl c.requires.may.asked (ap running_of same) tt tt tt
+    (ap (λ (v : StateView). v.tags.tracked) same) steps refl c.requires.may.asked (ap running_of same) tt tt tt
     ((c.finish_call_concurrent.ensures.keeps d).works g.H.HostWork.course c.requires.may.works)

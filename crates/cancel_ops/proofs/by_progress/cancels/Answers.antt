@@ -1,14 +1,14 @@
 use Rattle.cancel_ops.proofs.CancelLemmas.{awaits_at, behind_at, cancel_fresh, cancel_shows}
 use Rattle.cancel_ops.proofs.GoesLemmas.{does_op, same_op}
 use Rattle.cancel_ops.proofs.by_progress.cancels.Goals as goal
-use Rattle.cancel_ops.specs.Goes.{cancels_here}
+use Rattle.cancel_ops.specs.Continues.{cancels_here}
 use Rattle.std.proofs.Common.{ap, sym}
 use Rattle.subtask_ops.specs.Refused.{mode_of}
 use Rattle.subtask_ops.specs.Rules.{cancels_from, goes_on_from}
-use Rattle.task_machine.specs.Read.{how_far_of}
-use Rattle.task_machine.specs.declared.records.HowFar.{HowFar}
-use Rattle.task_machine.specs.declared.records.HowFar.TheVariants as how_far
-use Rattle.task_ops.proofs.DoesLemmas.{does_row, same_rest}
+use Rattle.task_machine.specs.Read.{op_progress_of}
+use Rattle.task_machine.specs.declared.records.OpProgress.{OpProgress}
+use Rattle.task_machine.specs.declared.records.OpProgress.TheVariants as op_progress
+use Rattle.task_ops.proofs.DoesLemmas.{does_rule, same_rest}
 use Rattle.task_ops.specs.Does.{KeepsRest, SameNames}
 use Rattle.task_ops.specs.Works.{KeepsTold}
 use Rattle.task_rules.specs.Cancels.{cancel_rule}
@@ -23,10 +23,10 @@ returns-in-Some g c =
     let n = thread_of s c.args.thread in
     let m = mode_of c.args.sync in
     let h = c.args.handle in
-    let far = behind_at (how_far_of n s.core) (subtask_in s.tags c.in-Some.subtask) (sym c.in-Some.ensures) in
-    let did = does_row SameNames (goes_on_from m (how_far.Cancels (subtask_in s.tags c.in-Some.subtask))) (cancels_here m h) c.args.thread s t _ c.go_on_cancelling.ensures.does
-    (λ d k. ap (λ (f : HowFar). cancel_rule d m n h s.core f) far) in
-    record { does = same_op KeepsTold (cancels_here m h) c.args.thread s t _ (cancel_shows m n SomeHost h s.core (how_far_of n s.core)) c.requires.runner.current did (same_rest s t did.kept).0 }
+    let far = behind_at (op_progress_of n s.core) (subtask_in s.tags c.in-Some.subtask) (sym c.in-Some.ensures) in
+    let did = does_rule SameNames (goes_on_from m (op_progress.Cancels (subtask_in s.tags c.in-Some.subtask))) (cancels_here m h) c.args.thread s t _ c.go_on_cancelling.ensures.does
+    (λ d k. ap (λ (f : OpProgress). cancel_rule d m n h s.core f) far) in
+    record { does = same_op KeepsTold (cancels_here m h) c.args.thread s t _ (cancel_shows m n SomeHost h s.core (op_progress_of n s.core)) c.requires.runner.current did (same_rest s t did.kept).0 }
 
 pub returns-in-Some-awaiting : goal.returns-in-Some-awaiting
 returns-in-Some-awaiting g c =
@@ -35,10 +35,10 @@ returns-in-Some-awaiting g c =
     let n = thread_of s c.args.thread in
     let m = mode_of c.args.sync in
     let h = c.args.handle in
-    let far = awaits_at (how_far_of n s.core) (subtask_in s.tags c.in-Some-awaiting.subtask) (sym c.in-Some-awaiting.ensures) in
-    let did = does_row SameNames (goes_on_from m (how_far.AwaitsEnd (subtask_in s.tags c.in-Some-awaiting.subtask))) (cancels_here m h) c.args.thread s t _ c.go_on_awaiting.ensures.does
-    (λ d k. ap (λ (f : HowFar). cancel_rule d m n h s.core f) far) in
-    record { does = same_op KeepsTold (cancels_here m h) c.args.thread s t _ (cancel_shows m n SomeHost h s.core (how_far_of n s.core)) c.requires.runner.current did (same_rest s t did.kept).0 }
+    let far = awaits_at (op_progress_of n s.core) (subtask_in s.tags c.in-Some-awaiting.subtask) (sym c.in-Some-awaiting.ensures) in
+    let did = does_rule SameNames (goes_on_from m (op_progress.AwaitsEnd (subtask_in s.tags c.in-Some-awaiting.subtask))) (cancels_here m h) c.args.thread s t _ c.go_on_awaiting.ensures.does
+    (λ d k. ap (λ (f : OpProgress). cancel_rule d m n h s.core f) far) in
+    record { does = same_op KeepsTold (cancels_here m h) c.args.thread s t _ (cancel_shows m n SomeHost h s.core (op_progress_of n s.core)) c.requires.runner.current did (same_rest s t did.kept).0 }
 
 pub returns : goal.returns
 returns g c =
@@ -47,6 +47,6 @@ returns g c =
     let n = thread_of s c.args.thread in
     let m = mode_of c.args.sync in
     let h = c.args.handle in
-    let did = does_row KeepsRest (cancels_from m how_far.Fresh h) (cancels_here m h) c.args.thread s t _ c.cancel.ensures.does
-    (λ d k. cancel_fresh m n d h s.core (how_far_of n s.core) (sym c.in_default.ensures) (sym c.in_default-awaiting.ensures)) in
-    record { does = does_op KeepsTold (cancels_here m h) c.args.thread s t _ (cancel_shows m n SomeHost h s.core (how_far_of n s.core)) c.requires.runner.current KeepsRest did did.kept.0 did.kept.1 c.cancel.ensures.thread }
+    let did = does_rule KeepsRest (cancels_from m op_progress.Fresh h) (cancels_here m h) c.args.thread s t _ c.cancel.ensures.does
+    (λ d k. cancel_fresh m n d h s.core (op_progress_of n s.core) (sym c.in_default.ensures) (sym c.in_default-awaiting.ensures)) in
+    record { does = does_op KeepsTold (cancels_here m h) c.args.thread s t _ (cancel_shows m n SomeHost h s.core (op_progress_of n s.core)) c.requires.runner.current KeepsRest did did.kept.0 did.kept.1 c.cancel.ensures.thread }

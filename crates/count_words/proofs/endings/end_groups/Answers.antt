@@ -3,7 +3,7 @@ use Rattle.std.proofs.lemmas.List.{append_assoc, length-append}
 use Rattle.std.specs.Prelude.{vec_capacity, ◌++◌, ◌≤◌}
 use Rattle.count_words.specs.Entries.{numbers_of}
 use Rattle.count_words.proofs.endings.end_groups.Goals as goal
-use Rattle.task_records.specs.declared.{calls.TaskGroup.TaskGroup, single.Single.Single}
+use Rattle.task_records.specs.declared.{call_records.TaskGroup.TaskGroup, single.Single.Single}
 
 module _ (finished : ℕ) (e : ℕ × Single TaskGroup) (es : List (ℕ × Single TaskGroup)) where
   passed : (b : Bool) → nat_lt finished e.1.item.number ≡ b → numbers_of finished (e ∷ es) ≡ (if b then e.1.item.number ∷ numbers_of finished es else numbers_of finished es)

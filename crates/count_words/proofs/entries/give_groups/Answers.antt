@@ -1,7 +1,7 @@
 use Rattle.std.proofs.Common.{◌≤◌, length, subst, sym, ℕ}
 use Rattle.count_words.specs.Entries.{groups_above}
 use Rattle.table_order.proofs.PlaceLemmas.{no_fewer}
-use Rattle.table_order.specs.Places.{given_each, Places}
+use Rattle.table_order.specs.GivenPlaces.{given_each, Places}
 use Rattle.count_words.proofs.entries.give_groups.Goals as goal
 
 pub put_in_order-requires : goal.put_in_order-requires

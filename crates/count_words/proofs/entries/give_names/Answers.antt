@@ -1,7 +1,7 @@
 use Rattle.std.proofs.Common.{if◌then◌else◌, ap, arith, Bool, filter, List, map, nat_lt, refl, sym, true, false, ◌∙◌, ◌∷◌, ◌≡◌, ℕ}
 use Rattle.count_words.specs.Entries.{above}
-use Rattle.table_order.specs.Places.{Places, given_each}
-use Rattle.task_records.specs.declared.{calls.TaskGroup.TaskGroup, single.Single.Single}
+use Rattle.table_order.specs.GivenPlaces.{Places, given_each}
+use Rattle.task_records.specs.declared.{call_records.TaskGroup.TaskGroup, single.Single.Single}
 use Rattle.count_words.proofs.entries.give_names.Goals as goal
 
 module _ (finished : ℕ) (e : ℕ × Single TaskGroup) (es : List (ℕ × Single TaskGroup)) where

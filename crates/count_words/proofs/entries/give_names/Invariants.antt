@@ -1,6 +1,6 @@
 use Rattle.std.proofs.Common.{◌≡◌}
 use Rattle.count_words.specs.Entries.{above}
-use Rattle.table_order.specs.Places.{given_each}
+use Rattle.table_order.specs.GivenPlaces.{given_each}
 use Rattle.count_words.proofs.entries.give_names.Given as goal
 
 abbrev pub invariant-loop-name : goal.invariant-loop-name

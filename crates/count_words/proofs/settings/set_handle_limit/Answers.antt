@@ -1,10 +1,10 @@
 use Rattle.count_words.proofs.LimitLemmas.{limit_sound}
 use Rattle.count_words.proofs.settings.set_handle_limit.Goals as goal
-use Rattle.task_records.proofs.Core.{ap, HandleCounter, IsSound, seen, subst, sym}
+use Rattle.task_records.proofs.Core.{ap, HandleCounter, IsSoundCore, seen, subst, sym}
 
 pub returns-clause-sound : goal.returns-clause-sound
 returns-clause-sound c =
-    subst (λ (k : HandleCounter). IsSound (record c.args.parts.now { counter = k })) (sym c.set_limit.ensures)
+    subst (λ (k : HandleCounter). IsSoundCore (record c.args.parts.now { counter = k })) (sym c.set_limit.ensures)
     (limit_sound c.args.parts.now c.requires.sound c.args.handles)
 
 pub returns-clause-new : goal.returns-clause-new

@@ -25,7 +25,7 @@ returns-in_default-clause-step c =
     let t = c.turn.new.store in
     let none = c.in_default.ensures.none in
     let steps : Steps d [] Unscripted s.state.core step.Pends Unscripted t.state.core = record { part = refl; core = ap (λ u. u.core) none.1; pends = refl } in
-    stepped_quietly relay_says (λ (w : ScriptedHost). w.left) d step.Pends main s _ t (ap (λ k. k.listeners) c.turn.ensures.keeps.rest) (ap (λ v. v.tags.known) none.1) steps refl c.requires.may.asked (ap running_of none.1) refl c.requires.may.suits
+    stepped_quietly relay_says (λ (w : ScriptedHost). w.left) d step.Pends main s _ t (ap (λ k. k.listeners) c.turn.ensures.keeps.rest) (ap (λ v. v.tags.tracked) none.1) steps refl c.requires.may.asked (ap running_of none.1) refl c.requires.may.suits
     (record { of = c.turn.ensures.of; few = rw none.0 c.requires.may.knows.few }) c.turn.ensures.hosts
 
 pub returns-in_default-clause-stands : goal.returns-in_default-clause-stands
@@ -47,7 +47,7 @@ returns-in_default-value-clause-step c =
       core = ap (λ u. u.core) e.1 ∙ takes_none n c.turn.new.self s.state.core k (numbered n.children k) refl e.0 none;
       pends = refl;
     } in
-    stepped_quietly relay_says (λ (w : ScriptedHost). w.left) d step.Pends main s _ t (ap (λ k. k.listeners) c.turn.ensures.keeps.rest) (ap (λ v. v.tags.known) e.1) steps refl c.requires.may.asked (ap running_of e.1) refl c.requires.may.suits
+    stepped_quietly relay_says (λ (w : ScriptedHost). w.left) d step.Pends main s _ t (ap (λ k. k.listeners) c.turn.ensures.keeps.rest) (ap (λ v. v.tags.tracked) e.1) steps refl c.requires.may.asked (ap running_of e.1) refl c.requires.may.suits
     (record { of = c.turn.ensures.of; few = as_many n c.turn.new.self s.state.core k main.started e.0 c.requires.may.knows.few }) c.turn.ensures.hosts
 
 pub returns-in_default-value-clause-stands : goal.returns-in_default-value-clause-stands
@@ -66,7 +66,7 @@ returns-clause-step c =
     let value = c.in-Some-value.value in
     let f = turn_finishes n c.turn.new.self s.state t.state k value (sym c.in-Some.ensures.least) e.0 e.1 (sym c.value.ensures ∙ c.in-Some-value.is) in
     let steps : Steps d [] Unscripted s.state.core (step.Did (label.Main (main_label.Finish k value))) Unscripted t.state.core = did_finish d s.state t.state f.1.thread k value f.3 in
-    stepped_quietly relay_says (λ (w : ScriptedHost). w.left) d (step.Did (label.Main (main_label.Finish k value))) main s _ t (ap (λ k. k.listeners) c.turn.ensures.keeps.rest) (ap (λ v. v.tags.known) e.1) steps refl c.requires.may.asked (ap running_of e.1) refl c.requires.may.suits
+    stepped_quietly relay_says (λ (w : ScriptedHost). w.left) d (step.Did (label.Main (main_label.Finish k value))) main s _ t (ap (λ k. k.listeners) c.turn.ensures.keeps.rest) (ap (λ v. v.tags.tracked) e.1) steps refl c.requires.may.asked (ap running_of e.1) refl c.requires.may.suits
     (record { of = c.turn.ensures.of; few = as_many n c.turn.new.self s.state.core k main.started e.0 c.requires.may.knows.few }) c.turn.ensures.hosts
 
 pub returns-clause-stands : goal.returns-clause-stands

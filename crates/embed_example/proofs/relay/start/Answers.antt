@@ -8,7 +8,7 @@ use Rattle.std.proofs.Common.{ap, arith, refl, subst, sym, ◌∙◌}
 use Rattle.std.specs.Prelude.{Err, List, Ok, Result, [], ℕ, ◌+◌, ◌∷◌, ◌≡◌}
 use Rattle.task_loop.proofs.MainStartLemmas.{refusal_stepped, shows_start}
 use Rattle.task_loop.proofs.MainStepLemmas.{stepped_quietly}
-use Rattle.task_loop.specs.Calls.{callee_of}
+use Rattle.task_loop.specs.LoopCalls.{callee_of}
 use Rattle.task_machine.specs.Core.{Unscripted}
 use Rattle.task_machine.specs.Write.{set_trapped}
 use Rattle.task_nursery.proofs.ScopeLemmas.{begun, left_alone, made_thread}
@@ -100,7 +100,7 @@ returns-in-Err-Closed-clause-step c =
     let has = subst (λ (r : Result Child NurseryError). BeginsChild d c.args.func words n s r c.start.new.self t) is c.start.ensures.begins in
     let same = left_alone d c.args.func words n s (Err errors.Closed) c.start.new.self t has.refuses has.begins (λ b. b) in
     let steps : Steps d [] Unscripted s.state.core step.Pends Unscripted t.state.core = record { part = refl; core = ap (λ q. q.state.core) same; pends = refl } in
-    stepped_quietly relay_says (λ (w : ScriptedHost). w.left) d step.Pends main s _ t (ap (λ q. q.listeners) same) (ap (λ q. q.state.tags.known) same) steps refl c.requires.may.asked (ap (λ q. running_of q.state) same) refl c.requires.may.suits
+    stepped_quietly relay_says (λ (w : ScriptedHost). w.left) d step.Pends main s _ t (ap (λ q. q.listeners) same) (ap (λ q. q.state.tags.tracked) same) steps refl c.requires.may.asked (ap (λ q. running_of q.state) same) refl c.requires.may.suits
     (record { of = has.of; few = rw has.refuses.same c.requires.may.knows.few }) (c.start.ensures.keeps.works (λ (w : ScriptedHost). w.left) c.requires.may.works)
 
 pub returns-in-Err-Full-clause-stands : goal.returns-in-Err-Full-clause-stands
@@ -118,5 +118,5 @@ returns-in-Err-Full-clause-step c =
     let has = subst (λ (r : Result Child NurseryError). BeginsChild d c.args.func words n s r c.start.new.self t) is c.start.ensures.begins in
     let same = left_alone d c.args.func words n s (Err errors.Full) c.start.new.self t has.refuses has.begins (λ b. b) in
     let steps : Steps d [] Unscripted s.state.core step.Pends Unscripted t.state.core = record { part = refl; core = ap (λ q. q.state.core) same; pends = refl } in
-    stepped_quietly relay_says (λ (w : ScriptedHost). w.left) d step.Pends main s _ t (ap (λ q. q.listeners) same) (ap (λ q. q.state.tags.known) same) steps refl c.requires.may.asked (ap (λ q. running_of q.state) same) refl c.requires.may.suits
+    stepped_quietly relay_says (λ (w : ScriptedHost). w.left) d step.Pends main s _ t (ap (λ q. q.listeners) same) (ap (λ q. q.state.tags.tracked) same) steps refl c.requires.may.asked (ap (λ q. running_of q.state) same) refl c.requires.may.suits
     (record { of = has.of; few = rw has.refuses.same c.requires.may.knows.few }) (c.start.ensures.keeps.works (λ (w : ScriptedHost). w.left) c.requires.may.works)

@@ -24,5 +24,5 @@ returns g c =
     let b = c.tell_one.new.listeners in
     let d = c.tell_one-2.new.listeners in
     far_same _ _ c.tell_one-2.result a d (switched_some o n c.if-old-new.false)
-    (far_two (one notice.Exit o) (one notice.Enter n) c.tell_one-2.result a b d c.tell_one.ensures.told c.in_ok-tell_one.ensures.hook.calm c.tell_one.ensures.hook.hook
+    (far_two (one notice.Exit o) (one notice.Enter n) c.tell_one-2.result a b d c.tell_one.ensures.told c.in_ok-tell_one.ensures.hook.hook_is_ok c.tell_one.ensures.hook.hook
     (single_one notice.Enter n) c.tell_one-2.ensures.told c.tell_one-2.ensures.hook)

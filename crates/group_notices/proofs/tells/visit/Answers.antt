@@ -1,4 +1,4 @@
-use Rattle.group_notices.proofs.MoveLemmas.{as_hook, calm_told, far_stopped, far_then, one_as_far, quiet_far, single_told, stops_single}
+use Rattle.group_notices.proofs.MoveLemmas.{as_hook, hook_is_ok_told, far_stopped, far_then, one_as_far, quiet_far, single_told, stops_single}
 use Rattle.std.proofs.Common.{ap, refl}
 use Rattle.std.specs.Prelude.{[], ◌∷◌}
 use Rattle.group_notices.proofs.MoveLemmas.{far_same}
@@ -25,5 +25,5 @@ returns-in_ok-tell-in-Some g c =
     let b = c.tell.new.self in
     let d = c.tell-in-Some.new.self in
     far_same _ _ c.tell-in-Some.result a d (ap around c.in-Some.is)
-    (far_then (told_of notice.Enter n ∷ []) (told_of notice.Exit n ∷ []) c.tell-in-Some.result a b d (calm_told _ a b c.tell.ensures.told (λ err. let lacks = c.in_ok-tell-in-Some.ensures.answer.1 err in cc)) c.tell.ensures.told.same_hook
+    (far_then (told_of notice.Enter n ∷ []) (told_of notice.Exit n ∷ []) c.tell-in-Some.result a b d (hook_is_ok_told _ a b c.tell.ensures.told (λ err. let lacks = c.in_ok-tell-in-Some.ensures.answer.1 err in cc)) c.tell.ensures.told.same_hook
     (one_as_far _ c.tell-in-Some.result b d (single_told notice.Exit n) c.tell-in-Some.ensures.told (as_hook c.tell-in-Some.result b d c.tell-in-Some.ensures.told c.tell-in-Some.ensures.answer)))

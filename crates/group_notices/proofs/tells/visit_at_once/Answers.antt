@@ -1,4 +1,4 @@
-use Rattle.group_notices.proofs.MoveLemmas.{calm_then, calmly}
+use Rattle.group_notices.proofs.MoveLemmas.{hook_is_ok_then, with_hook_ok}
 use Rattle.std.proofs.Common.{[], ◌∙◌, ◌∷◌}
 use Rattle.task_machine.specs.declared.records.NoticeKind.TheVariants as notice
 use Rattle.task_rules.specs.Notices.{told_of}
@@ -13,8 +13,8 @@ returns-then-tell_word-clause-told g c = λ yes.
     let e = c.tell_word.ensures in
     let a = c.args.listeners.now in
     let b = c.tell_word.new.self in
-    calm_then (told_of notice.Enter c.args.group ∷ []) (told_of notice.Exit c.args.group ∷ []) a b c.leave.new.listeners
-    (calmly _ a b (e.told c.if-tell_word.true) (e.calm c.if-tell_word.true)) c.leave.ensures
+    hook_is_ok_then (told_of notice.Enter c.args.group ∷ []) (told_of notice.Exit c.args.group ∷ []) a b c.leave.new.listeners
+    (with_hook_ok _ a b (e.told c.if-tell_word.true) (e.hook_is_ok c.if-tell_word.true)) c.leave.ensures
 
 pub returns-clause-none : goal.returns-clause-none
 returns-clause-none g c = λ no. c.tell_word.ensures.none c.if-tell_word.false

@@ -1,6 +1,6 @@
 use Rattle.handle_words.proofs.ItemLemmas.{nothing_parts}
 use Rattle.handle_words.proofs.items.insert_handle.Goals as goal
-use Rattle.task_records.proofs.Core.{ap, Handles, Held, refl, set, with_item}
+use Rattle.task_records.proofs.Core.{ap, Handles, HeldItem, refl, set, with_item}
 use Rattle.task_records.proofs.HandleItems.{handle_is, handle_sound, handle_writes}
 use Rattle.task_records.proofs.HandleWrites.{counts_items, nothing_given, nothing_seen}
 use Rattle.task_records.proofs.InstanceReads.{read_at}
@@ -21,16 +21,16 @@ pub returns-in-Err-clause-sound : goal.returns-in-Err-clause-sound
 returns-in-Err-clause-sound c =
     let g = c.index_mut-entry.result.now in
     nothing_given c.args.parts.now c.args.index g (read_at c.args.parts.now.instances.items c.args.index g c.requires.there c.index_mut-entry.ensures.value) _
-    (ap (λ (t : Handles Held). set c.args.parts.now.instances.items c.args.index (record g { handles = t })) c.in-Err.ensures.err.0) _ c.in-Err.ensures.err.1 c.requires.sound
+    (ap (λ (t : Handles HeldItem). set c.args.parts.now.instances.items c.args.index (record g { handles = t })) c.in-Err.ensures.err.0) _ c.in-Err.ensures.err.1 c.requires.sound
 
 pub returns-in-Err-clause-err : goal.returns-in-Err-clause-err
 returns-in-Err-clause-err c =
     let g = c.index_mut-entry.result.now in
     nothing_seen c.args.parts.now c.args.index g (read_at c.args.parts.now.instances.items c.args.index g c.requires.there c.index_mut-entry.ensures.value) _
-    (ap (λ (t : Handles Held). set c.args.parts.now.instances.items c.args.index (record g { handles = t })) c.in-Err.ensures.err.0) _ c.in-Err.ensures.err.1
+    (ap (λ (t : Handles HeldItem). set c.args.parts.now.instances.items c.args.index (record g { handles = t })) c.in-Err.ensures.err.0) _ c.in-Err.ensures.err.1
 
 pub returns-in-Err-clause-same : goal.returns-in-Err-clause-same
 returns-in-Err-clause-same c =
     let g = c.index_mut-entry.result.now in
     nothing_parts c.args.parts.now c.args.index g (read_at c.args.parts.now.instances.items c.args.index g c.requires.there c.index_mut-entry.ensures.value) (with_item c.args.parts.now.instances c.args.index (record g { handles = c.insert.new.handles }))
-    (ap (λ (t : Handles Held). set c.args.parts.now.instances.items c.args.index (record g { handles = t })) c.in-Err.ensures.err.0) _ c.in-Err.ensures.err.1
+    (ap (λ (t : Handles HeldItem). set c.args.parts.now.instances.items c.args.index (record g { handles = t })) c.in-Err.ensures.err.0) _ c.in-Err.ensures.err.1

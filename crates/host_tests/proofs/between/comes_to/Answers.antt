@@ -7,12 +7,12 @@ use Rattle.task_machine.specs.Core.{fresh, untouched}
 use Rattle.task_machine.specs.Maps.{empty, get}
 use Rattle.task_turns.proofs.FreshLemmas.{given_fresh}
 
-instance_there : (limit room : ℕ) → IsSome (get (fresh 1 limit room).instances 0)
+instance_unchecked : (limit room : ℕ) → IsSome (get (fresh 1 limit room).instances 0)
 unfolding fresh
-instance_there limit room = ap is_some (get-insert_same empty 0 untouched)
+instance_unchecked limit room = ap is_some (get-insert_same empty 0 untouched)
 
 pub begins_and_runs-begun-requires-clause-there : goal.begins_and_runs-begun-requires-clause-there
-begins_and_runs-begun-requires-clause-there g c = rw c.watched-store.ensures.state (instance_there 100000 100)
+begins_and_runs-begun-requires-clause-there g c = rw c.watched-store.ensures.state (instance_unchecked 100000 100)
 
 pub begins_and_runs-begun-requires-clause-given : goal.begins_and_runs-begun-requires-clause-given
 begins_and_runs-begun-requires-clause-given g c = rw (c.watched-store.ensures.state, given_fresh) refl

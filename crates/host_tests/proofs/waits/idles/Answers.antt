@@ -3,7 +3,7 @@ use Rattle.std.proofs.Common.{ap, arith, subst, ◌∙◌}
 use Rattle.host_tests.proofs.WaitLemmas.{given_after, given_zero, idle_turn}
 use Rattle.host_tests.proofs.waits.idles.Goals as goal
 use Rattle.task_machine.specs.declared.records.Turn.{Turn}
-use Rattle.task_turns.specs.Turn.{Sits, runs_in}
+use Rattle.task_turns.specs.Turn.{CoreInOrder, runs_in}
 use Rattle.task_loop.proofs.BeginLemmas.{may_open}
 use Rattle.task_loop.proofs.HasRunLemmas.{drives_of}
 
@@ -23,7 +23,7 @@ pub returns-clause-order : goal.returns-clause-order
 returns-clause-order g c =
     let gone = (rw c.in-Ok-Idle.is at c.drive.ensures.drives).gone in
     let taking = idle_turn _ _ _ _ _ _ _ (drives_of _ _ _ _ _ 100 _ gone) c.in-Ok-Idle.field-0-is in
-    subst (λ (p : Turn). Sits c.args.scenario.now.component p c.drive.new.store.state.core) taking gone.has.stands.order
+    subst (λ (p : Turn). CoreInOrder c.args.scenario.now.component p c.drive.new.store.state.core) taking gone.has.stands.order
 
 pub returns-clause-current : goal.returns-clause-current
 returns-clause-current g c =

@@ -24,7 +24,7 @@ pub returns-clause-groups : goal.returns-clause-groups
 returns-clause-groups c =
     let s = c.args.store.now.state in
     let t = c.set_event.new.w in
-    rest_asked s t (ap (λ (v : StateView). v.tags.known) c.set_event.ensures.woken.core) (woken_rest _ _ s _ t c.set_event.ensures.woken)
+    rest_asked s t (ap (λ (v : StateView). v.tags.tracked) c.set_event.ensures.woken.core) (woken_rest _ _ s _ t c.set_event.ensures.woken)
 
 pub returns-clause-given : goal.returns-clause-given
 returns-clause-given c = woken_given _ _ _ _ _ c.set_event.ensures.woken

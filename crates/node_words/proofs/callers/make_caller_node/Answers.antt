@@ -1,7 +1,7 @@
 use Rattle.node_words.proofs.CallerLemmas.{caller_made_seen, caller_made_sound}
 use Rattle.node_words.proofs.callers.make_caller_node.Goals as goal
 use Rattle.task_records.proofs.Core.{ap, List, refl, Spot}
-use Rattle.task_records.specs.declared.{threads.Follower.Follower}
+use Rattle.task_records.specs.declared.{thread_records.Follower.Follower}
 use Rattle.node_words.proofs.MakeLemmas.{nothing_made, spot_made}
 
 pub returns-in-Ok : goal.returns-in-Ok

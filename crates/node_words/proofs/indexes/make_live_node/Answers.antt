@@ -1,6 +1,6 @@
 use Rattle.node_words.proofs.indexes.make_live_node.Goals as goal
 use Rattle.task_records.proofs.Core.{ap, List, refl, seen, Spot}
-use Rattle.task_records.specs.declared.{works.LiveWork.LiveWork}
+use Rattle.task_records.specs.declared.{work_records.LiveWork.LiveWork}
 use Rattle.task_records.proofs.LinkLemmas.{live_made_sound}
 use Rattle.node_words.proofs.MakeLemmas.{nothing_made, spot_made}
 

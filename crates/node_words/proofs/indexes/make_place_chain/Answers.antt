@@ -1,7 +1,7 @@
 use Rattle.node_words.proofs.indexes.make_place_chain.Goals as goal
 use Rattle.task_records.proofs.Core.{ap, List, refl, seen, Spot}
 use Rattle.task_records.proofs.LinkLemmas.{place_made_sound}
-use Rattle.table_order.specs.declared.seat_links.Seat.{Seat}
+use Rattle.table_order.specs.declared.ordered_lists.OrderKey.{OrderKey}
 use Rattle.node_words.proofs.MakeLemmas.{nothing_made, spot_made}
 
 pub returns-in-Ok : goal.returns-in-Ok
@@ -9,4 +9,4 @@ unfolding seen
 returns-in-Ok c = spot_made (place_made_sound c.args.parts.now c.requires _ _ _ c.in-Ok.ensures.made refl) refl c.in-Ok.ensures.made
 
 pub returns-in-Err : goal.returns-in-Err
-returns-in-Err c = nothing_made c.requires (ap (λ (l : List (Spot Seat)). record c.args.parts.now { places = l }) c.in-Err.ensures.err)
+returns-in-Err c = nothing_made c.requires (ap (λ (l : List (Spot OrderKey)). record c.args.parts.now { places = l }) c.in-Err.ensures.err)

@@ -1,7 +1,7 @@
 use Rattle.node_words.proofs.RowLemmas.{mark_made_seen, mark_made_sound}
 use Rattle.node_words.proofs.rows.make_mark_node.Goals as goal
 use Rattle.task_records.proofs.Core.{ap, List, refl, Spot}
-use Rattle.task_records.specs.declared.{threads.Queued.Queued}
+use Rattle.task_records.specs.declared.{thread_records.Queued.Queued}
 use Rattle.node_words.proofs.MakeLemmas.{nothing_made, spot_made}
 
 pub returns-in-Ok : goal.returns-in-Ok

@@ -10,7 +10,7 @@ pub advance-requires-in-Event : goal.advance-requires-in-Event
 advance-requires-in-Event g c =
     let s = g.W.View.view c.args.w.now in
     let n = thread_of s c.args.thread in
-    let due : ends_op c.args.came ≡ true = search rules in
+    let due : ends_op c.args.op_result ≡ true = search rules in
     let few = c.requires.position due in
     let same = ap (λ (v : StateView). position_of (thread_of v c.args.thread) v.core) c.write_given.ensures ∙ place_given n n _ c.in-Event.given s.core in
     grind (arith, same, few)

@@ -18,7 +18,7 @@ pub finish-requires-clause-position : goal.finish-requires-clause-position
 finish-requires-clause-position g c due =
     let v = g.W.View.view in
     let o = c.args.op.now in
-    let b = stands_below NamesTold c.args.component.now o c.args.thread (v c.args.w.now) (v c.do_other_op.new.w) c.in_ok-done.done.came (not_data o c.in_default.not-Data) c.in_ok-done.ensures.does.does due in
+    let b = stands_below NamesTold c.args.component.now o c.args.thread (v c.args.w.now) (v c.do_other_op.new.w) c.in_ok-done.done.op_result (not_data o c.in_default.not-Data) c.in_ok-done.ensures.does.does due in
     let p = c.requires.within.0 in
     grind (arith, b, p)
 
@@ -26,13 +26,13 @@ pub finish-requires-clause-answers : goal.finish-requires-clause-answers
 finish-requires-clause-answers g c =
     let v = g.W.View.view in
     let o = c.args.op.now in
-    answers_right NamesTold c.args.component.now o c.args.thread (v c.args.w.now) (v c.do_other_op.new.w) c.in_ok-done.done.came (not_data o c.in_default.not-Data) c.in_ok-done.ensures.does.does
+    answers_right NamesTold c.args.component.now o c.args.thread (v c.args.w.now) (v c.do_other_op.new.w) c.in_ok-done.done.op_result (not_data o c.in_default.not-Data) c.in_ok-done.ensures.does.does
 
 pub finish-requires-clause-register : goal.finish-requires-clause-register
 finish-requires-clause-register g c given =
     let v = g.W.View.view in
     let o = c.args.op.now in
-    event_fits c.args.component.now o c.in_ok-done.done.came c.requires.fits (answers_right NamesTold c.args.component.now o c.args.thread (v c.args.w.now) (v c.do_other_op.new.w) c.in_ok-done.done.came (not_data o c.in_default.not-Data) c.in_ok-done.ensures.does.does) given
+    event_fits c.args.component.now o c.in_ok-done.done.op_result c.requires.fits (answers_right NamesTold c.args.component.now o c.args.thread (v c.args.w.now) (v c.do_other_op.new.w) c.in_ok-done.done.op_result (not_data o c.in_default.not-Data) c.in_ok-done.ensures.does.does) given
 
 pub returns-clause-did : goal.returns-clause-did
 returns-clause-did g c =

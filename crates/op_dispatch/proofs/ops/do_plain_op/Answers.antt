@@ -1,10 +1,10 @@
 use Rattle.op_dispatch.proofs.OpLemmas.{named_op}
 use Rattle.op_dispatch.proofs.StayLemmas.{ok_then}
 use Rattle.op_dispatch.proofs.ops.do_plain_op.Goals as goal
-use Rattle.op_dispatch.specs.Goes.{DoesOp}
+use Rattle.op_dispatch.specs.Continues.{DoesOp}
 use Rattle.task_ops.specs.Does.{Rule}
 use Rattle.task_ops.specs.Works.{KeepsTold, NamesTold}
-use Rattle.task_ops.specs.declared.came.Came.{Came}
+use Rattle.task_ops.specs.declared.op_result.OpResult.{OpResult}
 use Rattle.task_rules.specs.Sets.{set_rule}
 use Rattle.task_rules.specs.Task.{task_rule}
 use Rattle.task_rules.specs.Threads.{thread_rule}
@@ -20,7 +20,7 @@ returns-in-Set-clause-does g c =
     let s = v c.args.w.now in
     let t = v c.do_set_op.new.w in
     let rule : Rule = λ d n ch s. set_rule d n s ch c.in-Set.op in
-    rw c.in-Set.is (ok_then (λ (r : Came). DoesOp KeepsTold rule c.args.thread s r t) (λ (r : Came). DoesOp NamesTold rule c.args.thread s r t) c.do_set_op.result (λ r h. named_op rule c.args.thread s t r h) c.do_set_op.ensures.does)
+    rw c.in-Set.is (ok_then (λ (r : OpResult). DoesOp KeepsTold rule c.args.thread s r t) (λ (r : OpResult). DoesOp NamesTold rule c.args.thread s r t) c.do_set_op.result (λ r h. named_op rule c.args.thread s t r h) c.do_set_op.ensures.does)
 
 pub returns-in-Call-clause-does : goal.returns-in-Call-clause-does
 returns-in-Call-clause-does g c = rw c.in-Call.is c.do_plain_call.ensures.does
@@ -31,4 +31,4 @@ returns-in-Thread-clause-does g c =
     let s = v c.args.w.now in
     let t = v c.do_thread_op.new.w in
     let rule : Rule = λ d n ch s. thread_rule d c.args.component.now n s c.in-Thread.op in
-    rw c.in-Thread.is (ok_then (λ (r : Came). DoesOp KeepsTold rule c.args.thread s r t) (λ (r : Came). DoesOp NamesTold rule c.args.thread s r t) c.do_thread_op.result (λ r h. named_op rule c.args.thread s t r h) c.do_thread_op.ensures.does)
+    rw c.in-Thread.is (ok_then (λ (r : OpResult). DoesOp KeepsTold rule c.args.thread s r t) (λ (r : OpResult). DoesOp NamesTold rule c.args.thread s r t) c.do_thread_op.result (λ r h. named_op rule c.args.thread s t r h) c.do_thread_op.ensures.does)

@@ -7,7 +7,7 @@ file_free-requires-clause-free c = free_unlinked c.args.links.now c.args.node.in
 
 pub returns-in-None-clause-links : goal.returns-in-None-clause-links
 returns-in-None-clause-links c =
-    subst (λ (o : Option ℕ). Refiles c.args.links.now c.args.links.now c.args.node.index (option_map (λ k. (k, c.args.seat)) o)) (sym c.in-None.is)
+    subst (λ (o : Option ℕ). Refiles c.args.links.now c.args.links.now c.args.node.index (option_map (λ k. (k, c.args.order_key)) o)) (sym c.in-None.is)
     (record { here = c.requires.unlinked; others = λ n other. refl; made = λ n made. made; live = λ k live. live })
 
 pub returns-in-None-clause-left : goal.returns-in-None-clause-left

@@ -1,7 +1,7 @@
 use Rattle.place_words.proofs.ThreadLemmas.{same_item, put_none}
 use Rattle.place_words.proofs.moves.put.Goals as goal
 use Rattle.task_records.proofs.Core.{subst}
-use Rattle.task_records.specs.declared.{threads.GuestThread.GuestThread}
+use Rattle.task_records.specs.declared.{thread_records.GuestThread.GuestThread}
 use Rattle.place_words.specs.Moved.{StandsAlone}
 
 pub put_alone-requires-clause-alone : goal.put_alone-requires-clause-alone

@@ -1,17 +1,17 @@
 use Rattle.task_records.proofs.Core.{ap, refl, removed, set_place, ◌∙◌}
-use Rattle.task_records.specs.declared.{threads.GuestThread.GuestThread}
+use Rattle.task_records.specs.declared.{thread_records.GuestThread.GuestThread}
 use Rattle.place_words.proofs.FitLemmas.{may_recount}
 use Rattle.place_words.proofs.PlacedLemmas.{chain_live, node_made, placed_becomes, refiled, node_unlinked}
-use Rattle.place_words.proofs.ThreadLemmas.{alone_unset, how_far_at, same_item, put_none}
+use Rattle.place_words.proofs.ThreadLemmas.{alone_unset, op_progress_at, same_item, put_none}
 use Rattle.place_words.proofs.moves.put_alone.Goals as goal
 use Rattle.place_words.specs.Moved.{placed}
-use Rattle.task_records.specs.Places.{thread_seat}
+use Rattle.task_records.specs.RecordPlaces.{thread_order_key}
 
-pub entry_set-to-requires-clause-how_far : goal.entry_set-to-requires-clause-how_far
-entry_set-to-requires-clause-how_far c = how_far_at c.args.parts.now c.requires.sound c.args.id c.in-Some.found.now c.in-Some.ensures.item
+pub entry_set-to-requires-clause-op_progress : goal.entry_set-to-requires-clause-op_progress
+entry_set-to-requires-clause-op_progress c = op_progress_at c.args.parts.now c.requires.sound c.args.id c.in-Some.found.now c.in-Some.ensures.item
 
 pub recount-requires : goal.recount-requires
-recount-requires c = may_recount c.args.parts.now c.requires.sound c.args.id c.in-Some.found.now c.in-Some.ensures.item (placed c.in-Some.found.now c.args.place c.args.beside) refl refl c.no_set-from.result c.entry_set-to.result (alone_unset c.args.parts.now c.no_set-from.result c.in-Some.found.now.thread.place c.in-Some.found.now.thread.how_far c.no_set-from.ensures (c.requires.alone c.in-Some.found.now c.in-Some.ensures.item)) c.entry_set-to.ensures
+recount-requires c = may_recount c.args.parts.now c.requires.sound c.args.id c.in-Some.found.now c.in-Some.ensures.item (placed c.in-Some.found.now c.args.place c.args.beside) refl refl c.no_set-from.result c.entry_set-to.result (alone_unset c.args.parts.now c.no_set-from.result c.in-Some.found.now.thread.place c.in-Some.found.now.thread.op_progress c.no_set-from.ensures (c.requires.alone c.in-Some.found.now c.in-Some.ensures.item)) c.entry_set-to.ensures
 
 pub file_in-requires-clause-made : goal.file_in-requires-clause-made
 file_in-requires-clause-made c = node_made c.args.parts.now c.requires.sound c.args.id c.in-Some.found.now c.in-Some.ensures.item (placed c.in-Some.found.now c.args.place c.args.beside) refl refl
@@ -28,9 +28,9 @@ returns-in-Some c =
     let a = c.args.parts.now in
     let g = c.in-Some.found.now in
     let item = c.in-Some.ensures.item in
-    let moved = placed_becomes a c.requires.sound c.args.id g item (placed g c.args.place c.args.beside) refl refl c.no_set-from.result c.entry_set-to.result (alone_unset a c.no_set-from.result g.thread.place g.thread.how_far c.no_set-from.ensures (c.requires.alone g item)) c.entry_set-to.ensures c.file_in.new.links
-    c.requires.place (how_far_at a c.requires.sound c.args.id g item)
-    (refiled a c.requires.sound c.args.id g item (placed g c.args.place c.args.beside) refl refl c.args.place c.args.chain c.thread_seat-seat.result c.file_in.new.links (c.thread_seat-seat.ensures ∙ ap (λ r. thread_seat r g) c.rep.ensures) (c.requires.chain g item) c.file_in.ensures.links)
+    let moved = placed_becomes a c.requires.sound c.args.id g item (placed g c.args.place c.args.beside) refl refl c.no_set-from.result c.entry_set-to.result (alone_unset a c.no_set-from.result g.thread.place g.thread.op_progress c.no_set-from.ensures (c.requires.alone g item)) c.entry_set-to.ensures c.file_in.new.links
+    c.requires.place (op_progress_at a c.requires.sound c.args.id g item)
+    (refiled a c.requires.sound c.args.id g item (placed g c.args.place c.args.beside) refl refl c.args.place c.args.chain c.thread_order_key-order_key.result c.file_in.new.links (c.thread_order_key-order_key.ensures ∙ ap (λ r. thread_order_key r g) c.rep.ensures) (c.requires.chain g item) c.file_in.ensures.links)
     (λ t. record t { place = c.args.place }) refl _ (c.write_place.ensures g item) _ c.recount.ensures in
     record {
       sound = moved.sound;

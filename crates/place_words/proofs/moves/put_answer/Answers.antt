@@ -1,4 +1,4 @@
-use Rattle.task_records.proofs.Core.{ap, Core, HowFar, on_core, on_thread, refl, seen, StateView, thread_of, ◌∙◌}
+use Rattle.task_records.proofs.Core.{ap, Core, OpProgress, on_core, on_thread, refl, seen, StateView, thread_of, ◌∙◌}
 use Rattle.place_words.proofs.FitLemmas.{may_recount}
 use Rattle.place_words.proofs.PlacedLemmas.{placed_becomes, stays_filed}
 use Rattle.place_words.proofs.ThreadLemmas.{runs_unset, becomes_none}
@@ -8,7 +8,7 @@ use Rattle.place_words.specs.Moved.{at_answer, to_answer, to_op}
 use Rattle.task_records.proofs.HomeLemmas.{place_bare, thread_home}
 
 pub recount-requires : goal.recount-requires
-recount-requires c = may_recount c.args.parts.now c.requires c.args.id c.in-Some.found.now c.in-Some.ensures.item (at_answer c.in-Some.found.now c.args.register c.args.value c.args.position) refl refl c.no_set-from.result c.no_set-to.result (runs_unset c.args.parts.now c.no_set-from.result c.in-Some.found.now.thread.place c.in-Some.found.now.thread.how_far c.no_set-from.ensures c.in-Running.is) (runs_unset c.args.parts.now c.no_set-to.result c.in-Some.found.now.thread.place HowFar.Fresh c.no_set-to.ensures c.in-Running.is)
+recount-requires c = may_recount c.args.parts.now c.requires c.args.id c.in-Some.found.now c.in-Some.ensures.item (at_answer c.in-Some.found.now c.args.register c.args.value c.args.position) refl refl c.no_set-from.result c.no_set-to.result (runs_unset c.args.parts.now c.no_set-from.result c.in-Some.found.now.thread.place c.in-Some.found.now.thread.op_progress c.no_set-from.ensures c.in-Running.is) (runs_unset c.args.parts.now c.no_set-to.result c.in-Some.found.now.thread.place OpProgress.Fresh c.no_set-to.ensures c.in-Running.is)
 
 pub returns-in_default-place : goal.returns-in_default-place
 returns-in_default-place c =
@@ -26,7 +26,7 @@ returns-in-Running c =
     let a = c.args.parts.now in
     let g = c.in-Some.found.now in
     let item = c.in-Some.ensures.item in
-    placed_becomes a c.requires c.args.id g item (at_answer g c.args.register c.args.value c.args.position) refl refl c.no_set-from.result c.no_set-to.result (runs_unset a c.no_set-from.result g.thread.place g.thread.how_far c.no_set-from.ensures c.in-Running.is) (runs_unset a c.no_set-to.result g.thread.place HowFar.Fresh c.no_set-to.ensures c.in-Running.is) a.places
+    placed_becomes a c.requires c.args.id g item (at_answer g c.args.register c.args.value c.args.position) refl refl c.no_set-from.result c.no_set-to.result (runs_unset a c.no_set-from.result g.thread.place g.thread.op_progress c.no_set-from.ensures c.in-Running.is) (runs_unset a c.no_set-to.result g.thread.place OpProgress.Fresh c.no_set-to.ensures c.in-Running.is) a.places
     (place_bare a _ _ (thread_home a c.requires c.args.id g item).place) tt
     (stays_filed a c.requires c.args.id g item (at_answer g c.args.register c.args.value c.args.position) refl refl refl)
     (to_answer c.args.register c.args.value c.args.position) refl _ (c.write_answer.ensures g item) _ c.recount.ensures

@@ -6,7 +6,7 @@ use Rattle.place_words.proofs.moves.put_begun.Goals as goal
 use Rattle.place_words.specs.Moved.{begun, to_begun}
 
 pub recount-requires : goal.recount-requires
-recount-requires c = may_recount c.args.parts.now c.requires c.args.id c.in-Some.found.now c.in-Some.ensures.item (begun c.in-Some.found.now c.args.words.0 c.args.words.1 c.args.words.2) refl refl c.no_set-from.result c.no_set-to.result (alone_unset c.args.parts.now c.no_set-from.result c.in-Some.found.now.thread.place c.in-Some.found.now.thread.how_far c.no_set-from.ensures (c.stands_alone.ensures c.if-stands_alone.true)) c.no_set-to.ensures
+recount-requires c = may_recount c.args.parts.now c.requires c.args.id c.in-Some.found.now c.in-Some.ensures.item (begun c.in-Some.found.now c.args.words.0 c.args.words.1 c.args.words.2) refl refl c.no_set-from.result c.no_set-to.result (alone_unset c.args.parts.now c.no_set-from.result c.in-Some.found.now.thread.place c.in-Some.found.now.thread.op_progress c.no_set-from.ensures (c.stands_alone.ensures c.if-stands_alone.true)) c.no_set-to.ensures
 
 pub file_in-requires-clause-made : goal.file_in-requires-clause-made
 file_in-requires-clause-made c = node_made c.args.parts.now c.requires c.args.id c.in-Some.found.now c.in-Some.ensures.item (begun c.in-Some.found.now c.args.words.0 c.args.words.1 c.args.words.2) refl refl
@@ -19,7 +19,7 @@ returns-then-stands_alone c =
     let a = c.args.parts.now in
     let g = c.in-Some.found.now in
     let item = c.in-Some.ensures.item in
-    placed_becomes a c.requires c.args.id g item (begun g c.args.words.0 c.args.words.1 c.args.words.2) refl refl c.no_set-from.result c.no_set-to.result (alone_unset a c.no_set-from.result g.thread.place g.thread.how_far c.no_set-from.ensures (c.stands_alone.ensures c.if-stands_alone.true)) c.no_set-to.ensures c.file_in.new.links
+    placed_becomes a c.requires c.args.id g item (begun g c.args.words.0 c.args.words.1 c.args.words.2) refl refl c.no_set-from.result c.no_set-to.result (alone_unset a c.no_set-from.result g.thread.place g.thread.op_progress c.no_set-from.ensures (c.stands_alone.ensures c.if-stands_alone.true)) c.no_set-to.ensures c.file_in.new.links
     tt tt
     c.file_in.ensures.links
     (to_begun c.args.words.0 c.args.words.1 c.args.words.2) refl _ (c.write_begun.ensures g item) _ c.recount.ensures

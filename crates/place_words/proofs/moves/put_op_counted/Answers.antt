@@ -1,7 +1,7 @@
 use Rattle.task_records.proofs.Core.{refl}
 use Rattle.place_words.proofs.FitLemmas.{may_recount}
 use Rattle.place_words.proofs.PlacedLemmas.{placed_becomes, stays_filed}
-use Rattle.place_words.proofs.ThreadLemmas.{how_far_at, becomes_none}
+use Rattle.place_words.proofs.ThreadLemmas.{op_progress_at, becomes_none}
 use Rattle.place_words.proofs.moves.put_op_counted.Goals as goal
 use Rattle.place_words.specs.Moved.{at_op, to_op}
 use Rattle.task_records.proofs.HomeLemmas.{place_bare, thread_home}
@@ -9,8 +9,8 @@ use Rattle.task_records.proofs.HomeLemmas.{place_bare, thread_home}
 pub entry_set-from-requires-clause-place : goal.entry_set-from-requires-clause-place
 entry_set-from-requires-clause-place c = place_bare c.args.parts.now _ _ (thread_home c.args.parts.now c.requires c.args.id c.in-Some.found.now c.in-Some.ensures.item).place
 
-pub entry_set-from-requires-clause-how_far : goal.entry_set-from-requires-clause-how_far
-entry_set-from-requires-clause-how_far c = how_far_at c.args.parts.now c.requires c.args.id c.in-Some.found.now c.in-Some.ensures.item
+pub entry_set-from-requires-clause-op_progress : goal.entry_set-from-requires-clause-op_progress
+entry_set-from-requires-clause-op_progress c = op_progress_at c.args.parts.now c.requires c.args.id c.in-Some.found.now c.in-Some.ensures.item
 
 pub entry_set-to-requires-clause-place : goal.entry_set-to-requires-clause-place
 entry_set-to-requires-clause-place c = place_bare c.args.parts.now _ _ (thread_home c.args.parts.now c.requires c.args.id c.in-Some.found.now c.in-Some.ensures.item).place

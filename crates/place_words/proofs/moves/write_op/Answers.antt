@@ -1,5 +1,5 @@
 use Rattle.task_records.proofs.Core.{ap, entry_of, with_entry}
-use Rattle.task_records.specs.declared.{threads.GuestThread.GuestThread}
+use Rattle.task_records.specs.declared.{thread_records.GuestThread.GuestThread}
 use Rattle.place_words.proofs.ThreadLemmas.{same_item}
 use Rattle.place_words.proofs.moves.write_op.Goals as goal
 use Rattle.place_words.specs.Moved.{at_op}

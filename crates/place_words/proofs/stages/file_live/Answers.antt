@@ -1,6 +1,6 @@
 use Rattle.task_records.proofs.Core.{IsSome, List, list_of, None, Option, option_map, refiled_free, Refiles, Refiles-linked, Refiles-removed, Refiles-twice, Some, Spot, subst, sym, ℕ, ◌≡◌}
 use Rattle.std.specs.Option.{IfSome}
-use Rattle.task_records.specs.declared.{works.LiveWork.LiveWork}
+use Rattle.task_records.specs.declared.{work_records.LiveWork.LiveWork}
 use Rattle.place_words.proofs.RiseLemmas.{Rises-linked, Rises-removed}
 use Rattle.place_words.proofs.stages.file_live.Goals as goal
 

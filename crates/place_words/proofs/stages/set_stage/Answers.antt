@@ -1,6 +1,6 @@
 use Rattle.std.proofs.Common.{is_ok}
-use Rattle.task_records.proofs.Core.{ap, Bool, cond, entry_of, IsSound, live_value, Option, option_map, Refiles, refl, seen, set_stage, subst, sym, with_entry, ℕ, ◌+◌, ◌∙◌, ◌≤◌}
-use Rattle.task_records.specs.declared.{works.HostWork.HostWork, works.LiveWork.LiveWork}
+use Rattle.task_records.proofs.Core.{ap, Bool, cond, entry_of, IsSoundCore, live_value, Option, option_map, Refiles, refl, seen, set_stage, subst, sym, with_entry, ℕ, ◌+◌, ◌∙◌, ◌≤◌}
+use Rattle.task_records.specs.declared.{work_records.WorkRecord.WorkRecord, work_records.LiveWork.LiveWork}
 use Rattle.place_words.proofs.ThreadLemmas.{same_item}
 use Rattle.place_words.proofs.GoneLemmas.{work_gone}
 use Rattle.place_words.proofs.HearLemmas.{is_whole, heard_seen, heard_sound, kept_same, live_made, same_sets, work_join_at}
@@ -32,8 +32,8 @@ recounted-parts-requires-in-Some-clause-some c some =
 pub recounted-parts-requires-in-Some-clause-few : goal.recounted-parts-requires-in-Some-clause-few
 recounted-parts-requires-in-Some-clause-few c = moving_few c.args.parts.now c.requires
 
-pub known_mut-entry-requires : goal.known_mut-entry-requires
-known_mut-entry-requires c = sym (ap is_ok c.in-Some.ensures.item)
+pub get_mut_unchecked-entry-requires : goal.get_mut_unchecked-entry-requires
+get_mut_unchecked-entry-requires c = sym (ap is_ok c.in-Some.ensures.item)
 
 pub returns-in-Some-clause-sound : goal.returns-in-Some-clause-sound
 returns-in-Some-clause-sound c =
@@ -41,7 +41,7 @@ returns-in-Some-clause-sound c =
     let g = c.in-Some.found.now in
     let h = record g { work = record g.work { stage = c.args.stage } } in
     let links = c.file_live.new.links in
-    subst (λ (x : HostWork). IsSound (record a { works = with_entry c.args.work.rep (entry_of (record x { work = record x.work { stage = c.args.stage } })) a.works; polled = c.file_live.new.links; kept = record a.kept { live = c.recounted-parts.result; moving = c.recounted-parts-in-Some.result } })) (same_item c.in-Some.ensures.item c.known_mut-entry.ensures.value)
+    subst (λ (x : WorkRecord). IsSoundCore (record a { works = with_entry c.args.work.rep (entry_of (record x { work = record x.work { stage = c.args.stage } })) a.works; polled = c.file_live.new.links; kept = record a.kept { live = c.recounted-parts.result; moving = c.recounted-parts-in-Some.result } })) (same_item c.in-Some.ensures.item c.get_mut_unchecked-entry.ensures.value)
     (heard_sound a c.requires c.args.work g c.in-Some.ensures.item h refl a.sets refl a.ready_works links c.recounted-parts.result c.recounted-parts-in-Some.result (work_join_at a c.requires c.args.work g c.in-Some.ensures.item) (same_sets a c.requires c.args.work g c.in-Some.ensures.item h refl)
     (kept_same a c.requires c.args.work g c.in-Some.ensures.item h refl refl a.ready_works links c.recounted-parts.result c.recounted-parts-in-Some.result)
     (recounted_is a.kept.live c.recounted-parts.result _ _ _ _ c.is_live.ensures c.is_live-in-Some.ensures c.recounted-parts.ensures)
@@ -55,7 +55,7 @@ unfolding set_stage
 returns-in-Some-clause-new c =
     let a = c.args.parts.now in
     let g = c.in-Some.found.now in
-    ap (λ (x : HostWork). seen (record a { works = with_entry c.args.work.rep (entry_of (record x { work = record x.work { stage = c.args.stage } })) a.works; polled = c.file_live.new.links; kept = record a.kept { live = c.recounted-parts.result; moving = c.recounted-parts-in-Some.result } })) (sym (same_item c.in-Some.ensures.item c.known_mut-entry.ensures.value))
+    ap (λ (x : WorkRecord). seen (record a { works = with_entry c.args.work.rep (entry_of (record x { work = record x.work { stage = c.args.stage } })) a.works; polled = c.file_live.new.links; kept = record a.kept { live = c.recounted-parts.result; moving = c.recounted-parts-in-Some.result } })) (sym (same_item c.in-Some.ensures.item c.get_mut_unchecked-entry.ensures.value))
     ∙ heard_seen a c.requires c.args.work g c.in-Some.ensures.item (record g { work = record g.work { stage = c.args.stage } }) refl a.sets refl a.ready_works c.file_live.new.links c.recounted-parts.result c.recounted-parts-in-Some.result _ refl
 
 pub returns-in_default-clause-new : goal.returns-in_default-clause-new

@@ -1,5 +1,5 @@
 use Rattle.queue_words.proofs.LeaveLemmas.{left_sound, pop_high_nothing, pop_high_seen}
-use Rattle.queue_words.proofs.TopLemmas.{mark_live, mark_nodes, top_seated}
+use Rattle.queue_words.proofs.TopLemmas.{mark_live, mark_nodes, top_keyed}
 use Rattle.queue_words.proofs.removals.pop_high.Goals as goal
 use Rattle.task_records.proofs.Core.{High}
 
@@ -9,14 +9,14 @@ first_marked-requires-clause-live c = mark_live c.args.parts.now c.requires High
 pub first_marked-requires-clause-nodes : goal.first_marked-requires-clause-nodes
 first_marked-requires-clause-nodes c = mark_nodes c.args.parts.now c.requires High
 
-pub leave-requires-clause-seated : goal.leave-requires-clause-seated
-leave-requires-clause-seated c = top_seated c.args.parts.now c.requires High c.in-Some.queued c.in-Some.ensures
+pub leave-requires-clause-keyed : goal.leave-requires-clause-keyed
+leave-requires-clause-keyed c = top_keyed c.args.parts.now c.requires High c.in-Some.queued c.in-Some.ensures
 
 pub returns-in-Some-clause-sound : goal.returns-in-Some-clause-sound
-returns-in-Some-clause-sound c = left_sound c.args.parts.now c.requires c.in-Some.queued (top_seated c.args.parts.now c.requires High c.in-Some.queued c.in-Some.ensures) c.leave.ensures.links c.leave.new.parts c.leave.ensures.rows c.leave.ensures.rest
+returns-in-Some-clause-sound c = left_sound c.args.parts.now c.requires c.in-Some.queued (top_keyed c.args.parts.now c.requires High c.in-Some.queued c.in-Some.ensures) c.leave.ensures.links c.leave.new.parts c.leave.ensures.rows c.leave.ensures.rest
 
 pub returns-in-Some-clause-new : goal.returns-in-Some-clause-new
-returns-in-Some-clause-new c = pop_high_seen c.args.parts.now c.requires c.in-Some.queued (top_seated c.args.parts.now c.requires High c.in-Some.queued c.in-Some.ensures) c.leave.ensures.links c.leave.new.parts c.leave.ensures.rows c.leave.ensures.rest c.in-Some.ensures
+returns-in-Some-clause-new c = pop_high_seen c.args.parts.now c.requires c.in-Some.queued (top_keyed c.args.parts.now c.requires High c.in-Some.queued c.in-Some.ensures) c.leave.ensures.links c.leave.new.parts c.leave.ensures.rows c.leave.ensures.rest c.in-Some.ensures
 
 pub returns-in_default-clause-new : goal.returns-in_default-clause-new
 returns-in_default-clause-new c = pop_high_nothing c.args.parts.now c.requires c.in_default.ensures

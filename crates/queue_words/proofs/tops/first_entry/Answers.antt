@@ -1,12 +1,12 @@
 use Rattle.task_records.proofs.Core.{ap, High, Low, None, refl, Some, subst, sym, ℕ, ◌<◌, ◌∙◌}
-use Rattle.queue_words.proofs.TopLemmas.{first_from_low, first_high, first_none, first_past, first_some, shelf_live}
+use Rattle.queue_words.proofs.TopLemmas.{first_from_low, first_high, first_none, first_past, first_some, instance_queue_live}
 use Rattle.queue_words.proofs.tops.first_entry.Goals as goal
 
 pub first_queued-requires : goal.first_queued-requires
-first_queued-requires c = shelf_live c.args.parts.now c.requires c.args.instance c.in-Some.record.now c.in-Some.ensures.item High
+first_queued-requires c = instance_queue_live c.args.parts.now c.requires c.args.instance c.in-Some.record.now c.in-Some.ensures.item High
 
 pub first_queued-requires-in-None-first_queued : goal.first_queued-requires-in-None-first_queued
-first_queued-requires-in-None-first_queued c = shelf_live c.args.parts.now c.requires c.args.instance c.in-Some.record.now c.in-Some.ensures.item Low
+first_queued-requires-in-None-first_queued c = instance_queue_live c.args.parts.now c.requires c.args.instance c.in-Some.record.now c.in-Some.ensures.item Low
 
 pub returns-in-Some-first_queued-clause-is : goal.returns-in-Some-first_queued-clause-is
 returns-in-Some-first_queued-clause-is c =

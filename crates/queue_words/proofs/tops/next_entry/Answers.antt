@@ -1,19 +1,19 @@
 use Rattle.task_records.proofs.Core.{ap, Entry, High, Low, Mark, Some, sym, ◌∙◌}
 use Rattle.queue_words.proofs.SwitchLemmas.{follower_here, switch_follows}
-use Rattle.queue_words.proofs.TopLemmas.{mark_live, next_high, next_low, next_none, next_switch, top_seated}
+use Rattle.queue_words.proofs.TopLemmas.{mark_live, next_high, next_low, next_none, next_switch, top_keyed}
 use Rattle.queue_words.proofs.tops.next_entry.Goals as goal
 
 pub first_queued-requires : goal.first_queued-requires
 first_queued-requires c = mark_live c.args.parts.now c.requires High
 
-pub entry_id-requires-clause-seated : goal.entry_id-requires-clause-seated
-entry_id-requires-clause-seated c = top_seated c.args.parts.now c.requires High c.in-Some-first_queued.queued c.in-Some-first_queued.ensures
+pub entry_id-requires-clause-keyed : goal.entry_id-requires-clause-keyed
+entry_id-requires-clause-keyed c = top_keyed c.args.parts.now c.requires High c.in-Some-first_queued.queued c.in-Some-first_queued.ensures
 
 pub first_queued-requires-in-None-first_queued : goal.first_queued-requires-in-None-first_queued
 first_queued-requires-in-None-first_queued c = mark_live c.args.parts.now c.requires Low
 
-pub entry_id-requires-in-Some-first_queued-2-clause-seated : goal.entry_id-requires-in-Some-first_queued-2-clause-seated
-entry_id-requires-in-Some-first_queued-2-clause-seated c = top_seated c.args.parts.now c.requires Low c.in-Some-first_queued-2.queued c.in-Some-first_queued-2.ensures
+pub entry_id-requires-in-Some-first_queued-2-clause-keyed : goal.entry_id-requires-in-Some-first_queued-2-clause-keyed
+entry_id-requires-in-Some-first_queued-2-clause-keyed c = top_keyed c.args.parts.now c.requires Low c.in-Some-first_queued-2.queued c.in-Some-first_queued-2.ensures
 
 pub returns-in-Some : goal.returns-in-Some
 returns-in-Some c =

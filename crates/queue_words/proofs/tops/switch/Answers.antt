@@ -1,5 +1,5 @@
 use Rattle.task_records.proofs.Core.{ap, option_map, seen, Some, subst, sym, ℕ, ◌<◌, ◌∙◌}
-use Rattle.task_records.specs.declared.{threads.Follower.Follower}
+use Rattle.task_records.specs.declared.{thread_records.Follower.Follower}
 use Rattle.queue_words.proofs.SwitchLemmas.{follower_here, follower_positive, switch_follows}
 use Rattle.queue_words.proofs.tops.switch.Goals as goal
 

@@ -7,7 +7,7 @@ use Rattle.std.specs.Prelude.{Err, Result, false, ◌<◌, ◌≡◌}
 use Rattle.task_nursery.specs.Children.{is_open_call}
 use Rattle.task_nursery.specs.Numbers.{count_where}
 use Rattle.task_words.specs.Groups.{IsAsked}
-use Rattle.task_nursery.specs.Scope.{Begins, Refuses, TellsStart}
+use Rattle.task_nursery.specs.Scope.{ScopeBegins, Refuses, TellsStart}
 use Rattle.task_nursery.specs.declared.children.Child.{Child}
 use Rattle.task_loop.specs.Standing.{standing}
 use Rattle.task_nursery.specs.declared.nursery.NurseryError.{NurseryError}
@@ -43,7 +43,7 @@ returns-in-Err-Trap-clause-step g c =
     let n = c.start-started.new.self in
     let e = c.start-started.ensures in
     let is = c.in-Err-Trap.is ∙ ap (λ (w : NurseryError). Err w) (rw c.in-Err-Trap.is at c.in-Err-Trap.field-0-is) in
-    let begins = subst (λ (r : Result Child NurseryError). m.nursery.closed ≡ false → count_where is_open_call m.nursery.children < m.nursery.limit → Begins c.args.component.now c.func_of.result c.as_slice.result.now m.nursery s r n t) is e.begins.begins in
+    let begins = subst (λ (r : Result Child NurseryError). m.nursery.closed ≡ false → count_where is_open_call m.nursery.children < m.nursery.limit → ScopeBegins c.args.component.now c.func_of.result c.as_slice.result.now m.nursery s r n t) is e.begins.begins in
     refused_stepped g.H.HostWork.course c.args.component.now m _ s t c.requires.may c.in-Some.request.now (there_at c.args.main.now.requests.now c.args.main.now.started c.in-Some.request.now c.in-Some.ensures.lookup.3.0 c.in-Some.ensures.lookup.1) c.requires.undue c.in-Err-Trap.trap (m.started + 1) (omega arith)
     (subst (λ (r : Result Child NurseryError). Refuses m.nursery s r n t) is e.begins.refuses)
     (rw (c.func_of.ensures, c.as_slice.ensures) at begins)
@@ -59,7 +59,7 @@ returns-in-Err-Closed-clause-step g c =
     let is = c.in-Err-Closed.is ∙ ap (λ (w : NurseryError). Err w) (rw c.in-Err-Closed.is at c.in-Err-Closed.field-0-is) in
     let refuses = subst (λ (r : Result Child NurseryError). Refuses m.nursery s r n t) is e.begins.refuses in
     let full = was_full m.nursery n s t c.requires.may.knows.unclosed c.args.component.now c.func_of.result c.as_slice.result.now (Err error.Closed) refuses (λ b. b)
-    (subst (λ (r : Result Child NurseryError). count_where is_open_call m.nursery.children < m.nursery.limit → Begins c.args.component.now c.func_of.result c.as_slice.result.now m.nursery s r n t) is (e.begins.begins c.requires.may.knows.unclosed)) in (
+    (subst (λ (r : Result Child NurseryError). count_where is_open_call m.nursery.children < m.nursery.limit → ScopeBegins c.args.component.now c.func_of.result c.as_slice.result.now m.nursery s r n t) is (e.begins.begins c.requires.may.knows.unclosed)) in (
       waited_by g.H.HostWork.course c.args.component.now m s _ t (ap (λ k. record m { nursery = k }) refuses.same) (ap (λ q. q.state) full.1) (ap (λ q. q.listeners) full.1)
           (ap standing full.1) (e.keeps.works g.H.HostWork.course c.requires.may.hosts) c.requires.may,
       inl full.0,
@@ -75,7 +75,7 @@ returns-in-Err-Full-clause-step g c =
     let is = c.in-Err-Full.is ∙ ap (λ (w : NurseryError). Err w) (rw c.in-Err-Full.is at c.in-Err-Full.field-0-is) in
     let refuses = subst (λ (r : Result Child NurseryError). Refuses m.nursery s r n t) is e.begins.refuses in
     let full = was_full m.nursery n s t c.requires.may.knows.unclosed c.args.component.now c.func_of.result c.as_slice.result.now (Err error.Full) refuses (λ b. b)
-    (subst (λ (r : Result Child NurseryError). count_where is_open_call m.nursery.children < m.nursery.limit → Begins c.args.component.now c.func_of.result c.as_slice.result.now m.nursery s r n t) is (e.begins.begins c.requires.may.knows.unclosed)) in (
+    (subst (λ (r : Result Child NurseryError). count_where is_open_call m.nursery.children < m.nursery.limit → ScopeBegins c.args.component.now c.func_of.result c.as_slice.result.now m.nursery s r n t) is (e.begins.begins c.requires.may.knows.unclosed)) in (
       waited_by g.H.HostWork.course c.args.component.now m s _ t (ap (λ k. record m { nursery = k }) refuses.same) (ap (λ q. q.state) full.1) (ap (λ q. q.listeners) full.1)
           (ap standing full.1) (e.keeps.works g.H.HostWork.course c.requires.may.hosts) c.requires.may,
       inl full.0,

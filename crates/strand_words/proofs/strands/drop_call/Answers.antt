@@ -1,5 +1,5 @@
 use Rattle.task_records.proofs.Core.{arith, deletion_refused, item_of}
-use Rattle.task_records.specs.declared.{calls.GuestTask.GuestTask}
+use Rattle.task_records.specs.declared.{call_records.GuestTask.GuestTask}
 use Rattle.strand_words.proofs.strands.drop_call.Goals as goal
 use Rattle.task_records.proofs.KindLemmas.{refused_number}
 

@@ -1,5 +1,5 @@
 use Rattle.task_records.proofs.Core.{arith, deletion_refused, item_of}
-use Rattle.task_records.specs.declared.{threads.GuestThread.GuestThread}
+use Rattle.task_records.specs.declared.{thread_records.GuestThread.GuestThread}
 use Rattle.strand_words.proofs.strands.drop_thread.Goals as goal
 use Rattle.task_records.proofs.KindLemmas.{refused_number}
 

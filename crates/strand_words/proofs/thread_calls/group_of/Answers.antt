@@ -3,7 +3,7 @@ use Rattle.strand_words.proofs.thread_calls.group_of.Goals as goal
 use Rattle.task_records.proofs.Core.{bare, bare_call, IsCallNamed, parts_of, seen, task_of, thread_of, ◌∙◌}
 use Rattle.task_records.proofs.HomeLemmas.{task_live, task_place}
 use Rattle.task_records.proofs.StandLemmas.{item_by, item_here, number_is, placed_here}
-use Rattle.task_records.specs.declared.{calls.TaskGroup.TaskGroup}
+use Rattle.task_records.specs.declared.{call_records.TaskGroup.TaskGroup}
 
 pub there-call-requires : goal.there-call-requires
 there-call-requires c =
@@ -12,8 +12,8 @@ there-call-requires c =
     let is = c.thread_there-found.ensures.item in
     call_there a g.task (task_of (thread_of (seen a) c.args.thread) (seen a).core) (task_place a c.requires.sound c.args.thread g is) (task_live a c.requires.sound c.args.thread g is)
 
-pub serial_there-requires : goal.serial_there-requires
-serial_there-requires c =
+pub serial_unchecked-requires : goal.serial_unchecked-requires
+serial_unchecked-requires c =
     let a = c.args.parts.now in
     let g = c.thread_there-found.result.now in
     let is = c.thread_there-found.ensures.item in
@@ -37,7 +37,7 @@ returns-clause-item c =
     let is = c.thread_there-found.ensures.item in
     let r = c.there-call.result.now in
     let named : IsCallNamed (bare (parts_of a)) (bare_call r) = call_named a g.task (task_of (thread_of (seen a) c.args.thread) (seen a).core) (task_place a c.requires.sound c.args.thread g is) (task_live a c.requires.sound c.args.thread g is) c.requires.sound r c.there-call.ensures in
-    item_by (λ (g : TaskGroup). g.number) (λ (g : TaskGroup). g.calls) a.groups r.group r.call.group named.group named.positive c.there.result.now c.there.ensures c.new-id.result.rep c.new-id.result.serial c.serial_there.result c.new-id.ensures.rep c.new-id.ensures.serial c.serial_there.ensures
+    item_by (λ (g : TaskGroup). g.number) (λ (g : TaskGroup). g.calls) a.groups r.group r.call.group named.group named.positive c.there.result.now c.there.ensures c.new-id.result.rep c.new-id.result.serial c.serial_unchecked.result c.new-id.ensures.rep c.new-id.ensures.serial c.serial_unchecked.ensures
 
 pub returns-clause-number : goal.returns-clause-number
 returns-clause-number c =

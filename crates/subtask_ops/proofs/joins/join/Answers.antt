@@ -4,7 +4,7 @@ use Rattle.subtask_ops.proofs.SubtaskLemmas.{named_meets}
 use Rattle.subtask_ops.proofs.joins.join.Goals as goal
 use Rattle.task_machine.specs.Labels.{choice_of}
 use Rattle.task_machine.specs.Read.{set_at}
-use Rattle.task_ops.specs.Came.{Meets}
+use Rattle.task_ops.specs.OpResult.{Implements}
 use Rattle.task_ops.specs.Ended.{ended}
 use Rattle.task_ops.specs.Steps.{label_of}
 use Rattle.task_rules.specs.Progress.{Progress}
@@ -25,7 +25,7 @@ returns-then-set-eq0 g c =
     record {
       does = record {
         meets = λ d. named_meets n _ c.args.handle q (join_to_by d n c.args.set w s.core) s.core _ _ c.instance_of-instance.ensures c.in-Some.ensures.is (λ sub at. to_kept d n c.args.set w s.core c.none_is_zero.ensures.calls c.none_is_zero.ensures.works sub)
-            (subst (λ (p : Progress). Meets p s.core r (ended d n r t)) (sym (to_zero d n c.args.set w s.core q c.if-set-eq0.true)) (done.meets d));
+            (subst (λ (p : Progress). Implements p s.core r (ended d n r t)) (sym (to_zero d n c.args.set w s.core q c.if-set-eq0.true)) (done.meets d));
         stays = done.stays;
         kept = done.kept;
       };
@@ -45,7 +45,7 @@ returns g c =
     record {
       does = record {
         meets = λ d. named_meets n _ c.args.handle q (join_to_by d n c.args.set w s.core) s.core _ _ c.instance_of-instance.ensures c.in-Some.ensures.is (λ sub at. to_kept d n c.args.set w s.core c.none_is_zero.ensures.calls c.none_is_zero.ensures.works sub)
-            (subst (λ (p : Progress). Meets p s.core r (ended d n r t)) (sym (to_set d n c.args.set (set_of s c.in-Some-set_named.set) w s.core q c.if-set-eq0.false at)) (done.meets d));
+            (subst (λ (p : Progress). Implements p s.core r (ended d n r t)) (sym (to_set d n c.args.set (set_of s c.in-Some-set_named.set) w s.core q c.if-set-eq0.false at)) (done.meets d));
         stays = done.stays;
         kept = done.kept;
       };

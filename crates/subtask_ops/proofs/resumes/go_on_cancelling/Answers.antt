@@ -4,8 +4,8 @@ use Rattle.subtask_ops.proofs.ResumeLemmas.{resumed_as, resumed_refused, resumed
 use Rattle.subtask_ops.proofs.resumes.go_on_cancelling.Goals as goal
 use Rattle.subtask_ops.specs.Refused.{mode_of}
 use Rattle.task_ops.proofs.DoesLemmas.{does_same}
-use Rattle.task_ops.specs.Came.{Meets}
-use Rattle.task_ops.specs.declared.came.Came.TheVariants as came
+use Rattle.task_ops.specs.OpResult.{Implements}
+use Rattle.task_ops.specs.declared.op_result.OpResult.TheVariants as op_result
 use Rattle.task_rules.specs.Cancels.{after_cancel_by, cancel_resumed}
 use Rattle.task_rules.specs.Finish.{SomeHost}
 use Rattle.task_words.specs.Names.{subtask_in}
@@ -36,7 +36,7 @@ returns-in-Some g c =
     let same = c.refusal_after.ensures.same in
     record {
       does = does_same _ c.args.thread s (v c.refusal_after.new.w) _
-          (λ d. subst (λ (y : StateView). Meets (after_cancel_by d m n q (cancel_resumed n q s.core)) s.core (came.Traps c.in-Some.trap) y.core) (sym same)
+          (λ d. subst (λ (y : StateView). Implements (after_cancel_by d m n q (cancel_resumed n q s.core)) s.core (op_result.Traps c.in-Some.trap) y.core) (sym same)
           (trapped_meets m n d q s.core (cancel_resumed n q s.core) _ (resumed_refused m n q s.core ∙ sym c.in-Some.ensures.is)))
           (ap (λ (y : StateView). y.tags) same) (ap (λ (y : StateView). y.current) same);
     }

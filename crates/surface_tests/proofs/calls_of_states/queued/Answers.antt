@@ -1,13 +1,13 @@
-use Rattle.surface_tests.proofs.StateLemmas.{sits_joins, sits_placed}
+use Rattle.surface_tests.proofs.StateLemmas.{core_in_order_joins, core_in_order_placed}
 use Rattle.surface_tests.proofs.calls_of_states.queued.Goals as goal
 use Rattle.task_machine.specs.declared.records.Turn.TheVariants as turn
 use Rattle.task_turns.proofs.CoveredLemmas.{home_there}
 
 pub returns-clause-placed : goal.returns-clause-placed
-returns-clause-placed g c = sits_placed _ _ _ c.called.ensures.order
+returns-clause-placed g c = core_in_order_placed _ _ _ c.called.ensures.order
 
 pub returns-clause-joins : goal.returns-clause-joins
-returns-clause-joins g c = sits_joins _ _ _ c.called.ensures.order
+returns-clause-joins g c = core_in_order_joins _ _ _ c.called.ensures.order
 
 pub returns-clause-there : goal.returns-clause-there
 returns-clause-there g c = home_there c.component-component.result _ turn.Main c.called.new.store.state.core c.called.ensures.order c.component-component.ensures.there

@@ -3,9 +3,9 @@ use Rattle.std.specs.Prelude.{ℕ}
 use Rattle.surface_tests.proofs.AskLemmas.{at_running}
 use Rattle.surface_tests.proofs.instance_calls.returns_lending.Goals as goal
 use Rattle.task_machine.specs.declared.records.Turn.TheVariants as turn
-use Rattle.task_turns.specs.Turn.{Sits}
+use Rattle.task_turns.specs.Turn.{CoreInOrder}
 
 pub task_return-requires-clause-order : goal.task_return-requires-clause-order
 task_return-requires-clause-order g c =
     let q = c.lend.ensures.running c.running-at.result.scenario.component c.running-at.ensures.running in
-    at_running c.lend.new.store.state q.number (λ (n : ℕ). Sits c.running-at.result.scenario.component (turn.Run n) c.lend.new.store.state.core) q.runs q.order
+    at_running c.lend.new.store.state q.number (λ (n : ℕ). CoreInOrder c.running-at.result.scenario.component (turn.Run n) c.lend.new.store.state.core) q.runs q.order

@@ -19,7 +19,7 @@ start_call-step-requires-clause-prepared g c =
     let d = c.running-at.result.scenario.component in
     let id = c.in-Ok.id in
     comes_to _ (λ (v : StateView). IfSome (running_of v) (λ k. CanStart k id v)) _ _ _ c.in-Ok.ensures.does.told
-    (λ v is came.
+    (λ v is op_result.
     can_start_asked id v
     (can_start d q.number (record { instance = 0; export = 0 }) [] (goal_for true 3) s v (fits 3 s.core) id q.runs
-    (subst (λ (w : StateView). get w.core.threads 0 ≡ None) is c.none_is_zero.ensures.threads) came))
+    (subst (λ (w : StateView). get w.core.threads 0 ≡ None) is c.none_is_zero.ensures.threads) op_result))

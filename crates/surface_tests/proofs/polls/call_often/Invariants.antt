@@ -4,12 +4,12 @@ use Rattle.std.specs.Prelude.{None}
 use Rattle.task_machine.specs.declared.records.Turn.{Turn}
 use Rattle.task_words.specs.Groups.{IsAsked}
 use Rattle.task_store.specs.Hosts.{HoldsHosts}
-use Rattle.task_turns.specs.Turn.{Sits, given, running_of}
+use Rattle.task_turns.specs.Turn.{CoreInOrder, given, running_of}
 use Rattle.surface_tests.proofs.polls.call_often.Given as goal
 
 abbrev pub invariant-calls : goal.invariant-calls
 invariant-calls g l = record {
-  order : (p : Turn) → Sits l.component p l.initial.store.state.core → Sits l.component p l.store.state.core;
+  order : (p : Turn) → CoreInOrder l.component p l.initial.store.state.core → CoreInOrder l.component p l.store.state.core;
   given : given l.store.state.core ≤ given l.initial.store.state.core + 2 * l.calls;
   current : running_of l.store.state ≡ None;
   hosts : HoldsHosts g.H.HostWork.course l.store;

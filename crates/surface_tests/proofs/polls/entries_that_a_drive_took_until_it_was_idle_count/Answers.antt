@@ -6,7 +6,7 @@ use Rattle.surface_tests.proofs.polls.entries_that_a_drive_took_until_it_was_idl
 use Rattle.task_loop.proofs.BeginLemmas.{may_again, may_start}
 use Rattle.task_loop.proofs.HasRunLemmas.{drives_of}
 use Rattle.task_loop.specs.RunPolls.{may_poll}
-use Rattle.task_loop.specs.declared.polls.RunPoll.{RunPoll}
+use Rattle.task_loop.specs.declared.poll_methods.RunPoll.{RunPoll}
 use Rattle.task_machine.specs.declared.records.Turn.TheVariants as turn
 use Rattle.task_turns.specs.Turn.{given, is_open, runs_in, setting_of}
 

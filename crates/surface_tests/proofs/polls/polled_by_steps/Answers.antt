@@ -4,7 +4,7 @@ use Rattle.std.specs.Prelude.{Ok}
 use Rattle.surface_tests.proofs.polls.polled_by_steps.Goals as goal
 use Rattle.task_loop.proofs.BeginLemmas.{may_again}
 use Rattle.task_loop.specs.RunPolls.{may_poll}
-use Rattle.task_loop.specs.declared.polls.RunPoll.{RunPoll}
+use Rattle.task_loop.specs.declared.poll_methods.RunPoll.{RunPoll}
 
 pub polls-preserved : goal.polls-preserved
 polls-preserved g c =

@@ -2,7 +2,7 @@ use Rattle.op_dispatch.specs.Rules.{rule_of}
 use Rattle.std.proofs.Common.{refl, subst, sym, ◌∙◌}
 use Rattle.task_calls.proofs.AskLemmas.{left_did}
 use Rattle.task_calls.proofs.asks.ask.Goals as goal
-use Rattle.task_calls.specs.Asks.{Did, row_of}
+use Rattle.task_calls.specs.Asks.{Did, scripted_rule_of}
 use Rattle.task_turns.proofs.OrderLemmas.{number_at, runner}
 
 pub do_plain_op-requires-clause-runner : goal.do_plain_op-requires-clause-runner
@@ -16,7 +16,7 @@ returns-clause-did g c =
     let s = v c.args.w.now in
     let q = c.requires.running in
     let comp = c.args.component.now in
-    let came = c.in-Ok.came in
+    let op_result = c.in-Ok.op_result in
     let number = number_at q.number s q.runs c.in-Some.thread (sym c.current.ensures ∙ c.in-Some.is) in
-    subst (Did (row_of comp c.args.op s.core) s came) (sym c.leave.ensures)
-    (left_did comp (rule_of comp c.args.op) c.in-Some.thread q.number came s (v c.do_plain_op.new.w) c.in-Ok.ensures.does number q.runs (row_of comp c.args.op s.core) (λ ch. refl))
+    subst (Did (scripted_rule_of comp c.args.op s.core) s op_result) (sym c.leave.ensures)
+    (left_did comp (rule_of comp c.args.op) c.in-Some.thread q.number op_result s (v c.do_plain_op.new.w) c.in-Ok.ensures.does number q.runs (scripted_rule_of comp c.args.op s.core) (λ ch. refl))

@@ -6,17 +6,17 @@ use Rattle.std.specs.Prelude.{None, Option, Some, false, length, option_copied, 
 use Rattle.task_calls.proofs.AskLemmas.{left, left_did, left_met, left_order, left_stays}
 use Rattle.task_calls.proofs.PausedLemmas.{at_end, host_in_order, is_plain, makes_none, not_there}
 use Rattle.task_calls.proofs.asks.take_on.Goals as goal
-use Rattle.task_calls.specs.Asks.{Did, row_at, row_of, turn_in}
+use Rattle.task_calls.specs.Asks.{Did, row_at, scripted_rule_of, turn_in}
 use Rattle.task_machine.specs.Labels.{choice_of}
-use Rattle.task_machine.specs.Read.{how_far_of, instance_of, task_of}
+use Rattle.task_machine.specs.Read.{op_progress_of, instance_of, task_of}
 use Rattle.task_machine.specs.declared.op.Op.{Op}
-use Rattle.task_ops.specs.Came.{Meets}
+use Rattle.task_ops.specs.OpResult.{Implements}
 use Rattle.task_ops.specs.Steps.{label_of}
 use Rattle.task_rules.specs.OpParts.{is_data_op}
 use Rattle.task_rules.specs.Scripts.{op_of}
 use Rattle.task_turns.proofs.OrderLemmas.{number_at, runner}
 use Rattle.task_turns.proofs.RunLemmas.{op_is}
-use Rattle.task_turns.specs.Turn.{Sits}
+use Rattle.task_turns.specs.Turn.{CoreInOrder}
 use Rattle.task_words.specs.StateView.{StateView, thread_of}
 
 pub at-point-requires : goal.at-point-requires
@@ -79,8 +79,8 @@ do_other_op-requires-clause-few g c made =
     let r = runner comp q.number s q.order c.none_is_zero.ensures.threads q.runs c.in-Some.thread current in
     let number = number_at q.number s q.runs c.in-Some.thread current in
     let is = op_is comp n s.core r.thread r.here c.script_ops-script.result.now c.at-point.result.callee (task_of n s.core) c.at-point.result.position c.at-point.result.script c.at-point.ensures.callee refl (c.at-point.ensures.script r.thread r.here) c.script_ops-script.ensures c.at-point.ensures.position (Some o) (sym (ap option_copied c.in-Some-op_at.is) ∙ c.op_at.ensures) in
-    let none = subst (λ (k : ℕ). makes (how_far_of k s.core) (op_of comp k s.core) ≡ false) (sym number) (makes_none comp s q c.requires.paused) in
-    let some : makes (how_far_of n s.core) (op_of comp n s.core) ≡ true = subst (λ (p : Op). makes (how_far_of n s.core) p ≡ true) (sym is) made in
+    let none = subst (λ (k : ℕ). makes (op_progress_of k s.core) (op_of comp k s.core) ≡ false) (sym number) (makes_none comp s q c.requires.paused) in
+    let some : makes (op_progress_of n s.core) (op_of comp n s.core) ≡ true = subst (λ (p : Op). makes (op_progress_of n s.core) p ≡ true) (sym is) made in
     absurd (let e = sym none ∙ some in cc)
 
 pub returns-in_default-do_other_op-clause-err : goal.returns-in_default-do_other_op-clause-err
@@ -106,14 +106,14 @@ returns-clause-did g c =
     let comp = c.args.component.now in
     let n = thread_of s c.in-Some.thread in
     let o = c.in-Some-op_at.op.now in
-    let came = c.in-Ok.done.came in
+    let op_result = c.in-Ok.done.op_result in
     let current = sym c.current.ensures ∙ c.in-Some.is in
     let r = runner comp q.number s q.order c.none_is_zero.ensures.threads q.runs c.in-Some.thread current in
     let number = number_at q.number s q.runs c.in-Some.thread current in
     let is = op_is comp n s.core r.thread r.here c.script_ops-script.result.now c.at-point.result.callee (task_of n s.core) c.at-point.result.position c.at-point.result.script c.at-point.ensures.callee refl (c.at-point.ensures.script r.thread r.here) c.script_ops-script.ensures c.at-point.ensures.position (Some o) (sym (ap option_copied c.in-Some-op_at.is) ∙ c.op_at.ensures) in
     let here = ap (λ (k : ℕ). op_of comp k s.core) (sym number) ∙ is in
-    subst (Did (row_at comp s.core) s came) (sym c.leave.ensures)
-    (left_did comp (rule_of comp o) c.in-Some.thread q.number came s t c.in-Ok.ensures.does.does number q.runs (row_at comp s.core) (λ ch. ap (λ (x : Op). row_of comp x s.core q.number ch) here))
+    subst (Did (row_at comp s.core) s op_result) (sym c.leave.ensures)
+    (left_did comp (rule_of comp o) c.in-Some.thread q.number op_result s t c.in-Ok.ensures.does.does number q.runs (row_at comp s.core) (λ ch. ap (λ (x : Op). scripted_rule_of comp x s.core q.number ch) here))
 
 pub returns-clause-order : goal.returns-clause-order
 returns-clause-order g c =
@@ -124,15 +124,15 @@ returns-clause-order g c =
     let comp = c.args.component.now in
     let n = thread_of s c.in-Some.thread in
     let o = c.in-Some-op_at.op.now in
-    let came = c.in-Ok.done.came in
+    let op_result = c.in-Ok.done.op_result in
     let current = sym c.current.ensures ∙ c.in-Some.is in
     let r = runner comp q.number s q.order c.none_is_zero.ensures.threads q.runs c.in-Some.thread current in
     let number = number_at q.number s q.runs c.in-Some.thread current in
     let is = op_is comp n s.core r.thread r.here c.script_ops-script.result.now c.at-point.result.callee (task_of n s.core) c.at-point.result.position c.at-point.result.script c.at-point.ensures.callee refl (c.at-point.ensures.script r.thread r.here) c.script_ops-script.ensures c.at-point.ensures.position (Some o) (sym (ap option_copied c.in-Some-op_at.is) ∙ c.op_at.ensures) in
     let here = ap (λ (k : ℕ). op_of comp k s.core) (sym number) ∙ is in
     let did = c.in-Ok.ensures.does.does in
-    let u = left comp (rule_of comp o) c.in-Some.thread q.number came s t did number q.runs in
-    let stays = left_stays comp (rule_of comp o) c.in-Some.thread q.number came s t did number q.runs in
-    let met = subst (λ (x : Op). Meets (row_of comp x s.core q.number (choice_of (label_of q.number came))) s.core came u.core) (sym here) (left_met comp (rule_of comp o) c.in-Some.thread q.number came s t did number q.runs) in
-    subst (λ (x : StateView). Sits comp (turn_in x) x.core) (sym c.leave.ensures)
-    (left_order comp (rule_of comp o) c.in-Some.thread q.number came s t did number q.runs (host_in_order comp q.number s u q.order (is_plain comp s q c.requires.paused) came met stays))
+    let u = left comp (rule_of comp o) c.in-Some.thread q.number op_result s t did number q.runs in
+    let stays = left_stays comp (rule_of comp o) c.in-Some.thread q.number op_result s t did number q.runs in
+    let met = subst (λ (x : Op). Implements (scripted_rule_of comp x s.core q.number (choice_of (label_of q.number op_result))) s.core op_result u.core) (sym here) (left_met comp (rule_of comp o) c.in-Some.thread q.number op_result s t did number q.runs) in
+    subst (λ (x : StateView). CoreInOrder comp (turn_in x) x.core) (sym c.leave.ensures)
+    (left_order comp (rule_of comp o) c.in-Some.thread q.number op_result s t did number q.runs (host_in_order comp q.number s u q.order (is_plain comp s q c.requires.paused) op_result met stays))

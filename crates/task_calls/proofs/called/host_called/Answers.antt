@@ -4,19 +4,19 @@ use Rattle.std.proofs.Common.{ap, refl, sym, ◌∙◌}
 use Rattle.std.specs.Option.{option_map_or}
 use Rattle.std.specs.Prelude.{None, Option, Some, option_copied, unwrap_or, ℕ, ◌≡◌}
 use Rattle.task_calls.proofs.called.host_called.Goals as goal
-use Rattle.task_machine.specs.Read.{how_far_of, task_of}
+use Rattle.task_machine.specs.Read.{op_progress_of, task_of}
 use Rattle.task_machine.specs.declared.component.Component.{Component}
 use Rattle.task_machine.specs.declared.op.Op.{Op}
 use Rattle.task_machine.specs.declared.op.Op.TheVariants as op
 use Rattle.task_machine.specs.declared.op.TaskOp.TheVariants as task
-use Rattle.task_machine.specs.declared.records.HowFar.{HowFar}
+use Rattle.task_machine.specs.declared.records.OpProgress.{OpProgress}
 use Rattle.task_rules.specs.Scripts.{op_of}
 use Rattle.task_turns.proofs.OrderLemmas.{number_at, runner}
 use Rattle.task_turns.proofs.RunLemmas.{op_is}
 use Rattle.task_words.specs.StateView.{thread_of}
 
 -- at its script's end a thread polls nothing
-polled_or : (c : Component) (h : HowFar) (o : Option Op) → option_map_or (λ (p : Op). polled_host c h p) o None ≡ polled_host c h (unwrap_or o (op.Task task.Exit))
+polled_or : (c : Component) (h : OpProgress) (o : Option Op) → option_map_or (λ (p : Op). polled_host c h p) o None ≡ polled_host c h (unwrap_or o (op.Task task.Exit))
 polled_or c h None = refl
 polled_or c h (Some p) = refl
 
@@ -39,6 +39,6 @@ returns g c =
     let number = number_at c.args.number s c.requires.runs c.in-Some.thread (sym c.current.ensures ∙ c.in-Some.is) in
     let is = op_is comp n s.core q.thread q.here c.script_ops-body.result.now c.at-point.result.callee (task_of n s.core) c.at-point.result.position c.at-point.result.script c.at-point.ensures.callee refl (c.at-point.ensures.script q.thread q.here) c.script_ops-body.ensures c.at-point.ensures.position (option_copied c.op_at-op.result) c.op_at-op.ensures in
     c.called_host.ensures
-    ∙ (polled_or comp (how_far_of n s.core) (option_copied c.op_at-op.result)
-    ∙ (sym (ap (λ (o : Op). polled_host comp (how_far_of n s.core) o) is)
-    ∙ ap (λ (k : ℕ). polled_host comp (how_far_of k s.core) (op_of comp k s.core)) number))
+    ∙ (polled_or comp (op_progress_of n s.core) (option_copied c.op_at-op.result)
+    ∙ (sym (ap (λ (o : Op). polled_host comp (op_progress_of n s.core) o) is)
+    ∙ ap (λ (k : ℕ). polled_host comp (op_progress_of k s.core) (op_of comp k s.core)) number))

@@ -22,4 +22,4 @@ returns-in_default g c =
 pub returns : goal.returns
 returns g c =
     let e = c.in-Ok.ensures.told in
-    inl (record { calm = λ err. let same = e.hook.calm in omega (arith, err, same); answers = refl; told = e.whole })
+    inl (record { hook_is_ok = λ err. let same = e.hook.hook_is_ok in omega (arith, err, same); answers = refl; told = e.whole })

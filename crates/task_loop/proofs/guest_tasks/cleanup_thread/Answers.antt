@@ -1,10 +1,10 @@
 -- The exit is told before the thread ends, and the finish after it.
 use Rattle.group_notices.specs.Moves.{StopsAt, moved}
-use Rattle.group_notices.specs.declared.tells.Asked.{Asked}
+use Rattle.group_notices.specs.declared.tells.GroupsBefore.{GroupsBefore}
 use Rattle.std.proofs.Common.{ap, arith, inl, inr, refl, subst, sym, ◌∙◌}
 use Rattle.std.specs.Prelude.{false, not, true, ℕ, ◌≡◌}
-use Rattle.order_laws.specs.Kept.{LeavesInOrder}
-use Rattle.task_group.specs.Listeners.{AnsweredErr, ToldCalmly}
+use Rattle.order_laws.specs.KeptOrder.{LeavesInOrder}
+use Rattle.task_group.specs.Listeners.{AnsweredErr, ToldWithHookOk}
 use Rattle.task_loop.proofs.EndedLemmas.{came_ok, ends_so, leaves_none, leaves_some}
 use Rattle.task_loop.proofs.GuestCallLemmas.{hears}
 use Rattle.task_loop.proofs.GuestTaskLemmas.{ends_holds}
@@ -12,7 +12,7 @@ use Rattle.task_loop.proofs.TellLemmas.{stops_failed}
 use Rattle.task_loop.proofs.guest_tasks.cleanup_thread.Goals as goal
 use Rattle.task_loop.proofs.guest_tasks.cleanup_thread.Goals.{else-last-via-else-last, else-last-via-then-last+else-is_none}
 use Rattle.task_loop.specs.Ended.{EndsTold, left_notices}
-use Rattle.task_loop.specs.Told.{asked_now}
+use Rattle.task_loop.specs.Told.{groups_before_call}
 use Rattle.task_machine.specs.Core.{Core}
 use Rattle.task_machine.specs.Read.{end_of}
 use Rattle.task_store.specs.Hosts.{HoldsWorks, held_by}
@@ -42,8 +42,8 @@ returns-in_default g c =
     let l = c.tell_moves.new.listeners in
     let hooked = c.is_hooked-hooked.ensures in
     let stops : StopsAt (left_notices n s) store.listeners l =
-    subst (λ (k : ℕ). StopsAt (moved (asked_now s) k) store.listeners l) c.group_left-after.ensures
-    (subst (λ (a : Asked). StopsAt (moved a c.group_left-after.result) store.listeners l) c.asked-before.ensures c.in_default.ensures.stops) in
+    subst (λ (k : ℕ). StopsAt (moved (groups_before_call s) k) store.listeners l) c.group_left-after.ensures
+    (subst (λ (a : GroupsBefore). StopsAt (moved a c.group_left-after.result) store.listeners l) c.asked-before.ensures c.in_default.ensures.stops) in
     let keeps =
     leaves_some n s.core c.end_of-end.result (c.end_of-end.ensures ∙ ap (λ k. end_of k s.core) c.task_of.ensures.is) (elim c.else-last.branch [
       | else-last-via-then-last+else-is_none w ↦ inr (sym c.is_last_thread-last.ensures ∙ w.if-last.true, w.is_none.ensures ∙ ap not w.if-is_none.false)
@@ -77,11 +77,11 @@ returns-in_default-finish_ended g c =
       | else-last-via-else-last w ↦ inl (sym c.is_last_thread-last.ensures ∙ w.if-last.false)
     ]) in
     let done = ends_so n s t _ c.cleanup_thread-answer.result keeps c.cleanup_thread-answer.ensures.ends in
-    let calmly : ToldCalmly (left_notices n s) store.listeners l =
-    subst (λ (k : ℕ). ToldCalmly (moved (asked_now s) k) store.listeners l) c.group_left-after.ensures
-    (subst (λ (a : Asked). ToldCalmly (moved a c.group_left-after.result) store.listeners l) c.asked-before.ensures c.in-Ok.ensures.told) in
-    let told : EndsTold n s u store.listeners new = record { left = t; gone = done.1; asked = c.finish_ended.ensures.asked; between = l; moved = calmly; finished = c.finish_ended.ensures.told } in
-    let failed : AnsweredErr store.listeners new = let calm = calmly.calm in let err = c.in_default-finish_ended.ensures.hook.failed in omega (arith, calm, err) in
+    let with_hook_ok : ToldWithHookOk (left_notices n s) store.listeners l =
+    subst (λ (k : ℕ). ToldWithHookOk (moved (groups_before_call s) k) store.listeners l) c.group_left-after.ensures
+    (subst (λ (a : GroupsBefore). ToldWithHookOk (moved a c.group_left-after.result) store.listeners l) c.asked-before.ensures c.in-Ok.ensures.told) in
+    let told : EndsTold n s u store.listeners new = record { left = t; gone = done.1; asked = c.finish_ended.ensures.asked; between = l; moved = with_hook_ok; finished = c.finish_ended.ensures.told } in
+    let failed : AnsweredErr store.listeners new = let hook_is_ok = with_hook_ok.hook_is_ok in let err = c.in_default-finish_ended.ensures.hook.failed in omega (arith, hook_is_ok, err) in
     record {
       does = record {
         hears = λ e. hears g.G.TaskGroupHook.listens c.is_hooked-hooked.result store.listeners new hooked.hook hooked.listens failed (c.finish_ended.ensures.hook.hook ∙ c.in-Ok.ensures.hook);
@@ -111,14 +111,14 @@ returns g c =
       | else-last-via-else-last w ↦ inl (sym c.is_last_thread-last.ensures ∙ w.if-last.false)
     ]) in
     let done = ends_so n s t _ c.cleanup_thread-answer.result keeps c.cleanup_thread-answer.ensures.ends in
-    let calmly : ToldCalmly (left_notices n s) store.listeners l =
-    subst (λ (k : ℕ). ToldCalmly (moved (asked_now s) k) store.listeners l) c.group_left-after.ensures
-    (subst (λ (a : Asked). ToldCalmly (moved a c.group_left-after.result) store.listeners l) c.asked-before.ensures c.in-Ok.ensures.told) in
-    let told : EndsTold n s u store.listeners new = record { left = t; gone = done.1; asked = c.finish_ended.ensures.asked; between = l; moved = calmly; finished = c.finish_ended.ensures.told } in
+    let with_hook_ok : ToldWithHookOk (left_notices n s) store.listeners l =
+    subst (λ (k : ℕ). ToldWithHookOk (moved (groups_before_call s) k) store.listeners l) c.group_left-after.ensures
+    (subst (λ (a : GroupsBefore). ToldWithHookOk (moved a c.group_left-after.result) store.listeners l) c.asked-before.ensures c.in-Ok.ensures.told) in
+    let told : EndsTold n s u store.listeners new = record { left = t; gone = done.1; asked = c.finish_ended.ensures.asked; between = l; moved = with_hook_ok; finished = c.finish_ended.ensures.told } in
     record {
       does = rw done.0 (record {
         hears = λ e. absurd (cc);
-        leaves = record { result = keeps; ends = told; order = subst (λ (d : Core). LeavesInOrder n s.core d) (sym (ap (λ v. v.core) c.finish_ended.ensures.asked)) (came_ok c.cleanup_thread-answer.result done.0 c.cleanup_thread-answer.ensures.order); calm = λ err. let a = calmly.calm in let b = c.in-Ok-finish_ended.ensures.hook.calm in omega (arith, a, b, err) };
+        leaves = record { result = keeps; ends = told; order = subst (λ (d : Core). LeavesInOrder n s.core d) (sym (ap (λ v. v.core) c.finish_ended.ensures.asked)) (came_ok c.cleanup_thread-answer.result done.0 c.cleanup_thread-answer.ensures.order); hook_is_ok = λ err. let a = with_hook_ok.hook_is_ok in let b = c.in-Ok-finish_ended.ensures.hook.hook_is_ok in omega (arith, a, b, err) };
         wakes = λ may h. subst (λ (d : Core). NoWakeLost d) (sym (ap (λ v. v.core) c.finish_ended.ensures.asked)) (c.cleanup_thread-answer.ensures.wakes may h);
         works = λ course h.
             subst (λ (d : Core). HoldsWorks (held_by course store) d) (sym (ap (λ v. v.core) c.finish_ended.ensures.asked))

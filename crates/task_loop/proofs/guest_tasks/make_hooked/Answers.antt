@@ -2,11 +2,11 @@
 use Rattle.state_calls.specs.declared.error.TaskError.TheVariants as task_error
 use Rattle.std.proofs.Common.{ap, refl, subst, sym, ◌∙◌, ◌≡◌}
 use Rattle.std.specs.Prelude.{None, ℕ, [], ◌∷◌}
-use Rattle.group_notices.proofs.MoveLemmas.{calm_told}
-use Rattle.task_group.specs.Listeners.{ToldCalmly}
+use Rattle.group_notices.proofs.MoveLemmas.{hook_is_ok_told}
+use Rattle.task_group.specs.Listeners.{ToldWithHookOk}
 use Rattle.task_loop.proofs.CallStartLemmas.{leaves_told_none, reason_back, reason_hook, reason_refused, unhooked_never}
 use Rattle.task_loop.proofs.GuestTaskLemmas.{begins_wants}
-use Rattle.task_loop.proofs.HookStartLemmas.{told_calm, told_failed}
+use Rattle.task_loop.proofs.HookStartLemmas.{told_hook_is_ok, told_failed}
 use Rattle.task_loop.proofs.NewTaskLemmas.{begins_still}
 use Rattle.task_loop.proofs.UnmadeLemmas.{unmade_back, unmade_refused}
 use Rattle.task_loop.proofs.guest_tasks.make_hooked.Goals as goal
@@ -53,8 +53,8 @@ returns-in-Ok g c =
     record {
       makes = record {
         begins = c.in-Ok.ensures.begins;
-        begun = subst (λ (n : ℕ). ToldCalmly (told_of notice.Start n ∷ []) store.listeners told) c.next_group-group.ensures
-            (calm_told _ store.listeners told said.told (told_calm c.tell.result store.listeners told said.answer (sym c.is_err.ensures.value ∙ c.if-is_err.false)));
+        begun = subst (λ (n : ℕ). ToldWithHookOk (told_of notice.Start n ∷ []) store.listeners told) c.next_group-group.ensures
+            (hook_is_ok_told _ store.listeners told said.told (told_hook_is_ok c.tell.result store.listeners told said.answer (sym c.is_err.ensures.value ∙ c.if-is_err.false)));
       };
       rest = refl;
     }
@@ -79,7 +79,7 @@ returns-in-Err g c =
             c.requires.listens wants said.told.errors back.told back.answer back.failed;
         state = begins_still c.args.kind c.args.instance None s u room c.in-Err.e c.in-Err.ensures.begins;
         told = unmade_back s.core c.next_group-group.result.number c.next_group-group.ensures store.listeners told said.told
-            (told_calm c.tell.result store.listeners told said.answer (sym c.is_err.ensures.value ∙ c.if-is_err.false)) c.in-Err.e r new wants back.told listens back.answer back.failed;
+            (told_hook_is_ok c.tell.result store.listeners told said.answer (sym c.is_err.ensures.value ∙ c.if-is_err.false)) c.in-Err.e r new wants back.told listens back.answer back.failed;
         unhooked = unhooked_never listens store.listeners (new ≡ store.listeners) c.requires.listens c.requires.hooked;
       };
       rest = refl;

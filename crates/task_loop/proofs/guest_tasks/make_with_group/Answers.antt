@@ -2,8 +2,8 @@
 use Rattle.std.proofs.Common.{refl, subst, ◌∙◌}
 use Rattle.std.proofs.lemmas.Result.{err_from_is_err_and}
 use Rattle.std.specs.Prelude.{None, ℕ, [], ◌∷◌}
-use Rattle.group_notices.proofs.MoveLemmas.{unhooked_calm}
-use Rattle.task_group.specs.Listeners.{ToldCalmly}
+use Rattle.group_notices.proofs.MoveLemmas.{unhooked_hook_is_ok}
+use Rattle.task_group.specs.Listeners.{ToldWithHookOk}
 use Rattle.task_loop.proofs.CallStartLemmas.{leaves_told_none}
 use Rattle.task_loop.proofs.NewTaskLemmas.{begins_other, begins_reason, begins_still}
 use Rattle.task_loop.proofs.guest_tasks.make_with_group.Goals as goal
@@ -18,8 +18,8 @@ returns g c =
     record {
       makes = record {
         begins = c.in_ok-id.ensures.begins;
-        begun = subst (λ (n : ℕ). ToldCalmly (told_of notice.Start n ∷ []) store.listeners new) c.next_group-group.ensures
-            (unhooked_calm _ store.listeners new c.requires.unhooked c.tell-told.ensures.told);
+        begun = subst (λ (n : ℕ). ToldWithHookOk (told_of notice.Start n ∷ []) store.listeners new) c.next_group-group.ensures
+            (unhooked_hook_is_ok _ store.listeners new c.requires.unhooked c.tell-told.ensures.told);
       };
       rest = refl;
     }

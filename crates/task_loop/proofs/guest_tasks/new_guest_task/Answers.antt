@@ -14,7 +14,7 @@ use Rattle.task_machine.specs.Core.{Core}
 use Rattle.task_machine.specs.declared.trap.Trap.TheVariants as trap
 use Rattle.state_calls.specs.declared.error.TaskError.TheVariants as task_error
 use Rattle.task_store.specs.Hosts.{HoldsWorks, held_by}
-use Rattle.task_turns.specs.Turn.{Sits}
+use Rattle.task_turns.specs.Turn.{CoreInOrder}
 use Rattle.task_words.specs.StateView.{StateView}
 
 settles_core : (b : Bool) (left t : StateView) (old new : Listeners) → SettlesGroups b left t old new → t.core ≡ left.core
@@ -59,7 +59,7 @@ returns-in-Ok g c =
             let same = settles_open b made.state u made.listeners new (begun_open x i f s made.state core untrapped) settle.settles in
             on_ok_of _ r c.in-Ok.id (unheard_at listens made.listeners new (r ≡ Ok c.in-Ok.id) settle.answer (λ err. let no = ap errors_of same in omega (arith, err, no)));
         refused = settled_ok listens store.listeners made.listeners new _ r c.in-Ok.id e.begun.told.same_hook (settles_hook b made.state u made.listeners new settle.settles) settle.answer;
-        order = λ component p kind sits. subst (Sits component p) (sym (settles_core b made.state u made.listeners new settle.settles ∙ core)) (begun_in_order component p i s sits x f kind);
+        order = λ component p kind sits. subst (CoreInOrder component p) (sym (settles_core b made.state u made.listeners new settle.settles ∙ core)) (begun_in_order component p i s sits x f kind);
         works = λ course h. rw c.in-Ok.ensures.rest
             (subst (λ (d : Core). HoldsWorks (held_by course store) d) (sym (settles_core b made.state u made.listeners new settle.settles)) (begun_hosts (held_by course store) x i f s made.state core h));
         rest = rest_with store made u new c.in-Ok.ensures.rest;
@@ -82,7 +82,7 @@ returns-in-Err g c =
         makes = (e.reason, inl (e.state, e.told));
         kept = λ untrapped. e.state;
         refused = e.unhooked;
-        order = λ component p kind sits. subst (λ (v : StateView). Sits component p v.core) (sym e.state) sits;
+        order = λ component p kind sits. subst (λ (v : StateView). CoreInOrder component p v.core) (sym e.state) sits;
         works = λ course h. rw c.in-Err.ensures.rest (still_hosts (held_by course store) s made.state e.state h);
         rest = c.in-Err.ensures.rest;
       };

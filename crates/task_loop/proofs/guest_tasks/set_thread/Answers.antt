@@ -3,13 +3,13 @@ use Rattle.state_calls.specs.Currents.{IsCurrent}
 use Rattle.std.proofs.Common.{inl, inr, refl, subst, ◌∙◌}
 use Rattle.std.specs.Prelude.{ℕ}
 use Rattle.group_notices.specs.Moves.{StopsAt, moved}
-use Rattle.group_notices.specs.declared.tells.Asked.{Asked}
-use Rattle.task_group.specs.Listeners.{ToldCalmly}
+use Rattle.group_notices.specs.declared.tells.GroupsBefore.{GroupsBefore}
+use Rattle.task_group.specs.Listeners.{ToldWithHookOk}
 use Rattle.task_loop.proofs.GuestCallLemmas.{hears, ran_of}
 use Rattle.task_loop.proofs.GuestTaskLemmas.{runs_holds}
 use Rattle.task_loop.proofs.TellLemmas.{stops_failed}
 use Rattle.task_loop.proofs.guest_tasks.set_thread.Goals as goal
-use Rattle.task_loop.specs.Told.{asked_now}
+use Rattle.task_loop.specs.Told.{groups_before_call}
 use Rattle.task_store.specs.Hosts.{held_by}
 
 pub returns : goal.returns
@@ -28,8 +28,8 @@ returns g c =
           ran = ran.1.1;
           runs = new;
           order = c.set_thread.ensures.order;
-          told = subst (λ (k : ℕ). ToldCalmly (moved (asked_now s) k) store.listeners l) c.group_to_run-group.ensures
-              (subst (λ (a : Asked). ToldCalmly (moved a c.group_to_run-group.result) store.listeners l) c.asked-before.ensures c.in-Ok.ensures.told);
+          told = subst (λ (k : ℕ). ToldWithHookOk (moved (groups_before_call s) k) store.listeners l) c.group_to_run-group.ensures
+              (subst (λ (a : GroupsBefore). ToldWithHookOk (moved a c.group_to_run-group.result) store.listeners l) c.asked-before.ensures c.in-Ok.ensures.told);
         });
         wakes = c.set_thread.ensures.wakes;
         works = λ course h. runs_holds (held_by course store) s t c.args.thread new h;
@@ -50,8 +50,8 @@ returns-in_default g c =
           hears = hears g.G.TaskGroupHook.listens c.is_hooked-hooked.result store.listeners l hooked.hook hooked.listens (stops_failed _ store.listeners l stops) c.in_default.ensures.hook;
           answers = refl;
           state = refl;
-          stops = subst (λ (k : ℕ). StopsAt (moved (asked_now s) k) store.listeners l) c.group_to_run-group.ensures
-              (subst (λ (a : Asked). StopsAt (moved a c.group_to_run-group.result) store.listeners l) c.asked-before.ensures stops);
+          stops = subst (λ (k : ℕ). StopsAt (moved (groups_before_call s) k) store.listeners l) c.group_to_run-group.ensures
+              (subst (λ (a : GroupsBefore). StopsAt (moved a c.group_to_run-group.result) store.listeners l) c.asked-before.ensures stops);
         });
         wakes = λ may h. h;
         works = λ course h. h;

@@ -1,12 +1,12 @@
 -- In a trapped store all groups have ended.
 use Rattle.std.proofs.Common.{arith, refl, subst, sym, ◌∙◌}
 use Rattle.std.specs.Prelude.{Bool}
-use Rattle.task_loop.proofs.HookLemmas.{always_calm, silent, unheard_failed}
+use Rattle.task_loop.proofs.HookLemmas.{always_hook_is_ok, silent, unheard_failed}
 use Rattle.task_loop.proofs.guest_tasks.settle.Goals as goal
 use Rattle.task_loop.specs.Begun.{SettlesGroups}
 
 pub returns-then-not-trapped-clause-answer : goal.returns-then-not-trapped-clause-answer
-returns-then-not-trapped-clause-answer g c = always_calm g.G.TaskGroupHook.listens c.args.listeners.now c.args.listeners.now _ refl
+returns-then-not-trapped-clause-answer g c = always_hook_is_ok g.G.TaskGroupHook.listens c.args.listeners.now c.args.listeners.now _ refl
 
 pub returns-then-not-trapped-clause-settles : goal.returns-then-not-trapped-clause-settles
 returns-then-not-trapped-clause-settles g c =
@@ -28,10 +28,10 @@ returns-in_default-clause-settles g c =
     (c.finish_ended.ensures.asked, c.finish_ended.ensures.told)
 
 pub returns-clause-answer : goal.returns-clause-answer
-returns-clause-answer g c = always_calm g.G.TaskGroupHook.listens c.args.listeners.now c.finish_ended.new.listeners _ refl
+returns-clause-answer g c = always_hook_is_ok g.G.TaskGroupHook.listens c.args.listeners.now c.finish_ended.new.listeners _ refl
 
 pub returns-clause-failed : goal.returns-clause-failed
-returns-clause-failed g c = λ err. let same = c.in-Ok.ensures.hook.calm in absurd (omega (arith, err, same))
+returns-clause-failed g c = λ err. let same = c.in-Ok.ensures.hook.hook_is_ok in absurd (omega (arith, err, same))
 
 pub returns-clause-settles : goal.returns-clause-settles
 returns-clause-settles g c =

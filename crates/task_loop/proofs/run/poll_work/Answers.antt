@@ -6,7 +6,7 @@ use Rattle.task_loop.proofs.IdleLemmas.{poll_leaves_none}
 use Rattle.task_loop.proofs.ToldLemmas.{turns_asked}
 use Rattle.task_loop.proofs.TurnTellLemmas.{asked_after, part_core, tells_in_part, tells_turn, turns_part, works_asked, works_part}
 use Rattle.task_loop.proofs.run.poll_work.Goals as goal
-use Rattle.task_loop.specs.Told.{TellsPart, TellsWhole, asked_beside}
+use Rattle.task_loop.specs.Told.{TellsPart, TellsWhole, groups_before_work}
 use Rattle.task_machine.specs.Core.{Core, Unscripted}
 use Rattle.task_machine.specs.declared.records.Turn.TheVariants as turn
 use Rattle.task_store.specs.Hosts.{HoldsWorks, held_by}
@@ -40,7 +40,7 @@ returns-clause-polled g c =
     let s = c.args.store.now in
     let t = c.poll_next-made.new.self in
     let u = c.tell_poll.new.core in
-    let a = asked_beside c.poll_next-made.new.worked in
+    let a = groups_before_work c.poll_next-made.new.worked in
     let told = c.in-Ok-tell_poll.ensures.told in
     let same = ap (λ k. k.listeners) c.poll_next-made.ensures.rest in (
       (
@@ -54,7 +54,7 @@ returns-clause-polled g c =
       record {
         told = tells_turn s.state (turn.Futures c.args.polled) c.requires.asked c.none_is_zero.ensures.groups a refl c.poll_next-made.ensures.worked t.state u c.poll_next-made.ensures.works.1 s.listeners c.tell_poll.new.listeners c.count_ended.ensures
             (subst (λ (l : Listeners). TellsWhole a t.state u l c.tell_poll.new.listeners) same told.whole);
-        calm = told.hook.calm ∙ ap errors_of same;
+        hook_is_ok = told.hook.hook_is_ok ∙ ap errors_of same;
         group = c.in-Ok-tell_poll.ensures.running;
       },
     )
@@ -67,7 +67,7 @@ pub returns-in_default-tell_poll-clause-works : goal.returns-in_default-tell_pol
 returns-in_default-tell_poll-clause-works g c =
     let t = c.poll_next-made.new.self in
     let u = c.tell_poll.new.core in
-    let a = asked_beside c.poll_next-made.new.worked in
+    let a = groups_before_work c.poll_next-made.new.worked in
     let part = c.in_default-tell_poll.ensures.told.part in (
       works_part a t.state u t.listeners c.tell_poll.new.listeners part c.args.store.now.state c.poll_next-made.ensures.works.0,
       subst (λ (d : Core). HoldsWorks (held_by g.H.HostWork.course t) d) (sym (part_core a t.state u t.listeners c.tell_poll.new.listeners part)) c.poll_next-made.ensures.hosts,
@@ -79,7 +79,7 @@ returns-in_default-tell_poll-clause-failed g c = λ stopped.
     let t = c.poll_next-made.new.self in
     let u = c.tell_poll.new.core in
     let new = c.tell_poll.new.listeners in
-    let a = asked_beside c.poll_next-made.new.worked in
+    let a = groups_before_work c.poll_next-made.new.worked in
     let told = c.in_default-tell_poll.ensures.told in
     let same = ap (λ k. k.listeners) c.poll_next-made.ensures.rest in (
       record {

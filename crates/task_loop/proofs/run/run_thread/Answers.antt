@@ -5,15 +5,15 @@ use Rattle.task_group.specs.Listeners.{AnsweredErr, Listeners, errors_of}
 use Rattle.task_loop.proofs.ToldLemmas.{current_is, makes_asked, run_runs, run_stays, run_told, running_asked}
 use Rattle.task_loop.proofs.TurnTellLemmas.{asked_after, makes_part, names_asked, names_part, part_core, tells_in_part, tells_turn}
 use Rattle.task_loop.proofs.run.run_thread.Goals as goal
-use Rattle.task_loop.specs.Told.{TellsPart, TellsWhole, asked_in, turn_of}
+use Rattle.task_loop.specs.Told.{TellsPart, TellsWhole, groups_before_run, turn_of}
 use Rattle.task_machine.specs.Core.{Core}
 use Rattle.task_machine.specs.declared.records.Turn.TheVariants as turn
 use Rattle.task_store.specs.Hosts.{HoldsWorks, held_by}
 use Rattle.task_turns.proofs.KeptLemmas.{made_in_order}
-use Rattle.task_turns.proofs.ThereLemmas.{sits_there}
-use Rattle.task_turns.specs.Stepped.{Added}
-use Rattle.task_turns.specs.Turn.{IsFree, Makes, running_of}
-use Rattle.task_turns.specs.declared.made.Made.{Made}
+use Rattle.task_turns.proofs.ThereLemmas.{core_in_order_there}
+use Rattle.task_turns.specs.StepResult.{Added}
+use Rattle.task_turns.specs.Turn.{IsFree, MakesStep, running_of}
+use Rattle.task_turns.specs.declared.made.MadeStep.{MadeStep}
 
 pub tell_run-told-requires-clause-stays : goal.tell_run-told-requires-clause-stays
 tell_run-told-requires-clause-stays g c = λ on.
@@ -28,7 +28,7 @@ tell_run-told-requires-clause-there g c =
     let s = c.args.store.now.state in
     let t = c.step_thread.new.store.state in
     let makes = (made.1.1).0 in
-    sits_there c.args.component.now made.0.turn t (made_in_order c.args.component.now (turn.Run c.args.thread) s made.0 t c.requires.runs.order makes) makes.running
+    core_in_order_there c.args.component.now made.0.turn t (made_in_order c.args.component.now (turn.Run c.args.thread) s made.0 t c.requires.runs.order makes) makes.running
 
 pub returns-clause-ran : goal.returns-clause-ran
 returns-clause-ran g c =
@@ -39,7 +39,7 @@ returns-clause-ran g c =
     let u = c.tell_run-told.new.core in
     let new = c.tell_run-told.new.listeners in
     let q = c.in-Ok.stepped in
-    let a = asked_in c.args.running.now in
+    let a = groups_before_run c.args.running.now in
     let before = c.args.trace.now in
     let after = c.step_thread.new.trace in
     let steps = c.in-Ok.ensures.steps in
@@ -47,7 +47,7 @@ returns-clause-ran g c =
     let told = c.in-Ok-told.ensures.told in
     let asked = told.whole.asked in
     let same = c.in-Ok.ensures.listeners in
-    let makes : Added (λ (k : Made). Makes d (turn.Run n) s.state k u × IsFree k.turn) q before after = (made.0, (made.1.0, (makes_asked d (turn.Run n) s.state made.0 t.state u asked (made.1.1).0, (made.1.1).1))) in
+    let makes : Added (λ (k : MadeStep). MakesStep d (turn.Run n) s.state k u × IsFree k.turn) q before after = (made.0, (made.1.0, (makes_asked d (turn.Run n) s.state made.0 t.state u asked (made.1.1).0, (made.1.1).1))) in
     record {
       steps = record {
         makes = makes;
@@ -57,7 +57,7 @@ returns-clause-ran g c =
       told = run_told d n s.state u q before after makes c.requires.asked s.listeners new
           (tells_turn s.state (turn.Run n) c.requires.asked c.none_is_zero.ensures.groups a c.requires.running refl t.state u steps.works.1 s.listeners new c.count_ended.ensures
           (subst (λ (l : Listeners). TellsWhole a t.state u l new) same told.whole))
-          (told.hook.calm ∙ ap errors_of same);
+          (told.hook.hook_is_ok ∙ ap errors_of same);
       group = c.in-Ok-told.ensures.running
           ∙ current_is u (turn_of q) (ap running_of asked ∙ (running_asked t.state ∙ run_runs d n s.state t.state q before after made));
       asked = asked_after t.state u asked;
@@ -72,7 +72,7 @@ returns-in_default-told-clause-failed g c = λ stopped.
     let t = c.step_thread.new.store in
     let u = c.tell_run-told.new.core in
     let new = c.tell_run-told.new.listeners in
-    let a = asked_in c.args.running.now in
+    let a = groups_before_run c.args.running.now in
     let steps = c.in-Ok.ensures.steps in
     let made = steps.makes in
     let told = c.in_default-told.ensures.told in

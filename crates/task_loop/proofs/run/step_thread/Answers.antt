@@ -13,16 +13,16 @@ use Rattle.task_machine.specs.declared.records.Turn.TheVariants as turn
 use Rattle.task_rules.specs.Scripts.{op_of}
 use Rattle.task_store.specs.Hosts.{held_by}
 use Rattle.task_turns.specs.Ran.{RanPolls}
-use Rattle.task_turns.specs.Stepped.{CallsHost, RunAdded}
-use Rattle.task_turns.specs.Turn.{IsFree, Makes}
+use Rattle.task_turns.specs.StepResult.{CallsHost, RunAdded}
+use Rattle.task_turns.specs.Turn.{IsFree, MakesStep}
 use Rattle.task_turns.specs.declared.made.Ran.{Ran}
 use Rattle.task_turns.specs.declared.made.RunStep.{RunStep}
-use Rattle.task_turns.specs.declared.made.Stepped.{Stepped}
+use Rattle.task_turns.specs.declared.made.StepResult.{StepResult}
 use Rattle.task_words.specs.StateView.{StateView}
 
 -- what came of the step
 abbrev Came : Component → ℕ → (s t : StateView) → (before after : List Label) → RunStep → Type 0
-Came comp n s t before after r = RunAdded (λ (q : Ran). (Makes comp (turn.Run n) s q.made t × IsFree q.made.turn) × ((answer : HostPoll) → RanPolls answer comp n s q t)) (CallsHost comp n s t) r before after
+Came comp n s t before after r = RunAdded (λ (q : Ran). (MakesStep comp (turn.Run n) s q.made t × IsFree q.made.turn) × ((answer : HostPoll) → RanPolls answer comp n s q t)) (CallsHost comp n s t) r before after
 
 pub returns-in-Shown-clause-steps : goal.returns-in-Shown-clause-steps
 returns-in-Shown-clause-steps g c =
@@ -64,8 +64,8 @@ returns-in-Calls-clause-steps g c =
     let mid = c.step_run.new.trace in
     let after = c.call_host.new.trace in
     let same = subst (λ (r : RunStep). Came comp n store.state c.step_run.new.w c.args.trace.now mid r) c.in-Calls.is c.in-Ok.ensures.ran in
-    subst (λ (l : List Label). IfOk c.call_host.result (λ (q : Stepped). StepsUntold course comp n store q c.call_host.new.store l after)) same.1
-    (subst (λ (v : StateView). IfOk c.call_host.result (λ (q : Stepped). StepsUntold course comp n (record store { state = v }) q c.call_host.new.store mid after)) same.0.0 c.call_host.ensures.steps)
+    subst (λ (l : List Label). IfOk c.call_host.result (λ (q : StepResult). StepsUntold course comp n store q c.call_host.new.store l after)) same.1
+    (subst (λ (v : StateView). IfOk c.call_host.result (λ (q : StepResult). StepsUntold course comp n (record store { state = v }) q c.call_host.new.store mid after)) same.0.0 c.call_host.ensures.steps)
 
 pub returns-in-Calls-clause-err : goal.returns-in-Calls-clause-err
 returns-in-Calls-clause-err g c =

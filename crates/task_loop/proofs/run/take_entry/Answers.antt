@@ -3,9 +3,9 @@ use Rattle.std.proofs.Common.{refl, subst, sym}
 use Rattle.task_loop.proofs.TakenLemmas.{none_kept, turned_asked, turned_part}
 use Rattle.task_loop.proofs.TurnTellLemmas.{asked_after, tells_in_part, tells_turn, works_asked, works_part}
 use Rattle.task_loop.proofs.run.take_entry.Goals as goal
-use Rattle.task_loop.specs.Told.{asked_beside}
+use Rattle.task_loop.specs.Told.{groups_before_work}
 use Rattle.task_machine.specs.declared.records.Turn.TheVariants as turn
-use Rattle.task_turns.specs.Stepped.{AddedOrNone}
+use Rattle.task_turns.specs.StepResult.{AddedOrNone}
 use Rattle.task_turns.specs.Turn.{TurnedBeside}
 use Rattle.task_words.specs.Groups.{IsAsked}
 use Rattle.task_words.specs.StateView.{StateView}
@@ -23,9 +23,9 @@ returns-in-Ok-tell_work-clause-told g c =
     let s = c.args.store.now in
     let told = c.in-Ok-tell_work.ensures.told in
     record {
-      told = tells_turn s.state (turn.Take c.args.ended) c.requires.asked c.none_is_zero.ensures.groups (asked_beside c.take.new.worked) refl c.take.ensures.worked c.take.new.w c.tell_work.new.core c.in-Ok.ensures.works.1 s.listeners c.tell_work.new.listeners c.count_ended.ensures
+      told = tells_turn s.state (turn.Take c.args.ended) c.requires.asked c.none_is_zero.ensures.groups (groups_before_work c.take.new.worked) refl c.take.ensures.worked c.take.new.w c.tell_work.new.core c.in-Ok.ensures.works.1 s.listeners c.tell_work.new.listeners c.count_ended.ensures
           told.whole;
-      calm = told.hook.calm;
+      hook_is_ok = told.hook.hook_is_ok;
       group = c.in-Ok-tell_work.ensures.running;
     }
 
@@ -50,7 +50,7 @@ returns-in-None-clause-asked g c =
 pub returns-in_default-tell_work-clause-failed : goal.returns-in_default-tell_work-clause-failed
 returns-in_default-tell_work-clause-failed g c = λ stopped.
     let s = c.args.store.now in
-    let a = asked_beside c.take.new.worked in
+    let a = groups_before_work c.take.new.worked in
     let told = c.in_default-tell_work.ensures.told in (
       record {
         told = tells_in_part s.state (turn.Take c.args.ended) c.requires.asked c.none_is_zero.ensures.groups a refl c.take.ensures.worked c.take.new.w c.tell_work.new.core c.in-Ok.ensures.works.1 s.listeners c.tell_work.new.listeners told.part

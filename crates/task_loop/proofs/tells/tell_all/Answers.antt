@@ -16,4 +16,4 @@ returns-in_err-finish_ended-clause-told g c =
 pub returns-clause-told : goal.returns-clause-told
 returns-clause-told g c =
     out_whole c.args.asked.now c.args.core.now c.group_now-running.result c.group_now-running.ensures c.finish_ended.new.core c.finish_ended.ensures.asked c.args.listeners.now c.tell_moves.new.listeners c.finish_ended.new.listeners
-    c.in_ok-tell_moves.ensures.told c.in_ok-tell_moves.ensures.hook c.finish_ended.ensures.told _ c.in_ok-finish_ended.ensures.hook.calm c.finish_ended.ensures.hook.hook
+    c.in_ok-tell_moves.ensures.told c.in_ok-tell_moves.ensures.hook c.finish_ended.ensures.told _ c.in_ok-finish_ended.ensures.hook.hook_is_ok c.finish_ended.ensures.hook.hook

@@ -3,7 +3,7 @@ use Rattle.std.proofs.Common.{sym, ◌∙◌}
 use Rattle.task_loop.proofs.TellLemmas.{quiet_out}
 use Rattle.task_loop.proofs.ToldLemmas.{idle_group}
 use Rattle.task_loop.proofs.tells.tell_poll.Goals as goal
-use Rattle.task_loop.specs.Told.{asked_beside}
+use Rattle.task_loop.specs.Told.{groups_before_work}
 
 pub tell_step-requires-clause-after : goal.tell_step-requires-clause-after
 tell_step-requires-clause-after g c = sym (idle_group c.args.core.now c.requires)
@@ -13,4 +13,4 @@ tell_step-requires-clause-unhooked g c = sym c.is_hooked.ensures.hook ∙ c.if-i
 
 pub returns-clause-told : goal.returns-clause-told
 returns-clause-told g c =
-    quiet_out _ (asked_beside c.args.worked) c.args.core.now c.tell_step.new.core c.args.listeners.now c.tell_step.new.listeners (sym c.is_hooked.ensures.hook ∙ c.if-is_hooked.false) c.tell_step.ensures.told
+    quiet_out _ (groups_before_work c.args.worked) c.args.core.now c.tell_step.new.core c.args.listeners.now c.tell_step.new.listeners (sym c.is_hooked.ensures.hook ∙ c.if-is_hooked.false) c.tell_step.ensures.told

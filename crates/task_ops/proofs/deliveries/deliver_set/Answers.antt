@@ -13,4 +13,4 @@ returns-in-Some-clause-meets g c =
     let s = v c.args.w.now in
     let named = λ (y : StateView). thread_of y c.in-Some.woken in
     let woken = c.number.ensures ∙ (ap named c.activate.ensures ∙ ap named c.in-Some.ensures.new) in
-    set_meets c.args.thread c.args.mark _ _ _ _ _ _ c.gift_for-gift.result c.given-given.result s (v c.hand_on-waiter.new.w) _ c.activated-in-Some.ensures c.task_of-call.ensures.is c.number-number.ensures woken c.gift_for-gift.ensures.is c.given-given.ensures.is c.in-Some.ensures.choice c.in-Some.ensures.new c.activate.ensures
+    set_meets c.args.thread c.args.mark _ _ _ _ _ _ c.picked_event_for-picked_event.result c.given-given.result s (v c.hand_on-waiter.new.w) _ c.activated-in-Some.ensures c.task_of-call.ensures.is c.number-number.ensures woken c.picked_event_for-picked_event.ensures.is c.given-given.ensures.is c.in-Some.ensures.choice c.in-Some.ensures.new c.activate.ensures

@@ -5,8 +5,8 @@ use Rattle.task_machine.specs.Read.{instance_of, task_of}
 use Rattle.task_machine.specs.declared.trap.Trap.TheVariants as trap
 use Rattle.task_ops.proofs.BlockLemmas.{passes_any}
 use Rattle.task_ops.proofs.leaves.exit_blocking.Goals as goal
-use Rattle.task_ops.specs.Came.{Meets}
-use Rattle.task_ops.specs.declared.came.Came.TheVariants as came
+use Rattle.task_ops.specs.OpResult.{Implements}
+use Rattle.task_ops.specs.declared.op_result.OpResult.TheVariants as op_result
 use Rattle.task_rules.specs.Ends.{blocking_exits, held_by_flag, may_tell}
 use Rattle.task_rules.specs.Progress.{Ordered, Stops, may, trap_if}
 use Rattle.task_words.specs.StateView.{StateView, thread_of}
@@ -20,5 +20,5 @@ returns-then-not-passes_after_return-clause-meets g c =
     let w = option_map (λ id. thread_of s id) c.tell_waiter-waiter.result in
     let lawful = subst (λ k. may_tell k w s.core ≡ true) c.task_of-call.ensures.is c.tell_waiter-waiter.ensures.choice in
     let fails = passes_any n s.core c.requires.together w lawful ∙ (sym c.passes_after_return.ensures.passes ∙ c.if-not-passes_after_return.true) in
-    subst (λ (b : Bool). Meets (trap_if (not b) trap.CannotBlockSyncTask (may (may_tell (task_of n s.core) None s.core) (Ordered (held_by_flag (instance_of n s.core) s.core) (λ order. Stops (exit_label n None) (blocking_exits n None order s.core))))) s.core (came.Traps trap.CannotBlockSyncTask) (v c.passes_after_return.new.w).core) (sym fails)
+    subst (λ (b : Bool). Implements (trap_if (not b) trap.CannotBlockSyncTask (may (may_tell (task_of n s.core) None s.core) (Ordered (held_by_flag (instance_of n s.core) s.core) (λ order. Stops (exit_label n None) (blocking_exits n None order s.core))))) s.core (op_result.Traps trap.CannotBlockSyncTask) (v c.passes_after_return.new.w).core) (sym fails)
     (refl, ap (λ (y : StateView). y.core) c.passes_after_return.ensures.same)

@@ -22,7 +22,7 @@ pub leave_to-requires-2-clause-call : goal.leave_to-requires-2-clause-call
 leave_to-requires-2-clause-call g c = checked_its c.args.thread c.args.call (g.W.View.view c.args.w.now) _ c.requires.call _ c.check.ensures
 
 pub leave_to-requires-clause-known : goal.leave_to-requires-clause-known
-leave_to-requires-clause-known g c = restored_explicit c.args.thread c.explicit_there-explicit.result (g.W.View.view c.args.w.now) _ c.explicit_there-explicit.ensures c.restore.ensures
+leave_to-requires-clause-known g c = restored_explicit c.args.thread c.explicit_unchecked-explicit.result (g.W.View.view c.args.w.now) _ c.explicit_unchecked-explicit.ensures c.restore.ensures
 
 pub leave_to-requires-2-clause-known : goal.leave_to-requires-2-clause-known
-leave_to-requires-2-clause-known g c = checked_explicit c.args.thread c.explicit_there-explicit.result (g.W.View.view c.args.w.now) _ c.explicit_there-explicit.ensures _ c.check.ensures
+leave_to-requires-2-clause-known g c = checked_explicit c.args.thread c.explicit_unchecked-explicit.result (g.W.View.view c.args.w.now) _ c.explicit_unchecked-explicit.ensures _ c.check.ensures

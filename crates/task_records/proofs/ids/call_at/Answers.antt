@@ -1,7 +1,7 @@
 use Rattle.task_records.proofs.StandLemmas.{shown_here, shown_nowhere}
 use Rattle.task_records.proofs.ids.call_at.Goals as goal
 use Rattle.task_records.proofs.Core.{call_number, seen}
-use Rattle.task_records.specs.declared.{calls.GuestTask.GuestTask}
+use Rattle.task_records.specs.declared.{call_records.GuestTask.GuestTask}
 
 pub returns-in-Some : goal.returns-in-Some
 unfolding seen call_number

@@ -1,5 +1,5 @@
 use Rattle.task_records.proofs.Core.{seen}
-use Rattle.task_records.proofs.KnownLemmas.{known_above_zero}
+use Rattle.task_records.proofs.TrackedLemmas.{known_above_zero}
 use Rattle.task_records.proofs.HomeLemmas.{no_call, no_set, no_thread, no_work}
 use Rattle.task_records.proofs.ids.none_is_zero.Goals as goal
 

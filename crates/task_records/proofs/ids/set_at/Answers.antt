@@ -1,7 +1,7 @@
 use Rattle.task_records.proofs.StandLemmas.{shown_here, shown_nowhere}
 use Rattle.task_records.proofs.ids.set_at.Goals as goal
 use Rattle.task_records.proofs.Core.{seen, set_number}
-use Rattle.task_records.specs.declared.{sets.WaitSet.WaitSet}
+use Rattle.task_records.specs.declared.{set_records.WaitSet.WaitSet}
 
 pub returns-in-Some : goal.returns-in-Some
 unfolding seen set_number

@@ -1,5 +1,5 @@
-use Rattle.task_records.proofs.Core.{ap, arith, call_number, IsSound, option_map_or, seen, subst, sym, Thread, ℕ, ◌<◌, ◌∙◌}
-use Rattle.task_records.specs.declared.{calls.GuestTask.GuestTask}
+use Rattle.task_records.proofs.Core.{ap, arith, call_number, IsSoundCore, option_map_or, seen, subst, sym, Thread, ℕ, ◌<◌, ◌∙◌}
+use Rattle.task_records.specs.declared.{call_records.GuestTask.GuestTask}
 use Rattle.task_records.proofs.HomeLemmas.{task_live, task_place}
 use Rattle.task_records.proofs.StandLemmas.{shown_beyond}
 use Rattle.task_records.proofs.ids.task_of.Goals as goal
@@ -13,7 +13,7 @@ pub returns-in-Some-clause-is : goal.returns-in-Some-clause-is
 returns-in-Some-clause-is c = c.standing_call.ensures ∙ task_place c.args.parts.now c.requires c.args.thread c.in-Some.entry.now c.in-Some.ensures.item
 
 pub returns-in-None-clause-is : goal.returns-in-None-clause-is
-unfolding seen IsSound call_number
+unfolding seen IsSoundCore call_number
 returns-in-None-clause-is c =
     let a = c.args.parts.now in
     shown_beyond (λ (g : GuestTask). g.number) (λ (g : GuestTask). g.call) a.calls c.nowhere.result.rep c.nowhere.result.serial a.made.threads c.requires.tables.calls c.nowhere.ensures

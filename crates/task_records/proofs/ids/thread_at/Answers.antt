@@ -1,7 +1,7 @@
 use Rattle.task_records.proofs.StandLemmas.{shown_here, shown_nowhere}
 use Rattle.task_records.proofs.ids.thread_at.Goals as goal
 use Rattle.task_records.proofs.Core.{seen, thread_number}
-use Rattle.task_records.specs.declared.{threads.GuestThread.GuestThread}
+use Rattle.task_records.specs.declared.{thread_records.GuestThread.GuestThread}
 
 pub returns-in-Some : goal.returns-in-Some
 unfolding seen thread_number

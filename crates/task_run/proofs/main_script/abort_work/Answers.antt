@@ -11,8 +11,8 @@ use Rattle.task_ops.specs.Works.{KeepsWorks}
 use Rattle.task_rules.specs.MainOps.{spawned_at}
 use Rattle.task_run.specs.Script.{machine_op, part_of, place_of, script_of}
 use Rattle.task_run.specs.Spawns.{number_in}
-use Rattle.task_run.proofs.ScriptLemmas.{did_by_row}
-use Rattle.task_run.proofs.SpawnLemmas.{aborted_row, spawn_known}
+use Rattle.task_run.proofs.ScriptLemmas.{did_by_rule}
+use Rattle.task_run.proofs.SpawnLemmas.{aborted_rule, spawn_known}
 use Rattle.task_run.proofs.StepLemmas.{script_stepped}
 use Rattle.task_run.proofs.main_script.abort_work.Goals as goal
 use Rattle.task_turns.specs.Main.{Steps}
@@ -35,8 +35,8 @@ returns-clause-step g w =
     let after = Scripted (record p { position = w.next_place-at.result }) in
     let l = main_label.Abort w.abort-phase.result w.args.spawn in
     let state = ap (λ st. st.state) w.abort-phase.ensures.store in
-    let row = aborted_row s.state.core (spawned_at p w.args.spawn) (number_in w.spawned-work.result) w.args.spawn w.abort-phase.result t.state.core w.spawned-work.ensures.number w.abort-phase.ensures.phase (ap (λ st. st.state.core) w.abort-phase.ensures.store) in
+    let row = aborted_rule s.state.core (spawned_at p w.args.spawn) (number_in w.spawned-work.result) w.args.spawn w.abort-phase.result t.state.core w.spawned-work.ensures.number w.abort-phase.ensures.phase (ap (λ st. st.state.core) w.abort-phase.ensures.store) in
     let steps : Steps d (script_of main) (part_of main) s.state.core (step.Did (label.Main l)) after t.state.core =
-    rw w.next_place-at.ensures (did_by_row d (script_of main) p s.state.core o at l _ row tt) in
-    script_stepped g.H.HostWork.course d main s w.requires.may (step.Did (label.Main l)) _ t refl refl (ap (λ st. st.listeners) w.abort-phase.ensures.store) (ap (λ st. st.state.tags.known) w.abort-phase.ensures.store) steps refl (ap (λ st. running_of st.state) w.abort-phase.ensures.store)
+    rw w.next_place-at.ensures (did_by_rule d (script_of main) p s.state.core o at l _ row tt) in
+    script_stepped g.H.HostWork.course d main s w.requires.may (step.Did (label.Main l)) _ t refl refl (ap (λ st. st.listeners) w.abort-phase.ensures.store) (ap (λ st. st.state.tags.tracked) w.abort-phase.ensures.store) steps refl (ap (λ st. running_of st.state) w.abort-phase.ensures.store)
     (subst (λ (u : StateView). KeepsWorks s.state u) (sym state) (λ id live. refl)) w.abort-phase.ensures.hosts

@@ -9,7 +9,7 @@ use Rattle.task_machine.specs.declared.label.MainLabel.TheVariants as main_label
 use Rattle.task_machine.specs.declared.scenario.MainOpDef.TheVariants as machine
 use Rattle.task_rules.specs.MainOps.{unless_pending}
 use Rattle.task_run.specs.Script.{machine_op, part_of, place_of, script_of}
-use Rattle.task_run.proofs.ScriptLemmas.{did_by_row, pends_by_row}
+use Rattle.task_run.proofs.ScriptLemmas.{did_by_rule, pends_by_rule}
 use Rattle.task_run.proofs.StepLemmas.{script_stepped}
 use Rattle.task_run.proofs.main_script.await_quiet.Goals as goal
 use Rattle.task_turns.specs.Main.{Steps}
@@ -24,7 +24,7 @@ returns-then-has_interesting-clause-step g w =
     let o = machine.Quiet in
     let at = slice_get-map machine_op main.ops.now main.at ∙ ap (option_map machine_op) w.requires.op in
     let row = ap (λ (b : Bool). unless_pending (not b) main_label.Quiet s.state.core) (sym w.has_interesting.ensures ∙ w.if-has_interesting.true) in
-    script_stepped g.H.HostWork.course d main s w.requires.may step.Pends main s refl refl refl refl (pends_by_row d (script_of main) p s.state.core o at row) refl refl (λ id live. refl) w.requires.may.works
+    script_stepped g.H.HostWork.course d main s w.requires.may step.Pends main s refl refl refl refl (pends_by_rule d (script_of main) p s.state.core o at row) refl refl (λ id live. refl) w.requires.may.works
 
 pub returns-clause-step : goal.returns-clause-step
 returns-clause-step g w =
@@ -38,5 +38,5 @@ returns-clause-step g w =
     let l = main_label.Quiet in
     let row = ap (λ (b : Bool). unless_pending (not b) main_label.Quiet s.state.core) (sym w.has_interesting.ensures ∙ w.if-has_interesting.false) in
     let steps : Steps d (script_of main) (part_of main) s.state.core (step.Did (label.Main l)) after s.state.core =
-    rw w.next_place-at.ensures (did_by_row d (script_of main) p s.state.core o at l s.state.core row tt) in
+    rw w.next_place-at.ensures (did_by_rule d (script_of main) p s.state.core o at l s.state.core row tt) in
     script_stepped g.H.HostWork.course d main s w.requires.may (step.Did (label.Main l)) _ s refl refl refl refl steps refl refl (λ id live. refl) w.requires.may.works

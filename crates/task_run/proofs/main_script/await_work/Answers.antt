@@ -11,7 +11,7 @@ use Rattle.task_machine.specs.Read.{phase_of}
 use Rattle.task_ops.specs.Works.{KeepsWorks}
 use Rattle.task_rules.specs.MainOps.{is_complete, unless_pending}
 use Rattle.task_run.specs.Script.{machine_op, part_of, place_of, script_of}
-use Rattle.task_run.proofs.ScriptLemmas.{did_by_row, pends_by_row}
+use Rattle.task_run.proofs.ScriptLemmas.{did_by_rule, pends_by_rule}
 use Rattle.task_run.proofs.SpawnLemmas.{spawn_known}
 use Rattle.task_run.proofs.StepLemmas.{script_stepped}
 use Rattle.task_run.proofs.main_script.await_work.Goals as goal
@@ -35,8 +35,8 @@ returns-then-not-is_complete-clause-step g w =
     let store = w.is_complete.ensures.store in
     let row = ap (λ (i : ℕ). unless_pending (is_complete (phase_of i s.state.core)) (main_label.Await w.args.spawn) s.state.core) w.spawned-work.ensures.number
     ∙ ap (λ (b : Bool). unless_pending b (main_label.Await w.args.spawn) s.state.core) (sym w.is_complete.ensures.answer ∙ w.if-not-is_complete.true) in
-    let steps : Steps d (script_of main) (part_of main) s.state.core step.Pends (part_of main) t.state.core = rw store (pends_by_row d (script_of main) p s.state.core o at row) in
-    script_stepped g.H.HostWork.course d main s w.requires.may step.Pends main t refl refl (ap (λ st. st.listeners) store) (ap (λ st. st.state.tags.known) store) steps refl (ap (λ st. running_of st.state) store)
+    let steps : Steps d (script_of main) (part_of main) s.state.core step.Pends (part_of main) t.state.core = rw store (pends_by_rule d (script_of main) p s.state.core o at row) in
+    script_stepped g.H.HostWork.course d main s w.requires.may step.Pends main t refl refl (ap (λ st. st.listeners) store) (ap (λ st. st.state.tags.tracked) store) steps refl (ap (λ st. running_of st.state) store)
     (subst (λ (u : StateView). KeepsWorks s.state u) (sym (ap (λ st. st.state) store)) (λ id live. refl)) w.is_complete.ensures.hosts
 
 pub returns-clause-step : goal.returns-clause-step
@@ -54,6 +54,6 @@ returns-clause-step g w =
     let row = ap (λ (i : ℕ). unless_pending (is_complete (phase_of i s.state.core)) (main_label.Await w.args.spawn) s.state.core) w.spawned-work.ensures.number
     ∙ ap (λ (b : Bool). unless_pending b (main_label.Await w.args.spawn) s.state.core) (sym w.is_complete.ensures.answer ∙ w.if-not-is_complete.false) in
     let steps : Steps d (script_of main) (part_of main) s.state.core (step.Did (label.Main l)) after t.state.core =
-    rw (store, w.next_place-at.ensures) (did_by_row d (script_of main) p s.state.core o at l s.state.core row tt) in
-    script_stepped g.H.HostWork.course d main s w.requires.may (step.Did (label.Main l)) _ t refl refl (ap (λ st. st.listeners) store) (ap (λ st. st.state.tags.known) store) steps refl (ap (λ st. running_of st.state) store)
+    rw (store, w.next_place-at.ensures) (did_by_rule d (script_of main) p s.state.core o at l s.state.core row tt) in
+    script_stepped g.H.HostWork.course d main s w.requires.may (step.Did (label.Main l)) _ t refl refl (ap (λ st. st.listeners) store) (ap (λ st. st.state.tags.tracked) store) steps refl (ap (λ st. running_of st.state) store)
     (subst (λ (u : StateView). KeepsWorks s.state u) (sym (ap (λ st. st.state) store)) (λ id live. refl)) w.is_complete.ensures.hosts

@@ -11,16 +11,16 @@ use Rattle.task_machine.specs.declared.records.Turn.TheVariants as turn
 use Rattle.task_machine.specs.declared.scenario.MainOpDef.TheVariants as machine
 use Rattle.task_rules.specs.MainOps.{Does, start_act, start_refusal}
 use Rattle.task_rules.specs.Scripts.{value_in}
-use Rattle.task_calls.specs.Calls.{Starts}
+use Rattle.task_calls.specs.MainCalls.{Starts}
 use Rattle.state_calls.specs.declared.error.TaskError.{TaskError}
 use Rattle.state_calls.specs.declared.error.TaskError.TheVariants as task_error
 use Rattle.task_loop.proofs.CallStartLemmas.{stop_starts, stop_told}
 use Rattle.task_loop.proofs.HookLemmas.{unfailed}
 use Rattle.task_loop.proofs.MainStartLemmas.{refusal_stepped, shows_refusal, shows_start, start_failed, start_stepped}
-use Rattle.task_loop.specs.Calls.{callee_of}
+use Rattle.task_loop.specs.LoopCalls.{callee_of}
 use Rattle.task_run.specs.Says.{script_says}
 use Rattle.task_run.specs.Script.{machine_op, part_of, place_of, script_of, started_of}
-use Rattle.task_run.proofs.ScriptLemmas.{asked_names, did_by_row, refused_row, start_names, started_row}
+use Rattle.task_run.proofs.ScriptLemmas.{asked_names, did_by_rule, refused_rule, start_names, started_rule}
 use Rattle.task_run.proofs.SpawnLemmas.{knows_still}
 use Rattle.task_run.proofs.StepLemmas.{suits_still}
 use Rattle.task_turns.specs.Main.{Steps}
@@ -63,10 +63,10 @@ returns-in-Ok-clause-steps c w =
     let thread = w.thread-thread.result in
     let has = w.in-Ok.ensures.does in
     let row = ap₂ (λ i ws. start_act d i e ws s.state.core (start_refusal s.state.core)) (ap (λ i. i + 1) (length-map main.starts.items started_of) ∙ sym w.next_start-number.ensures) (sym w.in_ok-words.ensures ∙ sym w.as_slice.ensures.value)
-    ∙ started_row d e words s.state t.state k (start_refusal s.state.core) call.thread has.starts ∙ ap (λ i. Does (main_label.Start k i) t.state.core) (sym w.thread-thread.ensures) in
+    ∙ started_rule d e words s.state t.state k (start_refusal s.state.core) call.thread has.starts ∙ ap (λ i. Does (main_label.Start k i) t.state.core) (sym w.thread-thread.ensures) in
     let steps : Steps d (script_of main) (part_of main) s.state.core (shows_start k thread) (part_of n) t.state.core =
     rw (w.in_ok-keep-in-Ok.ensures.at, w.in_ok-keep-in-Ok.ensures.registers, w.in_ok-keep-in-Ok.ensures.starts, w.in_ok-keep-in-Ok.ensures.spawns, map_push)
-    (did_by_row d (script_of main) (place_of main) s.state.core (machine.Start e w.args.params.now) (slice_get-map machine_op main.ops.now main.at ∙ ap (option_map machine_op) w.requires.op) (main_label.Start k thread) _ row tt) in
+    (did_by_rule d (script_of main) (place_of main) s.state.core (machine.Start e w.args.params.now) (slice_get-map machine_op main.ops.now main.at ∙ ap (option_map machine_op) w.requires.op) (main_label.Start k thread) _ row tt) in
     start_stepped script_says c.H.HostWork.course d e words main s w.requires.may t w.in-Ok.ensures.keeps k call has thread w.thread-thread.ensures n steps tt (suits_still d main n w.in_ok-keep-in-Ok.ensures.ops w.requires.may.suits)
     (knows_still d (script_of main) main n s.state t.state (shows_start k thread) w.in_ok-keep-in-Ok.ensures.spawns steps (start_names d e words s.state t.state k (start_refusal s.state.core) (Ok call.thread) has.starts) w.requires.may.knows)
 
@@ -87,10 +87,10 @@ returns-in-Err-Trap-clause-steps c w =
     let state = w.in-Err-Trap.ensures.does.state in
     let starts = subst (λ (o : TaskError). Starts d e words s.state (start_refusal s.state.core) (Err o) trapped) w.in-Err-Trap.field-0-is other in
     let row = ap₂ (λ i ws. start_act d i e ws s.state.core (start_refusal s.state.core)) (ap (λ i. i + 1) (length-map main.starts.items started_of) ∙ sym w.next_start-number.ensures) (sym w.in_ok-words.ensures ∙ sym w.as_slice.ensures.value)
-    ∙ refused_row d e words s.state trapped k (start_refusal s.state.core) why starts in
+    ∙ refused_rule d e words s.state trapped k (start_refusal s.state.core) why starts in
     let steps : Steps d (script_of main) (part_of main) s.state.core (shows_refusal k why) (part_of n) t.state.core =
     rw (state, w.in-Ok-keep.ensures.at, w.in-Ok-keep.ensures.registers, w.in-Ok-keep.ensures.starts, w.in-Ok-keep.ensures.spawns, map_push)
-    (did_by_row d (script_of main) (place_of main) s.state.core (machine.Start e w.args.params.now) (slice_get-map machine_op main.ops.now main.at ∙ ap (option_map machine_op) w.requires.op) (main_label.StartRefused why k) _ row tt) in
+    (did_by_rule d (script_of main) (place_of main) s.state.core (machine.Start e w.args.params.now) (slice_get-map machine_op main.ops.now main.at ∙ ap (option_map machine_op) w.requires.op) (main_label.StartRefused why k) _ row tt) in
     let told = stop_told c.G.TaskGroupHook.listens s _ t w.in-Err-Trap.ensures.does (λ is. let at = w.in-Err-Trap.field-0-is in w.in_default.not-HookFailed (cc))
     (λ is. let at = w.in-Err-Trap.field-0-is in absurd (cc)) in
     refusal_stepped script_says c.H.HostWork.course d e words main s w.requires.may t w.in-Err-Trap.ensures.keeps k why starts state told n steps tt (suits_still d main n w.in-Ok-keep.ensures.ops w.requires.may.suits)

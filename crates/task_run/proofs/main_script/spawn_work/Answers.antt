@@ -16,7 +16,7 @@ use Rattle.task_rules.specs.Calls.{next_work, work_queued}
 use Rattle.task_rules.specs.MainOps.{Does, main_spawned}
 use Rattle.task_run.specs.Says.{script_says}
 use Rattle.task_run.specs.Script.{machine_op, part_of, place_of, script_of}
-use Rattle.task_run.proofs.ScriptLemmas.{did_by_row, spawned_row}
+use Rattle.task_run.proofs.ScriptLemmas.{did_by_rule, spawned_rule}
 use Rattle.task_run.proofs.SpawnLemmas.{knows_more}
 use Rattle.task_run.proofs.StepLemmas.{suits_still}
 use Rattle.task_run.proofs.main_script.spawn_work.Goals as goal
@@ -47,10 +47,10 @@ returns-clause-steps g w =
     let k = w.next_spawn-number.result in
     let l = label.Main (main_label.Spawn k w.number-future.result) in
     let row = ap (λ (i : ℕ). Does (main_label.Spawn i (next_work s.state.core)) (main_spawned d w.args.host s.state.core)) (ap (λ (i : ℕ). i + 1) (length-map main.spawns.items (λ (h : SpawnHandle). h.number)) ∙ sym w.next_spawn-number.ensures)
-    ∙ spawned_row d w.args.host w.in-Some.def s.state.core t.state.core k w.number-future.result there core number in
+    ∙ spawned_rule d w.args.host w.in-Some.def s.state.core t.state.core k w.number-future.result there core number in
     let steps : Steps d (script_of main) (part_of main) s.state.core (step.Did l) (part_of n) t.state.core =
     rw (w.in_ok-keep_spawn.ensures.at, w.in_ok-keep_spawn.ensures.registers, w.in_ok-keep_spawn.ensures.starts, w.in_ok-keep_spawn.ensures.spawns, map_push, sym w.number-future.ensures)
-    (did_by_row d (script_of main) (place_of main) s.state.core (machine.Spawn w.args.host) (slice_get-map machine_op main.ops.now main.at ∙ ap (option_map machine_op) w.requires.op) (main_label.Spawn k w.number-future.result) t.state.core row tt) in
+    (did_by_rule d (script_of main) (place_of main) s.state.core (machine.Spawn w.args.host) (slice_get-map machine_op main.ops.now main.at ∙ ap (option_map machine_op) w.requires.op) (main_label.Spawn k w.number-future.result) t.state.core row tt) in
     stepped_quietly script_says g.H.HostWork.course d (step.Did l) main s n t (ap (λ (st : Store _ _ _). st.listeners) w.spawn.ensures.spawns.rest) w.spawn.ensures.spawns.tags.same steps refl may.asked
     (current_still s.state t.state w.spawn.ensures.spawns.current may.idle ∙ sym may.idle) tt (suits_still d main n w.in_ok-keep_spawn.ensures.ops may.suits)
     (knows_more d (script_of main) (part_of main) (part_of n) l main n s.state t.state w.in-Ok.work w.in_ok-keep_spawn.ensures.spawns w.in-Ok.ensures.spawns.spawned steps (λ id live. w.spawn.ensures.spawns.tags.works id live) may.knows)

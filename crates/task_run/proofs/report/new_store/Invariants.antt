@@ -1,6 +1,6 @@
 use Rattle.std.proofs.Common.{◌≡◌, false, true}
 use Rattle.task_group.specs.Listeners.{nobody}
-use Rattle.host_works.specs.Kept.{HoldsNone}
+use Rattle.host_works.specs.KeptWorks.{HoldsNone}
 use Rattle.task_machine.specs.Core.{fresh}
 use Rattle.task_records.specs.Seen.{nothing}
 use Rattle.task_words.specs.StateView.{with_core}

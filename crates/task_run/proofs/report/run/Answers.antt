@@ -53,4 +53,4 @@ returns-clause-ran c =
     c.new-trace.ensures
     (rw c.end.ensures refl)
     (rw (c.run_concurrent.ensures.store, c.in_ok-keep_notices.ensures.ok) (ap (λ (l : Listeners). record l { room = 2 * c.args.steps + 512 }) c.in_ok-store.ensures.listeners))
-    (record { added = gone.has.ran.added; trace = gone.has.ran.trace; run = gone.has.ran.run; few = gone.has.few; ends = gone.outcome }, gone.has.ran.heeds)))
+    (record { added = gone.has.ran.added; trace = gone.has.ran.trace; run = gone.has.ran.run; few = gone.has.few; ends = gone.outcome }, gone.has.ran.answers_ok)))

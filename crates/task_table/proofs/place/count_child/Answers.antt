@@ -1,5 +1,5 @@
 use Rattle.std.proofs.Common.{refl}
-use Rattle.task_table.specs.declared.place.Place.TheVariants.{Taken}
+use Rattle.task_table.specs.declared.place.TableCell.TheVariants.{Taken}
 use Rattle.task_table.proofs.CountLemmas.{place_read, not_read_free, counted-count, shown-set_same}
 use Rattle.task_table.proofs.place.count_child.Goals as goal
 

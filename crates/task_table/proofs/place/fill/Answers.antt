@@ -1,7 +1,7 @@
 use Rattle.std.proofs.Common.{sym, ap, ◌∙◌, ◌++◌, arith}
 use Rattle.std.specs.Option.{option_to_list}
 use Rattle.std.proofs.lemmas.Option.{slice_get_within}
-use Rattle.task_table.specs.declared.place.Place.TheVariants.{Free}
+use Rattle.task_table.specs.declared.place.TableCell.TheVariants.{Free}
 use Rattle.task_table.proofs.CountLemmas.{popped_free, popped_not_taken}
 use Rattle.task_table.proofs.place.fill.Goals as goal
 

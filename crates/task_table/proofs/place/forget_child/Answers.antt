@@ -1,5 +1,5 @@
 use Rattle.std.proofs.Common.{refl, arith}
-use Rattle.task_table.specs.declared.place.Place.TheVariants.{Taken}
+use Rattle.task_table.specs.declared.place.TableCell.TheVariants.{Taken}
 use Rattle.task_table.proofs.CountLemmas.{counted_at, counted-more_taken, counted-more_children, slot_within, place_read, not_read_free, counted-forget, shown-set_same}
 use Rattle.task_table.proofs.place.forget_child.Goals as goal
 

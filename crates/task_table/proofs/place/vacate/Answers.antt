@@ -1,7 +1,7 @@
 use Rattle.std.proofs.Common.{ap, sym, ◌∙◌, set, map}
 use Rattle.std.proofs.lemmas.List.{map-set}
-use Rattle.task_table.specs.Places.{placed_in}
-use Rattle.task_table.specs.declared.place.Place.TheVariants.{Taken}
+use Rattle.task_table.specs.TableCells.{placed_in}
+use Rattle.task_table.specs.declared.place.TableCell.TheVariants.{Taken}
 use Rattle.task_table.proofs.CountLemmas.{some_mapped, place_read, not_read_free, slot_at_taken, counted-vacated}
 use Rattle.task_table.proofs.place.vacate.Goals as goal
 

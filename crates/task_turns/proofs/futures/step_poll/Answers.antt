@@ -3,10 +3,10 @@ use Rattle.std.specs.Prelude.{ℕ, ◌<◌}
 use Rattle.task_machine.specs.declared.label.Label.TheVariants as label
 use Rattle.task_machine.specs.declared.label.LoopLabel.TheVariants as loop_label
 use Rattle.task_machine.specs.declared.records.Turn.TheVariants as turn
-use Rattle.task_ops.specs.Polled.{PollMeets}
-use Rattle.task_ops.specs.declared.works.Polled.{Polled}
+use Rattle.task_ops.specs.PolledWorks.{PollImplements}
+use Rattle.task_ops.specs.declared.work_ops.Polled.{Polled}
 use Rattle.task_rules.specs.Works.{poll_of}
-use Rattle.task_turns.proofs.PollLemmas.{PollMeets-more, label_by, poll_makes, poll_pending, polled_moves, turn_by, turn_is}
+use Rattle.task_turns.proofs.PollLemmas.{PollImplements-more, label_by, poll_makes, poll_pending, polled_moves, turn_by, turn_is}
 use Rattle.task_turns.proofs.futures.step_poll.Goals as goal
 use Rattle.task_words.specs.StateView.{work_of}
 
@@ -23,7 +23,7 @@ returns-in-Pends-clause-makes g c d =
     let i = work_of s c.args.work in
     poll_makes d c.args.polled i s t c.poll_work.result (record { label = label.Loop (loop_label.FuturePends c.args.number); turn = c.turn_where.result }) c.requires.next c.poll_work.ensures.meets c.requires.current c.poll_work.ensures.current
     (ap (λ k. label.Loop (loop_label.FuturePends k)) c.requires.number ∙ sym (ap (label_by i) c.in-Pends.is))
-    (turn_is c.args.number i c.in-Pends.more t.core (PollMeets-more i s.core c.in-Pends.more t.core (poll_of i s.core) (subst (λ (q : Polled). PollMeets i (poll_of i s.core) s.core q t.core) c.in-Pends.is c.poll_work.ensures.meets)) c.requires.number c.turn_where.result (c.turn_where.ensures t.core) ∙ sym (ap (λ q. turn_by i q t.core) c.in-Pends.is))
+    (turn_is c.args.number i c.in-Pends.more t.core (PollImplements-more i s.core c.in-Pends.more t.core (poll_of i s.core) (subst (λ (q : Polled). PollImplements i (poll_of i s.core) s.core q t.core) c.in-Pends.is c.poll_work.ensures.meets)) c.requires.number c.turn_where.result (c.turn_where.ensures t.core) ∙ sym (ap (λ q. turn_by i q t.core) c.in-Pends.is))
 
 pub returns-in-Ends-clause-makes : goal.returns-in-Ends-clause-makes
 returns-in-Ends-clause-makes g c d =
@@ -49,7 +49,7 @@ returns-in-Pends-clause-pends g c x m pends =
     let t = g.W.View.view c.poll_work.new.w in
     let i = work_of s c.args.work in
     poll_pending x i _ t.core m c.poll_work.result c.turn_where.result c.poll_work.ensures.meets
-    (turn_is c.args.number i c.in-Pends.more t.core (PollMeets-more i s.core c.in-Pends.more t.core (poll_of i s.core) (subst (λ (q : Polled). PollMeets i (poll_of i s.core) s.core q t.core) c.in-Pends.is c.poll_work.ensures.meets)) c.requires.number c.turn_where.result (c.turn_where.ensures t.core) ∙ sym (ap (λ q. turn_by i q t.core) c.in-Pends.is)) pends
+    (turn_is c.args.number i c.in-Pends.more t.core (PollImplements-more i s.core c.in-Pends.more t.core (poll_of i s.core) (subst (λ (q : Polled). PollImplements i (poll_of i s.core) s.core q t.core) c.in-Pends.is c.poll_work.ensures.meets)) c.requires.number c.turn_where.result (c.turn_where.ensures t.core) ∙ sym (ap (λ q. turn_by i q t.core) c.in-Pends.is)) pends
 
 pub returns-in-Ends-clause-pends : goal.returns-in-Ends-clause-pends
 returns-in-Ends-clause-pends g c x m pends =

@@ -3,10 +3,10 @@ use Rattle.task_machine.specs.declared.label.Label.TheVariants as label
 use Rattle.task_machine.specs.declared.records.Turn.TheVariants as turn
 use Rattle.task_turns.proofs.RestLemmas.{deadlock_turns}
 use Rattle.task_turns.proofs.rests.step_deadlock.Goals as goal
-use Rattle.task_turns.specs.declared.made.Made.{Made}
+use Rattle.task_turns.specs.declared.made.MadeStep.{MadeStep}
 
 pub returns-clause-turns : goal.returns-clause-turns
 returns-clause-turns g c x sits idle m pends =
     let v = g.W.View.view in
     deadlock_turns x (v c.args.w.now) (v c.deadlock.new.w) m c.requires.current c.requires.none c.requires.moving c.requires.live c.requires.rest (sits.order m) idle pends c.deadlock.ensures.new
-    (record { label = label.Loop c.deadlock.result; turn = turn.Over }) (ap (λ l. let k : Made = record { label = label.Loop l; turn = turn.Over } in k) c.deadlock.ensures.label)
+    (record { label = label.Loop c.deadlock.result; turn = turn.Over }) (ap (λ l. let k : MadeStep = record { label = label.Loop l; turn = turn.Over } in k) c.deadlock.ensures.label)

@@ -2,9 +2,9 @@ use Rattle.std.proofs.Common.{refl, sym, ◌∙◌}
 use Rattle.task_machine.specs.declared.op.Op.TheVariants as op
 use Rattle.task_turns.proofs.SteppedLemmas.{some_at}
 use Rattle.task_turns.proofs.runs.run_by.Goals as goal
-use Rattle.task_turns.specs.Ran.{row_of}
-use Rattle.task_turns.specs.Stepped.{RowShown, stepped_by}
-use Rattle.task_turns.specs.declared.made.Stepped.{Stepped}
+use Rattle.task_turns.specs.Ran.{scripted_rule_of}
+use Rattle.task_turns.specs.StepResult.{RuleShown, stepped_by}
+use Rattle.task_turns.specs.declared.made.StepResult.{StepResult}
 
 pub returns-in-Call-clause-step : goal.returns-in-Call-clause-step
 returns-in-Call-clause-step g c = (refl, refl)
@@ -15,4 +15,4 @@ returns-in-Some-clause-step g c =
     let s = v c.args.w.now in
     let q = c.run_data-brief in
     rw c.in-Data.is
-    (some_at (λ (p : Stepped). RowShown (row_of c.args.component.now (op.Data c.in-Data.data) c.args.thread s) c.args.thread s c.args.trace.now p (v q.new.w) q.new.trace) (stepped_by q.result q.new.trace) c.in-Some.stepped (sym c.stepped_by.ensures ∙ c.in-Some.is) q.ensures.shown)
+    (some_at (λ (p : StepResult). RuleShown (scripted_rule_of c.args.component.now (op.Data c.in-Data.data) c.args.thread s) c.args.thread s c.args.trace.now p (v q.new.w) q.new.trace) (stepped_by q.result q.new.trace) c.in-Some.stepped (sym c.stepped_by.ensures ∙ c.in-Some.is) q.ensures.shown)

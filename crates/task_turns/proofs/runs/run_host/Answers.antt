@@ -2,7 +2,7 @@ use Rattle.op_dispatch.proofs.StandsLemmas.{answers_right, event_fits, stands_be
 use Rattle.std.proofs.Common.{arith}
 use Rattle.task_ops.specs.Works.{NamesTold}
 use Rattle.op_dispatch.proofs.EndLemmas.{end_op, host_fits, host_other}
-use Rattle.task_turns.proofs.OrderLemmas.{strikes}
+use Rattle.task_turns.proofs.OrderLemmas.{unwinds}
 use Rattle.task_turns.proofs.RanLemmas.{ran_work, works_told}
 use Rattle.task_turns.proofs.runs.run_host.Goals as goal
 use Rattle.task_words.specs.StateView.{thread_of}
@@ -11,7 +11,7 @@ pub finish-requires-clause-position : goal.finish-requires-clause-position
 finish-requires-clause-position g c due =
     let v = g.W.View.view in
     let o = c.args.op.now in
-    let b = stands_below NamesTold c.args.component.now o c.args.thread (v c.args.w.now) (v c.do_host_call.new.w) c.in_ok-done.done.came (host_other o c.requires.calls) (rw c.in-Call.is c.in_ok-done.ensures.does.does) due in
+    let b = stands_below NamesTold c.args.component.now o c.args.thread (v c.args.w.now) (v c.do_host_call.new.w) c.in_ok-done.done.op_result (host_other o c.requires.calls) (rw c.in-Call.is c.in_ok-done.ensures.does.does) due in
     let p = c.requires.within in
     grind (arith, b, p)
 
@@ -19,21 +19,21 @@ pub finish-requires-clause-answers : goal.finish-requires-clause-answers
 finish-requires-clause-answers g c =
     let v = g.W.View.view in
     let o = c.args.op.now in
-    answers_right NamesTold c.args.component.now o c.args.thread (v c.args.w.now) (v c.do_host_call.new.w) c.in_ok-done.done.came (host_other o c.requires.calls) (rw c.in-Call.is c.in_ok-done.ensures.does.does)
+    answers_right NamesTold c.args.component.now o c.args.thread (v c.args.w.now) (v c.do_host_call.new.w) c.in_ok-done.done.op_result (host_other o c.requires.calls) (rw c.in-Call.is c.in_ok-done.ensures.does.does)
 
 pub finish-requires-clause-register : goal.finish-requires-clause-register
 finish-requires-clause-register g c given =
     let v = g.W.View.view in
     let o = c.args.op.now in
-    event_fits c.args.component.now o c.in_ok-done.done.came (host_fits c.args.component.now o c.requires.calls) (answers_right NamesTold c.args.component.now o c.args.thread (v c.args.w.now) (v c.do_host_call.new.w) c.in_ok-done.done.came (host_other o c.requires.calls) (rw c.in-Call.is c.in_ok-done.ensures.does.does)) given
+    event_fits c.args.component.now o c.in_ok-done.done.op_result (host_fits c.args.component.now o c.requires.calls) (answers_right NamesTold c.args.component.now o c.args.thread (v c.args.w.now) (v c.do_host_call.new.w) c.in_ok-done.done.op_result (host_other o c.requires.calls) (rw c.in-Call.is c.in_ok-done.ensures.does.does)) given
 
-pub made_of-requires-clause-strikes : goal.made_of-requires-clause-strikes
-made_of-requires-clause-strikes g c =
+pub made_of-requires-clause-unwinds : goal.made_of-requires-clause-unwinds
+made_of-requires-clause-unwinds g c =
     let v = g.W.View.view in
     let s = v c.args.w.now in
     let u = v c.finish.new.w in
     let did = end_op c.args.answer c.args.component.now c.args.op.now c.args.thread s (v c.do_host_call.new.w) u c.in_ok-done.done (rw c.in-Call.is c.in_ok-done.ensures.does) c.finish.ensures in
-    strikes c.in_ok-done.done.came c.args.thread s u c.requires.runner did.stays
+    unwinds c.in_ok-done.done.op_result c.args.thread s u c.requires.runner did.stays
 
 pub made_of-requires-clause-goes : goal.made_of-requires-clause-goes
 made_of-requires-clause-goes g c =
@@ -46,7 +46,7 @@ returns-clause-ran g c =
     let u = v c.finish.new.w in
     let did = end_op c.args.answer c.args.component.now c.args.op.now c.args.thread (v c.args.w.now) (v c.do_host_call.new.w) u c.in_ok-done.done (rw c.in-Call.is c.in_ok-done.ensures.does) c.finish.ensures in
     record {
-      came = c.in_ok-done.done.came;
+      op_result = c.in_ok-done.done.op_result;
       left = u;
       meets = did.meets;
       stays = did.stays;
@@ -74,4 +74,4 @@ returns-clause-works g c =
     let s = v c.args.w.now in
     let u = v c.finish.new.w in
     let did = end_op c.args.answer c.args.component.now c.args.op.now c.args.thread s (v c.do_host_call.new.w) u c.in_ok-done.done (rw c.in-Call.is c.in_ok-done.ensures.does) c.finish.ensures in
-    works_told (thread_of u c.args.thread) c.in_ok-done.done.came s u (v c.made_of.new.w) c.made_of.ensures.core did.works c.made_of.ensures.works
+    works_told (thread_of u c.args.thread) c.in_ok-done.done.op_result s u (v c.made_of.new.w) c.made_of.ensures.core did.works c.made_of.ensures.works

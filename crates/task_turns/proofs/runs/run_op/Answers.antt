@@ -3,7 +3,7 @@ use Rattle.op_dispatch.specs.declared.done.Done.{Done}
 use Rattle.std.proofs.Common.{ap, length, refl, subst, sym, ◌<◌, ◌≡◌, ◌∙◌}
 use Rattle.std.proofs.lemmas.Option.{slice_get_within}
 use Rattle.std.specs.Prelude.{IfOk, None, OnErr, Some, option_copied, slice_get, true}
-use Rattle.task_machine.specs.Read.{callee_of, how_far_of, instance_of, task_of}
+use Rattle.task_machine.specs.Read.{callee_of, op_progress_of, instance_of, task_of}
 use Rattle.task_machine.specs.declared.component.Callee.{Callee}
 use Rattle.task_machine.specs.declared.op.Op.{Op}
 use Rattle.task_turns.proofs.CoveredLemmas.{home_below}
@@ -41,7 +41,7 @@ do_op-requires-clause-few g c made =
     let n = thread_of s c.args.thread in
     let q = c.requires.runner in
     let is = op_is c.args.component.now n s.core q.thread q.here c.script_ops-body.result.now c.at-point.result.callee (task_of n s.core) c.at-point.result.position c.at-point.result.script c.at-point.ensures.callee refl (c.at-point.ensures.script q.thread q.here) c.script_ops-body.ensures c.at-point.ensures.position (Some c.in-Some.op.now) (sym (ap option_copied c.in-Some.is) ∙ c.op_at.ensures) in
-    c.requires.few (subst (λ (o : Op). makes (how_far_of n s.core) o ≡ true) (sym is) made)
+    c.requires.few (subst (λ (o : Op). makes (op_progress_of n s.core) o ≡ true) (sym is) made)
 
 pub returns-in-Some-clause-err : goal.returns-in-Some-clause-err
 returns-in-Some-clause-err g c =
@@ -68,5 +68,5 @@ returns-in-None-clause-did g c =
     let n = thread_of s c.args.thread in
     let q = c.requires.runner in
     let is = op_is c.args.component.now n s.core q.thread q.here c.script_ops-body.result.now c.at-point.result.callee (task_of n s.core) c.at-point.result.position c.at-point.result.script c.at-point.ensures.callee refl (c.at-point.ensures.script q.thread q.here) c.script_ops-body.ensures c.at-point.ensures.position None (sym (ap option_copied c.in-None.is) ∙ c.op_at.ensures) in
-    let done : Done = record { came = c.exit.result; polled = None; work = None } in
+    let done : Done = record { op_result = c.exit.result; polled = None; work = None } in
     subst (λ (o : Op). DidOp c.args.answer c.args.component.now o c.args.thread s done t) (sym is) (exit_op c.args.answer c.args.component.now c.args.thread s t c.exit.result c.exit.ensures.does)

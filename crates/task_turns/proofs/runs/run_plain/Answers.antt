@@ -5,19 +5,19 @@ use Rattle.std.proofs.lemmas.Option.{IfSome_then}
 use Rattle.task_ops.specs.Works.{NamesTold}
 use Rattle.task_rules.specs.Step.{own_script}
 use Rattle.op_dispatch.proofs.EndLemmas.{end_goes, end_meets, end_stays, end_works, plain_other}
-use Rattle.task_turns.proofs.OrderLemmas.{strikes}
+use Rattle.task_turns.proofs.OrderLemmas.{unwinds}
 use Rattle.task_turns.proofs.RanLemmas.{works_told}
 use Rattle.task_turns.proofs.runs.run_plain.Goals as goal
-use Rattle.task_turns.specs.Ran.{row_of}
-use Rattle.task_turns.specs.Stepped.{RowShown, stepped_by}
-use Rattle.task_turns.specs.declared.made.Stepped.{Stepped}
+use Rattle.task_turns.specs.Ran.{scripted_rule_of}
+use Rattle.task_turns.specs.StepResult.{RuleShown, stepped_by}
+use Rattle.task_turns.specs.declared.made.StepResult.{StepResult}
 use Rattle.task_words.specs.StateView.{thread_of}
 
 pub finish-requires-clause-position : goal.finish-requires-clause-position
 finish-requires-clause-position g c due =
     let v = g.W.View.view in
     let o = c.args.op.now in
-    let b = stands_below NamesTold c.args.component.now o c.args.thread (v c.args.w.now) (v c.do_plain_op.new.w) c.in-Ok.came (plain_other o c.requires.plain) c.in-Ok.ensures.does due in
+    let b = stands_below NamesTold c.args.component.now o c.args.thread (v c.args.w.now) (v c.do_plain_op.new.w) c.in-Ok.op_result (plain_other o c.requires.plain) c.in-Ok.ensures.does due in
     let p = c.requires.position in
     grind (arith, b, p)
 
@@ -25,25 +25,25 @@ pub finish-requires-clause-answers : goal.finish-requires-clause-answers
 finish-requires-clause-answers g c =
     let v = g.W.View.view in
     let o = c.args.op.now in
-    answers_right NamesTold c.args.component.now o c.args.thread (v c.args.w.now) (v c.do_plain_op.new.w) c.in-Ok.came (plain_other o c.requires.plain) c.in-Ok.ensures.does
+    answers_right NamesTold c.args.component.now o c.args.thread (v c.args.w.now) (v c.do_plain_op.new.w) c.in-Ok.op_result (plain_other o c.requires.plain) c.in-Ok.ensures.does
 
 pub finish-requires-clause-register : goal.finish-requires-clause-register
 finish-requires-clause-register g c given =
     let v = g.W.View.view in
     let o = c.args.op.now in
-    event_fits c.args.component.now o c.in-Ok.came c.requires.fits (answers_right NamesTold c.args.component.now o c.args.thread (v c.args.w.now) (v c.do_plain_op.new.w) c.in-Ok.came (plain_other o c.requires.plain) c.in-Ok.ensures.does) given
+    event_fits c.args.component.now o c.in-Ok.op_result c.requires.fits (answers_right NamesTold c.args.component.now o c.args.thread (v c.args.w.now) (v c.do_plain_op.new.w) c.in-Ok.op_result (plain_other o c.requires.plain) c.in-Ok.ensures.does) given
 
-pub show-requires-clause-strikes : goal.show-requires-clause-strikes
-show-requires-clause-strikes g c =
+pub show-requires-clause-unwinds : goal.show-requires-clause-unwinds
+show-requires-clause-unwinds g c =
     let v = g.W.View.view in
     let s = v c.args.w.now in
     let u = v c.finish.new.w in
-    strikes c.in-Ok.came c.args.thread s u c.requires.runner (end_stays NamesTold (rule_of c.args.component.now c.args.op.now) (own_script c.args.op.now) c.args.thread s (v c.do_plain_op.new.w) u c.in-Ok.came c.in-Ok.ensures.does c.finish.ensures)
+    unwinds c.in-Ok.op_result c.args.thread s u c.requires.runner (end_stays NamesTold (rule_of c.args.component.now c.args.op.now) (own_script c.args.op.now) c.args.thread s (v c.do_plain_op.new.w) u c.in-Ok.op_result c.in-Ok.ensures.does c.finish.ensures)
 
 pub show-requires-clause-goes : goal.show-requires-clause-goes
 show-requires-clause-goes g c =
     let v = g.W.View.view in
-    end_goes NamesTold (rule_of c.args.component.now c.args.op.now) (own_script c.args.op.now) c.args.thread (v c.args.w.now) (v c.do_plain_op.new.w) (v c.finish.new.w) c.in-Ok.came c.in-Ok.ensures.does c.finish.ensures
+    end_goes NamesTold (rule_of c.args.component.now c.args.op.now) (own_script c.args.op.now) c.args.thread (v c.args.w.now) (v c.do_plain_op.new.w) (v c.finish.new.w) c.in-Ok.op_result c.in-Ok.ensures.does c.finish.ensures
 
 pub returns-clause-shown : goal.returns-clause-shown
 returns-clause-shown g c =
@@ -54,12 +54,12 @@ returns-clause-shown g c =
     let t = v c.show.new.w in
     let o = c.args.op.now in
     let k = c.args.component.now in
-    IfSome_then (stepped_by c.show.result c.show.new.trace) {Q = λ (q : Stepped). RowShown (row_of k o c.args.thread s) c.args.thread s c.args.trace.now q t c.show.new.trace} c.show.ensures.shown
+    IfSome_then (stepped_by c.show.result c.show.new.trace) {Q = λ (q : StepResult). RuleShown (scripted_rule_of k o c.args.thread s) c.args.thread s c.args.trace.now q t c.show.new.trace} c.show.ensures.shown
     (λ q h. record {
-      came = c.in-Ok.came;
+      op_result = c.in-Ok.op_result;
       left = u;
-      meets = end_meets NamesTold (rule_of k o) (own_script o) c.args.thread s m u c.in-Ok.came c.in-Ok.ensures.does c.finish.ensures;
-      stays = end_stays NamesTold (rule_of k o) (own_script o) c.args.thread s m u c.in-Ok.came c.in-Ok.ensures.does c.finish.ensures;
+      meets = end_meets NamesTold (rule_of k o) (own_script o) c.args.thread s m u c.in-Ok.op_result c.in-Ok.ensures.does c.finish.ensures;
+      stays = end_stays NamesTold (rule_of k o) (own_script o) c.args.thread s m u c.in-Ok.op_result c.in-Ok.ensures.does c.finish.ensures;
       shown = h;
     })
 
@@ -71,6 +71,6 @@ returns-clause-works g c =
     let t = v c.show.new.w in
     let o = c.args.op.now in
     let did = c.in-Ok.ensures.does in
-    let told = end_works NamesTold (rule_of c.args.component.now o) (own_script o) c.args.thread s (v c.do_plain_op.new.w) u c.in-Ok.came did c.finish.ensures did.kept in
-    IfSome_then (stepped_by c.show.result c.show.new.trace) {Q = λ (q : Stepped). NamesTold s t} c.show.ensures.shown
-    (λ q h. works_told (thread_of u c.args.thread) c.in-Ok.came s u t h.core told c.show.ensures.works)
+    let told = end_works NamesTold (rule_of c.args.component.now o) (own_script o) c.args.thread s (v c.do_plain_op.new.w) u c.in-Ok.op_result did c.finish.ensures did.kept in
+    IfSome_then (stepped_by c.show.result c.show.new.trace) {Q = λ (q : StepResult). NamesTold s t} c.show.ensures.shown
+    (λ q h. works_told (thread_of u c.args.thread) c.in-Ok.op_result s u t h.core told c.show.ensures.works)

@@ -3,24 +3,24 @@ use Rattle.std.proofs.Common.{ap, length, refl, subst, sym, ◌<◌, ◌≡◌, 
 use Rattle.std.proofs.lemmas.Option.{slice_get_within}
 use Rattle.std.specs.Prelude.{None, Some, option_copied, slice_get}
 use Rattle.task_machine.specs.Labels.{choice_of}
-use Rattle.task_machine.specs.Read.{callee_of, how_far_of, instance_of, task_of}
+use Rattle.task_machine.specs.Read.{callee_of, op_progress_of, instance_of, task_of}
 use Rattle.task_machine.specs.declared.component.Callee.{Callee}
 use Rattle.task_machine.specs.declared.op.Op.TheVariants as op
 use Rattle.task_machine.specs.declared.op.TaskOp.TheVariants as task
 use Rattle.task_machine.specs.declared.records.Turn.TheVariants as turn
 use Rattle.task_ops.specs.Steps.{label_of}
 use Rattle.task_rules.specs.Scripts.{op_of}
-use Rattle.task_rules.specs.Step.{did, op_row}
+use Rattle.task_rules.specs.Step.{did, scripted_op_rule}
 use Rattle.task_turns.proofs.CoveredLemmas.{home_below}
 use Rattle.task_turns.proofs.OrderLemmas.{number_at, runner}
 use Rattle.task_turns.proofs.RunLemmas.{op_is, row_at, script_is}
-use Rattle.task_turns.proofs.SteppedLemmas.{row_as, run_added, run_steps, some_at, unpolled}
+use Rattle.task_turns.proofs.SteppedLemmas.{rule_as, run_added, run_steps, some_at, unpolled}
 use Rattle.task_turns.proofs.runs.step_run.Goals as goal
 use Rattle.task_machine.specs.declared.component.Component.{Component}
-use Rattle.task_turns.specs.Stepped.{RowShown, stepped_by}
-use Rattle.task_turns.specs.declared.made.Stepped.{Stepped}
-use Rattle.task_turns.specs.Turn.{IsFree, Makes}
-use Rattle.task_turns.specs.declared.made.Made.{Made}
+use Rattle.task_turns.specs.StepResult.{RuleShown, stepped_by}
+use Rattle.task_turns.specs.declared.made.StepResult.{StepResult}
+use Rattle.task_turns.specs.Turn.{IsFree, MakesStep}
+use Rattle.task_turns.specs.declared.made.MadeStep.{MadeStep}
 use Rattle.task_words.specs.StateView.{thread_of}
 
 pub at-point-requires : goal.at-point-requires
@@ -86,9 +86,9 @@ returns-in-Some-stepped_by-clause-ran g c =
     let is = op_is c.args.component.now n s.core q.thread q.here c.script_ops-script.result.now c.at-point.result.callee (task_of n s.core) c.at-point.result.position c.at-point.result.script c.at-point.ensures.callee refl (c.at-point.ensures.script q.thread q.here) c.script_ops-script.ensures c.at-point.ensures.position None e in
     let before = c.args.trace.now in
     let after = c.run_exit-brief.new.trace in
-    let shown = some_at (λ (p : Stepped). (d : Component) → RowShown (λ r. op_row d n s.core (choice_of (label_of n r)) (op.Task task.Exit)) c.in-Some.thread s before p t after) (stepped_by c.run_exit-brief.result after) c.in-Some-stepped_by.stepped (sym c.stepped_by.ensures ∙ c.in-Some-stepped_by.is) c.run_exit-brief.ensures.shown in
-    let did_it = row_as c.in-Some.thread s t c.in-Some-stepped_by.stepped before after (λ r. op_row comp n s.core (choice_of (label_of n r)) (op.Task task.Exit)) (λ r. did comp n s.core (choice_of (label_of n r)))
+    let shown = some_at (λ (p : StepResult). (d : Component) → RuleShown (λ r. scripted_op_rule d n s.core (choice_of (label_of n r)) (op.Task task.Exit)) c.in-Some.thread s before p t after) (stepped_by c.run_exit-brief.result after) c.in-Some-stepped_by.stepped (sym c.stepped_by.ensures ∙ c.in-Some-stepped_by.is) c.run_exit-brief.ensures.shown in
+    let did_it = rule_as c.in-Some.thread s t c.in-Some-stepped_by.stepped before after (λ r. scripted_op_rule comp n s.core (choice_of (label_of n r)) (op.Task task.Exit)) (λ r. did comp n s.core (choice_of (label_of n r)))
     (λ r u h. row_at c.args.component.now n s.core q.thread q.here c.script_ops-script.result.now c.at-point.result.callee (task_of n s.core) c.at-point.result.position c.at-point.result.script c.at-point.ensures.callee refl (c.at-point.ensures.script q.thread q.here) c.script_ops-script.ensures c.at-point.ensures.position None e r u h) (shown comp) in
-    unpolled c.in-Some.thread s t c.in-Some-stepped_by.stepped before after comp c.args.number (λ (made : Made). Makes comp (turn.Run c.args.number) s made t × IsFree made.turn)
-    (subst (λ k. polled_host comp (how_far_of k s.core) (op_of comp k s.core) ≡ None) number (ap (polled_host comp (how_far_of n s.core)) is))
+    unpolled c.in-Some.thread s t c.in-Some-stepped_by.stepped before after comp c.args.number (λ (made : MadeStep). MakesStep comp (turn.Run c.args.number) s made t × IsFree made.turn)
+    (subst (λ k. polled_host comp (op_progress_of k s.core) (op_of comp k s.core) ≡ None) number (ap (polled_host comp (op_progress_of n s.core)) is))
     (run_added c.in-Some.thread s t c.in-Some-stepped_by.stepped before after comp c.args.number number did_it)

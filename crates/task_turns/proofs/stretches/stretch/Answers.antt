@@ -3,11 +3,11 @@ use Rattle.std.proofs.Common.{ap, arith, length, refl, subst, sym, ◌+◌, ◌�
 use Rattle.std.proofs.lemmas.Option.{slice_get_within}
 use Rattle.std.specs.Prelude.{List, Some, option_copied, slice_get}
 use Rattle.task_machine.specs.Core.{Core}
-use Rattle.task_machine.specs.Read.{how_far_of, position_of, registers_of, task_of}
+use Rattle.task_machine.specs.Read.{op_progress_of, position_of, registers_of, task_of}
 use Rattle.task_machine.specs.declared.label.Label.{Label}
 use Rattle.task_machine.specs.declared.op.Op.{Op}
 use Rattle.task_machine.specs.declared.op.Op.TheVariants as op
-use Rattle.task_machine.specs.declared.records.HowFar.TheVariants as how_far
+use Rattle.task_machine.specs.declared.records.OpProgress.TheVariants as op_progress
 use Rattle.task_machine.specs.declared.records.Turn.TheVariants as turn
 use Rattle.task_turns.proofs.OrderLemmas.{number_at, runner, runs_still}
 use Rattle.task_turns.proofs.StretchLemmas.{begins, begun, beside_both, beside_same, beside_script, beside_there, computes_more, computes_none, keeps_on, stops_at, script_there, written, written_works}
@@ -31,7 +31,7 @@ ops-init g c =
     let q = begun c.args.component.now c.args.number s c.requires.order c.none_is_zero.ensures.threads c.requires.runs c.in-Some.thread current c.at-point.result.callee (task_of (thread_of s c.in-Some.thread) s.core) c.at-point.result.script c.script_ops-script.result.now c.at-point.ensures.callee refl c.at-point.ensures.script c.script_ops-script.ensures in
     let number = number_at c.args.number s c.requires.runs c.in-Some.thread current in
     let x = c.context_of-context.result in
-    let fresh = subst (λ k. how_far_of k s.core ≡ how_far.Fresh) number (c.if-not-is_plain.ensures.fresh refl) in
+    let fresh = subst (λ k. op_progress_of k s.core ≡ op_progress.Fresh) number (c.if-not-is_plain.ensures.fresh refl) in
     let position = subst (λ k. x.position ≡ position_of k s.core) number c.context_of-context.ensures.position in
     let registers = subst (λ k. x.registers ≡ registers_of k s.core) number c.context_of-context.ensures.registers in
     let same = begins c.args.number s.core q.0 q.1.0 fresh x position registers in

@@ -1,9 +1,9 @@
 use Rattle.std.proofs.Common.{subst}
 use Rattle.task_machine.specs.Labels.{choice_of}
-use Rattle.task_ops.specs.Came.{Meets}
+use Rattle.task_ops.specs.OpResult.{Implements}
 use Rattle.task_ops.specs.Steps.{label_of}
-use Rattle.task_ops.specs.declared.came.Came.{Came}
-use Rattle.task_rules.specs.Takes.{host_row}
+use Rattle.task_ops.specs.declared.op_result.OpResult.{OpResult}
+use Rattle.task_rules.specs.Takes.{scripted_host_rule}
 use Rattle.task_turns.proofs.takes.step_host.Goals as goal
 use Rattle.task_words.specs.StateView.{work_of}
 
@@ -11,4 +11,4 @@ pub returns-clause-meets : goal.returns-clause-meets
 returns-clause-meets g c =
     let s = g.W.View.view c.args.w.now in
     let i = work_of s c.args.work in
-    subst (λ (r : Came). Meets (host_row c.args.mark i (choice_of (label_of i r)).woken s.core) s.core r (g.W.View.view c.take_host.new.w).core) c.in-Stops.is c.take_host.ensures.meets
+    subst (λ (r : OpResult). Implements (scripted_host_rule c.args.mark i (choice_of (label_of i r)).woken s.core) s.core r (g.W.View.view c.take_host.new.w).core) c.in-Stops.is c.take_host.ensures.meets

@@ -7,20 +7,20 @@ use Rattle.task_machine.specs.declared.words.Mark.{Mark}
 use Rattle.task_moves.specs.Idle.{IsJoinThere}
 use Rattle.task_rules.specs.Places.{Placed}
 use Rattle.task_turns.proofs.WorkedLemmas.{worked_is}
-use Rattle.task_turns.specs.Worked.{known_entry}
+use Rattle.task_turns.specs.Worked.{tracked_entry_group}
 use Rattle.task_turns.proofs.SteppedLemmas.{host_makes, left_is, next_is, push_makes, take_added}
 use Rattle.task_turns.proofs.TakenLemmas.{finds, host_joined, host_live, host_placed, taken}
 use Rattle.task_turns.proofs.takes.step_take.Goals as goal
 use Rattle.task_machine.specs.Labels.{choice_of}
 use Rattle.task_machine.specs.Read.{place_of}
 use Rattle.task_ops.specs.Steps.{label_of}
-use Rattle.task_ops.specs.declared.came.Came.{Came}
+use Rattle.task_ops.specs.declared.op_result.OpResult.{OpResult}
 use Rattle.task_rules.specs.Progress.{Progress}
 use Rattle.task_rules.specs.Takes.{thread_taken}
-use Rattle.task_turns.specs.Stepped.{Added, stepped_by}
+use Rattle.task_turns.specs.StepResult.{Added, stepped_by}
 use Rattle.task_turns.specs.Turn.{Took}
-use Rattle.task_turns.specs.declared.made.Made.{Made}
-use Rattle.task_turns.specs.declared.made.Stepped.{Stepped}
+use Rattle.task_turns.specs.declared.made.MadeStep.{MadeStep}
+use Rattle.task_turns.specs.declared.made.StepResult.{StepResult}
 use Rattle.task_turns.specs.Taken.{FindsSet, Taken}
 use Rattle.task_words.specs.Names.{entry_in}
 use Rattle.task_words.specs.StateView.{StateView, thread_of, with_current, work_of}
@@ -62,9 +62,9 @@ returns-in-Some-default-Thread-clause-took g c =
     let t = v c.step_thread.new.w in
     let before = c.args.trace.now in
     let after = c.step_thread.new.trace in
-    let row : Came → Progress = λ r. thread_taken q.mark (thread_of u q.thread) (choice_of (label_of (thread_of u q.thread) r)) u.core (place_of (thread_of u q.thread) u.core) in
-    IfSome_then (stepped_by c.step_thread.result after) {Q = λ (p : Stepped). Added (λ made. Took c.args.component.now c.args.ended s (Some made) t) p before after} c.step_thread.ensures.shown
-    (λ p h. take_added c.args.component.now c.args.ended q.mark q.thread (thread_of s q.thread) s (with_current (Some q.thread) u) h.left t h.came p before after
+    let row : OpResult → Progress = λ r. thread_taken q.mark (thread_of u q.thread) (choice_of (label_of (thread_of u q.thread) r)) u.core (place_of (thread_of u q.thread) u.core) in
+    IfSome_then (stepped_by c.step_thread.result after) {Q = λ (p : StepResult). Added (λ made. Took c.args.component.now c.args.ended s (Some made) t) p before after} c.step_thread.ensures.shown
+    (λ p h. take_added c.args.component.now c.args.ended q.mark q.thread (thread_of s q.thread) s (with_current (Some q.thread) u) h.left t h.op_result p before after
     (ap (λ (x : StateView). thread_of x q.thread) left) (ap (λ (x : StateView). x.core) left) next h.meets h.stays h.shown)
 
 -- ---- A push
@@ -78,7 +78,7 @@ put_stop-requires g c =
     let at = q.is ∙ ap (λ (e : EntryId). Some (q.mark, e)) q.field-0-1-is in
     let makes = push_makes c.args.component.now c.args.ended q.mark q.work s u (v c.step_push-made.new.w) c.step_push-made.result c.requires.current (left_is s u c.take_next.result q.mark (entries.Push q.work) c.take_next.ensures.taken at)
     (next_is s c.take_next.result q.mark (entries.Push q.work) c.take_next.ensures.next at) c.step_push-made.ensures.made c.step_push-made.ensures.new in
-    record { over = makes.0.over; turn = ap (λ (m : Made). m.turn) c.step_push-made.ensures.made }
+    record { over = makes.0.over; turn = ap (λ (m : MadeStep). m.turn) c.step_push-made.ensures.made }
 
 pub returns-in-Some-default-Push-clause-took : goal.returns-in-Some-default-Push-clause-took
 returns-in-Some-default-Push-clause-took g c =
@@ -92,7 +92,7 @@ returns-in-Some-default-Push-clause-took g c =
     let t = v c.step_push-made.new.w in
     let before = c.args.trace.now in
     let after = c.put_stop.new.trace in
-    IfSome_then (stepped_by c.put_stop.result after) {Q = λ (p : Stepped). Added (λ made. Took c.args.component.now c.args.ended s (Some made) t) p before after} c.put_stop.ensures.stands
+    IfSome_then (stepped_by c.put_stop.result after) {Q = λ (p : StepResult). Added (λ made. Took c.args.component.now c.args.ended s (Some made) t) p before after} c.put_stop.ensures.stands
     (λ p h. (c.step_push-made.result, (h, makes)))
 
 -- ---- An ended host work
@@ -152,7 +152,7 @@ returns-in-Some-default-Host-clause-took g c =
     let t = v c.step_host-made.new.w in
     let before = c.args.trace.now in
     let after = c.put_stop-in-Some-default-Host.new.trace in
-    IfSome_then (stepped_by c.put_stop-in-Some-default-Host.result after) {Q = λ (p : Stepped). Added (λ made. Took c.args.component.now c.args.ended s (Some made) t) p before after} c.put_stop-in-Some-default-Host.ensures.stands
+    IfSome_then (stepped_by c.put_stop-in-Some-default-Host.result after) {Q = λ (p : StepResult). Added (λ made. Took c.args.component.now c.args.ended s (Some made) t) p before after} c.put_stop-in-Some-default-Host.ensures.stands
     (λ p h. (c.step_host-made.result, (h, makes)))
 
 -- ---- The group that is worked on
@@ -160,21 +160,21 @@ returns-in-Some-default-Host-clause-took g c =
 pub returns-in-None-clause-worked : goal.returns-in-None-clause-worked
 returns-in-None-clause-worked g c =
     let s = g.W.View.view c.args.w.now in
-    c.requires.unworked ∙ ap (λ (o : Option (Mark × Entry)). known_entry o s) (sym (ap (option_map (λ (x : Mark × EntryId). (x.0, entry_in s.tags x.1))) c.in-None.is) ∙ c.take_next.ensures.next)
+    c.requires.unworked ∙ ap (λ (o : Option (Mark × Entry)). tracked_entry_group o s) (sym (ap (option_map (λ (x : Mark × EntryId). (x.0, entry_in s.tags x.1))) c.in-None.is) ∙ c.take_next.ensures.next)
 
 pub returns-in-Some-default-Thread-clause-worked : goal.returns-in-Some-default-Thread-clause-worked
 returns-in-Some-default-Thread-clause-worked g c =
     let s = g.W.View.view c.args.w.now in
     let q = c.in-Some-default-Thread in
     let at = q.is ∙ ap (λ (e : EntryId). Some (q.mark, e)) q.field-0-1-is in
-    c.requires.unworked ∙ ap (λ (o : Option (Mark × Entry)). known_entry o s) (sym (next_is s c.take_next.result q.mark (entries.Thread q.thread) c.take_next.ensures.next at))
+    c.requires.unworked ∙ ap (λ (o : Option (Mark × Entry)). tracked_entry_group o s) (sym (next_is s c.take_next.result q.mark (entries.Thread q.thread) c.take_next.ensures.next at))
 
 pub returns-in-Some-default-Push-clause-worked : goal.returns-in-Some-default-Push-clause-worked
 returns-in-Some-default-Push-clause-worked g c =
     let s = g.W.View.view c.args.w.now in
     let q = c.in-Some-default-Push in
     let at = q.is ∙ ap (λ (e : EntryId). Some (q.mark, e)) q.field-0-1-is in
-    c.requires.unworked ∙ ap (λ (o : Option (Mark × Entry)). known_entry o s) (sym (next_is s c.take_next.result q.mark (entries.Push q.work) c.take_next.ensures.next at))
+    c.requires.unworked ∙ ap (λ (o : Option (Mark × Entry)). tracked_entry_group o s) (sym (next_is s c.take_next.result q.mark (entries.Push q.work) c.take_next.ensures.next at))
 
 pub returns-in-Some-default-Host-clause-worked : goal.returns-in-Some-default-Host-clause-worked
 returns-in-Some-default-Host-clause-worked g c =

@@ -1,10 +1,10 @@
 use Rattle.task_machine.specs.Labels.{choice_of}
 use Rattle.task_machine.specs.Read.{admits}
 use Rattle.task_machine.specs.declared.records.Why.TheVariants as why
-use Rattle.task_ops.specs.Came.{Meets}
+use Rattle.task_ops.specs.OpResult.{Implements}
 use Rattle.task_ops.specs.Stays.{StaysAfter}
 use Rattle.task_ops.specs.Steps.{label_of}
-use Rattle.task_rules.specs.Takes.{start_row}
+use Rattle.task_rules.specs.Takes.{start_rule}
 use Rattle.op_dispatch.proofs.StayLemmas.{ok_then, same_stays}
 use Rattle.task_turns.proofs.ShowLemmas.{start_shows}
 use Rattle.task_turns.proofs.takes.take_thread.Goals as goal
@@ -16,7 +16,7 @@ returns-in-Start-clause-shows g c =
     let s = g.W.View.view c.args.w.now in
     let n = thread_of s c.args.thread in
     let t = g.W.View.view c.take_start.new.w in
-    ok_then (λ r. Meets (start_row c.args.mark n (choice_of (label_of n r)).woken s.core (admits n s.core why.Start)) s.core r t.core) (Shows n) c.take_start.result
+    ok_then (λ r. Implements (start_rule c.args.mark n (choice_of (label_of n r)).woken s.core (admits n s.core why.Start)) s.core r t.core) (Shows n) c.take_start.result
     (λ r h. start_shows c.args.mark n (choice_of (label_of n r)).woken s.core (admits n s.core why.Start) r t.core h) c.take_start.ensures.meets
 
 pub returns-in-Start-clause-stays : goal.returns-in-Start-clause-stays
@@ -24,8 +24,8 @@ returns-in-Start-clause-stays g c =
     let s = g.W.View.view c.args.w.now in
     let n = thread_of s c.args.thread in
     let t = g.W.View.view c.take_start.new.w in
-    ok_then (λ r. Meets (start_row c.args.mark n (choice_of (label_of n r)).woken s.core (admits n s.core why.Start)) s.core r t.core) (λ r. StaysAfter r s t) c.take_start.result
-    (λ r h. same_stays (start_row c.args.mark n (choice_of (label_of n r)).woken s.core (admits n s.core why.Start)) s t r h c.take_start.ensures.tags c.take_start.ensures.current) c.take_start.ensures.meets
+    ok_then (λ r. Implements (start_rule c.args.mark n (choice_of (label_of n r)).woken s.core (admits n s.core why.Start)) s.core r t.core) (λ r. StaysAfter r s t) c.take_start.result
+    (λ r h. same_stays (start_rule c.args.mark n (choice_of (label_of n r)).woken s.core (admits n s.core why.Start)) s t r h c.take_start.ensures.tags c.take_start.ensures.current) c.take_start.ensures.meets
 
 pub take_start-requires-clause-bottom : goal.take_start-requires-clause-bottom
 take_start-requires-clause-bottom g c = let a = c.why.ensures in let b = c.in-Start.is in c.requires.taken.bottom (cc)

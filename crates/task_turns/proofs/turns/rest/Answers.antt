@@ -7,7 +7,7 @@ use Rattle.task_turns.proofs.turns.rest.Goals as goal
 use Rattle.task_turns.specs.Turn.{idle_line_of}
 use Rattle.std.proofs.Common.{subst}
 use Rattle.task_machine.specs.declared.component.Component.{Component}
-use Rattle.task_turns.specs.Turn.{Sits}
+use Rattle.task_turns.specs.Turn.{CoreInOrder}
 use Rattle.task_turns.proofs.IdleLemmas.{in_order}
 
 pub returns-then-has_moving_work-clause-turned : goal.returns-then-has_moving_work-clause-turned
@@ -33,4 +33,4 @@ pub step_deadlock-requires-clause-rest : goal.step_deadlock-requires-clause-rest
 step_deadlock-requires-clause-rest g c = rest_of _ c.requires.works c.requires.none (sym c.has_moving_work.ensures ∙ c.if-has_moving_work.false)
 
 pub returns-clause-turned : goal.returns-clause-turned
-returns-clause-turned g c d sits x component idle m pends = c.step_deadlock.ensures.turns x (subst (λ (y : Component). Sits y (turn.Take false) (g.W.View.view c.args.w.now).core) (sym component) sits) (idle ∙ ap idle_line_of c.if-not-trap_on_idle.false) m pends
+returns-clause-turned g c d sits x component idle m pends = c.step_deadlock.ensures.turns x (subst (λ (y : Component). CoreInOrder y (turn.Take false) (g.W.View.view c.args.w.now).core) (sym component) sits) (idle ∙ ap idle_line_of c.if-not-trap_on_idle.false) m pends

@@ -1,5 +1,5 @@
 use Rattle.task_records.proofs.Core.{ap, Entry, number_in, on_core, push_high, put_high, record_at, seen, subst, sym, Table, thread_key, thread_of, ◌<◌, ◌∙◌}
-use Rattle.task_records.specs.declared.{single.Single.Single, threads.GuestThread.GuestThread}
+use Rattle.task_records.specs.declared.{single.Single.Single, thread_records.GuestThread.GuestThread}
 use Rattle.walk_words.proofs.ReleaseLemmas.{some_why, stood_same, stood_unqueued}
 use Rattle.walk_words.proofs.releases.put_high.Goals as goal
 

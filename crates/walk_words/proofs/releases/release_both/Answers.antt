@@ -11,7 +11,7 @@ loop-node-init c =
     let a = c.args.parts.now in
     record {
       sound = c.requires.sound;
-      links = c.nodes_have_seats.ensures.links;
+      links = c.nodes_have_order_keys.ensures.links;
       chain = c.requires.chain;
       other = c.requires.other;
       walk = release_begins c.args.instance a (merged (entries a.places c.args.chain) (entries a.places c.args.other)) c.requires.placed c.requires.once c.requires.held;
@@ -66,7 +66,7 @@ loop-node-preserved c =
 pub returns-clause-picks : goal.returns-clause-picks
 returns-clause-picks c =
     let a = c.args.parts.now in
-    both_in_order a c.requires.sound c.args.chain c.args.other (entries a.places c.args.chain) (entries a.places c.args.other) c.nodes_have_seats.ensures.linked c.nodes_have_seats-2.ensures.linked (c.chains_are_ordered.ensures c.args.chain) (c.chains_are_ordered.ensures c.args.other)
+    both_in_order a c.requires.sound c.args.chain c.args.other (entries a.places c.args.chain) (entries a.places c.args.other) c.nodes_have_order_keys.ensures.linked c.nodes_have_order_keys-2.ensures.linked (c.chains_are_ordered.ensures c.args.chain) (c.chains_are_ordered.ensures c.args.other)
 
 pub returns-clause-new : goal.returns-clause-new
 returns-clause-new c =

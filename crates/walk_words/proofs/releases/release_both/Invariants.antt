@@ -1,11 +1,11 @@
-use Rattle.task_records.proofs.Core.{entries, has, IsLinks, IsSome, IsSound, length, list_of, seen, true, ℕ, ◌≡◌}
+use Rattle.task_records.proofs.Core.{entries, has, IsLinks, IsSome, IsSoundCore, length, list_of, seen, true, ℕ, ◌≡◌}
 use Rattle.walk_words.proofs.releases.release_both.Given as goal
 use Rattle.walk_words.specs.Held.{Releases, is_admitted}
 use Rattle.walk_words.specs.Merged.{merged, of_both}
 
 abbrev pub invariant-loop-node : goal.invariant-loop-node
 invariant-loop-node l = record {
-  sound : IsSound l.parts;
+  sound : IsSoundCore l.parts;
   links : IsLinks l.parts.places;
   chain : IsSome (list_of l.parts.places l.chain);
   other : IsSome (list_of l.parts.places l.other);

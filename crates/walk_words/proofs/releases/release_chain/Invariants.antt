@@ -1,4 +1,4 @@
-use Rattle.task_records.proofs.Core.{entries, IsLinks, IsSound, seen}
+use Rattle.task_records.proofs.Core.{entries, IsLinks, IsSoundCore, seen}
 use Rattle.std.proofs.Common.{option_map}
 use Rattle.walk_words.proofs.releases.release_chain.Given as goal
 use Rattle.walk_words.specs.Held.{Releases}
@@ -6,7 +6,7 @@ use Rattle.walk_words.specs.Walks.{Walk, left_from, of_chain}
 
 abbrev pub invariant-loop-next : goal.invariant-loop-next
 invariant-loop-next l = record {
-  sound : IsSound l.parts;
+  sound : IsSoundCore l.parts;
   links : IsLinks l.parts.places;
   walk : Walk (Releases l.instance (seen l.fn.parts) (of_chain l.fn.parts l.chain) l.parts) (entries l.parts.places l.chain) (option_map (λ e. (e.0.index, e.1)) l.next);
 }

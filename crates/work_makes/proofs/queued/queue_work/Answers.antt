@@ -1,5 +1,5 @@
 use Rattle.task_records.proofs.Core.{add_work, ap, ap₂, arith, Core, count_work, Entry, Keeps, push_high, seen, StateView, subst, sym, work_of, work_queued, ℕ, ◌+◌, ◌<◌, ◌^◌, ◌∙◌}
-use Rattle.task_records.specs.declared.{works.HostWork.HostWork}
+use Rattle.task_records.specs.declared.{work_records.WorkRecord.WorkRecord}
 use Rattle.work_makes.proofs.WorkAddLemmas.{record_next}
 use Rattle.work_makes.proofs.queued.queue_work.Goals as goal
 
@@ -19,7 +19,7 @@ returns-in-Ok-clause-new c = (
         let s = (seen c.args.parts.now).core in
         ap (λ (v : StateView). v.core) c.queue_push.ensures.new
         ∙ (ap₂ (λ (n : ℕ) (x : Core). push_high (Entry.Push n) x) c.in-Ok.ensures.work c.in-Ok.ensures.new.core
-        ∙ ap (λ (w : HostWork). push_high (Entry.Push (s.made.works + 1)) (add_work w.number w.work (count_work s))) c.record_for-work.ensures);
+        ∙ ap (λ (w : WorkRecord). push_high (Entry.Push (s.made.works + 1)) (add_work w.number w.work (count_work s))) c.record_for-work.ensures);
     current = ap (λ (v : StateView). v.current) c.queue_push.ensures.new ∙ c.in-Ok.ensures.new.current;
     tags = subst (λ (v : StateView). Keeps (seen c.args.parts.now).tags v.tags) (sym c.queue_push.ensures.new) c.in-Ok.ensures.new.tags;
   },

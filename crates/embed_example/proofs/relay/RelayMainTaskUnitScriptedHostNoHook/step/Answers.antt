@@ -8,7 +8,7 @@ use Rattle.std.proofs.Common.{inl, refl}
 use Rattle.std.specs.Prelude.{Err, IfErr, IfOk, Ok, Result, ◌≡◌}
 use Rattle.state_calls.specs.declared.error.TaskError.{TaskError}
 use Rattle.task_loop.proofs.MainStepLemmas.{stepped_still}
-use Rattle.task_loop.specs.HasRun.{HasStepped, StepsTo}
+use Rattle.task_loop.specs.HasRun.{HasStepResult, StepsTo}
 use Rattle.task_machine.specs.declared.component.Component.{Component}
 use Rattle.task_store.specs.declared.store.Store.{Store}
 use Rattle.embed_example.specs.declared.relay.Relay.{Relay}
@@ -16,7 +16,7 @@ use Rattle.task_turns.specs.declared.mains.MainStep.{MainStep}
 use Rattle.task_turns.specs.declared.mains.MainStep.TheVariants as step
 
 -- what a start has come to is a step of main
-started_to : {T G : Type 0} (d : Component) (r : Result MainStep TaskError) (m : Relay) (s : Store T ScriptedHost G) (n : Relay) (t : Store T ScriptedHost G) → IfOk r (λ q. HasStepped relay_says (λ (w : ScriptedHost). w.left) d q m s n t) →
+started_to : {T G : Type 0} (d : Component) (r : Result MainStep TaskError) (m : Relay) (s : Store T ScriptedHost G) (n : Relay) (t : Store T ScriptedHost G) → IfOk r (λ q. HasStepResult relay_says (λ (w : ScriptedHost). w.left) d q m s n t) →
     IfErr r (λ e. e ≡ task_error.NoMemory) → StepsTo relay_says (λ (w : ScriptedHost). w.left) d r m s n t
 started_to d (Ok q) m s n t did err = did
 started_to d (Err e) m s n t did err = inl err

@@ -1,15 +1,15 @@
 use Rattle.std.proofs.Common.{◌≡◌, IsSome, ap, sym, subst, ◌∙◌, arith, is_some, map}
 use Rattle.std.proofs.lemmas.Option.{same_Some}
 use Rattle.std.specs.Option.{option_map}
-use Rattle.task_table.specs.Answers.{result_copied}
-use Rattle.task_table.specs.Places.{placed_in}
+use Rattle.task_table.specs.TableAnswers.{result_copied}
+use Rattle.task_table.specs.TableCells.{placed_in}
 use Rattle.record_table.specs.Rows.{place_of}
 use Rattle.task_table.specs.Table.{children_of}
 use Rattle.std.proofs.lemmas.List.{map-set}
 use Rattle.task_table.proofs.TableLemmas.{item_place, unwrapped-item, deletion-ok}
 use Rattle.task_table.proofs.Laws.{Removes-deleted}
 use Rattle.record_table.proofs.RowLemmas.{childless, counted_freed, row_seen}
-use Rattle.task_table.proofs.SoundLemmas.{shown-deleted, IsSound-deleted, room_for_freed}
+use Rattle.task_table.proofs.SoundLemmas.{shown-deleted, IsSoundTable-deleted, room_for_freed}
 use Rattle.record_table.proofs.table.RecordTable.delete.Goals as goal
 
 pub vacate-entry-requires : goal.vacate-entry-requires
@@ -40,7 +40,7 @@ invariant_of-self g c =
     let free = c.self.inside.free.items in
     let given = c.self.inside.given in
     let present = subst IsSome (sym (row_seen rows free given c.args.id.rep c.args.self.now c.self.view_is)) (ap is_some one.1) in
-    IsSound-deleted (map place_of rows) (map place_of c.vacate-entry.new.rows.items) free c.push_reserved.new.self.items _ _ given 4294967295 c.args.self.now c.args.id.rep one.0
+    IsSoundTable-deleted (map place_of rows) (map place_of c.vacate-entry.new.rows.items) free c.push_reserved.new.self.items _ _ given 4294967295 c.args.self.now c.args.id.rep one.0
     c.self.view_is (ap (map placed_in) c.vacate-entry.ensures.rows ∙ map-set placed_in _ _ _) c.push_reserved.ensures.items
     (counted_freed rows c.vacate-entry.new.rows.items c.args.id.rep present c.vacate-entry.ensures.rows c.self.invariant.counted)
     one.1 (childless rows free _ given c.args.id.rep c.args.self.now c.self.view_is c.self.invariant) c.push_reserved.ensures.capacity c.self.invariant

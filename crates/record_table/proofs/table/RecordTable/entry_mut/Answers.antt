@@ -1,9 +1,9 @@
 use Rattle.std.proofs.Common.{refl, ap, sym, subst, ◌∙◌, IsSome, map, vec_capacity}
 use Rattle.std.specs.Option.{option_map}
-use Rattle.task_table.specs.Places.{IsSound, shown}
+use Rattle.task_table.specs.TableCells.{IsSoundTable, shown}
 use Rattle.record_table.specs.Rows.{place_of}
 use Rattle.record_table.proofs.RowLemmas.{row_seen, row_put, row_entry, place_value}
-use Rattle.task_table.proofs.SoundLemmas.{IsSound-entry_put, shown-entry_put}
+use Rattle.task_table.proofs.SoundLemmas.{IsSoundTable-entry_put, shown-entry_put}
 use Rattle.record_table.proofs.table.RecordTable.entry_mut.Goals as goal
 
 pub invariant_of-self-lent : goal.invariant_of-self-lent
@@ -15,8 +15,8 @@ invariant_of-self-lent g c w =
     let present = subst IsSome (sym (row_seen rows free given c.args.rep c.args.self.now c.self.view_is)) c.requires in
     let value = place_value rows c.args.rep read present c.index_mut.ensures.value in
     let put = row_put rows c.args.rep read present c.index_mut.ensures.value w in
-    subst (λ ps. IsSound ps free (vec_capacity c.self.inside.free) given 4294967295) (sym put)
-    (IsSound-entry_put (map place_of rows) free given 4294967295 c.args.self.now c.args.rep (place_of read) c.self.view_is c.requires value (vec_capacity c.self.inside.free) w c.self.invariant)
+    subst (λ ps. IsSoundTable ps free (vec_capacity c.self.inside.free) given 4294967295) (sym put)
+    (IsSoundTable-entry_put (map place_of rows) free given 4294967295 c.args.self.now c.args.rep (place_of read) c.self.view_is c.requires value (vec_capacity c.self.inside.free) w c.self.invariant)
 
 pub returns : goal.returns
 returns g c =

@@ -1,5 +1,5 @@
 use Rattle.std.proofs.Common.{map}
-use Rattle.task_table.specs.Places.{placed_in}
+use Rattle.task_table.specs.TableCells.{placed_in}
 use Rattle.record_table.specs.Rows.{place_of, records_shown}
 use Rattle.task_table.proofs.Laws.{length-entries_from, entries_few}
 use Rattle.record_table.proofs.table.RecordTable.iter.Goals as goal

@@ -5,7 +5,7 @@ use Rattle.task_table.specs.Changes.{next_of, pushed}
 use Rattle.record_table.specs.Rows.{place_of, records_shown}
 use Rattle.task_table.proofs.Laws.{Adds-pushed}
 use Rattle.record_table.proofs.RowLemmas.{next_is_there, row_filled}
-use Rattle.task_table.proofs.SoundLemmas.{next_is_free, next_shown, shown-pushed, IsSound-pushed, unless_err}
+use Rattle.task_table.proofs.SoundLemmas.{next_is_free, next_shown, shown-pushed, IsSoundTable-pushed, unless_err}
 use Rattle.task_table.proofs.TableLemmas.{room_left}
 use Rattle.record_table.proofs.table.RecordTable.push.Goals as goal
 
@@ -25,7 +25,7 @@ invariant_of-self-2 g c =
     let kept = c.reserve.ensures.kept in
     let same = c.fill-rep.ensures.capacity in
     let long = length-map c.reserve.new.rows.items place_of in
-    IsSound-pushed (map place_of c.reserve.new.rows.items) (map place_of c.fill-rep.new.rows.items) c.reserve.new.free.items c.fill-rep.new.free.items (vec_capacity c.self.inside.free) (vec_capacity c.fill-rep.new.free) c.self.inside.given 4294967295 c.wrap.result
+    IsSoundTable-pushed (map place_of c.reserve.new.rows.items) (map place_of c.fill-rep.new.rows.items) c.reserve.new.free.items c.fill-rep.new.free.items (vec_capacity c.self.inside.free) (vec_capacity c.fill-rep.new.free) c.self.inside.given 4294967295 c.wrap.result
     (rw (c.reserve.ensures.rows, c.reserve.ensures.free) c.self.invariant) not_full places c.fill-rep.ensures.free (omega arith)
     (λ nil. let more = (room nil).1 in omega arith)
 

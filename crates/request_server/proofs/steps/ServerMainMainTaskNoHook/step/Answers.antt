@@ -1,7 +1,7 @@
 -- What a server did is a step of main.
 use Rattle.request_server.proofs.SaysLemmas.{after_wait, may_serve, served, waited_on}
 use Rattle.request_server.proofs.steps.ServerMainMainTaskNoHook.step.Goals as goal
-use Rattle.request_server.specs.Steps.{HasStepped, HasWaited}
+use Rattle.request_server.specs.Steps.{HasStepResult, HasWaited}
 use Rattle.std.proofs.Common.{rules}
 
 pub reply_refusal-requires-clause-may : goal.reply_refusal-requires-clause-may
@@ -29,7 +29,7 @@ returns-in-Some-2-clause-steps g c =
     let n = c.start_next.new.main in
     let t = c.start_next.new.access.store.now in
     let waited : HasWaited course d m s k u = search rules in
-    let did : HasStepped course d k u c.in-Some-2.step n t = search rules in
+    let did : HasStepResult course d k u c.in-Some-2.step n t = search rules in
     served course d m s c.in-Some-2.step n t c.requires.may.suits (after_wait course d m s k u waited c.in-Some-2.step n t did)
 
 pub returns-clause-steps : goal.returns-clause-steps

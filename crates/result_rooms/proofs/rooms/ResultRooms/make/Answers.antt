@@ -9,8 +9,8 @@ use Rattle.result_rooms.proofs.rooms.ResultRooms.make.Goals.{in-Err, in-Ok}
 pub invariant_of-self : goal.invariant_of-self
 invariant_of-self c =
     let es = c.self.inside.rooms.entries in
-    let g = c.given_there-given.result in
-    let here = ap one_of c.given_there-given.ensures in
+    let g = c.given_unchecked-given.result in
+    let here = ap one_of c.given_unchecked-given.ensures in
     let all = count_inserted c.args.call (record { given = g; lives = true }) es c.insert.ensures.was_ordered in
     let stays : count_given es ≡ count_given (insert_entry nat_cmp es c.args.call (record { given = g; lives = true })) = omega (arith, all, here) in
     elim c.match-insert.branch [ in-Ok w ↦ c.self.invariant ∙ (stays ∙ ap count_given (sym w.in-Ok.ensures.entries)) | in-Err w ↦ c.self.invariant ∙ ap count_given (sym w.in-Err.ensures.err) ]

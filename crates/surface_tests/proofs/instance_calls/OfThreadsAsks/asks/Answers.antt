@@ -1,8 +1,8 @@
-use Rattle.surface_tests.proofs.StateLemmas.{sits_placed}
+use Rattle.surface_tests.proofs.StateLemmas.{core_in_order_placed}
 use Rattle.surface_tests.proofs.instance_calls.OfThreadsAsks.asks.Goals as goal
 
 pub is_queued-requires : goal.is_queued-requires
-is_queued-requires c = sits_placed _ _ _ c.requires.running.order
+is_queued-requires c = core_in_order_placed _ _ _ c.requires.running.order
 
 pub ends-requires : goal.ends-requires
-ends-requires c = sits_placed _ _ _ c.requires.running.order
+ends-requires c = core_in_order_placed _ _ _ c.requires.running.order

@@ -3,7 +3,7 @@ use Rattle.std.proofs.lemmas.List.{length-append, length-drop, length-map, lengt
 use Rattle.std.proofs.lemmas.List.Sorted.{length_permutation}
 use Rattle.std.specs.List.Sorted.{IsPermutation}
 use Rattle.std.specs.Vec.{with_items}
-use Rattle.table_order.specs.Places.{given_each, Places}
+use Rattle.table_order.specs.GivenPlaces.{given_each, Places}
 use Rattle.table_order.proofs.PlaceLemmas.{in_order, other_end}
 use Rattle.table_order.proofs.places.TablePlaces.put_in_order.Goals as goal
 

@@ -1,5 +1,5 @@
 use Rattle.std.proofs.Common.{rules, ap, subst, ◌∙◌}
-use Rattle.task_abort.specs.declared.log.View.{View}
+use Rattle.task_abort.specs.declared.log.PassView.{PassView}
 use Rattle.task_abort.specs.Rule.{Settles}
 use Rattle.task_abort.proofs.MeetLemmas.{join_keeps, settle_keeps, meets}
 use Rattle.task_abort.proofs.cell.JoinHandle.meet.Goals as goal
@@ -17,4 +17,4 @@ pub load-requires : goal.load-requires
 load-requires c = (search rules, search rules, settle_keeps _ _ _ (ap (λ m. m.0.spent) c.join_seat.ensures.2 ∙ c.args.pass.now.alive))
 
 pub returns-clause-met : goal.returns-clause-met
-returns-clause-met c = let P : View → Type 0 = λ z. Settles z c.load.new.seat.me.0 in meets _ _ _ (subst P (ap (λ m. m.0) c.join_seat.ensures.2) c.load.ensures.2.1)
+returns-clause-met c = let P : PassView → Type 0 = λ z. Settles z c.load.new.seat.me.0 in meets _ _ _ (subst P (ap (λ m. m.0) c.join_seat.ensures.2) c.load.ensures.2.1)

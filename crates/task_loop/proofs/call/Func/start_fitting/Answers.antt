@@ -4,10 +4,10 @@ use Rattle.std.proofs.Common.{refl, subst, sym, ◌∙◌, ◌≡◌}
 use Rattle.std.proofs.lemmas.Result.{err_from_is_err_and}
 use Rattle.std.specs.Prelude.{Err, Ok, Option, false, is_some}
 use Rattle.task_calls.specs.Untrapped.{StartsUntrapped}
-use Rattle.task_loop.proofs.CallStartLemmas.{has_started, keeps_started, keeps_still, leaves_told_none, reason_wanting}
+use Rattle.task_loop.proofs.CallStartLemmas.{has_started, keeps_started, keeps_still, leaves_told_none, reason_out_of_memory}
 use Rattle.task_loop.proofs.HookLemmas.{unanswered}
 use Rattle.task_loop.proofs.call.Func.start_fitting.Goals as goal
-use Rattle.task_loop.specs.Calls.{callee_of}
+use Rattle.task_loop.specs.LoopCalls.{callee_of}
 use Rattle.task_machine.specs.declared.component.Callee.{Callee}
 use Rattle.task_machine.specs.declared.trap.Trap.{Trap}
 use Rattle.task_rules.specs.MainOps.{start_refusal}
@@ -43,7 +43,7 @@ returns-in_err-thread g c =
     let answered = err_from_is_err_and c.from_residual.result c.from_residual.ensures.1 in
     rw (answered.1, answered.2) (record {
       does = leaves_told_none g.G.TaskGroupHook.listens (start_refusal core) s (record s { state = u }) why
-          (reason_wanting g.G.TaskGroupHook.listens (start_refusal core) why s.listeners s.listeners c.requires.fits starts.0)
+          (reason_out_of_memory g.G.TaskGroupHook.listens (start_refusal core) why s.listeners s.listeners c.requires.fits starts.0)
           (λ f. let wants = starts.0 in absurd (cc)) starts.1 refl;
       keeps = keeps_still c.args.component.now s u s.listeners starts.1 refl;
     })

@@ -4,10 +4,10 @@ use Rattle.std.proofs.Common.{refl, subst, sym, ◌∙◌, ◌≡◌}
 use Rattle.std.specs.Prelude.{Err, Ok, Option}
 use Rattle.task_calls.specs.Untrapped.{StartsUntrapped}
 use Rattle.task_loop.proofs.CallStartLemmas.{has_started, keeps_started, keeps_still, reason_back, reason_hook, unhooked_never}
-use Rattle.task_loop.proofs.HookStartLemmas.{told_calm, told_failed}
+use Rattle.task_loop.proofs.HookStartLemmas.{told_hook_is_ok, told_failed}
 use Rattle.task_loop.proofs.UnmadeLemmas.{unmade_back, unmade_refused}
 use Rattle.task_loop.proofs.call.Func.start_hooked.Goals as goal
-use Rattle.task_loop.specs.Calls.{callee_of}
+use Rattle.task_loop.specs.LoopCalls.{callee_of}
 use Rattle.task_machine.specs.declared.component.Callee.{Callee}
 use Rattle.task_machine.specs.declared.trap.Trap.{Trap}
 use Rattle.task_machine.specs.declared.trap.Trap.TheVariants as trap
@@ -46,7 +46,7 @@ returns-in-Ok g c =
     subst (λ (k : Callee). StartsUntrapped comp k words s.state (start_refusal core) (Ok n) u) c.callee.ensures c.in-Ok.ensures.starts in
     record {
       does = has_started comp e words s u n starts told c.next_group-group.result.number c.next_group-group.ensures said.told
-          (told_calm c.tell.result s.listeners told said.answer (sym c.is_err.ensures.value ∙ c.if-is_err.false));
+          (told_hook_is_ok c.tell.result s.listeners told said.answer (sym c.is_err.ensures.value ∙ c.if-is_err.false));
       keeps = keeps_started comp e words s u n starts told c.next_group-group.result.number c.next_group-group.ensures said.told c.start_untrapped.ensures.order;
     }
 
@@ -70,7 +70,7 @@ returns-in-Err g c =
             c.requires.listens starts.0 said.told.errors back.told back.answer back.failed;
         state = starts.1;
         told = unmade_back core c.next_group-group.result.number c.next_group-group.ensures s.listeners told said.told
-            (told_calm c.tell.result s.listeners told said.answer (sym c.is_err.ensures.value ∙ c.if-is_err.false)) c.in-Err.e r new starts.0 back.told listens back.answer back.failed;
+            (told_hook_is_ok c.tell.result s.listeners told said.answer (sym c.is_err.ensures.value ∙ c.if-is_err.false)) c.in-Err.e r new starts.0 back.told listens back.answer back.failed;
         unhooked = unhooked_never listens s.listeners (new ≡ s.listeners) c.requires.listens c.requires.hooked;
       };
       keeps = keeps_still c.args.component.now s u new starts.1 (back.told.same_hook ∙ said.told.same_hook);

@@ -5,7 +5,7 @@ use Rattle.task_loop.proofs.CallStartLemmas.{keeps_then}
 use Rattle.task_loop.proofs.PolledLemmas.{polls_first, polls_on}
 use Rattle.task_loop.proofs.call_concurrent.CallConcurrent.poll.Goals as goal
 use Rattle.task_loop.specs.CallStarts.{StartsOrStops}
-use Rattle.task_loop.specs.Calls.{callee_of}
+use Rattle.task_loop.specs.LoopCalls.{callee_of}
 
 pub returns-in-Some : goal.returns-in-Some
 returns-in-Some g c = record {

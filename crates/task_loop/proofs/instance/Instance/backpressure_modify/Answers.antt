@@ -1,6 +1,6 @@
 -- The op is done apart from its place.
 use Rattle.std.proofs.Common.{refl}
-use Rattle.task_calls.specs.Answers.{at_once, nothing_answered}
+use Rattle.task_calls.specs.OpAnswers.{at_once, nothing_answered}
 use Rattle.task_calls.specs.Intrinsics.{pressure_op}
 use Rattle.task_loop.proofs.AskHoldLemmas.{apart_pressure}
 use Rattle.task_loop.proofs.InstanceCallLemmas.{does_host_op}

@@ -2,15 +2,15 @@
 use Rattle.state_calls.specs.Named.{IsLive}
 use Rattle.std.proofs.Common.{ap, subst}
 use Rattle.std.specs.Prelude.{IfOk, true}
-use Rattle.task_calls.specs.Answers.{at_once}
+use Rattle.task_calls.specs.OpAnswers.{at_once}
 use Rattle.task_calls.specs.Asks.{Answers}
-use Rattle.task_calls.specs.Directs.{entered, enters_row, thread_entered}
+use Rattle.task_calls.specs.Directs.{entered, enters_rule, thread_entered}
 use Rattle.task_loop.proofs.AskHoldLemmas.{by_answers, entered_holds}
 use Rattle.task_loop.proofs.InstanceCallLemmas.{does_call}
-use Rattle.task_loop.proofs.RowTrapLemmas.{entered_not}
+use Rattle.task_loop.proofs.RuleTrapLemmas.{entered_not}
 use Rattle.task_loop.proofs.instance.Instance.enter_guest_sync_call.Goals as goal
 use Rattle.task_loop.specs.InstanceCalls.{EntersCall}
-use Rattle.task_loop.proofs.KnownLemmas.{answers_known}
+use Rattle.task_loop.proofs.TrackedLemmas.{answers_known}
 use Rattle.task_machine.specs.declared.component.Callee.{Callee}
 use Rattle.task_rules.specs.Scripts.{export_kind}
 
@@ -30,7 +30,7 @@ returns g c =
     let words = c.args.params.now in
     let enter = c.enter_call-answer in
     let u = enter.new.w in
-    let row = enters_row d e words s.state.core in
+    let row = enters_rule d e words s.state.core in
     let answers = at_once (entered u enter.result) in
     let told = c.tell_call.ensures in
     record {

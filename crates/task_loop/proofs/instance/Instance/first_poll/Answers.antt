@@ -2,14 +2,14 @@
 use Rattle.state_calls.specs.declared.error.TaskError.TheVariants as task_error
 use Rattle.std.proofs.Common.{ap, refl, subst, sym, ◌∙◌}
 use Rattle.std.specs.Prelude.{Err, is_ok, true, ◌≡◌}
-use Rattle.task_calls.specs.Answers.{at_once, number_answered}
+use Rattle.task_calls.specs.OpAnswers.{at_once, number_answered}
 use Rattle.task_calls.specs.Asks.{Answers}
-use Rattle.task_calls.specs.Polled.{polls_row}
+use Rattle.task_calls.specs.PolledCalls.{polls_rule}
 use Rattle.task_loop.proofs.HostCallLemmas.{after_settled, held_answers, may_tell, own_held, settle_rest, polled_holds}
 use Rattle.task_loop.proofs.InstanceCallLemmas.{held_state, is_told, settled_listeners, settled_rest, settled_state, unheld_rest}
 use Rattle.task_loop.proofs.ToldLemmas.{told_core}
-use Rattle.task_loop.proofs.KnownLemmas.{answers_known}
-use Rattle.task_loop.proofs.RowTrapLemmas.{polled_not}
+use Rattle.task_loop.proofs.TrackedLemmas.{answers_known}
+use Rattle.task_loop.proofs.RuleTrapLemmas.{polled_not}
 use Rattle.task_loop.proofs.instance.Instance.first_poll.Goals as goal
 use Rattle.task_group.specs.Listeners.{Listeners}
 use Rattle.task_loop.specs.Told.{TellsCall}
@@ -37,12 +37,12 @@ returns g c =
     let heard = c.poll_held-told.result in
     let asked = c.poll_held-told.new.self in
     let found = first_heard work heard in
-    let row = polls_row c.args.register found s.state.core in
+    let row = polls_rule c.args.register found s.state.core in
     let left = held_by course s in
     let right = held_by course m in
     let answers =
-    subst (λ (h : HostDef). Answers true (polls_row c.args.register (first_heard h heard) s.state.core) number_answered s.state (at_once poll.result) u) c.left-host.ensures
-    (subst (λ (v : StateView). Answers true (polls_row c.args.register (first_heard c.left-host.result heard) v.core) number_answered v (at_once poll.result) u) (ap (λ k. k.state) c.poll_held-told.ensures.rest ∙ held_state s held c.in-Ok.ensures.rest)
+    subst (λ (h : HostDef). Answers true (polls_rule c.args.register (first_heard h heard) s.state.core) number_answered s.state (at_once poll.result) u) c.left-host.ensures
+    (subst (λ (v : StateView). Answers true (polls_rule c.args.register (first_heard c.left-host.result heard) v.core) number_answered v (at_once poll.result) u) (ap (λ k. k.state) c.poll_held-told.ensures.rest ∙ held_state s held c.in-Ok.ensures.rest)
     poll.ensures.answers) in
     let settles = settle_rest held asked m u c.poll_held-told.ensures.rest c.settle.ensures.rest in
     let tells = held_answers work (held_by course held c.in-Ok.number) heard (own_held (next_work s.state.core) c.in-Ok.number work left (held_by course held) c.in-Ok.ensures.number c.in-Ok.ensures.ok) c.poll_held-told.ensures.answer in
@@ -79,7 +79,7 @@ returns-in_default g c =
     let same : held.state ≡ s.state = held_state s held c.hold_next.ensures.rest in
     let work = course c.args.work in
     let some = may_tell work in
-    let row = polls_row c.args.register (first_heard work some.0) s.state.core in
+    let row = polls_rule c.args.register (first_heard work some.0) s.state.core in
     let heard_all : TellsCall listens c.asked-before.result (Err task_error.NoMemory) c.tell_refused.result s.state c.tell_refused.new.core s.listeners c.tell_refused.new.listeners =
     subst (λ (l : Listeners). TellsCall listens c.asked-before.result (Err task_error.NoMemory) c.tell_refused.result s.state c.tell_refused.new.core l c.tell_refused.new.listeners) (ap (λ k. k.listeners) c.hold_next.ensures.rest)
     (subst (λ (v : StateView). TellsCall listens c.asked-before.result (Err task_error.NoMemory) c.tell_refused.result v c.tell_refused.new.core held.listeners c.tell_refused.new.listeners) same c.tell_refused.ensures) in

@@ -1,10 +1,10 @@
 -- The op at the place is taken further.
-use Rattle.task_calls.specs.Answers.{whole_answer}
+use Rattle.task_calls.specs.OpAnswers.{whole_answer}
 use Rattle.task_calls.specs.Asks.{AnswersHere, row_at, takes_here}
 use Rattle.task_loop.proofs.AskHoldLemmas.{gone_on_holds}
 use Rattle.task_loop.proofs.InstanceCallLemmas.{does_call}
-use Rattle.task_loop.proofs.KnownLemmas.{answers_known}
-use Rattle.task_loop.proofs.RowTrapLemmas.{here_not}
+use Rattle.task_loop.proofs.TrackedLemmas.{answers_known}
+use Rattle.task_loop.proofs.RuleTrapLemmas.{here_not}
 use Rattle.task_loop.proofs.ToldLemmas.{sits_told}
 use Rattle.task_loop.proofs.instance.Instance.go_on.Goals as goal
 

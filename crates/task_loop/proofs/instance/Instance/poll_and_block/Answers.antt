@@ -3,13 +3,13 @@ use Rattle.state_calls.specs.declared.error.TaskError.TheVariants as task_error
 use Rattle.std.proofs.Common.{ap, refl, subst, sym, ◌∙◌}
 use Rattle.std.specs.Prelude.{Err, is_ok, true, ◌≡◌}
 use Rattle.task_calls.specs.Asks.{Answers}
-use Rattle.task_calls.specs.Answers.{value_answered}
-use Rattle.task_calls.specs.Polled.{blocks_row}
+use Rattle.task_calls.specs.OpAnswers.{value_answered}
+use Rattle.task_calls.specs.PolledCalls.{blocks_rule}
 use Rattle.task_loop.proofs.HostCallLemmas.{after_settled, held_answers, may_tell, own_held, settle_rest, blocked_holds}
 use Rattle.task_loop.proofs.InstanceCallLemmas.{held_state, is_told, settled_listeners, settled_rest, settled_state, unheld_rest}
 use Rattle.task_loop.proofs.ToldLemmas.{told_core}
-use Rattle.task_loop.proofs.KnownLemmas.{answers_known}
-use Rattle.task_loop.proofs.RowTrapLemmas.{blocked_not}
+use Rattle.task_loop.proofs.TrackedLemmas.{answers_known}
+use Rattle.task_loop.proofs.RuleTrapLemmas.{blocked_not}
 use Rattle.task_loop.proofs.instance.Instance.poll_and_block.Goals as goal
 use Rattle.task_loop.specs.InstanceCalls.{may_pause}
 use Rattle.task_group.specs.Listeners.{Listeners}
@@ -38,12 +38,12 @@ returns g c =
     let heard = c.poll_held-told.result in
     let asked = c.poll_held-told.new.self in
     let found = first_heard work heard in
-    let row = blocks_row found s.state.core in
+    let row = blocks_rule found s.state.core in
     let left = held_by course s in
     let right = held_by course m in
     let answers =
-    subst (λ (h : HostDef). Answers true (blocks_row (first_heard h heard) s.state.core) value_answered s.state block.result u) c.left-host.ensures
-    (subst (λ (v : StateView). Answers true (blocks_row (first_heard c.left-host.result heard) v.core) value_answered v block.result u) (ap (λ k. k.state) c.poll_held-told.ensures.rest ∙ held_state s held c.in-Ok.ensures.rest)
+    subst (λ (h : HostDef). Answers true (blocks_rule (first_heard h heard) s.state.core) value_answered s.state block.result u) c.left-host.ensures
+    (subst (λ (v : StateView). Answers true (blocks_rule (first_heard c.left-host.result heard) v.core) value_answered v block.result u) (ap (λ k. k.state) c.poll_held-told.ensures.rest ∙ held_state s held c.in-Ok.ensures.rest)
     block.ensures.answers) in
     let settles = settle_rest held asked m u c.poll_held-told.ensures.rest c.settle.ensures.rest in
     let tells = held_answers work (held_by course held c.in-Ok.number) heard (own_held (next_work s.state.core) c.in-Ok.number work left (held_by course held) c.in-Ok.ensures.number c.in-Ok.ensures.ok) c.poll_held-told.ensures.answer in
@@ -80,7 +80,7 @@ returns-in_default g c =
     let same : held.state ≡ s.state = held_state s held c.hold_next.ensures.rest in
     let work = course c.args.work in
     let some = may_tell work in
-    let row = blocks_row (first_heard work some.0) s.state.core in
+    let row = blocks_rule (first_heard work some.0) s.state.core in
     let heard_all : TellsCall listens c.asked-before.result (Err task_error.NoMemory) c.tell_refused.result s.state c.tell_refused.new.core s.listeners c.tell_refused.new.listeners =
     subst (λ (l : Listeners). TellsCall listens c.asked-before.result (Err task_error.NoMemory) c.tell_refused.result s.state c.tell_refused.new.core l c.tell_refused.new.listeners) (ap (λ k. k.listeners) c.hold_next.ensures.rest)
     (subst (λ (v : StateView). TellsCall listens c.asked-before.result (Err task_error.NoMemory) c.tell_refused.result v c.tell_refused.new.core held.listeners c.tell_refused.new.listeners) same c.tell_refused.ensures) in

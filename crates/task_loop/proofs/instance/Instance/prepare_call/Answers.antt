@@ -4,10 +4,10 @@ use Rattle.std.specs.Prelude.{IfSome, Option, ℕ}
 use Rattle.task_calls.specs.Prepared.{Prepares, goal_for}
 use Rattle.task_loop.proofs.AskHoldLemmas.{prepared_holds}
 use Rattle.task_loop.proofs.InstanceCallLemmas.{does_call}
-use Rattle.task_loop.proofs.RowTrapLemmas.{prepares_not}
+use Rattle.task_loop.proofs.RuleTrapLemmas.{prepares_not}
 use Rattle.task_loop.proofs.instance.Instance.prepare_call.Goals as goal
 use Rattle.task_loop.specs.InstanceCalls.{PreparesCall}
-use Rattle.task_loop.proofs.KnownLemmas.{prepared_known}
+use Rattle.task_loop.proofs.TrackedLemmas.{prepared_known}
 use Rattle.task_machine.specs.Read.{fits}
 use Rattle.task_machine.specs.declared.component.Callee.{Callee}
 use Rattle.task_turns.specs.Turn.{running_of}

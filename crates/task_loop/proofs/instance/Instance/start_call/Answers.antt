@@ -1,13 +1,13 @@
 -- A prepared call is begun.
-use Rattle.host_works.specs.Kept.{HeldWork}
-use Rattle.state_calls.specs.declared.names.QualifiedThreadId.{QualifiedThreadId}
+use Rattle.host_works.specs.KeptWorks.{HeldWork}
+use Rattle.state_calls.specs.declared.name_calls.QualifiedThreadId.{QualifiedThreadId}
 use Rattle.std.specs.Prelude.{IfSome, IsSome, None, Ok, Option, Some, ℕ, ◌≡◌}
 use Rattle.task_calls.specs.Prepared.{starts_in}
-use Rattle.task_calls.specs.declared.answers.Step.TheVariants as step
+use Rattle.task_calls.specs.declared.answer_calls.Step.TheVariants as step
 use Rattle.task_loop.proofs.AskHoldLemmas.{started_holds}
 use Rattle.task_loop.proofs.InstanceCallLemmas.{does_call}
 use Rattle.task_loop.proofs.instance.Instance.start_call.Goals as goal
-use Rattle.task_loop.proofs.KnownLemmas.{started_known}
+use Rattle.task_loop.proofs.TrackedLemmas.{started_known}
 use Rattle.task_store.specs.Hosts.{HoldsWorks}
 use Rattle.task_turns.specs.Turn.{running_of}
 use Rattle.task_words.specs.StateView.{StateView, with_core, with_current}

@@ -1,6 +1,6 @@
 -- The op is done apart from its place.
 use Rattle.std.proofs.Common.{refl}
-use Rattle.task_calls.specs.Answers.{nothing_answered}
+use Rattle.task_calls.specs.OpAnswers.{nothing_answered}
 use Rattle.task_calls.specs.Intrinsics.{suspension_op}
 use Rattle.task_loop.proofs.AskHoldLemmas.{apart_suspension}
 use Rattle.task_loop.proofs.InstanceCallLemmas.{does_host_op}

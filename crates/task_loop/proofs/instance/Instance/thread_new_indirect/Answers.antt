@@ -1,7 +1,7 @@
 -- The op is done apart from its place.
 use Rattle.std.proofs.Common.{ap, refl}
 use Rattle.std.specs.Prelude.{ℕ}
-use Rattle.task_calls.specs.Answers.{at_once, number_answered}
+use Rattle.task_calls.specs.OpAnswers.{at_once, number_answered}
 use Rattle.task_loop.proofs.InstanceCallLemmas.{does_host_op}
 use Rattle.task_loop.proofs.instance.Instance.thread_new_indirect.Goals as goal
 use Rattle.task_loop.specs.InstanceCalls.{new_thread_op}

@@ -1,6 +1,6 @@
 -- Each turn adds to the run, until it is over or the policy stops it.
 use Rattle.label_laws.specs.Own.{rests_by}
-use Rattle.run_pace.specs.Pace.{counted, yields_before}
+use Rattle.run_pace.specs.YieldBudget.{counted, yields_before}
 use Rattle.std.proofs.Common.{ap, arith, refl, subst, sym, ◌∙◌}
 use Rattle.std.specs.Prelude.{None, Option, Some, false, true, ◌+◌, ◌<◌, ◌^◌, ◌≡◌}
 use Rattle.task_loop.proofs.HasPolledLemmas.{polled_idles, polled_none, polled_out, polled_over, polled_rests, polled_yields}
@@ -18,8 +18,8 @@ use Rattle.task_machine.specs.declared.records.Turn.TheVariants as turn
 use Rattle.task_machine.specs.declared.words.Mark.{Mark}
 use Rattle.task_rules.proofs.Machine.{and_parts}
 use Rattle.task_turns.specs.Turn.{given, idle_line_of}
-use Rattle.task_turns.specs.declared.made.Stepped.{Stepped}
-use Rattle.task_turns.specs.declared.made.Stepped.TheVariants as stepped
+use Rattle.task_turns.specs.declared.made.StepResult.{StepResult}
+use Rattle.task_turns.specs.declared.made.StepResult.TheVariants as stepped
 use Rattle.task_words.specs.StateView.{Tags}
 
 pub turns-init : goal.turns-init
@@ -27,7 +27,7 @@ turns-init g c =
     record {
       come = come_first _ _ _ _ c.requires.may;
       kept = λ driven. refl;
-      paced = λ polled. paced_none c.args.self.now.pace.passes c.args.self.now.pace.since c.args.trace.now;
+      paced = λ polled. paced_none c.args.self.now.yield_budget.passes c.args.self.now.yield_budget.since c.args.trace.now;
       few = omega arith;
       why = refl;
       running = c.group_now-running.ensures ∙ current_is c.args.store.now.state c.args.self.now.turn c.requires.may.stands.running;
@@ -65,11 +65,11 @@ compute-all-requires-clause-order g c =
     let v = at c.turns.self c.turn.new.main c.turn.new.store c.turn.new.trace in
     let r = c.turn.new.running in
     let e = c.in-Ok.ensures in
-    let q = c.in-Some-Goes.turn in
-    let computed = c.in-Some-Goes.computed in
-    let is = c.in-Some-Goes.is ∙ ap (λ (q : Stepped). Some q) (rw c.in-Some-Goes.is at c.in-Some-Goes.field-0-is) in
-    let came = turned_as says course d u v r _ (Some (stepped.Goes q computed)) is e.turned.0 in
-    let goes = come_goes says course d a u n come v r q computed came c.turn.ensures.keeps in
+    let q = c.in-Some-Continues.turn in
+    let computed = c.in-Some-Continues.computed in
+    let is = c.in-Some-Continues.is ∙ ap (λ (q : StepResult). Some q) (rw c.in-Some-Continues.is at c.in-Some-Continues.field-0-is) in
+    let op_result = turned_as says course d u v r _ (Some (stepped.Continues q computed)) is e.turned.0 in
+    let goes = come_goes says course d a u n come v r q computed op_result c.turn.ensures.keeps in
     goes.on.at.order
 
 pub compute-all-requires-clause-runs : goal.compute-all-requires-clause-runs
@@ -84,11 +84,11 @@ compute-all-requires-clause-runs g c =
     let v = at c.turns.self c.turn.new.main c.turn.new.store c.turn.new.trace in
     let r = c.turn.new.running in
     let e = c.in-Ok.ensures in
-    let q = c.in-Some-Goes.turn in
-    let computed = c.in-Some-Goes.computed in
-    let is = c.in-Some-Goes.is ∙ ap (λ (q : Stepped). Some q) (rw c.in-Some-Goes.is at c.in-Some-Goes.field-0-is) in
-    let came = turned_as says course d u v r _ (Some (stepped.Goes q computed)) is e.turned.0 in
-    let goes = come_goes says course d a u n come v r q computed came c.turn.ensures.keeps in
+    let q = c.in-Some-Continues.turn in
+    let computed = c.in-Some-Continues.computed in
+    let is = c.in-Some-Continues.is ∙ ap (λ (q : StepResult). Some q) (rw c.in-Some-Continues.is at c.in-Some-Continues.field-0-is) in
+    let op_result = turned_as says course d u v r _ (Some (stepped.Continues q computed)) is e.turned.0 in
+    let goes = come_goes says course d a u n come v r q computed op_result c.turn.ensures.keeps in
     goes.on.at.running
 
 pub turns-preserved : goal.turns-preserved
@@ -101,18 +101,18 @@ turns-preserved g c =
     let n = c.turns.added in
     let come = c.turns.invariant.come in
     let stops = g.P.Policy.YIELDS in
-    let pace = c.args.self.now.pace in
-    let b = c.turns.self.pace.passes in
-    let k = c.turns.self.pace.since in
+    let yield_budget = c.args.self.now.yield_budget in
+    let b = c.turns.self.yield_budget.passes in
+    let k = c.turns.self.yield_budget.since in
     let paced = c.turns.invariant.paced in
     let v = at c.turns.self c.turn.new.main c.turn.new.store c.turn.new.trace in
     let r = c.turn.new.running in
     let e = c.in-Ok.ensures in
-    let q = c.in-Some-Goes.turn in
-    let computed = c.in-Some-Goes.computed in
-    let is = c.in-Some-Goes.is ∙ ap (λ (q : Stepped). Some q) (rw c.in-Some-Goes.is at c.in-Some-Goes.field-0-is) in
-    let came = turned_as says course d u v r _ (Some (stepped.Goes q computed)) is e.turned.0 in
-    let goes = come_goes says course d a u n come v r q computed came c.turn.ensures.keeps in
+    let q = c.in-Some-Continues.turn in
+    let computed = c.in-Some-Continues.computed in
+    let is = c.in-Some-Continues.is ∙ ap (λ (q : StepResult). Some q) (rw c.in-Some-Continues.is at c.in-Some-Continues.field-0-is) in
+    let op_result = turned_as says course d u v r _ (Some (stepped.Continues q computed)) is e.turned.0 in
+    let goes = come_goes says course d a u n come v r q computed op_result c.turn.ensures.keeps in
     let all = c.in-Ok-all.ensures in
     record {
       come = come_computed says course d a (record v { turn = q }) (n + 1) goes c.compute-all.new.w c.compute-all.new.trace c.in-Ok-all.all all.on all.computes all.still all.works
@@ -123,12 +123,12 @@ turns-preserved g c =
           let stays = subst (λ (o : Option Mark). yields_before b k o ≡ false) next (and_false stops (yields_before b k c.next_mark-next.result) polled (sym c.yields_by.ensures ∙ c.if-yields_by.false)) in
           let rests = subst (λ (o : Option Mark). rests_by c.turns.self.turn o ≡ false) next (and_false stops (rests_by c.turns.self.turn c.next_mark-next.result) polled (sym c.rests_with-rests.ensures ∙ c.if-rests.false)) in
           let since = c.paced_by-self.ensures.since polled ∙ ap (λ (o : Option Mark). counted k o) next in
-          let more = poll_goes (setting says course d a) (state says course d a) a.trace (numbers says course d a) pace c.args.steps u.turn (says.part u.main) u.store.state u.trace n b k come.on (paced polled) (says.part v.main) v.store.state v.trace q computed
-          (turned says course d a u n come v r (stepped.Goes q computed) came) stays c.paced_by-self.result.passes c.paced_by-self.result.since rests since (c.paced_by-self.ensures.passes polled) in
-          paced_data pace.passes pace.since a.trace c.turn.new.trace c.paced_by-self.result.passes c.paced_by-self.result.since more all.computes.labels c.compute-all.new.trace all.computes.computing all.computes.trace (c.paced_by-self.ensures.passes polled);
+          let more = poll_goes (setting says course d a) (state says course d a) a.trace (numbers says course d a) yield_budget c.args.steps u.turn (says.part u.main) u.store.state u.trace n b k come.on (paced polled) (says.part v.main) v.store.state v.trace q computed
+          (turned says course d a u n come v r (stepped.Continues q computed) op_result) stays c.paced_by-self.result.passes c.paced_by-self.result.since rests since (c.paced_by-self.ensures.passes polled) in
+          paced_data yield_budget.passes yield_budget.since a.trace c.turn.new.trace c.paced_by-self.result.passes c.paced_by-self.result.since more all.computes.labels c.compute-all.new.trace all.computes.computing all.computes.trace (c.paced_by-self.ensures.passes polled);
       few = all.few.1;
       why = e.turned.1;
-      running = came.group ∙ sym (group_computed d c.turn.new.store.state c.turn.new.trace (n + 1) c.compute-all.new.w c.compute-all.new.trace c.in-Ok-all.all (setting says course d a) refl (ap (λ (ts : Tags). ts.known) all.works.tags) q all.computes all.still);
+      running = op_result.group ∙ sym (group_computed d c.turn.new.store.state c.turn.new.trace (n + 1) c.compute-all.new.w c.compute-all.new.trace c.in-Ok-all.all (setting says course d a) refl (ap (λ (ts : Tags). ts.tracked) all.works.tags) q all.computes all.still);
     }
 
 -- ---- What it has come to
@@ -143,14 +143,14 @@ returns-then-yields_by-clause-gone g c =
     let n = c.turns.added in
     let come = c.turns.invariant.come in
     let stops = g.P.Policy.YIELDS in
-    let pace = c.args.self.now.pace in
-    let b = c.turns.self.pace.passes in
-    let k = c.turns.self.pace.since in
+    let yield_budget = c.args.self.now.yield_budget in
+    let b = c.turns.self.yield_budget.passes in
+    let k = c.turns.self.yield_budget.since in
     let paced = c.turns.invariant.paced in
     let both = and_parts stops (yields_before b k c.next_mark-next.result) (sym c.yields_by.ensures ∙ c.if-yields_by.true) in
     let yields = subst (λ (o : Option Mark). yields_before b k o ≡ true) (c.next_mark-next.ensures both.0) both.1 in
-    stops_by says course d a u c.args.steps stops stop.Yields pace c.yielded-self.result both.0
-    (polled_yields says course d a u n come pace c.args.steps b k (paced both.0) c.yielded-self.result (omega arith) yields c.yielded-self.ensures.since c.yielded-self.ensures.passes)
+    stops_by says course d a u c.args.steps stops stop.Yields yield_budget c.yielded-self.result both.0
+    (polled_yields says course d a u n come yield_budget c.args.steps b k (paced both.0) c.yielded-self.result (omega arith) yields c.yielded-self.ensures.since c.yielded-self.ensures.passes)
 
 pub returns-in-None-clause-gone : goal.returns-in-None-clause-gone
 returns-in-None-clause-gone g c =
@@ -162,19 +162,19 @@ returns-in-None-clause-gone g c =
     let n = c.turns.added in
     let come = c.turns.invariant.come in
     let stops = g.P.Policy.YIELDS in
-    let pace = c.args.self.now.pace in
-    let b = c.turns.self.pace.passes in
-    let k = c.turns.self.pace.since in
+    let yield_budget = c.args.self.now.yield_budget in
+    let b = c.turns.self.yield_budget.passes in
+    let k = c.turns.self.yield_budget.since in
     let paced = c.turns.invariant.paced in
     let v = at c.turns.self c.turn.new.main c.turn.new.store c.turn.new.trace in
     let r = c.turn.new.running in
     let e = c.in-Ok.ensures in
-    let came = turned_as says course d u v r _ None c.in-None.is e.turned.0 in
-    let pace' = c.ends.new.self.pace in
+    let op_result = turned_as says course d u v r _ None c.in-None.is e.turned.0 in
+    let yield_budget' = c.ends.new.self.yield_budget in
     rw c.ends.ensures.stop
-    (subst (λ (w : RunConcurrent). GoesTo says course d stops c.args.steps (stop.Ends outcome.Idle) pace a (at w c.turn.new.main c.turn.new.store c.turn.new.trace) pace') (sym c.ends.ensures.new)
-    (goes_on_by says course d a v c.args.steps stops (stop.Ends outcome.Idle) pace pace' (λ driven. come_none says course d a u n come v r c.args.steps (omega arith) came)
-    (λ polled. polled_none says course d a u n come pace c.args.steps b k (paced polled) pace' v r (omega arith) came (c.ends.ensures.since polled) (c.ends.ensures.passes polled))))
+    (subst (λ (w : RunConcurrent). GoesTo says course d stops c.args.steps (stop.Ends outcome.Idle) yield_budget a (at w c.turn.new.main c.turn.new.store c.turn.new.trace) yield_budget') (sym c.ends.ensures.new)
+    (goes_on_by says course d a v c.args.steps stops (stop.Ends outcome.Idle) yield_budget yield_budget' (λ driven. come_none says course d a u n come v r c.args.steps (omega arith) op_result)
+    (λ polled. polled_none says course d a u n come yield_budget c.args.steps b k (paced polled) yield_budget' v r (omega arith) op_result (c.ends.ensures.since polled) (c.ends.ensures.passes polled))))
 
 pub returns-in-Some-Over-clause-gone : goal.returns-in-Some-Over-clause-gone
 returns-in-Some-Over-clause-gone g c =
@@ -186,22 +186,22 @@ returns-in-Some-Over-clause-gone g c =
     let n = c.turns.added in
     let come = c.turns.invariant.come in
     let stops = g.P.Policy.YIELDS in
-    let pace = c.args.self.now.pace in
-    let b = c.turns.self.pace.passes in
-    let k = c.turns.self.pace.since in
+    let yield_budget = c.args.self.now.yield_budget in
+    let b = c.turns.self.yield_budget.passes in
+    let k = c.turns.self.yield_budget.since in
     let paced = c.turns.invariant.paced in
     let v = at c.turns.self c.turn.new.main c.turn.new.store c.turn.new.trace in
     let r = c.turn.new.running in
     let e = c.in-Ok.ensures in
     let o = c.in-Some-Over.outcome in
-    let is = c.in-Some-Over.is ∙ ap (λ (q : Stepped). Some q) (rw c.in-Some-Over.is at c.in-Some-Over.field-0-is) in
-    let came = turned_as says course d u v r _ (Some (stepped.Over o)) is e.turned.0 in
+    let is = c.in-Some-Over.is ∙ ap (λ (q : StepResult). Some q) (rw c.in-Some-Over.is at c.in-Some-Over.field-0-is) in
+    let op_result = turned_as says course d u v r _ (Some (stepped.Over o)) is e.turned.0 in
     let ends = c.ends-in-Some-Over in
-    let pace' = ends.new.self.pace in
+    let yield_budget' = ends.new.self.yield_budget in
     rw ends.ensures.stop
-    (subst (λ (w : RunConcurrent). GoesTo says course d stops c.args.steps (stop.Ends o) pace a (at w c.turn.new.main c.turn.new.store c.turn.new.trace) pace') (sym ends.ensures.new)
-    (goes_on_by says course d a (record v { turn = turn.Over }) c.args.steps stops (stop.Ends o) pace pace' (λ driven. come_over says course d a u n come v r c.args.steps o (omega arith) came)
-    (λ polled. polled_over says course d a u n come pace c.args.steps b k (paced polled) pace' v r o (omega arith) came (ends.ensures.since polled) (ends.ensures.passes polled))))
+    (subst (λ (w : RunConcurrent). GoesTo says course d stops c.args.steps (stop.Ends o) yield_budget a (at w c.turn.new.main c.turn.new.store c.turn.new.trace) yield_budget') (sym ends.ensures.new)
+    (goes_on_by says course d a (record v { turn = turn.Over }) c.args.steps stops (stop.Ends o) yield_budget yield_budget' (λ driven. come_over says course d a u n come v r c.args.steps o (omega arith) op_result)
+    (λ polled. polled_over says course d a u n come yield_budget c.args.steps b k (paced polled) yield_budget' v r o (omega arith) op_result (ends.ensures.since polled) (ends.ensures.passes polled))))
 
 pub returns-then-rests-clause-gone : goal.returns-then-rests-clause-gone
 returns-then-rests-clause-gone g c =
@@ -213,26 +213,26 @@ returns-then-rests-clause-gone g c =
     let n = c.turns.added in
     let come = c.turns.invariant.come in
     let stops = g.P.Policy.YIELDS in
-    let pace = c.args.self.now.pace in
-    let b = c.turns.self.pace.passes in
-    let k = c.turns.self.pace.since in
+    let yield_budget = c.args.self.now.yield_budget in
+    let b = c.turns.self.yield_budget.passes in
+    let k = c.turns.self.yield_budget.since in
     let paced = c.turns.invariant.paced in
     let v = at c.turns.self c.turn.new.main c.turn.new.store c.turn.new.trace in
     let r = c.turn.new.running in
     let e = c.in-Ok.ensures in
-    let q = c.in-Some-Goes.turn in
-    let computed = c.in-Some-Goes.computed in
-    let is = c.in-Some-Goes.is ∙ ap (λ (q : Stepped). Some q) (rw c.in-Some-Goes.is at c.in-Some-Goes.field-0-is) in
-    let came = turned_as says course d u v r _ (Some (stepped.Goes q computed)) is e.turned.0 in
-    let goes = come_goes says course d a u n come v r q computed came c.turn.ensures.keeps in
+    let q = c.in-Some-Continues.turn in
+    let computed = c.in-Some-Continues.computed in
+    let is = c.in-Some-Continues.is ∙ ap (λ (q : StepResult). Some q) (rw c.in-Some-Continues.is at c.in-Some-Continues.field-0-is) in
+    let op_result = turned_as says course d u v r _ (Some (stepped.Continues q computed)) is e.turned.0 in
+    let goes = come_goes says course d a u n come v r q computed op_result c.turn.ensures.keeps in
     let both = and_parts stops (rests_by c.turns.self.turn c.next_mark-next.result) (sym c.rests_with-rests.ensures ∙ c.if-rests.true) in
     let polled = both.0 in
     let next = c.next_mark-next.ensures polled in
     let stays = subst (λ (o : Option Mark). yields_before b k o ≡ false) next (and_false stops (yields_before b k c.next_mark-next.result) polled (sym c.yields_by.ensures ∙ c.if-yields_by.false)) in
     let rests = subst (λ (o : Option Mark). rests_by c.turns.self.turn o ≡ true) next both.1 in
     let since = c.paced_by-self.ensures.since polled ∙ ap (λ (o : Option Mark). counted k o) next in
-    stops_by says course d a (record v { turn = q }) c.args.steps stops stop.Rests pace c.paced_by-self.result polled
-    (polled_rests says course d a u n come pace c.args.steps b k (paced polled) c.paced_by-self.result v r q computed (omega arith) came c.turn.ensures.keeps stays rests since (c.paced_by-self.ensures.passes polled))
+    stops_by says course d a (record v { turn = q }) c.args.steps stops stop.Rests yield_budget c.paced_by-self.result polled
+    (polled_rests says course d a u n come yield_budget c.args.steps b k (paced polled) c.paced_by-self.result v r q computed (omega arith) op_result c.turn.ensures.keeps stays rests since (c.paced_by-self.ensures.passes polled))
 
 pub returns-then-is_idle-clause-gone : goal.returns-then-is_idle-clause-gone
 returns-then-is_idle-clause-gone g c =
@@ -244,17 +244,17 @@ returns-then-is_idle-clause-gone g c =
     let n = c.turns.added in
     let come = c.turns.invariant.come in
     let stops = g.P.Policy.YIELDS in
-    let pace = c.args.self.now.pace in
-    let b = c.turns.self.pace.passes in
-    let k = c.turns.self.pace.since in
+    let yield_budget = c.args.self.now.yield_budget in
+    let b = c.turns.self.yield_budget.passes in
+    let k = c.turns.self.yield_budget.since in
     let paced = c.turns.invariant.paced in
     let rests = c.is_idle.ensures (setting says course d a) come.on.at.order (ap idle_line_of (sym come.keeps.idle)) (says.part c.turns.main) come.on.pends ∙ c.if-is_idle.true in
     let ends = c.ends-then-is_idle in
-    let pace' = ends.new.self.pace in
+    let yield_budget' = ends.new.self.yield_budget in
     rw ends.ensures.stop
-    (subst (λ (w : RunConcurrent). GoesTo says course d stops c.args.steps (stop.Ends outcome.Idle) pace a (at w c.turns.main c.turns.store c.turns.trace) pace') (sym ends.ensures.new)
-    (goes_on_by says course d a u c.args.steps stops (stop.Ends outcome.Idle) pace pace' (λ driven. come_rests says course d a u n come c.args.steps (omega arith) rests)
-    (λ polled. polled_idles says course d a u n come pace c.args.steps b k (paced polled) pace' (omega arith) rests (ends.ensures.since polled) (ends.ensures.passes polled))))
+    (subst (λ (w : RunConcurrent). GoesTo says course d stops c.args.steps (stop.Ends outcome.Idle) yield_budget a (at w c.turns.main c.turns.store c.turns.trace) yield_budget') (sym ends.ensures.new)
+    (goes_on_by says course d a u c.args.steps stops (stop.Ends outcome.Idle) yield_budget yield_budget' (λ driven. come_rests says course d a u n come c.args.steps (omega arith) rests)
+    (λ polled. polled_idles says course d a u n come yield_budget c.args.steps b k (paced polled) yield_budget' (omega arith) rests (ends.ensures.since polled) (ends.ensures.passes polled))))
 
 pub returns-clause-gone : goal.returns-clause-gone
 returns-clause-gone g c =
@@ -266,17 +266,17 @@ returns-clause-gone g c =
     let n = c.turns.added in
     let come = c.turns.invariant.come in
     let stops = g.P.Policy.YIELDS in
-    let pace = c.args.self.now.pace in
-    let b = c.turns.self.pace.passes in
-    let k = c.turns.self.pace.since in
+    let yield_budget = c.args.self.now.yield_budget in
+    let b = c.turns.self.yield_budget.passes in
+    let k = c.turns.self.yield_budget.since in
     let paced = c.turns.invariant.paced in
     let moves = c.is_idle.ensures (setting says course d a) come.on.at.order (ap idle_line_of (sym come.keeps.idle)) (says.part c.turns.main) come.on.pends ∙ c.if-is_idle.false in
     let ends = c.ends-2 in
-    let pace' = ends.new.self.pace in
+    let yield_budget' = ends.new.self.yield_budget in
     rw ends.ensures.stop
-    (subst (λ (w : RunConcurrent). GoesTo says course d stops c.args.steps (stop.Ends outcome.OutOfSteps) pace a (at w c.turns.main c.turns.store c.turns.trace) pace') (sym ends.ensures.new)
-    (goes_on_by says course d a u c.args.steps stops (stop.Ends outcome.OutOfSteps) pace pace' (λ driven. come_out says course d a u n come c.args.steps (omega arith) moves)
-    (λ polled. polled_out says course d a u n come pace c.args.steps b k (paced polled) pace' (omega arith) moves (ends.ensures.since polled) (ends.ensures.passes polled))))
+    (subst (λ (w : RunConcurrent). GoesTo says course d stops c.args.steps (stop.Ends outcome.OutOfSteps) yield_budget a (at w c.turns.main c.turns.store c.turns.trace) yield_budget') (sym ends.ensures.new)
+    (goes_on_by says course d a u c.args.steps stops (stop.Ends outcome.OutOfSteps) yield_budget yield_budget' (λ driven. come_out says course d a u n come c.args.steps (omega arith) moves)
+    (λ polled. polled_out says course d a u n come yield_budget c.args.steps b k (paced polled) yield_budget' (omega arith) moves (ends.ensures.since polled) (ends.ensures.passes polled))))
 
 -- ---- Memory is wanting, or the hook fails
 
@@ -304,11 +304,11 @@ returns-in_default-all-clause-lost g c =
     let v = at c.turns.self c.turn.new.main c.turn.new.store c.turn.new.trace in
     let r = c.turn.new.running in
     let e = c.in-Ok.ensures in
-    let q = c.in-Some-Goes.turn in
-    let computed = c.in-Some-Goes.computed in
-    let is = c.in-Some-Goes.is ∙ ap (λ (q : Stepped). Some q) (rw c.in-Some-Goes.is at c.in-Some-Goes.field-0-is) in
-    let came = turned_as says course d u v r _ (Some (stepped.Goes q computed)) is e.turned.0 in
-    let goes = come_goes says course d a u n come v r q computed came c.turn.ensures.keeps in
+    let q = c.in-Some-Continues.turn in
+    let computed = c.in-Some-Continues.computed in
+    let is = c.in-Some-Continues.is ∙ ap (λ (q : StepResult). Some q) (rw c.in-Some-Continues.is at c.in-Some-Continues.field-0-is) in
+    let op_result = turned_as says course d u v r _ (Some (stepped.Continues q computed)) is e.turned.0 in
+    let goes = come_goes says course d a u n come v r q computed op_result c.turn.ensures.keeps in
     λ is. come_short says course d a (record v { turn = q }) (n + 1) goes c.args.steps c.compute-all.new.trace c.in_default-all.ensures.err
 
 pub returns-in_default-clause-stopped : goal.returns-in_default-clause-stopped
@@ -387,7 +387,7 @@ pub returns-then-rests-clause-kept : goal.returns-then-rests-clause-kept
 returns-then-rests-clause-kept g c = λ driven. c.paced_by-self.ensures.kept driven ∙ c.turns.invariant.kept driven
 
 pub returns-then-yields_by-clause-kept : goal.returns-then-yields_by-clause-kept
-returns-then-yields_by-clause-kept g c = λ driven. let on = (and_parts g.P.Policy.YIELDS (yields_before c.turns.self.pace.passes c.turns.self.pace.since c.next_mark-next.result) (sym c.yields_by.ensures ∙ c.if-yields_by.true)).0 in absurd (cc)
+returns-then-yields_by-clause-kept g c = λ driven. let on = (and_parts g.P.Policy.YIELDS (yields_before c.turns.self.yield_budget.passes c.turns.self.yield_budget.since c.next_mark-next.result) (sym c.yields_by.ensures ∙ c.if-yields_by.true)).0 in absurd (cc)
 
 pub returns-then-is_idle-clause-kept : goal.returns-then-is_idle-clause-kept
 returns-then-is_idle-clause-kept g c = λ driven. c.ends-then-is_idle.ensures.kept driven ∙ c.turns.invariant.kept driven

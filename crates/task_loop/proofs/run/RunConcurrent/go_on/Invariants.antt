@@ -11,8 +11,8 @@ use Rattle.task_loop.specs.declared.run.Halt.TheVariants as halt
 abbrev pub invariant-turns : goal.invariant-turns
 invariant-turns g l = record {
   come : HasCome g.M.MainTask.says g.H.HostWork.course l.component (at l.initial.self l.initial.main l.initial.store l.initial.trace) (at l.self l.main l.store l.trace) l.added;
-  kept : g.P.Policy.YIELDS ≡ false → l.self.pace ≡ l.initial.self.pace;
-  paced : g.P.Policy.YIELDS ≡ true → Paced l.initial.self.pace.passes l.initial.self.pace.since l.initial.trace l.trace l.self.pace.passes l.self.pace.since;
+  kept : g.P.Policy.YIELDS ≡ false → l.self.yield_budget ≡ l.initial.self.yield_budget;
+  paced : g.P.Policy.YIELDS ≡ true → Paced l.initial.self.yield_budget.passes l.initial.self.yield_budget.since l.initial.trace l.trace l.self.yield_budget.passes l.self.yield_budget.since;
   few : l.added ≤ l.steps;
   why : l.why ≡ halt.NoMemory;
   running : l.running ≡ group_running l.store.state l.self.turn;

@@ -20,9 +20,9 @@ use Rattle.task_machine.specs.declared.records.Turn.TheVariants as turn
 use Rattle.task_store.specs.declared.store.Store.{Store}
 use Rattle.task_turns.proofs.SteppedLemmas.{added_as}
 use Rattle.task_turns.specs.Does.{step_shown}
-use Rattle.task_turns.specs.Stepped.{Added}
-use Rattle.task_turns.specs.Turn.{IsAtTurn, IsFree, Makes, PendsIn, Sits, Turns, is_open, runs_in, setting_of}
-use Rattle.task_turns.specs.declared.made.Made.{Made}
+use Rattle.task_turns.specs.StepResult.{Added}
+use Rattle.task_turns.specs.Turn.{IsAtTurn, IsFree, MakesStep, PendsIn, CoreInOrder, Turns, is_open, runs_in, setting_of}
+use Rattle.task_turns.specs.declared.made.MadeStep.{MadeStep}
 
 -- ---- Main does an op
 
@@ -36,7 +36,7 @@ step_main-requires-clause-may g c =
     let u = at c.args.self.now main c.args.store.now c.args.trace.now in
     record {
       covered = may.covered;
-      order = subst (λ (p : Turn). Sits d p c.args.store.now.state.core) c.in-Main.is may.stands.order;
+      order = subst (λ (p : Turn). CoreInOrder d p c.args.store.now.state.core) c.in-Main.is may.stands.order;
       idle = may.stands.running ∙ ap (λ (p : Turn). runs_in p) c.in-Main.is;
       suits = may.stands.suits;
       knows = may.stands.knows;
@@ -85,7 +85,7 @@ run_thread-requires-clause-runs g c =
     let u = at c.args.self.now main c.args.store.now c.args.trace.now in
     record {
       covered = may.covered;
-      order = subst (λ (p : Turn). Sits d p c.args.store.now.state.core) c.in-Run.is may.stands.order;
+      order = subst (λ (p : Turn). CoreInOrder d p c.args.store.now.state.core) c.in-Run.is may.stands.order;
       current = may.stands.running ∙ ap (λ (p : Turn). runs_in p) c.in-Run.is;
       few = may.few;
       hosts = may.stands.works;
@@ -118,9 +118,9 @@ returns-in-Ok-run_thread-clause-turned g c =
     let made = steps.makes in (
       record {
         turn = refl;
-        told = subst (λ (p : Turn). Added (λ (made : Made). TurnTold x p part s c.args.store.now.listeners (Some made) part t c.run_thread.new.store.listeners) c.in-Ok-run_thread.stepped c.args.trace.now c.run_thread.new.trace) (sym c.in-Run.is)
+        told = subst (λ (p : Turn). Added (λ (made : MadeStep). TurnTold x p part s c.args.store.now.listeners (Some made) part t c.run_thread.new.store.listeners) c.in-Ok-run_thread.stepped c.args.trace.now c.run_thread.new.trace) (sym c.in-Run.is)
             (told_turn x n part s c.args.store.now.listeners t c.run_thread.new.store.listeners c.in-Ok-run_thread.stepped c.args.trace.now c.run_thread.new.trace e.ran.told);
-        did = added_as (λ (made : Made). Makes d (turn.Run n) s made t × IsFree made.turn) (λ (made : Made). DoesStep says.does main s.core (step_shown made.label) main t.core) c.in-Ok-run_thread.stepped c.args.trace.now c.run_thread.new.trace
+        did = added_as (λ (made : MadeStep). MakesStep d (turn.Run n) s made t × IsFree made.turn) (λ (made : MadeStep). DoesStep says.does main s.core (step_shown made.label) main t.core) c.in-Ok-run_thread.stepped c.args.trace.now c.run_thread.new.trace
             (λ made h. still_run says.does main x part s t n made h.0) made;
         group = e.ran.group;
         suits = may.stands.suits;
@@ -201,11 +201,11 @@ returns-in-Ok-poll_work-clause-turned g c =
     let q = c.in-Ok-poll_work.stepped in
     let e = c.in-Ok-poll_work.ensures in
     let pends : PendsIn x s.core m p = subst (λ (w : Turn). PendsIn x s.core m w) c.in-Futures.is may.stands.pends in
-    let made : Added (λ (made : Made). Turns x p m s made m t) q before after = any_turns x p m s t q before after pends e.polled.0 in
+    let made : Added (λ (made : MadeStep). Turns x p m s made m t) q before after = any_turns x p m s t q before after pends e.polled.0 in
     let told = e.polled.1 in (
       record {
         turn = refl;
-        told = subst (λ (w : Turn). Added (λ (made : Made). TurnTold x w m s old (Some made) m t new) q before after) (sym c.in-Futures.is) (other_told x p refl m s may.stands.asked old m t new told.told q before after made told.calm);
+        told = subst (λ (w : Turn). Added (λ (made : MadeStep). TurnTold x w m s old (Some made) m t new) q before after) (sym c.in-Futures.is) (other_told x p refl m s may.stands.asked old m t new told.told q before after made told.hook_is_ok);
         did = (made.0, (made.1.0, still says.does main x m s t p refl made.0 made.1.1));
         group = told.group ∙ current_is t (turn_of q) (turns_runs x p m s m t q before after made);
         suits = may.stands.suits;

@@ -1,10 +1,10 @@
 -- The call is a child more, or the store has refused it.
 use Rattle.std.proofs.Common.{ap, arith, length, refl, rules, subst, sym, ◌∙◌, ◌+◌, ◌<◌}
 use Rattle.std.specs.Prelude.{List, [], false, ℕ, ◌++◌, ◌∷◌, ◌≡◌}
-use Rattle.task_group.specs.Listeners.{Told}
+use Rattle.task_group.specs.Listeners.{ToldListeners}
 use Rattle.task_loop.proofs.CallStartLemmas.{start_told, stop_starts}
 use Rattle.task_loop.proofs.HookLemmas.{knows_trapped}
-use Rattle.task_loop.specs.Calls.{callee_of}
+use Rattle.task_loop.specs.LoopCalls.{callee_of}
 use Rattle.task_machine.specs.declared.records.NoticeKind.TheVariants as notice
 use Rattle.task_nursery.proofs.KeptLemmas.{are_later, are_more}
 use Rattle.task_nursery.proofs.LastLemmas.{start_last}
@@ -41,9 +41,9 @@ returns-in-Ok-clause-begins g c =
       refuses = search rules;
       begins = λ unclosed room. (c.in-Ok.call, ap seen children ∙ ap (λ (n : Scope). with_child k n) c.self.view_is, number, c.in-Ok.ensures.does.starts);
       told = λ holds. (
-        subst (λ (k : ℕ). Told (told_of notice.Start k ∷ []) s.listeners t.listeners) c.in-Ok.ensures.does.group
+        subst (λ (k : ℕ). ToldListeners (told_of notice.Start k ∷ []) s.listeners t.listeners) c.in-Ok.ensures.does.group
             (start_told c.args.component.now (callee_of c.args.func) c.args.params.now s c.in-Ok.call t c.in-Ok.ensures.does),
-        λ err. let same = c.in-Ok.ensures.does.begun.calm in omega (arith, same, err),
+        λ err. let same = c.in-Ok.ensures.does.begun.hook_is_ok in omega (arith, same, err),
       );
       of = rw (c.add.ensures.children, c.make_room.ensures.children)
           (are_more c.self.inside.children.items (kept.Call c.args.func c.in-Ok.call) s.state t.state (start_last _ _ _ _ _ _ _ c.in-Ok.ensures.does.starts) are tt);

@@ -9,7 +9,7 @@ use Rattle.task_nursery.specs.Children.{ended, has_ended, is_open_call, left_by}
 use Rattle.task_nursery.specs.Numbers.{first_where, numbered}
 use Rattle.task_nursery.specs.Scope.{AreOf, IsOf, Scope, ended_at, left_at}
 use Rattle.task_nursery.specs.declared.children.Kept.{Kept}
-use Rattle.task_turns.specs.Turn.{Sits}
+use Rattle.task_turns.specs.Turn.{CoreInOrder}
 use Rattle.task_words.specs.Groups.{IsAsked}
 use Rattle.task_words.specs.StateView.{StateView, on_core}
 use Rattle.task_nursery.proofs.nursery.Nursery.turn.Goals as goal
@@ -154,7 +154,7 @@ pub returns-in-Some-clause-keeps : goal.returns-in-Some-clause-keeps
 returns-in-Some-clause-keeps g c =
     let same = sym (ap (λ store. store.state) c.first_ended.ensures.rest) in
     record {
-      order = λ d p sits. c.end.ensures.order d p (subst (λ (u : StateView). Sits d p u.core) same sits);
+      order = λ d p sits. c.end.ensures.order d p (subst (λ (u : StateView). CoreInOrder d p u.core) same sits);
       asked = λ is. c.end.ensures.groups (subst (λ (u : StateView). IsAsked u) same is);
       rest = rw (c.end.ensures.rest, c.first_ended.ensures.rest) refl;
     }
@@ -163,7 +163,7 @@ pub returns-in-None-clause-keeps : goal.returns-in-None-clause-keeps
 returns-in-None-clause-keeps g c =
     let same = sym (ap (λ store. store.state) c.first_ended.ensures.rest) in
     record {
-      order = λ d p sits. subst (λ (u : StateView). Sits d p u.core) same sits;
+      order = λ d p sits. subst (λ (u : StateView). CoreInOrder d p u.core) same sits;
       asked = λ is. subst (λ (u : StateView). IsAsked u) same is;
       rest = rw c.first_ended.ensures.rest refl;
     }

@@ -7,7 +7,7 @@ use Rattle.task_machine.specs.declared.scenario.MainOpDef.TheVariants as machine
 use Rattle.task_run.specs.declared.scenario.MainOp.{MainOp}
 use Rattle.task_run.specs.declared.scenario.MainOp.TheVariants as main_op
 use Rattle.task_run.specs.Script.{machine_op, part_of, place_of, script_of}
-use Rattle.task_run.proofs.ScriptLemmas.{answers_by_row, pends_past}
+use Rattle.task_run.proofs.ScriptLemmas.{answers_by_rule, pends_past}
 use Rattle.task_run.proofs.StepLemmas.{script_stepped}
 use Rattle.task_run.proofs.main_script.ScriptMainMainTask.step.Goals as goal
 use Rattle.task_turns.specs.Main.{Steps}
@@ -21,7 +21,7 @@ returns-in-Some-Answer-clause-steps c w =
     let at : slice_get main.ops.now main.at ≡ Some (main_op.Answer w.in-Some-Answer.value) = sym w.in-Some-Answer.ensures ∙ ap (λ (o : MainOp). Some o) w.in-Some-Answer.field-0-is in
     let steps : Steps d (script_of main) (part_of main) s.state.core (step.Answer w.operand_value.result) (part_of main) s.state.core =
     rw w.operand_value.ensures
-    (answers_by_row d (script_of main) (place_of main) s.state.core (machine.Answer w.in-Some-Answer.value) (slice_get-map machine_op main.ops.now main.at ∙ ap (option_map machine_op) at) _ refl) in
+    (answers_by_rule d (script_of main) (place_of main) s.state.core (machine.Answer w.in-Some-Answer.value) (slice_get-map machine_op main.ops.now main.at ∙ ap (option_map machine_op) at) _ refl) in
     script_stepped c.H.HostWork.course d main s w.requires.may (step.Answer w.operand_value.result) main s refl refl refl refl steps refl refl (λ id live. refl) w.requires.may.works
 
 pub returns-in-None-clause-steps : goal.returns-in-None-clause-steps

@@ -1,5 +1,5 @@
 use Rattle.std.proofs.Common.{ap, subst, sym, ◌∙◌}
-use Rattle.host_works.specs.Kept.{held}
+use Rattle.host_works.specs.KeptWorks.{held}
 use Rattle.task_machine.specs.Core.{Core}
 use Rattle.task_machine.specs.Read.{phase_of}
 use Rattle.task_machine.specs.Write.{set_phase}
@@ -10,7 +10,7 @@ use Rattle.task_store.proofs.HostLemmas.{found_is, holds_aborted}
 use Rattle.task_store.proofs.SpawnLemmas.{aborted_in_order, gone_aborted}
 use Rattle.task_store.proofs.spawn.SpawnHandle.abort.Goals as goal
 use Rattle.task_store.specs.Hosts.{HoldsWorks, held_by}
-use Rattle.task_turns.specs.Turn.{Sits}
+use Rattle.task_turns.specs.Turn.{CoreInOrder}
 use Rattle.task_words.specs.StateView.{StateView, on_core, with_core, work_of}
 
 pub returns-in_default-clause-state : goal.returns-in_default-clause-state
@@ -50,4 +50,4 @@ pub returns-clause-order : goal.returns-clause-order
 returns-clause-order g c d p sits =
     let s = c.args.store.now.state.core in
     let state = ap (λ k. k.state.core) (aborted g c) in
-    subst (λ (u : Core). Sits d p u) (sym state) (aborted_in_order d p c.args.self.now.number s c.requires.spawned.caller sits)
+    subst (λ (u : Core). CoreInOrder d p u) (sym state) (aborted_in_order d p c.args.self.now.number s c.requires.spawned.caller sits)

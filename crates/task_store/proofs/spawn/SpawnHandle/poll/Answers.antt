@@ -1,7 +1,7 @@
 use Rattle.std.proofs.Common.{subst}
 use Rattle.std.specs.Prelude.{◌↔◌, ◌≡◌}
 use Rattle.futures.specs.declared.task.Poll.TheVariants as polls
-use Rattle.host_works.specs.Kept.{held}
+use Rattle.host_works.specs.KeptWorks.{held}
 use Rattle.task_machine.specs.declared.words.Phase.{Phase}
 use Rattle.task_machine.specs.declared.words.Phase.TheVariants as phases
 use Rattle.task_store.proofs.HostLemmas.{found_is, holds_as}

@@ -1,7 +1,7 @@
 -- A work that is held and runs is polled.
 use Rattle.std.proofs.Common.{subst}
 use Rattle.std.specs.Prelude.{None, Option}
-use Rattle.host_works.specs.Kept.{HeldWork, MayAnswer}
+use Rattle.host_works.specs.KeptWorks.{HeldWork, MayAnswer}
 use Rattle.task_machine.specs.declared.words.HostPoll.{HostPoll}
 use Rattle.task_store.proofs.store.Store.poll_held.Goals as goal
 use Rattle.task_store.specs.Hosts.{held_by}

@@ -1,11 +1,11 @@
 use Rattle.std.proofs.Common.{ap, refl, subst, sym, ◌∙◌}
 use Rattle.std.specs.Prelude.{Bool, None, Option, false, true, ◌||◌}
-use Rattle.host_works.specs.Kept.{MayAnswer, held}
+use Rattle.host_works.specs.KeptWorks.{MayAnswer, held}
 use Rattle.task_machine.specs.declared.words.HostPoll.{HostPoll}
 use Rattle.task_machine.specs.Read.{course_of, is_aborted}
 use Rattle.task_machine.specs.declared.records.Course.{Course}
-use Rattle.task_ops.specs.Polled.{TellsPoll}
-use Rattle.task_ops.specs.declared.works.Told.TheVariants as told
+use Rattle.task_ops.specs.PolledWorks.{TellsPoll}
+use Rattle.task_ops.specs.declared.work_ops.PollNews.TheVariants as told
 use Rattle.task_rules.specs.Works.{Poll, has_end, polled_course}
 use Rattle.task_store.proofs.HostLemmas.{aborted_ends, going_held, going_tells, over_held, polled_goes, unaborted_polls, unheld_over, unpolled_over}
 use Rattle.task_store.proofs.store.Store.tell.Goals as goal

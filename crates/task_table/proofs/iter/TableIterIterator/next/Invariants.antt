@@ -1,6 +1,6 @@
 use Rattle.std.proofs.Common.{◌≡◌, ◌≤◌, ◌+◌, map, length}
 use Rattle.task_table.specs.Entries.{entries_from}
-use Rattle.task_table.specs.Places.{placed_in}
+use Rattle.task_table.specs.TableCells.{placed_in}
 use Rattle.task_table.proofs.iter.TableIterIterator.next.Given as goal
 
 -- only free places were passed over

@@ -1,9 +1,9 @@
 use Rattle.std.proofs.Common.{◌≡◌, Some, ap, sym, ◌∙◌, arith, is_some}
-use Rattle.task_table.specs.Answers.{result_copied}
+use Rattle.task_table.specs.TableAnswers.{result_copied}
 use Rattle.task_table.specs.Table.{children_of}
 use Rattle.task_table.proofs.TableLemmas.{item_place, unwrapped-item, deletion-ok}
 use Rattle.task_table.proofs.Laws.{Removes-deleted}
-use Rattle.task_table.proofs.SoundLemmas.{children_of_slot, entry_of_slot, shown-deleted, IsSound-deleted, room_for_freed}
+use Rattle.task_table.proofs.SoundLemmas.{children_of_slot, entry_of_slot, shown-deleted, IsSoundTable-deleted, room_for_freed}
 use Rattle.task_table.proofs.table.ResourceTable.delete.Goals as goal
 
 pub vacate-slot-requires-clause-childless : goal.vacate-slot-requires-clause-childless
@@ -31,7 +31,7 @@ pub invariant_of-self : goal.invariant_of-self
 invariant_of-self g c =
     let one = item_place g.K.Kind.item_of c.args.self.now c.args.id.rep c.args.id.serial c.in_default.field-0.now (sym c.get.ensures ∙ ap result_copied c.in_default.is) in
     let childless : children_of c.args.self.now c.args.id.rep ≡ 0 = omega (arith, c.count_children.ensures, c.if-count_children-gt0.false) in
-    IsSound-deleted c.self.inside.places.items c.vacate-slot.new.places.items c.self.inside.free.items c.push_reserved.new.self.items _ _ c.self.inside.given c.self.inside.max_capacity c.args.self.now c.args.id.rep one.0
+    IsSoundTable-deleted c.self.inside.places.items c.vacate-slot.new.places.items c.self.inside.free.items c.push_reserved.new.self.items _ _ c.self.inside.given c.self.inside.max_capacity c.args.self.now c.args.id.rep one.0
     c.self.view_is c.vacate-slot.ensures.shown c.push_reserved.ensures.items c.vacate-slot.ensures.counted one.1 childless c.push_reserved.ensures.capacity c.self.invariant
 
 pub returns-clause-answer : goal.returns-clause-answer

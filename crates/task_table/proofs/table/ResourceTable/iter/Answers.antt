@@ -1,5 +1,5 @@
 use Rattle.std.proofs.Common.{map}
-use Rattle.task_table.specs.Places.{placed_in, shown}
+use Rattle.task_table.specs.TableCells.{placed_in, shown}
 use Rattle.task_table.proofs.Laws.{length-entries_from, entries_few}
 use Rattle.task_table.proofs.table.ResourceTable.iter.Goals as goal
 

@@ -1,9 +1,9 @@
 use Rattle.std.proofs.Common.{◌≡◌, false, subst, ap, sym, ◌∙◌, arith, vec_capacity}
 use Rattle.task_table.specs.Table.{is_full, IsTable}
 use Rattle.task_table.specs.Changes.{pushed}
-use Rattle.task_table.specs.Places.{shown}
+use Rattle.task_table.specs.TableCells.{shown}
 use Rattle.task_table.proofs.Laws.{Adds-pushed}
-use Rattle.task_table.proofs.SoundLemmas.{next_is_free, next_shown, shown-pushed, IsSound-pushed, unless_err}
+use Rattle.task_table.proofs.SoundLemmas.{next_is_free, next_shown, shown-pushed, IsSoundTable-pushed, unless_err}
 use Rattle.task_table.proofs.table.ResourceTable.push.Goals as goal
 
 pub fill-rep-requires-clause-free : goal.fill-rep-requires-clause-free
@@ -18,7 +18,7 @@ invariant_of-self-2 g c =
     let room = unless_err c.reserve.result (sym c.is_err.ensures.value ∙ c.if-is_err.false) c.reserve.ensures.room in
     let kept = c.reserve.ensures.kept in
     let same = c.fill-rep.ensures.capacity in
-    IsSound-pushed c.reserve.new.places.items c.fill-rep.new.places.items c.reserve.new.free.items c.fill-rep.new.free.items (vec_capacity c.self.inside.free) (vec_capacity c.fill-rep.new.free) c.self.inside.given c.self.inside.max_capacity c.wrap.result
+    IsSoundTable-pushed c.reserve.new.places.items c.fill-rep.new.places.items c.reserve.new.free.items c.fill-rep.new.free.items (vec_capacity c.self.inside.free) (vec_capacity c.fill-rep.new.free) c.self.inside.given c.self.inside.max_capacity c.wrap.result
     (rw (c.reserve.ensures.places, c.reserve.ensures.free) c.self.invariant) not_full c.fill-rep.ensures.places c.fill-rep.ensures.free (omega arith)
     (λ nil. let more = (room nil).1 in omega arith)
 

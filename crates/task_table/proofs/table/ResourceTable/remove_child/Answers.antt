@@ -1,7 +1,7 @@
 use Rattle.std.proofs.Common.{None, ap, sym, ◌∙◌}
 use Rattle.std.specs.Result.{result_err}
 use Rattle.task_table.proofs.TableLemmas.{pair_there, found_place, no_parent_at}
-use Rattle.task_table.proofs.SoundLemmas.{taken_shown, shown-with_parent, IsSound-with_parent}
+use Rattle.task_table.proofs.SoundLemmas.{taken_shown, shown-with_parent, IsSoundTable-with_parent}
 use Rattle.task_table.proofs.table.ResourceTable.remove_child.Goals as goal
 
 pub unlink-requires-clause-child : goal.unlink-requires-clause-child
@@ -12,7 +12,7 @@ unlink-requires-clause-child g c =
 pub invariant_of-self : goal.invariant_of-self
 invariant_of-self g c =
     let both = pair_there g.C.Kind.item_of g.P.Kind.item_of _ _ (sym c.check_pair.ensures ∙ ap result_err c.in_ok-check_pair.was) in
-    IsSound-with_parent c.self.inside.places.items c.unlink.new.places.items c.self.inside.free.items _ c.self.inside.given c.self.inside.max_capacity c.args.self.now c.args.child.rep None
+    IsSoundTable-with_parent c.self.inside.places.items c.unlink.new.places.items c.self.inside.free.items _ c.self.inside.given c.self.inside.max_capacity c.args.self.now c.args.child.rep None
     c.self.view_is c.unlink.ensures.shown c.unlink.ensures.counted (found_place c.args.self.now c.args.child.rep c.args.child.serial both.0)
     (no_parent_at c.args.self.now) c.self.invariant
 

@@ -2,7 +2,7 @@ use Rattle.std.proofs.Common.{ap, sym, ◌∙◌}
 use Rattle.std.specs.Option.{option_map}
 use Rattle.task_table.proofs.CountLemmas.{children_read, place_shown}
 use Rattle.task_table.proofs.table.ResourceTable.slot_at.Goals as goal
-use Rattle.task_table.specs.Places.{placed}
+use Rattle.task_table.specs.TableCells.{placed}
 use Rattle.task_table.specs.Table.{place_at}
 
 pub returns-clause-place : goal.returns-clause-place

@@ -1,0 +1,46 @@
+ghost use Rattle.std.specs.Prelude.{◌≡◌, IsSome, OnOk};
+ghost use Rattle.task_records.specs.Seen.{IsSoundCore, seen};
+
+use node_words::make_mark_chain;
+use task_machine::NoMemory;
+use task_records::CoreParts;
+
+/// Makes the chain of high, where there is none. Where memory is wanting, all is as before.
+pub fn open_high(parts: &mut CoreParts) -> Result<(), NoMemory>
+    requires { IsSoundCore parts.old }
+    ensures sound { IsSoundCore parts.new }
+    ensures seen { seen parts.new ≡ seen parts.old }
+    ensures there { OnOk result (IsSome parts.new.high) }
+    ensures only { parts.new ≡ record parts.old { marks = parts.new.marks; high = parts.new.high } }
+{
+    if parts.high.is_some() {
+        return Ok(());
+    }
+    match make_mark_chain(parts) {
+        Ok(chain) => {
+            parts.high = Some(chain);
+            Ok(())
+        }
+        Err(why) => Err(why),
+    }
+}
+
+/// Makes the chain of low, where there is none. Where memory is wanting, all is as before.
+pub fn open_low(parts: &mut CoreParts) -> Result<(), NoMemory>
+    requires { IsSoundCore parts.old }
+    ensures sound { IsSoundCore parts.new }
+    ensures seen { seen parts.new ≡ seen parts.old }
+    ensures there { OnOk result (IsSome parts.new.low) }
+    ensures only { parts.new ≡ record parts.old { marks = parts.new.marks; low = parts.new.low } }
+{
+    if parts.low.is_some() {
+        return Ok(());
+    }
+    match make_mark_chain(parts) {
+        Ok(chain) => {
+            parts.low = Some(chain);
+            Ok(())
+        }
+        Err(why) => Err(why),
+    }
+}

@@ -1,0 +1,293 @@
+ghost use Rattle.std.specs.Prelude.{◌≡◌, ◌<◌, false};
+ghost use Rattle.std.specs.Option.{option_map_or};
+ghost use Rattle.task_machine.specs.Maps.{get};
+ghost use Rattle.task_machine.specs.Moves.{is_finished};
+ghost use Rattle.task_machine.specs.Read.{callee_of, cancel_was_delivered, end_of, goal_of, kind_of, task_event_of, result_of, was_started};
+ghost use Rattle.task_machine.specs.Write.{set_cancel_delivered, set_end, set_exited, set_task_event, set_result, set_started, set_starting_published};
+ghost use Rattle.task_records.specs.Seen.{IsSoundCore, seen};
+ghost use Rattle.task_rules.specs.Takes.{starting_is_published};
+ghost use Rattle.task_words.specs.Groups.{tracked_group};
+ghost use Rattle.task_words.specs.StateView.{call_of, on_core, thread_of};
+
+use crate::groups::if_tracked;
+use task_machine::{CallEnd, Callee, ExportKind, Goal, TaskEvent};
+use task_records::CoreParts;
+use task_wait::GuestTaskKey;
+use task_words::{CallId, ThreadId};
+
+/// The number of a call; 0 where the id names none.
+pub fn call_number(parts: &CoreParts, call: CallId) -> u64
+    requires { IsSoundCore parts.now }
+    ensures { result ≡ call_of (seen parts.now) call }
+{
+    match task_records::call(parts, call) {
+        Some(entry) => entry.number,
+        None => 0,
+    }
+}
+
+/// The export that the call is of.
+pub fn callee(parts: &CoreParts, call: CallId) -> Callee
+    requires { IsSoundCore parts.now }
+    ensures { result ≡ callee_of (call_of (seen parts.now) call) (seen parts.now).core }
+{
+    match task_records::call(parts, call) {
+        Some(entry) => entry.call.callee,
+        None => Callee {
+            instance: 0,
+            export: 0,
+        },
+    }
+}
+
+/// The kind of the call's export.
+pub fn kind(parts: &CoreParts, call: CallId) -> ExportKind
+    requires { IsSoundCore parts.now }
+    ensures { result ≡ kind_of (call_of (seen parts.now) call) (seen parts.now).core }
+{
+    match task_records::call(parts, call) {
+        Some(entry) => entry.call.kind,
+        None => ExportKind::Callback,
+    }
+}
+
+/// The kind of the export of a call that is there: nothing is tested of it.
+pub fn kind_unchecked(parts: &CoreParts, call: CallId) -> ExportKind
+    requires sound { IsSoundCore parts.now }
+    requires live { 0 < call_of (seen parts.now) call }
+    ensures { result ≡ kind_of (call_of (seen parts.now) call) (seen parts.now).core }
+{
+    task_records::call_there(parts, call).call.kind
+}
+
+/// Where the call's result goes.
+pub fn goal(parts: &CoreParts, call: CallId) -> Goal
+    requires { IsSoundCore parts.now }
+    ensures { result ≡ goal_of (call_of (seen parts.now) call) (seen parts.now).core }
+{
+    match task_records::call(parts, call) {
+        Some(entry) => entry.call.goal,
+        None => Goal::Nowhere,
+    }
+}
+
+/// Where the result of a call goes that is there: nothing is tested of it.
+pub fn goal_unchecked(parts: &CoreParts, call: CallId) -> Goal
+    requires sound { IsSoundCore parts.now }
+    requires live { 0 < call_of (seen parts.now) call }
+    ensures { result ≡ goal_of (call_of (seen parts.now) call) (seen parts.now).core }
+{
+    task_records::call_there(parts, call).call.goal
+}
+
+/// How the call has ended, if it has.
+pub fn end_of(parts: &CoreParts, call: CallId) -> Option<CallEnd>
+    requires { IsSoundCore parts.now }
+    ensures { result ≡ end_of (call_of (seen parts.now) call) (seen parts.now).core }
+{
+    match task_records::call(parts, call) {
+        Some(entry) => entry.call.end,
+        None => None,
+    }
+}
+
+/// Whether the call's start has run.
+pub fn was_started(parts: &CoreParts, call: CallId) -> bool
+    requires { IsSoundCore parts.now }
+    ensures { result ≡ was_started (call_of (seen parts.now) call) (seen parts.now).core }
+{
+    match task_records::call(parts, call) {
+        Some(entry) => entry.call.started,
+        None => false,
+    }
+}
+
+/// Whether the caller was told that the call is Starting.
+pub fn starting_is_published(parts: &CoreParts, call: CallId) -> bool
+    requires { IsSoundCore parts.now }
+    ensures { result ≡ starting_is_published (call_of (seen parts.now) call) (seen parts.now).core }
+{
+    match task_records::call(parts, call) {
+        Some(entry) => entry.call.starting_published,
+        None => false,
+    }
+}
+
+/// The task's own event, if one is there.
+pub fn task_event(parts: &CoreParts, call: CallId) -> Option<TaskEvent>
+    requires { IsSoundCore parts.now }
+    ensures { result ≡ task_event_of (call_of (seen parts.now) call) (seen parts.now).core }
+{
+    match task_records::call(parts, call) {
+        Some(entry) => entry.call.task_event,
+        None => None,
+    }
+}
+
+/// Whether a cancel request has come to the task.
+pub fn cancel_was_delivered(parts: &CoreParts, call: CallId) -> bool
+    requires { IsSoundCore parts.now }
+    ensures { result ≡ cancel_was_delivered (call_of (seen parts.now) call) (seen parts.now).core }
+{
+    match task_records::call(parts, call) {
+        Some(entry) => entry.call.cancel_delivered,
+        None => false,
+    }
+}
+
+/// The result of a `call_sync` that wasn't taken yet; 0 where there is none.
+pub fn result_of(parts: &CoreParts, call: CallId) -> u64
+    requires { IsSoundCore parts.now }
+    ensures { result ≡ result_of (call_of (seen parts.now) call) (seen parts.now).core }
+{
+    match task_records::call(parts, call) {
+        Some(entry) => match entry.call.result {
+            Some(value) => value,
+            None => 0,
+        },
+        None => 0,
+    }
+}
+
+/// Whether the call's first thread and its task have ended.
+pub fn is_finished(parts: &CoreParts, call: CallId) -> bool
+    requires { IsSoundCore parts.now }
+    ensures { result ≡ option_map_or is_finished (get (seen parts.now).core.calls (call_of (seen parts.now) call)) false }
+{
+    match task_records::call(parts, call) {
+        Some(entry) => entry.call.exited && entry.call.end.is_some(),
+        None => false,
+    }
+}
+
+/// The number of the thread's group, as long as that is known: 0 once its end was told.
+pub fn thread_group(parts: &CoreParts, thread: ThreadId) -> u64
+    requires { IsSoundCore parts.now }
+    ensures { result ≡ tracked_group (thread_of (seen parts.now) thread) (seen parts.now) }
+{
+    match task_records::thread(parts, thread) {
+        Some(entry) => match parts.calls.item_at::<GuestTaskKey>(entry.task) {
+            Some(item) => if_tracked(parts, item.call.group),
+            None => 0,
+        },
+        None => 0,
+    }
+}
+
+/// The same of a thread that is there: nothing is tested.
+pub fn group_unchecked(parts: &CoreParts, thread: ThreadId) -> u64
+    requires sound { IsSoundCore parts.now }
+    requires live { 0 < thread_of (seen parts.now) thread }
+    ensures { result ≡ tracked_group (thread_of (seen parts.now) thread) (seen parts.now) }
+{
+    let entry = task_records::thread_there(parts, thread);
+    let item = parts.calls.there::<GuestTaskKey>(entry.task);
+    if_tracked(parts, item.call.group)
+}
+
+/// The call's start has run.
+pub fn set_started(parts: &mut CoreParts, call: CallId)
+    requires { IsSoundCore parts.old }
+    ensures sound { IsSoundCore parts.new }
+    ensures new { seen parts.new ≡ on_core (set_started (call_of (seen parts.old) call)) (seen parts.old) }
+{
+    if let Ok(entry) = parts.calls.get_mut(call) {
+        entry.call.started = true;
+    }
+}
+
+/// Marks a call that is there as started, without a look-up that may fail.
+pub fn set_started_unchecked(parts: &mut CoreParts, call: CallId)
+    requires sound { IsSoundCore parts.old }
+    requires live { 0 < call_of (seen parts.old) call }
+    ensures sound { IsSoundCore parts.new }
+    ensures new { seen parts.new ≡ on_core (set_started (call_of (seen parts.old) call)) (seen parts.old) }
+{
+    parts.calls.get_mut_unchecked(call).call.started = true;
+}
+
+/// The caller was told that the call is Starting.
+pub fn set_starting_published(parts: &mut CoreParts, call: CallId)
+    requires { IsSoundCore parts.old }
+    ensures sound { IsSoundCore parts.new }
+    ensures new { seen parts.new ≡ on_core (set_starting_published (call_of (seen parts.old) call)) (seen parts.old) }
+{
+    if let Ok(entry) = parts.calls.get_mut(call) {
+        entry.call.starting_published = true;
+    }
+}
+
+/// The call has ended so.
+pub fn set_end(parts: &mut CoreParts, call: CallId, end_of_call: CallEnd)
+    requires { IsSoundCore parts.old }
+    ensures sound { IsSoundCore parts.new }
+    ensures new { seen parts.new ≡ on_core (set_end (call_of (seen parts.old) call) end_of_call) (seen parts.old) }
+{
+    if let Ok(entry) = parts.calls.get_mut(call) {
+        entry.call.end = Some(end_of_call);
+    }
+}
+
+/// Writes the end of a call that is there, without a look-up that may fail.
+pub fn set_end_unchecked(parts: &mut CoreParts, call: CallId, end_of_call: CallEnd)
+    requires sound { IsSoundCore parts.old }
+    requires live { 0 < call_of (seen parts.old) call }
+    ensures sound { IsSoundCore parts.new }
+    ensures new { seen parts.new ≡ on_core (set_end (call_of (seen parts.old) call) end_of_call) (seen parts.old) }
+{
+    parts.calls.get_mut_unchecked(call).call.end = Some(end_of_call);
+}
+
+/// The task's own event is this one, or none.
+pub fn set_task_event(parts: &mut CoreParts, call: CallId, event: Option<TaskEvent>)
+    requires { IsSoundCore parts.old }
+    ensures sound { IsSoundCore parts.new }
+    ensures new { seen parts.new ≡ on_core (set_task_event (call_of (seen parts.old) call) event) (seen parts.old) }
+{
+    if let Ok(entry) = parts.calls.get_mut(call) {
+        entry.call.task_event = event;
+    }
+}
+
+/// A cancel request has come to the task.
+pub fn set_cancel_delivered(parts: &mut CoreParts, call: CallId)
+    requires { IsSoundCore parts.old }
+    ensures sound { IsSoundCore parts.new }
+    ensures new { seen parts.new ≡ on_core (set_cancel_delivered (call_of (seen parts.old) call)) (seen parts.old) }
+{
+    if let Ok(entry) = parts.calls.get_mut(call) {
+        entry.call.cancel_delivered = true;
+    }
+}
+
+/// The call's first thread has ended.
+pub fn set_exited(parts: &mut CoreParts, call: CallId)
+    requires { IsSoundCore parts.old }
+    ensures sound { IsSoundCore parts.new }
+    ensures new { seen parts.new ≡ on_core (set_exited (call_of (seen parts.old) call)) (seen parts.old) }
+{
+    if let Ok(entry) = parts.calls.get_mut(call) {
+        entry.call.exited = true;
+    }
+}
+
+/// Marks a call that is there as exited, without a look-up that may fail.
+pub fn set_exited_unchecked(parts: &mut CoreParts, call: CallId)
+    requires sound { IsSoundCore parts.old }
+    requires live { 0 < call_of (seen parts.old) call }
+    ensures sound { IsSoundCore parts.new }
+    ensures new { seen parts.new ≡ on_core (set_exited (call_of (seen parts.old) call)) (seen parts.old) }
+{
+    parts.calls.get_mut_unchecked(call).call.exited = true;
+}
+
+/// The result of a `call_sync` that its caller is to take, or none.
+pub fn set_result(parts: &mut CoreParts, call: CallId, value: Option<u64>)
+    requires { IsSoundCore parts.old }
+    ensures sound { IsSoundCore parts.new }
+    ensures new { seen parts.new ≡ on_core (set_result (call_of (seen parts.old) call) value) (seen parts.old) }
+{
+    if let Ok(entry) = parts.calls.get_mut(call) {
+        entry.call.result = value;
+    }
+}

@@ -1,0 +1,86 @@
+ghost use Rattle.std.specs.Prelude.{◌≡◌};
+ghost use Rattle.task_machine.specs.Read.{course_of, phase_of, was_cancelled};
+ghost use Rattle.task_machine.specs.Write.{set_cancelled};
+ghost use Rattle.task_records.specs.Seen.{IsSoundCore, seen};
+ghost use Rattle.task_words.specs.Groups.{tracked_work_group};
+ghost use Rattle.task_words.specs.StateView.{on_core, work_of};
+
+use crate::groups::is_tracked;
+use task_machine::{Course, Phase};
+use task_records::CoreParts;
+use task_words::WorkId;
+
+/// The number of a work; 0 where the id names none.
+pub fn work_number(parts: &CoreParts, work: WorkId) -> u64
+    requires { IsSoundCore parts.now }
+    ensures { result ≡ work_of (seen parts.now) work }
+{
+    match task_records::work(parts, work) {
+        Some(entry) => entry.number,
+        None => 0,
+    }
+}
+
+/// How the work goes on, with the polls that are left and its end, or how it has ended.
+pub fn course(parts: &CoreParts, work: WorkId) -> Course
+    requires { IsSoundCore parts.now }
+    ensures { result ≡ course_of (work_of (seen parts.now) work) (seen parts.now).core }
+{
+    match task_records::work(parts, work) {
+        Some(entry) => entry.work.course,
+        None => Course::NoValue,
+    }
+}
+
+/// The phase of the work's join handle.
+pub fn phase(parts: &CoreParts, work: WorkId) -> Phase
+    requires { IsSoundCore parts.now }
+    ensures { result ≡ phase_of (work_of (seen parts.now) work) (seen parts.now).core }
+{
+    match task_records::work(parts, work) {
+        Some(entry) => entry.work.phase,
+        None => Phase::Complete,
+    }
+}
+
+/// The number of the work's group, if it is a call, as long as that group is known.
+pub fn work_group(parts: &CoreParts, work: WorkId) -> Option<u64>
+    requires { IsSoundCore parts.now }
+    ensures { result ≡ tracked_work_group (work_of (seen parts.now) work) (seen parts.now) }
+{
+    match task_records::work(parts, work) {
+        Some(entry) => match entry.work.group {
+            Some(group) => {
+                if is_tracked(parts, group) {
+                    Some(group)
+                } else {
+                    None
+                }
+            }
+            None => None,
+        },
+        None => None,
+    }
+}
+
+/// Whether the work was cancelled by its caller.
+pub fn was_cancelled(parts: &CoreParts, work: WorkId) -> bool
+    requires { IsSoundCore parts.now }
+    ensures { result ≡ was_cancelled (work_of (seen parts.now) work) (seen parts.now).core }
+{
+    match task_records::work(parts, work) {
+        Some(entry) => entry.work.cancelled,
+        None => false,
+    }
+}
+
+/// The work was cancelled by its caller.
+pub fn set_cancelled(parts: &mut CoreParts, work: WorkId)
+    requires { IsSoundCore parts.old }
+    ensures sound { IsSoundCore parts.new }
+    ensures new { seen parts.new ≡ on_core (set_cancelled (work_of (seen parts.old) work)) (seen parts.old) }
+{
+    if let Ok(entry) = parts.works.get_mut(work) {
+        entry.work.cancelled = true;
+    }
+}

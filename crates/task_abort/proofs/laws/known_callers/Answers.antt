@@ -1,5 +1,0 @@
-use Rattle.task_abort.proofs.KnownLemmas.{known}
-use Rattle.task_abort.proofs.laws.known_callers.Goals as goal
-
-pub returns : goal.returns
-returns c = known _ c.args.pass.now.knows c.requires
