@@ -25,7 +25,7 @@ times_more line s k = sum_by-append (λ (x : ℕ). cond (x == k) 1 0) line (s �
     first : (n : ℕ) → 0 + n ≡ n
     first n = omega arith
 
--- a spawn that stands in the line once more has one more
+-- a spawn that is in the line once more has one more
 pub added_more : (line : List ℕ) (s k : ℕ) (ns : List ℕ) → added_each (line ++ s ∷ []) k ns ≡ added (s - k) (added_each line k ns)
 unfolding times
 added_more line s k [] = sym (added_nil (s - k))

@@ -14,7 +14,7 @@ use Rattle.task_abort.specs.Cells.{CellId}
 named : ℕ → List ℕ → ℕ
 named j line = count_by (λ s. s == j) line
 
--- a spawn has as many more as it stands in the line
+-- a spawn has as many more as it is in the line
 added_count : (line : List ℕ) (k i m : ℕ) (ns : List ℕ) → slice_get ns i ≡ Some m → slice_get (added_each line k ns) i ≡ Some (m + named ((k + i) + 1) line)
 unfolding named
 added_count line k i m [] at = absurd (cc)

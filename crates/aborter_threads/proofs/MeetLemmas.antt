@@ -86,7 +86,7 @@ pub there_is : (ps : List AborterPass) (cs ds : List SharedSpawn) (i : ℕ) (p :
 there_is ps cs ds i p cells same at none =
     let e = sym (got pass_cell_of ps i p at) ∙ (ap (λ xs. slice_get xs i) (cells ∙ sym same) ∙ (slice_get-map spawn_cell ds i ∙ ap (option_map spawn_cell) none)) in absurd (cc)
 
--- where it isn't, as memory is wanting
+-- where it isn't, as it is out of memory
 pub own_left : (s t : SharedSpawn) → spawn_view t ≡ spawn_view s → own_list t ≡ own_list s
 own_left s t same = t.listed ∙ (ap (λ (v : PassView). map told v.own.calls) same ∙ sym s.listed)
 

@@ -50,7 +50,7 @@ run_begins a = record {
   out_of_memory = λ w. w;
 }
 
--- the next one is made, or memory is wanting for it
+-- the next one is made, or it is out of memory for it
 pub run_more : (line : List ℕ) (i : ℕ) (a b d : Aborter) → i < length line → HasRun (take i line) a b → d.number ≡ b.number → cells_in d.passes.items ≡ cells_in b.passes.items →
     places_in d.passes.items ≡ places_in b.passes.items →
     ((d.out_of_memory ≡ b.out_of_memory) × (counts_in d.passes.items ≡ added (get_or line i 0) (counts_in b.passes.items))) ⊎ ((d.out_of_memory ≡ true) × (counts_in d.passes.items ≡ counts_in b.passes.items)) →

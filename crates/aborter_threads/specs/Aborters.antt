@@ -28,7 +28,8 @@ IsPartOf [] line = Unit {0}
 IsPartOf (s ∷ made) [] = ⊥
 IsPartOf (s ∷ made) (t ∷ line) = ((s ≡ t) × IsPartOf made line) ⊎ IsPartOf (s ∷ made) line
 
--- It has made aborts of its line, in order, and all of them unless memory was wanting. Of each spawn there are as many more as were made.
+-- It has made aborts of its line, in order, and all of them unless it was out of memory. Of each spawn there are as many more as
+-- were made.
 pub record HasRun (line : List ℕ) (a b : Aborter) : Type 0 where
   pub number : b.number ≡ a.number
   pub cells : cells_in b.passes.items ≡ cells_in a.passes.items
@@ -71,13 +72,13 @@ abbrev pub briefs : List (List ℕ) → ℕ → ℕ → List (ℕ × ℕ)
 briefs [] number j = []
 briefs (line ∷ lines) number j = (number, count_by (λ s. s == j) line) ∷ briefs lines (number + 1) j
 
--- memory was wanting for none of them
+-- it was out of memory for none of them
 abbrev pub NoneOutOfMemory : List Aborter → Type 0
 NoneOutOfMemory [] = Unit {0}
 NoneOutOfMemory (a ∷ all) = (a.out_of_memory ≡ false) × NoneOutOfMemory all
 
--- Once new aborters of these lines have run, and were met, and memory was wanting for none, each cell lists all of them in order, each
--- with as many aborts as its line names the cell's spawn.
+-- Once new aborters of these lines have run, and were met, and it was out of memory for none, each cell lists all of them in order,
+-- each with as many aborts as its line names the cell's spawn.
 abbrev pub AbortsAreMet : Type 0
 AbortsAreMet =
     (ids : List CellId) (splits : List ℕ) (lines : List (List ℕ)) (olds news : List Aborter) (mss : List (List (ℕ × ℕ))) (i : ℕ)

@@ -23,7 +23,7 @@ added (suc k) [] = []
 added (suc zero) (n ∷ ns) = (n + 1) ∷ ns
 added (suc (suc k)) (n ∷ ns) = n ∷ added (suc k) ns
 
--- each spawn from the one after k on has as many more as it stands in the line
+-- each spawn from the one after k on has as many more as it is in the line
 abbrev pub added_each : List ℕ → ℕ → List ℕ → List ℕ
 added_each line k [] = []
 added_each line k (n ∷ ns) = (n + count_by (λ s. s == k + 1) line) ∷ added_each line (k + 1) ns

@@ -10,7 +10,7 @@ use shared_works::{AborterPass, SharedSpawn};
 use std::alloc::Global;
 use task_machine::NoMemory;
 
-// Adds an item to a list. Where memory is wanting, the list is as before.
+// Adds an item to a list. If it is out of memory, the list is as before.
 pub(crate) fn add<T: Drop>(list: &mut Vec<T>, item: T) -> Result<(), NoMemory>
     ensures ok { OnOk result (list.new.items ≡ list.old.items ++ item ∷ []) }
     ensures err { OnErr result (list.new.items ≡ list.old.items) }
@@ -21,7 +21,7 @@ pub(crate) fn add<T: Drop>(list: &mut Vec<T>, item: T) -> Result<(), NoMemory>
     }
 }
 
-// Aborts this spawn, counted from 1, if there is one. Where memory is wanting, nothing is done.
+// Aborts this spawn, counted from 1, if there is one. If it is out of memory, nothing is done.
 fn abort_one(passes: &mut Vec<AborterPass>, spawn: u32) -> Result<(), NoMemory>
     ensures cells { cells_in passes.new.items ≡ cells_in passes.old.items }
     ensures places { places_in passes.new.items ≡ places_in passes.old.items }
@@ -38,8 +38,8 @@ fn abort_one(passes: &mut Vec<AborterPass>, spawn: u32) -> Result<(), NoMemory>
 }
 
 impl Aborter {
-    /// Makes an aborter with a pass of each cell, which is split off. It is refused only where memory is wanting; then a pass was split
-    /// off the first of the cells, and all else of them is as before.
+    /// Makes an aborter with a pass of each cell, which is split off. It is refused only if it is out of memory; then a pass was
+    /// split off the first of the cells, and all else of them is as before.
     pub fn new(
         alloc: Global,
         cells: &mut Vec<SharedSpawn>,
@@ -67,7 +67,7 @@ impl Aborter {
         })
     }
 
-    // Aborts this spawn, and keeps whether memory was wanting for that.
+    // Aborts this spawn, and keeps whether it was out of memory for that.
     fn abort(&mut self, spawn: u32)
         ensures number { self.new.number ≡ self.old.number }
         ensures cells { cells_in self.new.passes.items ≡ cells_in self.old.passes.items }
@@ -82,7 +82,7 @@ impl Aborter {
         }
     }
 
-    /// Makes the aborts of its line, in order, each between two calls of the gate. One for which memory is wanting isn't made.
+    /// Makes the aborts of its line, in order, each between two calls of the gate. One for which it is out of memory isn't made.
     pub fn run<G: Gate>(&mut self, gate: &G, line: &[u32])
         ensures { HasRun line.now self.old self.new }
     {

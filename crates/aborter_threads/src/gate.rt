@@ -2,13 +2,13 @@
 
 /// What is called round each abort, and before each time that main pends. Its calls may wait.
 pub trait Gate {
-    /// Stands before an aborter's abort: both are counted from 1, aborters in the order of their lines.
+    /// Is before an aborter's abort: both are counted from 1, aborters in the order of their lines.
     fn before(&self, aborter: u32, number: u32);
 
-    /// Stands behind that abort.
+    /// Is behind that abort.
     fn after(&self, aborter: u32, number: u32);
 
-    /// Stands before main pends, counted from 1.
+    /// Is before main pends, counted from 1.
     fn pends(&self, number: u32);
 }
 

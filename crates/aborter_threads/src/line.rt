@@ -10,7 +10,7 @@ use task_machine::Seq;
 pub struct Aborter {
     pub number: u32,
     pub passes: Vec<AborterPass>,
-    /// Memory was wanting for an abort, which wasn't made then.
+    /// It was out of memory for an abort, which wasn't made then.
     pub out_of_memory: bool,
 }
 

@@ -10,8 +10,8 @@ use shared_works::SharedSpawn;
 use std::alloc::Global;
 use task_machine::{NoMemory, Seq};
 
-/// Makes the aborters of these lines, in their order, numbered from 1. Each has a pass of each cell. It is refused where memory is
-/// wanting, and with more than 4,294,967,295 lines; then passes were split off for the first of the lines, and all else of the cells
+/// Makes the aborters of these lines, in their order, numbered from 1. Each has a pass of each cell. It is refused if it is out of
+/// memory, and with more than 4,294,967,295 lines; then passes were split off for the first of the lines, and all else of the cells
 /// is as before.
 pub fn aborters_of(
     alloc: Global,
@@ -39,7 +39,7 @@ pub fn aborters_of(
     Ok(all)
 }
 
-// Takes an aborter's passes in. It is refused where memory is, or was, wanting.
+// Takes an aborter's passes in. It is refused if it is, or was, out of memory.
 fn meet_each(cells: &mut Vec<SharedSpawn>, aborter: Aborter) -> Result<(), NoMemory>
     requires cells { cells_in aborter.passes.items ≡ map spawn_cell cells.old.items }
     requires places { places_in aborter.passes.items ≡ map met_count cells.old.items }
@@ -72,7 +72,7 @@ fn meet_each(cells: &mut Vec<SharedSpawn>, aborter: Aborter) -> Result<(), NoMem
     Ok(())
 }
 
-/// Takes in what the aborters have done, in the order of their lines. It is refused where memory is, or was, wanting; then what the
+/// Takes in what the aborters have done, in the order of their lines. It is refused if it is, or was, out of memory; then what the
 /// first of them have done was taken in.
 pub fn meet_all(cells: &mut Vec<SharedSpawn>, aborters: Vec<Aborter>) -> Result<(), NoMemory>
     requires { CanMeet (map spawn_cell cells.old.items) (map met_count cells.old.items) aborters.items }

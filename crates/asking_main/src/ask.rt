@@ -18,7 +18,7 @@ pub struct CallWords {
 }
 
 impl CallWords {
-    /// These words, in their order.
+    /// Makes a list of these values, in their order.
     pub fn of(words: &[u64]) -> Self
         ensures count { result.count ≡ length words.now }
         ensures words { length words.now ≤ 16 → take (length words.now) result.words ≡ words.now }
@@ -101,6 +101,6 @@ pub enum Answer {
 
 /// A main that says what it wants next. It owes nothing by contract.
 pub trait HostMain {
-    /// The next ask, by what came of the last one. It is called once for each answer.
+    /// Returns the next ask, by what came of the last one. It is called once for each answer.
     fn next(&mut self, last: Answer) -> Ask;
 }

@@ -37,7 +37,7 @@ pub(crate) enum Wait {
     Instance(Instance),
 }
 
-// Why an instance may not be waited for; none where it may.
+// Why an instance may not be waited for; none if it may.
 fn ready_refusal(component: &Component, instance: Instance) -> Option<Refusal>
     ensures none { IfNone result (IsSome (slice_get component.now.instances instance.index)) }
     ensures some { IfSome result (IsReadyCause component.now instance.index) }
@@ -50,7 +50,7 @@ fn ready_refusal(component: &Component, instance: Instance) -> Option<Refusal>
 }
 
 impl<D: Drop> AskingMain<D> {
-    /// A main that wasn't asked yet.
+    /// Makes a main that wasn't asked yet.
     pub fn new(alloc: Global, host: D) -> Self
         ensures { result.host ≡ host }
     {
@@ -62,14 +62,14 @@ impl<D: Drop> AskingMain<D> {
         }
     }
 
-    /// The host, as its last ask has left it.
+    /// Returns the host, as its last ask has left it.
     pub fn into_host(self) -> D
         ensures { result ≡ self.host }
     {
         self.host
     }
 
-    // Why a call may not be started; none where it may.
+    // Why a call may not be started; none if it may.
     fn start_refusal(&self, component: &Component, func: Func, count: usize) -> Option<Refusal>
         ensures none { IfNone result (MayStart component.now self.now.calls.items func count) }
         ensures some { IfSome result (IsStartCause component.now self.now.calls.items func count) }
@@ -88,7 +88,7 @@ impl<D: Drop> AskingMain<D> {
         }
     }
 
-    // Why a call may not be finished; none where it may.
+    // Why a call may not be finished; none if it may.
     fn finish_refusal(&self, call: CallId) -> Option<Refusal>
         ensures none { IfNone result (MayFinish self.now.calls.items call) }
         ensures some { IfSome result (IsFinishCause self.now.calls.items call) }
@@ -100,7 +100,7 @@ impl<D: Drop> AskingMain<D> {
         }
     }
 
-    // Why an ask is refused; none where it is admitted.
+    // Why an ask is refused; none if it is admitted.
     fn refusal(&self, component: &Component, ask: &Ask) -> Option<Refusal>
         ensures none { IfNone result (IsAdmitted component.now self.now ask.now) }
         ensures some { IfSome result (IsCause component.now self.now ask.now) }

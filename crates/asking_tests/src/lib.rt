@@ -1,6 +1,6 @@
 //! Tests of hosts without proofs: what they are told of each ask, and which asks are refused.
 //!
-//! They stand apart, so that those crates are proved without them.
+//! They are in a crate of their own, so that those crates are proved without them.
 #![tactic(auto)]
 
 #[cfg(test)]

@@ -1,4 +1,4 @@
--- What runs have come to.
+-- What runs have resulted in.
 use Rattle.std.proofs.Common.{ap, arith, eq-eqb, eqb-true, refl, subst, sym, ◌∙◌}
 use Rattle.std.proofs.lemmas.Option.{none-some, same_Some}
 use Rattle.std.specs.Prelude.{Bool, List, None, Option, Some, [], false, length, true, ℕ, ◌&&◌, ◌++◌, ◌==◌, ◌∷◌, ◌≡◌}

@@ -58,7 +58,7 @@ pub record IsOn (x : Setting) (w : Wide) (r : Round) (steps left : ℕ) (own : O
   pub waits : r ≡ Due → is_stalled x s ≡ false
   pub count : length ls + left ≡ steps
 
--- The run has come to this outcome. The round has begun, if it was due and nothing can go on.
+-- The run has ended in this outcome. The round has begun, if it was due and nothing can go on.
 pub record HasCome (x : Setting) (w : Wide) (r : Round) (steps left : ℕ) (o : Outcome) (own : Own) (ls : List Label) (s : State) :
     Type 0 where
   pub run : IsRun x w ls (settled x s r) own

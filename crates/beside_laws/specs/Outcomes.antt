@@ -1,4 +1,4 @@
--- What a run has come to, and what one beside aborters has resulted in.
+-- What a run has resulted in, and what one beside aborters has resulted in.
 use Rattle.std.specs.Prelude.{List, None, Some, [], false, length, true, ℕ, ◌&&◌, ◌++◌, ◌≡◌}
 use Rattle.beside_rules.specs.Laws.{waiting}
 use Rattle.beside_rules.specs.Wide.{IsWideOutcome, Wide, is_past}
@@ -9,7 +9,7 @@ use Rattle.task_machine.specs.declared.outcome.Outcome.TheVariants as outcome
 use Rattle.task_rules.specs.Outcome.{IsOutcome, is_at_rest, last_outcome}
 use Rattle.task_rules.specs.Stalled.{Setting, is_stalled}
 
--- What a run of these labels to t has come to: an end that its last label gives, a state at rest, or neither.
+-- What a run of these labels to t has resulted in: an end that its last label gives, a state at rest, or neither.
 pub data CameTo (x : Setting) (t : State) (ls : List Label) (o : Outcome) : Type 0 where
   Ends : last_outcome ls ≡ Some o → CameTo x t ls o
   Rests : last_outcome ls ≡ None → o ≡ outcome.Idle → is_at_rest x t ≡ true → CameTo x t ls o

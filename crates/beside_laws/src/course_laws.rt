@@ -20,7 +20,7 @@ pub fn open_runs_go_on()
     ensures { OpenRunsGoOn }
 {}
 
-/// What a run outside its last round has come to is its outcome.
+/// What a run outside its last round has resulted in is its outcome.
 pub fn comes_to_outcome()
     ensures { ComesToOutcome }
 {}

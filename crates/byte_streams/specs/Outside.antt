@@ -6,7 +6,7 @@ use Rattle.byte_streams.specs.declared.outside.Read.TheVariants as read
 use Rattle.byte_streams.specs.declared.outside.Wrote.{Wrote}
 use Rattle.byte_streams.specs.declared.outside.Wrote.TheVariants as wrote
 
--- a count of faults rose; one that stands at its end counts as risen
+-- a count of faults rose; one that is at its end counts as risen
 abbrev pub HasRisen : ℕ → ℕ → Type 0
 HasRisen before now = (before < now) ⊎ (now ≡ 2 ^ 64 - 1)
 

@@ -1,4 +1,4 @@
--- What reading all and writing all come to, where what is left and what is held are told.
+-- What reading all and writing all result in, where what is left and what is held are told.
 use Rattle.std.specs.Prelude.{◌≡◌, ℕ, ◌≤◌, List, [], ◌+◌, ◌++◌, length, Option, Some, Result, Ok, Err}
 use Rattle.std.specs.Global.{Vec}
 use Rattle.byte_streams.specs.declared.pump.ReadFault.{ReadFault}

@@ -19,8 +19,7 @@ pub struct MemorySource {
 }
 
 impl MemorySource {
-    /// A source of these bytes that fails at the calls that `fail` lists, counted from 1. `piece` is
-    /// at least 1.
+    /// Makes a source of these bytes that fails at the calls that `fail` lists, counted from 1. `piece` is at least 1.
     pub fn new(bytes: Vec<u8>, piece: usize, fail: Vec<u32>) -> Self
         requires { 0 < piece }
         ensures left { ⟦<MemorySource as Source>⟧.left result ≡ Some bytes.items }
@@ -87,7 +86,7 @@ pub struct MemorySink {
 }
 
 impl MemorySink {
-    /// A sink with room for `capacity` bytes that fails at the calls that `fail` lists, counted from
+    /// Makes a sink with room for `capacity` bytes that fails at the calls that `fail` lists, counted from
     /// 1. `piece` is at least 1. NoMemory where the room can't be had.
     pub fn new(
         alloc: Global,
@@ -116,7 +115,7 @@ impl MemorySink {
         })
     }
 
-    /// The bytes that the sink holds.
+    /// Returns the bytes that the sink holds.
     pub fn bytes(&self) -> &[u8]
         ensures { ⟦<MemorySink as Sink>⟧.held self.now ≡ Some result.now }
     {

@@ -11,7 +11,7 @@ pub struct StdSource<R> {
 }
 
 impl<R> StdSource<R> {
-    /// A source over the reader.
+    /// Makes a source over the reader.
     pub fn new(inner: R) -> Self
         ensures { result.faults ≡ 0 }
     {
@@ -45,7 +45,7 @@ pub struct StdSink<W> {
 }
 
 impl<W> StdSink<W> {
-    /// A sink over the writer.
+    /// Makes a sink over the writer.
     pub fn new(inner: W) -> Self
         ensures { result.faults ≡ 0 }
     {

@@ -17,7 +17,7 @@ pub struct SureSource {
 }
 
 impl SureSource {
-    /// A source of these bytes. `piece` is at least 1.
+    /// Makes a source of these bytes. `piece` is at least 1.
     pub fn new(bytes: Vec<u8>, piece: usize) -> Self
         requires { 0 < piece }
         ensures left { ⟦<SureSource as Source>⟧.left result ≡ Some bytes.items }
@@ -70,8 +70,7 @@ pub struct SureSink {
 }
 
 impl SureSink {
-    /// A sink with room for `capacity` bytes. `piece` is at least 1. NoMemory where the room can't be
-    /// had.
+    /// Makes a sink with room for `capacity` bytes. `piece` is at least 1. NoMemory where the room can't be had.
     pub fn new(alloc: Global, piece: usize, capacity: usize) -> Result<Self, NoMemory>
         requires { 0 < piece }
         ensures held { IfOk result (λ sink. ⟦<SureSink as Sink>⟧.held sink ≡ Some []) }
@@ -90,7 +89,7 @@ impl SureSink {
         })
     }
 
-    /// The bytes that the sink keeps: the first ones that it took, as many as it has room for.
+    /// Returns the bytes that the sink keeps: the first ones that it took, as many as it has room for.
     pub fn bytes(&self) -> &[u8]
         ensures kept { result.now ≡ self.now.bytes.items }
         ensures held { (held : List ℕ) → ⟦<SureSink as Sink>⟧.held self.now ≡ Some held → result.now ≡ held }

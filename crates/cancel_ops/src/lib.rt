@@ -1,4 +1,4 @@
-//! Cancels of subtasks by the running thread, over the words of a core: the op goes on from how far it has come.
+//! Cancels of subtasks by the running thread, over the primitives of a core: the op goes on from how far it has come.
 #![tactic(auto)]
 
 mod by_progress;

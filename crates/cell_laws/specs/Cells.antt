@@ -86,7 +86,7 @@ pub record RunsWorks (n : ℕ) (s : Core) : Type 0 where
   pub told : WorksTold s
   pub awaited : HostsAwaited s
 
--- A step seen as a chain of words, in which each thread has an op, keeps cells so where main has spawned nothing.
+-- A step seen as a chain of primitives, in which each thread has an op, keeps cells so where main has spawned nothing.
 unfoldable pub CellsStayWalked : Type 0
 CellsStayWalked = (ops : ℕ → Op) (x : Setting) (s : State) (l : Label) (t : State) → WalkedAs ops x s l t →
     ((n : ℕ) → s.turn ≡ turn.Futures n → ⊥) → SpawnedNothing s → get s.core.works 0 ≡ None → WorksKnown s.core →
@@ -97,7 +97,7 @@ unfoldable pub WorksStayRunning : Type 0
 WorksStayRunning = (x : Setting) (s : State) (l : Label) (t : State) (n : ℕ) → RunsWorks n s.core → Step x s l t → s.turn ≡ turn.Run n →
     get s.core.works 0 ≡ None → (i : ℕ) → StaysWork (get s.core.works i) (get t.core.works i)
 
--- So it is of a chain of words, in which each thread has an op, where main has spawned nothing.
+-- So it is of a chain of primitives, in which each thread has an op, where main has spawned nothing.
 unfoldable pub WorksStayWalked : Type 0
 WorksStayWalked = (ops : ℕ → Op) (x : Setting) (s : State) (l : Label) (t : State) (n : ℕ) → RunsWorks n s.core → WalkedAs ops x s l t →
     s.turn ≡ turn.Run n → SpawnedNothing s → get s.core.works 0 ≡ None → (i : ℕ) → StaysWork (get s.core.works i) (get t.core.works i)

@@ -8,7 +8,8 @@ pub fn cells_stay()
     ensures { CellsStay }
 {}
 
-/// So it is of a step seen as a chain of words, in which each thread has an op: a step of a run, or an op that a host has a thread do.
+/// So it is of a step seen as a chain of primitives, in which each thread has an op: a step of a run, or an op that a host has a
+/// thread do.
 #[tactic(auto, using(crate::proofs::CellLemmas::cells_stay_walked))]
 pub fn cells_stay_walked()
     ensures { CellsStayWalked }
@@ -27,7 +28,7 @@ pub fn works_stay_running()
     ensures { WorksStayRunning }
 {}
 
-/// So it is where a host has the running thread do an op, seen as a chain of words.
+/// So it is where a host has the running thread do an op, seen as a chain of primitives.
 #[tactic(auto, using(crate::proofs::StayLemmas::works_stay_walked))]
 pub fn works_stay_walked()
     ensures { WorksStayWalked }

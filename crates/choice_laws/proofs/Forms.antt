@@ -334,7 +334,7 @@ module _ (n x : ℕ) (s : Core) where
               let d = found_named (λ g. Traps trap.BadHandle) k (subst (λ o. IsLawful (or_never o (λ g. Traps trap.BadHandle))) (sym at) tt) in
               subst (λ (o : Option PickedEvent). ReleasesOnce (or_never o (next v k))) (sym (named_picked_event d) ∙ at) ((takes d.subtask).once v k)
 
-  -- what a thread is given: its task's own event, that of a member, or nothing
+  -- what a thread is given: its task event, that of a member, or nothing
   pub given : (by_callback : Bool) (o : Offer) (next : Option ℕ → Option ℕ → PickedEvent → Progress) → ((e : TaskEvent) → Picks o (λ w m. next w m (PickedTaskEvent e))) →
       Picks nothing (λ w m. next w m NothingPicked) → ((sub : Subtask) → TakesMember (λ w m. next w m (PickedMember sub))) →
       Picks (if is_some (picked_task_event_of by_callback (task_of n s) s) then o else takes_of n x s)

@@ -231,7 +231,7 @@ module _ (n x : ℕ) (s : Core) where
           once = λ v k. tt;
         })
 
-  -- the wake of a woken thread is handed on where it is given the own event
+  -- the wake of a woken thread is handed on where it is given the task event
   module _ (mk : Given → Option ℕ → Label) (shows : (v : Given) → choice_of (mk v None) ≡ choosing None (handle_given v))
       (wakes : (v : Given) (w : ℕ) → choice_of (mk v (Some w)) ≡ choosing (Some w) None) where
     pub own_woken : (e : TaskEvent) (new : Option ℕ → Core) →

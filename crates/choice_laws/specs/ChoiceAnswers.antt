@@ -1,4 +1,4 @@
--- What running a scenario's state under a list of choices may come to.
+-- What running a scenario's state under a list of choices may result in.
 use Rattle.choice_laws.specs.Offer.{Chosen, FitsOffer, is_open}
 use Rattle.choice_laws.specs.Offers.{offer}
 use Rattle.choice_laws.specs.Runs.{RunBy}
@@ -14,7 +14,7 @@ use Rattle.task_rules.specs.Run.{Run}
 use Rattle.task_rules.specs.Scripts.{HasOpen}
 use Rattle.task_rules.specs.Stalled.{Setting}
 
--- What a run under choices comes to.
+-- What a run under choices results in.
 pub data Answer : Type 0 where
   -- it has this outcome, and has used so many choices
   Reports : (trace : List Label) → (outcome : Outcome) → (used : ℕ) → Answer
@@ -28,7 +28,7 @@ pub record IsOpenAt (x : Setting) (steps : ℕ) (ls : List Label) (t : State) : 
   pub unended : outcome_of x t ls steps ≡ None
   pub offers : is_open (offer x t) ≡ true
 
--- the run that has these labels, is in t and has left these choices has come to this
+-- the run that has these labels, is in t and has left these choices has ended so
 abbrev pub HasCome : Setting → ℕ → List Chosen → List Label → State → List Chosen → Answer → Type 0
 HasCome x steps cs ls t left (Reports trace o used) = (ls ≡ trace) × (IsOutcome x t ls steps o × (used + length left ≡ length cs))
 HasCome x steps cs ls t left (Wrong k) =
@@ -50,7 +50,7 @@ unfoldable pub AnswersAreOne : Type 0
 AnswersAreOne = (x : Setting) (s : State) → (HasOpen x.component → ⊥) → InOrder x.component s → IsScripted s.main → (steps : ℕ) (cs : List Chosen) (a b : Answer) →
     ComesTo x s steps cs a → ComesTo x s steps cs b → a ≡ b
 
--- each run of a text from a state in order that has an outcome is what the run under some choices comes to
+-- each run of a text from a state in order that has an outcome is what the run under some choices results in
 unfoldable pub RunIsReported : Type 0
 RunIsReported = (x : Setting) (s : State) → IsSettled x.component s.main → NoneOpen s.core → InOrder x.component s → (steps : ℕ) (ls : List Label) (t : State) (o : Outcome) →
     Run x s ls t → length ls ≤ steps → IsOutcome x t ls steps o → (cs : List Chosen) × ComesTo x s steps cs (Reports ls o (length cs))

@@ -86,11 +86,11 @@ takes_of n x s = record { waiters = []; members = filter (names_ready (instance_
 abbrev pub releases : List ℕ → Offer → Offer
 releases ns o = record { waiters = o.waiters; members = o.members; held = ns }
 
--- what the thread is given of the set: its task's own event, for which no member is taken, else that of a member
+-- what the thread is given of the set: its task event, for which no member is taken, else that of a member
 abbrev pub gives : Bool → ℕ → ℕ → Core → Offer
 gives by_callback n x s = if is_some (picked_task_event_of by_callback (task_of n s) s) then nothing else takes_of n x s
 
--- the same of a woken thread, whose wake is handed on where it is given the own event while a member is ready
+-- the same of a woken thread, whose wake is handed on where it is given the task event while a member is ready
 abbrev pub gives_woken : Bool → ℕ → ℕ → Core → Offer
 gives_woken by_callback n x s =
     if is_some (picked_task_event_of by_callback (task_of n s) s) then (if has_ready_member x s then wakes x s else nothing) else takes_of n x s

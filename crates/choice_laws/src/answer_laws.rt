@@ -7,7 +7,7 @@ pub fn chosen_run_comes_to_one()
     ensures { AnswersAreOne }
 {}
 
-/// Each run from a state in order that has an outcome is what the run under some choices comes to, which uses them all.
+/// Each run from a state in order that has an outcome is what the run under some choices results in, which uses them all.
 #[tactic(auto, using(crate::proofs::AnswerLemmas::run_is_reported))]
 pub fn runs_are_reported()
     ensures { RunIsReported }

@@ -52,7 +52,7 @@ fewer_without x (y ∷ ys) there = by (x == y) there (λ out. fewer_without x ys
     by true out rest = let few = filter_length (λ q. not (x == q)) ys in omega (arith, few)
     by false out rest = let few = rest out in omega (arith, few)
 
--- numbers that stand once in one list and all in another are no more than that has
+-- numbers that are once in one list and all in another are no more than that has
 no_more : (xs ys : List ℕ) → Once xs → ((n : ℕ) → has n xs ≡ true → has n ys ≡ true) → length xs ≤ length ys
 no_more [] ys once within = omega arith
 no_more (x ∷ xs) ys once within =

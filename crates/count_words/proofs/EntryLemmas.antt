@@ -1,4 +1,4 @@
--- The group whose record stands at a place.
+-- The group whose record is at a place.
 use Rattle.std.proofs.Common.{◌≡◌, ap, None, Option, refl, Some, ℕ}
 use Rattle.std.proofs.lemmas.Option.{same_Some}
 use Rattle.std.specs.Option.{option_and_then, option_map_or}

@@ -106,7 +106,7 @@ module _ (a : CoreParts) (sound : IsSoundCore a) (m : List (ℕ × ResultRoom)) 
     unfolding take_result seen
     result_taken is = results_seen (remove (seen a).core.results k) (λ q. written_at q ∙ (ap (λ p. cond (q == k) p (get (seen a).core.results q)) is ∙ sym (get-remove (seen a).core.results k q)))
 
-    -- a room with the result that stood there isn't seen
+    -- a room with the result that was there isn't seen
     pub room_unseen : given w ≡ given (lookup (is_at (nat_cmp k)) a.results) → seen (record a { results = m }) ≡ seen a
     unfolding seen
     room_unseen is = results_seen (seen a).core.results (λ q. written_at q ∙ by q (cases_eq q k))

@@ -7,7 +7,7 @@ use Rattle.task_records.specs.declared.single.Single.{Single}
 use Rattle.task_table.specs.Entries.{entries}
 use Rattle.task_table.specs.Table.{Table, place_at}
 
--- the number, and the place in the resource table, of the group whose record stands at a place; 0 where none does
+-- the number, and the place in the resource table, of the group whose record is at a place; 0 if none does
 abbrev pub number_at : Table (Single TaskGroup) → ℕ → ℕ
 number_at groups place = option_map_or (λ p. p.entry.item.number) (place_at groups place) 0
 

@@ -10,7 +10,7 @@ ghost use Rattle.task_words.specs.Groups.{CountsEnded, IsAsked, asked, ended_gro
 use record_table::RecordTable;
 use task_records::{CoreParts, Single, TaskGroup};
 
-/// The groups with a number above this one have ended. There is room for them.
+/// Adds the groups with a number above this one to those that have ended. There is room for them.
 pub(crate) fn end_groups(
     ended: &mut Vec<u64>,
     groups: &RecordTable<Single<TaskGroup>>,
@@ -27,7 +27,7 @@ pub(crate) fn end_groups(
     }
 }
 
-/// Whether a group has ended since the core was last asked which.
+/// Returns whether a group has ended since the core was last asked which.
 #[inline(always)]
 pub fn has_ended(parts: &CoreParts) -> bool
     requires { IsSoundCore parts.now }
@@ -37,7 +37,7 @@ pub fn has_ended(parts: &CoreParts) -> bool
     parts.ended.len() != 0
 }
 
-/// Each live group is known.
+/// Says that each live group is tracked.
 pub fn count_ended(parts: &CoreParts)
     requires { IsSoundCore parts.now }
     ensures { CountsEnded (seen parts.now) }
@@ -45,7 +45,7 @@ pub fn count_ended(parts: &CoreParts)
     let _parts = parts;
 }
 
-/// The groups that have ended since the core was last asked, in order of number.
+/// Returns the groups that have ended since the core was last asked, in order of number.
 pub fn ended(parts: &mut CoreParts) -> &[u64]
     requires { IsSoundCore parts.old }
     ensures numbers { result.now ≡ ended_groups (seen parts.old) }
@@ -55,7 +55,7 @@ pub fn ended(parts: &mut CoreParts) -> &[u64]
     parts.ended.as_slice()
 }
 
-/// The core was asked which groups have ended: from now on it knows the live ones alone.
+/// Forgets the groups that have ended: the core was asked for them, and tracks the live ones alone from now on.
 pub fn forget_ended(parts: &mut CoreParts)
     requires { IsSoundCore parts.old }
     ensures sound { IsSoundCore parts.new }

@@ -34,7 +34,7 @@ impl Holders for GroupHolders<'_> {
     }
 }
 
-// The places of the records of groups with a number above this one stand for their places in the resource table.
+// The places of the records of groups with a number above this one represent their places in the resource table.
 fn give_names(places: &mut TablePlaces, groups: &RecordTable<Single<TaskGroup>>, finished: u64)
     ensures { places.new ≡ given_each (groups_above finished groups.now) places.old }
 {
@@ -45,7 +45,7 @@ fn give_names(places: &mut TablePlaces, groups: &RecordTable<Single<TaskGroup>>,
     }
 }
 
-/// The places of the groups with a number above this one are free, in order of their numbers.
+/// Frees the places of the groups with a number above this one, in order of their numbers.
 pub(crate) fn give_groups(
     places: &mut TablePlaces,
     groups: &RecordTable<Single<TaskGroup>>,

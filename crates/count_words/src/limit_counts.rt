@@ -12,7 +12,7 @@ use task_machine::MadeCounts;
 use task_records::CoreParts;
 use task_words::{CallId, ThreadId};
 
-/// Whether so many entries more have room in the table.
+/// Returns whether so many entries more have room in the table.
 pub fn fits(parts: &CoreParts, entries: usize) -> bool
     requires { IsSoundCore parts.now }
     ensures { result ≡ fits entries (seen parts.now).core }
@@ -20,7 +20,7 @@ pub fn fits(parts: &CoreParts, entries: usize) -> bool
     entries <= parts.capacity && parts.kept.used <= (parts.capacity - entries) as u64
 }
 
-/// Whether a handle may not be given, in any instance.
+/// Returns whether a handle may not be given, in any instance.
 pub fn at_handle_limit(parts: &CoreParts) -> bool
     requires { IsSoundCore parts.now }
     ensures { result ≡ at_handle_limit (seen parts.now).core }
@@ -28,7 +28,7 @@ pub fn at_handle_limit(parts: &CoreParts) -> bool
     parts.counter.limit() <= parts.counter.live()
 }
 
-/// Whether main has to wait for some task.
+/// Returns whether main has to wait for some task.
 pub fn has_interesting(parts: &CoreParts) -> bool
     requires { IsSoundCore parts.now }
     ensures { result ≡ has_interesting (seen parts.now).core }
@@ -36,7 +36,7 @@ pub fn has_interesting(parts: &CoreParts) -> bool
     0 < parts.kept.interesting
 }
 
-/// How many threads, works, sets and groups were made so far.
+/// Returns how many threads, works, sets and groups were made so far.
 #[tactic(auto, unfolding(task_records::specs::Seen::seen))]
 pub fn made(parts: &CoreParts) -> MadeCounts
     ensures { result ≡ (seen parts.now).core.made }
@@ -44,7 +44,7 @@ pub fn made(parts: &CoreParts) -> MadeCounts
     parts.made
 }
 
-/// Whether the store is trapped.
+/// Returns whether the store is trapped.
 #[tactic(auto, unfolding(task_records::specs::Seen::seen))]
 pub fn trapped(parts: &CoreParts) -> bool
     ensures { result ≡ (seen parts.now).core.trapped }
@@ -52,7 +52,7 @@ pub fn trapped(parts: &CoreParts) -> bool
     parts.trapped
 }
 
-/// The host no longer waits for the call; the count of interesting tasks falls with it.
+/// Takes the call out of those that the host waits for, and lowers the count of interesting tasks with it.
 pub fn set_uninteresting(parts: &mut CoreParts, call: CallId)
     requires { IsSoundCore parts.old }
     ensures sound { IsSoundCore parts.new }
@@ -67,7 +67,7 @@ pub fn set_uninteresting(parts: &mut CoreParts, call: CallId)
     }
 }
 
-/// The thread that runs.
+/// Returns the thread that runs.
 #[tactic(auto, unfolding(task_records::specs::Seen::seen))]
 pub fn current(parts: &CoreParts) -> Option<ThreadId>
     ensures { result ≡ (seen parts.now).current }
@@ -75,7 +75,7 @@ pub fn current(parts: &CoreParts) -> Option<ThreadId>
     parts.current
 }
 
-/// This thread runs, or none does.
+/// Makes this thread the one that runs, or lets none run.
 pub fn set_current(parts: &mut CoreParts, thread: Option<ThreadId>)
     requires { IsSoundCore parts.old }
     ensures sound { IsSoundCore parts.new }
@@ -84,7 +84,7 @@ pub fn set_current(parts: &mut CoreParts, thread: Option<ThreadId>)
     parts.current = thread;
 }
 
-/// A host was ready at its first poll: its work has its number, and no record.
+/// Counts the work of a host that was ready at its first poll: it has its number, and no record.
 pub fn count_work(parts: &mut CoreParts)
     requires sound { IsSoundCore parts.old }
     requires few { (seen parts.old).core.made.works + 1 < 2 ^ 64 }
@@ -94,8 +94,8 @@ pub fn count_work(parts: &mut CoreParts)
     parts.made.works += 1;
 }
 
-/// The store is trapped, and all groups are finished. The live ones give back their places in the resource table in order of
-/// their numbers, and are among the ended ones.
+/// Traps the store, and finishes all groups. The live ones give back their places in the resource table in order of their numbers,
+/// and are among the ended ones.
 pub fn set_trapped(parts: &mut CoreParts)
     requires { IsSoundCore parts.old }
     ensures sound { IsSoundCore parts.new }

@@ -9,7 +9,7 @@ use task_machine::{Call, Status};
 use task_records::{CoreParts, task_of};
 use task_words::{CallId, SetId, ThreadId};
 
-/// How many threads there are.
+/// Returns how many threads there are.
 pub fn threads(parts: &CoreParts) -> u64
     requires { IsSoundCore parts.now }
     ensures { result ≡ size (seen parts.now).core.threads }
@@ -52,7 +52,7 @@ fn both(one: bool, other: bool) -> bool
     one && !other
 }
 
-/// Whether nothing keeps the call.
+/// Returns whether nothing keeps the call.
 pub fn is_deletable(parts: &CoreParts, call: CallId) -> bool
     requires { IsSoundCore parts.now }
     ensures { result ≡ is_deletable (call_of (seen parts.now) call) (seen parts.now).core }
@@ -64,7 +64,7 @@ pub fn is_deletable(parts: &CoreParts, call: CallId) -> bool
     }
 }
 
-/// The number of a set; 0 where the id names none.
+/// Returns the number of a set; 0 if the id names none.
 pub fn set_number(parts: &CoreParts, set: SetId) -> u64
     requires { IsSoundCore parts.now }
     ensures { result ≡ set_of (seen parts.now) set }
@@ -75,7 +75,7 @@ pub fn set_number(parts: &CoreParts, set: SetId) -> u64
     }
 }
 
-/// Whether a call or a host work is in the set.
+/// Returns whether a call or a host work is in the set.
 pub fn has_member(parts: &CoreParts, set: SetId) -> bool
     requires sound { IsSoundCore parts.now }
     requires live { 0 < set_of (seen parts.now) set }
@@ -84,7 +84,7 @@ pub fn has_member(parts: &CoreParts, set: SetId) -> bool
     0 < task_records::set_there(parts, set).members
 }
 
-/// Whether a thread waits on the set or has an entry for it.
+/// Returns whether a thread waits on the set or has an entry for it.
 pub fn has_waiters(parts: &CoreParts, set: SetId) -> bool
     requires sound { IsSoundCore parts.now }
     requires live { 0 < set_of (seen parts.now) set }
@@ -93,7 +93,7 @@ pub fn has_waiters(parts: &CoreParts, set: SetId) -> bool
     0 < task_records::set_there(parts, set).entries
 }
 
-/// It is the only thread of its call.
+/// Returns whether it is the only thread of its call.
 pub fn is_last_thread(parts: &CoreParts, thread: ThreadId) -> bool
     requires { IsSoundCore parts.now }
     ensures { result ≡ is_last_thread (thread_of (seen parts.now) thread) (seen parts.now).core }

@@ -12,7 +12,7 @@ use task_machine::NoMemory;
 use task_records::CoreParts;
 use task_words::CallId;
 
-/// What the call with this number has returned to main, which has not taken it.
+/// Returns what the call with this number has returned to main, which has not taken it.
 #[inline(always)]
 pub fn result(parts: &CoreParts, call: u64) -> Option<u64>
     ensures { result ≡ get (seen parts.now).core.results call }
@@ -20,7 +20,7 @@ pub fn result(parts: &CoreParts, call: u64) -> Option<u64>
     parts.results.result(call)
 }
 
-/// Whether something was returned to main that it has not taken.
+/// Returns whether something was returned to main that it has not taken.
 #[inline(always)]
 pub fn has_results(parts: &CoreParts) -> bool
     ensures none { result ≡ false → (call : ℕ) → get (seen parts.now).core.results call ≡ None }
@@ -54,8 +54,8 @@ pub fn give_result(parts: &mut CoreParts, call: CallId, value: u64)
     }
 }
 
-/// Makes room for the result of a call by main that is to be made. Where memory is wanting, all is as
-/// before; a room that is never used isn't seen.
+/// Makes room for the result of a call by main that is to be made. If it is out of memory, all is as before; a room that is never
+/// used isn't seen.
 pub fn make_room(parts: &mut CoreParts, call: u64) -> Result<(), NoMemory>
     requires { IsSoundCore parts.old }
     ensures sound { IsSoundCore parts.new }
@@ -69,7 +69,7 @@ pub fn make_room(parts: &mut CoreParts, call: u64) -> Result<(), NoMemory>
     }
 }
 
-/// Main takes a result. Its room stays as long as the call.
+/// Has main take a result. Its room stays as long as the call.
 pub fn take_result(parts: &mut CoreParts, call: u64)
     requires { IsSoundCore parts.old }
     ensures sound { IsSoundCore parts.new }
@@ -84,7 +84,7 @@ pub fn take_result(parts: &mut CoreParts, call: u64)
     }
 }
 
-/// A call is gone: its room stays as long as main has not taken the result that stands in it.
+/// Frees the room of a call that is gone: its room stays as long as main has not taken the result that is in it.
 pub fn close_room(parts: &mut CoreParts, call: u64)
     requires sound { IsSoundCore parts.old }
     requires gone { get (seen parts.old).core.calls call ≡ None }

@@ -7,7 +7,7 @@ ghost use Rattle.task_words.specs.StateView.{on_core};
 
 use task_records::CoreParts;
 
-/// How many entries have room in the table.
+/// Returns how many entries have room in the table.
 #[tactic(auto, unfolding(task_records::specs::Seen::seen))]
 pub fn capacity(parts: &CoreParts) -> usize
     ensures { result ≡ (seen parts.now).core.capacity }
@@ -15,7 +15,7 @@ pub fn capacity(parts: &CoreParts) -> usize
     parts.capacity
 }
 
-/// How many entries of the table are taken.
+/// Returns how many entries of the table are taken.
 pub fn used(parts: &CoreParts) -> u64
     requires { IsSoundCore parts.now }
     ensures { result ≡ table_use (seen parts.now).core }
@@ -34,7 +34,7 @@ pub fn set_capacity(parts: &mut CoreParts, entries: usize)
     parts.capacity = entries;
 }
 
-/// How many handles may be live at once.
+/// Returns how many handles may be live at once.
 #[tactic(auto, unfolding(task_records::specs::Seen::seen))]
 pub fn handle_limit(parts: &CoreParts) -> u32
     ensures is { result ≡ (seen parts.now).core.handle_limit }

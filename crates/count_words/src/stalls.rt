@@ -25,7 +25,7 @@ fn some_entry_may_not(parts: &CoreParts) -> bool
         .any(|e| may_not_suspend(parts, &e.1.item))
 }
 
-/// Whether the instance of some call may not suspend. It looks at all calls.
+/// Returns whether the instance of some call may not suspend. It looks at all calls.
 pub fn some_may_not_suspend(parts: &CoreParts) -> bool
     requires { IsSoundCore parts.now }
     ensures { result ≡ some_may_not_suspend (seen parts.now).core }

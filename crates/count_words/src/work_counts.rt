@@ -10,7 +10,7 @@ use task_machine::{Course, HostDef, Phase, Stage, Work};
 use task_records::CoreParts;
 use task_words::WorkId;
 
-/// Whether a work is live, so that the loop polls it.
+/// Returns whether a work is live, so that the loop polls it.
 pub fn has_live_work(parts: &CoreParts) -> bool
     requires { IsSoundCore parts.now }
     ensures { result ≡ has_live_work (seen parts.now).core }
@@ -18,7 +18,7 @@ pub fn has_live_work(parts: &CoreParts) -> bool
     0 < parts.kept.live
 }
 
-/// Whether some live work is polled to no end.
+/// Returns whether some live work is polled to no end.
 pub fn has_moving_work(parts: &CoreParts) -> bool
     requires { IsSoundCore parts.now }
     ensures { result ≡ has_moving_work (seen parts.now).core }
@@ -41,7 +41,7 @@ fn is_moving_course(course: Course) -> bool
     }
 }
 
-/// Whether a work is live and is polled to no end.
+/// Returns whether a work is live and is polled to no end.
 pub fn is_moving(work: &Work) -> bool
     ensures { result ≡ is_moving work.now }
 {
@@ -49,7 +49,7 @@ pub fn is_moving(work: &Work) -> bool
         && (is_moving_course(work.course) || matches!(work.phase, Phase::AbortRequested))
 }
 
-/// A number that counted what was so counts what is so.
+/// Says that a number that counted what was so counts what is so.
 pub fn recounted(kept: u64, was: bool, is: bool) -> u64
     requires some { was ≡ true → 1 ≤ kept + one_if is }
     requires few { kept + 1 < 2 ^ 64 }
@@ -79,7 +79,7 @@ pub fn set_course(parts: &mut CoreParts, work: WorkId, course: Course)
     }
 }
 
-/// The phase of the work's join handle is this one.
+/// Sets the phase of the work's join handle.
 pub fn set_phase(parts: &mut CoreParts, work: WorkId, phase: Phase)
     requires { IsSoundCore parts.old }
     ensures sound { IsSoundCore parts.new }

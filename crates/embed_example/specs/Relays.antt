@@ -19,7 +19,7 @@ Relays m (step.Did (label.Main (main_label.Finish k v))) n = n.word ≡ v
 Relays m (step.Answer v) n = (v ≡ m.word) × (n.word ≡ m.word)
 Relays m _ n = n.word ≡ m.word
 
--- the trace is that of a run from a new store with two instances, which has come to this outcome in so many steps at most
+-- the trace is that of a run from a new store with two instances, which has ended in this outcome in so many steps at most
 abbrev pub RanFromNew : Component → List Label → (steps : ℕ) → Outcome → Type 0
 RanFromNew c trace steps o =
     (t : State) × Drives (setting_of c [] true) (state_at (fresh 2 100000 1000000) Unscripted turn.Main) [] t trace steps o

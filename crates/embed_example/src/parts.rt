@@ -43,7 +43,7 @@ fn adder(alloc: Global, more: Operand) -> Result<InstanceDef, AllocError>
     })
 }
 
-/// The instance of `DOUBLE`, and that of `NEXT`.
+/// Returns the instance of `DOUBLE`, and that of `NEXT`.
 pub fn component(alloc: Global) -> Result<Component, AllocError>
     ensures exports { IfOk result HasPlainExports }
     ensures double { IfOk result (λ c. TakesOne c DOUBLE) }

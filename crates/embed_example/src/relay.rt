@@ -29,7 +29,7 @@ pub struct Relay {
 }
 
 impl Relay {
-    /// Main with a word, before its first call.
+    /// Makes main with a value, before its first call.
     pub fn new(alloc: Global, word: u64) -> Self
         ensures word { result.word ≡ word }
         ensures keeps { (s : StateView) → Keeps result s }

@@ -31,9 +31,9 @@ fn store(alloc: Global) -> Result<Store<(), ScriptedHost>, NoMemory>
     Ok(store)
 }
 
-/// Drives a `Relay` with this word: what was added to an empty trace is a run of the component
-/// machine from a new store with two instances, and the outcome is what it has come to. What the relay has answered is
-/// what the last call that was finished has returned, as the run's labels show it.
+/// Drives a `Relay` with this word: what was added to an empty trace is a run of the component machine from a new store with two
+/// instances, and the outcome is what it has resulted in. What the relay has answered is what the last call that was finished has
+/// returned, as the run's labels show it.
 pub fn relayed(
     alloc: Global,
     component: &Component,

@@ -36,9 +36,9 @@ fn add_finishes(text: &mut String, number: u32) -> Result<(), AllocError>
     Ok(())
 }
 
-/// The generated scenario's text, with 1 to 256 requests. It has one host and three instances, of
-/// which the first raises its backpressure while it waits for the host, and main starts all
-/// requests before it finishes the first. It is a text of the scenario grammar.
+/// Returns the generated scenario's text, with 1 to 256 requests. It has one host and three instances, of which the first raises
+/// its backpressure while it waits for the host, and main starts all requests before it finishes the first. It is a text of the
+/// scenario grammar.
 pub fn make_scenario(alloc: Global, number: u32) -> Result<Vec<u8>, NoMemory>
     requires some { 1 ≤ number }
     requires few { number ≤ 256 }

@@ -101,9 +101,9 @@ fn count(labels: &Labels<'_>) -> Counts
     counts
 }
 
-/// The summary of a run that has these labels and has come to this outcome: a line each with the
-/// number of its labels, of its takings, of those that were held, of those that woke a waiter of a
-/// guest-made set, and of the ops that stopped their strand; and the outcome's line.
+/// Returns the summary of a run that has these labels and has ended in this outcome: a line each with the number of its labels, of
+/// its takings, of those that were held, of those that woke a waiter of a guest-made set, and of the ops that stopped their strand;
+/// and the outcome's line.
 pub fn print_summary(
     alloc: Global,
     labels: &Labels<'_>,

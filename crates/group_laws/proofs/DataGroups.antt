@@ -1,4 +1,4 @@
--- An op on registers and words leaves the groups, and of which group each thread is.
+-- An op on registers and memory cells leaves the groups, and of which group each thread is.
 use Rattle.label_laws.specs.Own.{is_data}
 use Rattle.task_rules.proofs.Machine.{advanced, ap, arith, assigned, Bool, Call, call_group, change, Component, Core, data_rule, DataOp, false, get, get-change, Continues, Instance, instance_of, moved_to, nat_tests, None, on_instance, on_thread, Option, option_map, option_map_or, position_of, Progress, Records, refl, Set, set_op_progress, set_position, set_register, set_word, skip_rule, skipped, Some, stored, sym, task_of, Thread, thread_group, true, value_of, ℕ, ◌+◌, ◌==◌, ◌∙◌, ◌≡◌}
 

@@ -16,7 +16,7 @@ use Rattle.task_rules.specs.Notices.{finish_notices, group_notice, moment_notice
 use Rattle.task_rules.specs.OpParts.{is_data_op}
 use Rattle.task_rules.specs.Step.{RunStep, own_script}
 
--- ---- A step on registers and words
+-- ---- A step on registers and memory cells
 
 no_data : {A : Type 0} (l : Label) → is_data l ≡ true → is_data l ≡ false → A
 no_data l shows lacks = let never : ◌≡◌ {A = Bool} true false = sym shows ∙ lacks in absurd (cc)

@@ -42,7 +42,7 @@ taken_silent m (Label.Main l) is = absurd (cc)
 taken_silent m (Label.Loop l) is = absurd (cc)
 taken_silent m _ is = record { starts = λ c. refl; works = λ c. refl }
 
--- ---- An op on registers and words
+-- ---- An op on registers and memory cells
 
 pub data_starts : (l : Label) (c : Core) → is_data l ≡ true → start_notices l c ≡ []
 data_starts (Label.Data l) c e = refl

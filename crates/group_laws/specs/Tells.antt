@@ -1,4 +1,4 @@
--- What a step tells the groups, by what is asked in the turn before it.
+-- What a step tells the groups, by the groups of the turn before it.
 use Rattle.label_laws.specs.Own.{is_data, is_main_turn}
 use Rattle.std.specs.List.{list_all}
 use Rattle.std.specs.Prelude.{Bool, List, None, Option, Some, [], false, option_and_then, true, ℕ, ◌++◌, ◌≡◌, ◌≤◌}

@@ -11,13 +11,13 @@ pub fn steps_tell()
     ensures { StepsTell }
 {}
 
-/// So the notices of a step are known from what is asked in the turn before it, and from the groups after it.
+/// So the notices of a step are known from the groups of the turn before it, and from the groups after it.
 #[tactic(auto, using(crate::proofs::StepTells::notices_told))]
 pub fn notices_are_told()
     ensures { NoticesTold }
 {}
 
-/// An op on registers and words tells groups nothing and leaves the thread running, and a run of such ops tells nothing.
+/// An op on registers and memory cells tells groups nothing and leaves the thread running, and a run of such ops tells nothing.
 pub fn data_tells_nothing()
     ensures steps { DataTellsNothing }
     ensures runs { DataRunsTellNothing }

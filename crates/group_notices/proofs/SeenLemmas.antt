@@ -12,7 +12,7 @@ use Rattle.task_rules.specs.Notices.{around, group_notice, is_in, of_live, same_
 use Rattle.task_words.specs.Groups.{if_tracked, some_if_tracked}
 
 module _ (gs : List ℕ) (positive : is_in gs 0 ≡ false) where
-  -- the group of an option, 0 where it is none of these
+  -- the group of an option, 0 if it is none of these
   abbrev pub among : Option ℕ → ℕ
   among o = option_map_or (if_tracked gs) o 0
 

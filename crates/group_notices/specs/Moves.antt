@@ -16,7 +16,7 @@ one kind g = if g == 0 then [] else told_of kind g ∷ []
 abbrev pub switched : (old new : ℕ) → List Notice
 switched old new = if old == new then [] else one notice.Exit old ++ one notice.Enter new
 
--- the exits and enters of a step before which this was asked, and after which a thread of this group runs
+-- the exits and enters of a step before which these were the groups, and after which a thread of this group runs
 abbrev pub moved : GroupsBefore → (running : ℕ) → List Notice
 moved a running = switched a.running running ++ around a.worked
 

@@ -54,15 +54,15 @@ StepTold =
     HasTold x s before m mid old between → Step x m l t → ToldListeners (moment_notices (moment m l t)) between new →
     HasTold x s before t (mid ++ l ∷ []) old new
 
--- ops on registers and words tell nothing
+-- ops on registers and memory cells tell nothing
 abbrev pub DataTold : Type 0
 DataTold =
     (x : Setting) (s : State) (before : List Label) (m : State) (mid ls : List Label) (t : State) (n : ℕ) (old new : Listeners) →
     HasTold x s before m mid old new → m.turn ≡ turn.Run n → Run x m ls t → list_all is_data ls ≡ true →
     HasTold x s before t (mid ++ ls) old new
 
--- In any turn but main's the notices of a step are the exits and enters that are told by what was asked, and the finishes of the groups that
--- were live before it and aren't after it.
+-- In any turn but main's the notices of a step are the exits and enters that are told by the groups before it, and the finishes of
+-- the groups that were live before it and aren't after it.
 abbrev pub OtherTurnsTold : Type 0
 OtherTurnsTold =
     (x : Setting) (s : State) (l : Label) (t : State) (a : GroupsBefore) → Step x s l t → is_main_turn s.turn ≡ false →

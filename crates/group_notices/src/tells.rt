@@ -6,8 +6,8 @@ ghost use Rattle.task_rules.specs.Notices.{around, told_of};
 use task_group::{HookError, Listeners, TaskGroupHook, TaskGroupId};
 use task_machine::NoticeKind;
 
-/// What is asked of a turn before its step: the group of the thread that runs, 0 where none does or its group is finished, and
-/// that of the work which the turn works on, as long as it isn't.
+/// The groups of a turn before its step: the group of the thread that runs, 0 if none does or its group is finished, and that of
+/// the work which the turn works on, as long as it isn't.
 #[derive(Clone, Copy)]
 pub struct GroupsBefore {
     pub running: u64,
@@ -62,8 +62,8 @@ fn visit<H: TaskGroupHook>(
     }
 }
 
-/// Tells the exits and enters of a step, before which this was asked, and after which a thread of the group `running` runs, or
-/// none where that is 0. An error is the hook's: after it the rest isn't told.
+/// Tells the exits and enters of a step, before which these were the groups, and after which a thread of the group `running` runs,
+/// or none if that is 0. An error is the hook's: after it the rest isn't told.
 pub fn tell_moves<H: TaskGroupHook>(
     listeners: &mut Listeners<H>,
     groups_before: &GroupsBefore,

@@ -23,7 +23,7 @@ fn write_handle(parts: &mut CoreParts, thread: ThreadId, handle: u32)
     parts.threads.get_mut_unchecked(thread).thread.handle = Some(handle);
 }
 
-/// Gives a thread its handle in its instance. Where memory is wanting, all is as before.
+/// Gives a thread its handle in its instance. If it is out of memory, all is as before.
 #[inline(always)]
 pub fn name_thread(parts: &mut CoreParts, thread: ThreadId) -> Result<u32, NoMemory>
     requires sound { IsSoundCore parts.old }

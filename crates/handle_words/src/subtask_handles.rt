@@ -47,7 +47,7 @@ fn subtask_held(parts: &CoreParts, subtask: SubtaskId) -> HeldItem
     }
 }
 
-/// Gives a subtask its handle in an instance. Where memory is wanting, all is as before.
+/// Gives a subtask its handle in an instance. If it is out of memory, all is as before.
 pub fn name_subtask(
     parts: &mut CoreParts,
     instance: u32,

@@ -9,8 +9,7 @@ use task_handles::Rep;
 use task_machine::NoMemory;
 use task_records::CoreParts;
 
-/// Gives the next thread handle of an instance to what stands at a place. Where none is given, all
-/// is as before.
+/// Gives the next thread handle of an instance to what is at a place. Where none is given, all is as before.
 pub fn insert_thread_handle(parts: &mut CoreParts, index: u32, rep: Rep) -> Result<u32, NoMemory>
     requires sound { IsSoundCore parts.old }
     requires there { index < length parts.old.instances.items }

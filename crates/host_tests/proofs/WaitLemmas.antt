@@ -73,7 +73,7 @@ given_after n k none few = omega (arith, none, few)
 pub given_few : (n k : ℕ) → n ≡ k → k ≤ 200 → n ≤ 2 ^ 60
 given_few n k same few = omega (arith, same, few)
 
--- what stands in order sits
+-- what is in order sits
 pub stays_sitting : (s t : Core) → StaysInOrder s t → (c : Component) (p : Turn) → is_open p ≡ true → CoreInOrder c p s → CoreInOrder c p t
 stays_sitting s t stays c p going sits =
     let r = stays c p None going sits.order in

@@ -6,7 +6,7 @@ use std::alloc::Global;
 use std::process::Abort;
 use task_group::{Groups, HookError, Notice, NoticeKind, TaskGroupHook, TaskGroupId};
 
-// Each notice of the group that fails is answered with an error. Where memory is wanting, the test ends.
+// Each notice of the group that fails is answered with an error. If it is out of memory, the test ends.
 #[derive(Drop)]
 struct Teller<'a, A: Abort> {
     rt: &'a A,

@@ -124,7 +124,7 @@ pub(crate) fn watched<'a>(
     store
 }
 
-// What the scenario comes to in the store.
+// What the scenario results in in the store.
 fn driven(rt: &impl Abort, alloc: Global, scenario: &Scenario, store: &mut Watched<'_>) -> Outcome
     requires runnable { IsRunnable scenario.now }
     requires one { length scenario.now.component.instances ≡ 1 }
@@ -146,7 +146,8 @@ fn driven(rt: &impl Abort, alloc: Global, scenario: &Scenario, store: &mut Watch
     outcome
 }
 
-// What the scenario comes to with a hook that fails at this notice, whether the store is trapped then, and what the hook was told.
+// What the scenario results in with a hook that fails at this notice, whether the store is trapped then, and what the hook was
+// told.
 fn ran(rt: &impl Abort, alloc: Global, text: &[u8], fails: u64) -> (Outcome, bool, u64) {
     assert!(rt; text.len() <= 1_048_576);
     let Ok(scenario) = read_scenario(alloc, text) else {

@@ -1,7 +1,7 @@
 //! Tests of what a host hands in and holds: stores with a hook that is told of groups, what it is told and what comes of
 //! its errors, and small values, how they compare and which threads may have them.
 //!
-//! They stand apart, so that those crates are proved without them.
+//! They are in a crate of their own, so that those crates are proved without them.
 #![tactic(auto)]
 
 #[cfg(test)]

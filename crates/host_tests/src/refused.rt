@@ -81,7 +81,7 @@ fn refuses(alloc: Global, component: &Component, store: &mut Watched<'_>, way: W
     }
 }
 
-// The same in a store in which nothing was made.
+// Tries the refusals in a store in which nothing was made.
 fn refuses_first(alloc: Global, scenario: &Scenario, store: &mut Watched<'_>, way: Way) -> bool
     requires runnable { IsRunnable scenario.now }
     requires one { length scenario.now.component.instances ≡ 1 }

@@ -47,7 +47,7 @@ fn spawns(rt: &impl Abort, store: &mut Watched<'_>, table: u32, aborts: bool)
     }
 }
 
-// What a drive of the scenario comes to in the store.
+// What a drive of the scenario results in in the store.
 fn driven(
     rt: &impl Abort,
     alloc: Global,

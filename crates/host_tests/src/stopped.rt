@@ -35,7 +35,7 @@ fn digits(trace: &Trace) -> u64 {
     all
 }
 
-// What a drive of the scenario comes to in the store.
+// What a drive of the scenario results in in the store.
 fn driven(
     rt: &impl Abort,
     alloc: Global,

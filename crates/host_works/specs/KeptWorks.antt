@@ -21,7 +21,7 @@ pub record HeldWork : Type 0 where
 abbrev pub Found : HostDef → Phase → HeldWork
 Found d p = record { left = d; phase = p }
 
--- the work with this number, none where none is held
+-- the work with this number, none if none is held
 abbrev pub held : {H : Type 0} → (H → HostDef) → HostWorks H → ℕ → Option HeldWork
 held course kept i = option_map (λ joined. Found (course (joined_work joined)) (joined_phase joined)) (get nat_eq kept.works i)
 

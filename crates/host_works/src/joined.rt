@@ -20,7 +20,7 @@ impl<H: Drop> JoinedWork<H> {
     ghost use Rattle.host_works.specs.Joined.{joined_phase, joined_work};
     ghost use Rattle.task_machine.specs.declared.words.Phase.TheVariants as phases;
 
-    /// A cell for the work, in phase `Running`.
+    /// Makes a cell for the work, in phase `Running`.
     pub fn new(alloc: Global, work: H) -> Result<JoinedWork<H>, NoMemory>
         ensures work { IfOk result (λ joined. joined_work joined ≡ work) }
         ensures phase { IfOk result (λ joined. joined_phase joined ≡ phases.Running) }
@@ -29,7 +29,7 @@ impl<H: Drop> JoinedWork<H> {
         Ok(JoinedWork { work, cell })
     }
 
-    /// The work is over: its phase is `Complete`, and it is let go. Answers the phase before.
+    /// Ends the work: its phase is `Complete`, and it is let go. Answers the phase before.
     pub fn finish(self) -> Phase
         ensures { result ≡ joined_phase self }
     {
@@ -55,7 +55,7 @@ impl<H> JoinedWork<H> {
         self.cell.abort()
     }
 
-    /// Ready exactly where the work is over.
+    /// Returns `Ready` exactly if the work is over.
     pub fn poll_handle(&mut self) -> Poll<()>
         ensures answer { (result ≡ Poll.Ready tt) ↔ (joined_phase self.old ≡ phases.Complete) }
         ensures phase { joined_phase self.new ≡ joined_phase self.old }

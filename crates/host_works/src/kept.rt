@@ -16,14 +16,14 @@ use task_machine::{HostPoll, NoMemory, Phase};
 #[derive(Drop)]
 pub struct HostWorks<H> {
     works: IndexMap<u64, JoinedWork<H>>,
-    // Where the next work to be polled mostly stands: works are polled in the order in which they came, and behind the last
-    // one the first.
+    // Where the next work to be polled mostly is: works are polled in the order in which they came, and behind the last one the
+    // first.
     next: usize,
     alloc: Global,
 }
 
 impl<H> HostWorks<H> {
-    /// No works.
+    /// Makes an empty list of works.
     pub fn new(alloc: Global) -> Self
         ensures { HoldsNone result }
     {
@@ -36,8 +36,8 @@ impl<H> HostWorks<H> {
 }
 
 impl<H: HostWork> HostWorks<H> {
-    /// Keeps a work under its number, with a cell in phase `Running`. Where memory is wanting, the works are as before. It
-    /// is out of line, as it takes memory three times.
+    /// Keeps a work under its number, with a cell in phase `Running`. If it is out of memory, the works are as before. It is a
+    /// function of its own, as it takes memory three times.
     #[inline(never)]
     pub fn keep(&mut self, number: u64, work: H) -> Result<(), NoMemory>
         ensures ok { OnOk result ((i : ℕ) → held H.course self.new i ≡ cond (number == i) (Some (Found (H.course work) phases.Running)) (held H.course self.old i)) }
@@ -50,7 +50,7 @@ impl<H: HostWork> HostWorks<H> {
         }
     }
 
-    /// Lets a work go, if it is there: it is over. It is out of line, as a work is polled many times and ends once.
+    /// Lets a work go, if it is there: it is over. It is a function of its own, as a work is polled many times and ends once.
     #[cold]
     #[inline(never)]
     pub fn let_go(&mut self, number: u64)
@@ -61,7 +61,7 @@ impl<H: HostWork> HostWorks<H> {
         }
     }
 
-    // Where the work with this number stands, looked up by the number.
+    // Where the work with this number is, looked up by the number.
     #[cold]
     #[inline(never)]
     fn search(&self, number: u64) -> Option<usize>
@@ -74,7 +74,7 @@ impl<H: HostWork> HostWorks<H> {
         }
     }
 
-    // Where the work with this number stands. It is looked up only where that isn't the place that is mostly next.
+    // Where the work with this number is. It is looked up only where that isn't the place that is mostly next.
     #[inline(always)]
     fn place_of(&self, number: u64) -> Option<usize>
         ensures some { IfSome result (λ i. (work : JoinedWork H) × (slice_get self.now.works.entries i ≡ Some (number, work))) }
@@ -102,7 +102,7 @@ impl<H: HostWork> HostWorks<H> {
         }
     }
 
-    /// Ready exactly where the work with this number is over.
+    /// Returns `Ready` exactly if the work with this number is over.
     pub fn poll_handle(&mut self, number: u64) -> Poll<()>
         ensures answer { (result ≡ Poll.Ready tt) ↔ (found_phase (held H.course self.old number) ≡ phases.Complete) }
         ensures held { (i : ℕ) → held H.course self.new i ≡ held H.course self.old i }

@@ -61,7 +61,7 @@ use Rattle.task_rules.specs.Threads.{Halt, Suspension, Yielding, halt_rule, halt
 abbrev pub IsOwn : Label → Type 0
 IsOwn l = is_own l ≡ true
 
--- of an op other than one on registers and words
+-- of an op other than one on registers and memory cells
 abbrev pub IsDone : Label → Type 0
 IsDone l = is_done l ≡ true
 
@@ -434,7 +434,7 @@ op_own d c n s ch (op.Set o) = wider IsDone IsOwn done_own _ (set_own d n s ch o
 op_own d c n s ch (op.Call o) = wider IsDone IsOwn done_own _ (calls_own d c n s o)
 op_own d c n s ch (op.Thread o) = wider IsDone IsOwn done_own _ (thread_own d n s c o)
 
--- an op other than one on registers and words shows no label of such an op
+-- an op other than one on registers and memory cells shows no label of such an op
 pub op_done : (d : Doer) (c : Component) (n : ℕ) (s : Core) (ch : Choice) (o : Op) → is_data_op o ≡ false → Shows IsDone (op_rule d c n s ch o)
 op_done d c n s ch (op.Data o) other = absurd (cc)
 op_done d c n s ch (op.Task o) other = task_own d n s ch o

@@ -28,7 +28,7 @@ is_own (label.Loop l) = false
 is_own (label.Take l) = false
 is_own _ = true
 
--- of an op on registers and words
+-- of an op on registers and memory cells
 abbrev pub is_data : Label → Bool
 is_data (label.Data l) = true
 is_data _ = false
@@ -37,7 +37,7 @@ is_data _ = false
 abbrev pub is_done : Label → Bool
 is_done l = is_own l && not (is_data l)
 
--- the mark at which the entry stood that a taking shows
+-- the mark at which the entry was that a taking shows
 abbrev pub mark_of : TakeLabel → Mark
 mark_of (take.Thread m n) = m
 mark_of (take.ThreadWakes m n w) = m
@@ -50,7 +50,7 @@ mark_of (take.Push m i) = m
 mark_of (take.Host m i) = m
 mark_of (take.HostWakes m i w) = m
 
--- none where it is no label of a taking
+-- none if it is no label of a taking
 abbrev pub mark_taken : Label → Option Mark
 mark_taken (label.Take l) = Some (mark_of l)
 mark_taken _ = None
@@ -109,7 +109,7 @@ abbrev pub TakesNext : Turn → Core → Mark → Type 0
 TakesNext (turn.Take ended) s m = (e : Entry) × (next_entry s ≡ Some (m, e))
 TakesNext _ s m = ⊥
 
--- a label of a taking stands at a turn of takings, and shows the mark of the entry that was next
+-- a label of a taking is at a turn of takings, and shows the mark of the entry that was next
 abbrev pub TakingsShowMarks : Type 0
 TakingsShowMarks = (x : Setting) (s : State) (l : Label) (t : State) → Step x s l t → (m : Mark) → mark_taken l ≡ Some m →
     TakesNext s.turn s.core m
@@ -147,7 +147,7 @@ is_deadlock_trap trap.CannotBlockSyncTask = true
 is_deadlock_trap trap.AsyncDeadlock = true
 is_deadlock_trap _ = false
 
--- a trap is one of a row, and a deadlock's is one of its own
+-- a trap is one of a rule, and a deadlock's is one of its own
 abbrev pub is_of_rules : Outcome → Bool
 is_of_rules (outcome.Trap t) = is_rule_trap t
 is_of_rules (outcome.Deadlock t) = is_deadlock_trap t

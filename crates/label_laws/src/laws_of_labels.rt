@@ -7,7 +7,7 @@ pub fn main_at_its_turns()
     ensures { MainAtItsTurns }
 {}
 
-/// A label of a taking stands at a turn of takings, and shows the mark of the entry that was next.
+/// A label of a taking is at a turn of takings, and shows the mark of the entry that was next.
 #[tactic(auto, using(crate::proofs::TurnLemmas::takings_show_marks))]
 pub fn takings_show_marks()
     ensures { TakingsShowMarks }
@@ -26,8 +26,9 @@ pub fn ends_take_none()
     ensures { EndsTakeNone }
 {}
 
-/// Where the label of a step gives that the run has trapped, the trap is one of a row of the machine: 1 to 14, 16 to 18 or 25; where it gives
-/// a deadlock, this is trap 9 or 15. So what a run traps with by other numbers isn't of the machine: 22 is of the hook alone.
+/// Where the label of a step gives that the run has trapped, the trap is one of a rule of the machine: 1 to 14, 16 to 18 or 25;
+/// where it gives a deadlock, this is trap 9 or 15. So what a run traps with by other numbers isn't of the machine: 22 is of the
+/// hook alone.
 #[tactic(auto, using(crate::proofs::TrapLemmas::ends_are_of_rules))]
 pub fn ends_are_of_rules()
     ensures { EndsAreOfRules }

@@ -1,4 +1,4 @@
--- The labels that heads and numbers stand for: each head takes its numbers from the front of those that are left.
+-- The labels that heads and numbers represent: each head takes its numbers from the front of those that are left.
 use Rattle.std.specs.Prelude.{ℕ, List, [], ◌∷◌, ◌+◌, drop, take}
 use Rattle.task_machine.specs.declared.label.Label.{Label}
 use Rattle.label_trace.specs.declared.kinds.Head.{Head}

@@ -145,7 +145,7 @@ handle_of handle.CancelSync s n m = label.Call (call_label.CancelSync s n)
 handle_of handle.ThreadNew s n m = label.Thread (thread_label.New s n m)
 handle_of handle.ThreadIndex s n m = label.Thread (thread_label.Index s n)
 
--- ---- All kinds: s is the head's number, xs the numbers that stand in the list, and ys all numbers
+-- ---- All kinds: s is the head's number, xs the numbers that are in the list, and ys all numbers
 
 abbrev pub opened : LabelKind → ℕ → List ℕ → List ℕ → Label
 opened (kind.Main k) s xs ys = label.Main (main_of k s (at xs 0))

@@ -16,7 +16,7 @@ use task_machine::{
 };
 
 impl PackedLabels {
-    // A label of main. It is out of line, as few labels are.
+    // A label of main. It is a function of its own, as few labels are.
     #[inline(never)]
     pub(crate) fn push_main(&mut self, label: MainLabel) -> Result<(), AllocError>
         ensures ok { OnOk result (self.new ≡ self.old ++ Label.Main label ∷ []) }
@@ -125,7 +125,7 @@ impl PackedLabels {
         self.one(LabelKind::Take(mark, kind), number)
     }
 
-    // An op on registers and words.
+    // An op on registers and memory cells.
     #[inline(always)]
     pub(crate) fn push_data(&mut self, label: DataLabel) -> Result<(), AllocError>
         ensures ok { OnOk result (self.new ≡ self.old ++ Label.Data label ∷ []) }

@@ -2,7 +2,7 @@
 
 use task_machine::{Mark, TaskEvent, Phase, Status, Trap};
 
-/// What a label is apart from its numbers, by the group that it stands in.
+/// What a label is apart from its numbers, by the group that it is in.
 #[derive(Clone, Copy)]
 pub enum LabelKind {
     Main(MainKind),
@@ -60,7 +60,7 @@ pub enum TakeKind {
     HostWakes,
 }
 
-/// Takings that hand out the task's own event, or none.
+/// Takings that hand out the task event, or none.
 #[derive(Clone, Copy)]
 pub enum OwnKind {
     Nothing,
@@ -69,7 +69,7 @@ pub enum OwnKind {
     CancelledWakes,
 }
 
-/// Ops on registers and words.
+/// Ops on registers and memory cells.
 #[derive(Clone, Copy)]
 pub enum DataKind {
     Set,
@@ -148,9 +148,9 @@ pub enum HandleKind {
     ThreadIndex,
 }
 
-/// The head of a label: its kind, how many of its numbers stand in the list of numbers, and a number below 2^32.
-/// That is a number of a start or spawn, a handle or a packed status where the kind shows one; else the first
-/// number, the thread's or the work's mostly, and `LARGE` where that stands in the list too.
+/// The head of a label: its kind, how many of its numbers are in the list of numbers, and a number below 2^32. That is a number of
+/// a start or spawn, a handle or a packed status where the kind shows one; else the first number, the thread's or the work's
+/// mostly, and `LARGE` where that is in the list too.
 #[derive(Clone, Copy)]
 pub struct Head {
     pub kind: LabelKind,
@@ -158,5 +158,5 @@ pub struct Head {
     pub small: u32,
 }
 
-/// Says that the first number stands in the list: no number from here on fits a head.
+/// Says that the first number is in the list: no number from here on fits a head.
 pub const LARGE: u32 = u32::MAX;

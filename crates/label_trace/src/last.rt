@@ -7,7 +7,7 @@ use crate::packed::PackedLabels;
 use task_machine::Label;
 
 impl PackedLabels {
-    /// The label that was added last; none where there is none.
+    /// Returns the label that was added last; none if there is none.
     pub fn last(&self) -> Option<Label>
         ensures { result ≡ last_or None self.now }
     {

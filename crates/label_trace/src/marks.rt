@@ -18,7 +18,7 @@ fn mark_of(kind: LabelKind) -> Option<Mark>
 }
 
 impl PackedLabels {
-    /// The mark at which the entry stood that the label at this place, from 0, shows as taken. None where that is no label of a
+    /// Returns the mark at which the entry was that the label at this place, from 0, shows as taken. None if that is no label of a
     /// taking, and past the last label. Its numbers aren't read.
     #[inline(always)]
     pub fn mark(&self, place: usize) -> Option<Mark>

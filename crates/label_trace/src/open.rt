@@ -33,7 +33,7 @@ impl<'a> Model for Labels<'a> {
 }
 
 impl<'a> Labels<'a> {
-    /// How many labels are left.
+    /// Returns how many labels are left.
     #[inline(always)]
     pub fn len(&self) -> usize
         ensures { result ≡ length self.now }
@@ -41,7 +41,7 @@ impl<'a> Labels<'a> {
         self.heads.len()
     }
 
-    /// The labels that are left, for another to go over.
+    /// Returns the labels that are left, for another to go over.
     #[inline(always)]
     pub fn rest(&self) -> Labels<'a>
         ensures { result ≡ self.now }
@@ -80,7 +80,7 @@ impl<'a> Iterator for Labels<'a> {
     }
 }
 
-/// The number at a place of a label's numbers in the list, 0 past the end.
+/// Returns the number at a place of a label's numbers in the list, 0 past the end.
 #[inline(always)]
 pub fn listed(numbers: &[u64], place: usize) -> u64
     ensures { result ≡ slice_index numbers.now place }
@@ -92,7 +92,7 @@ pub fn listed(numbers: &[u64], place: usize) -> u64
     }
 }
 
-/// The first of all numbers of a label, with the number that its head has.
+/// Returns the first of all numbers of a label, with the number that its head has.
 #[inline(always)]
 pub fn first(small: u32, numbers: &[u64]) -> u64
     ensures { result ≡ slice_index (all small numbers.now) 0 }
@@ -104,7 +104,7 @@ pub fn first(small: u32, numbers: &[u64]) -> u64
     }
 }
 
-/// A later one of all numbers of a label: its second one has place 1. 0 past the end.
+/// Returns a later one of all numbers of a label: its second one has place 1. 0 past the end.
 #[inline(always)]
 pub fn later(small: u32, numbers: &[u64], place: usize) -> u64
     requires later { 1 ≤ place }

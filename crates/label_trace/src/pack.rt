@@ -178,7 +178,7 @@ impl PackedLabels {
         }
     }
 
-    // Packs a label of two numbers, out of line, for labels that are seldom.
+    // Packs a label of two numbers, in a function of its own, for labels that are seldom.
     #[inline(never)]
     pub(crate) fn two_apart(
         &mut self,
@@ -214,7 +214,7 @@ impl PackedLabels {
         }
     }
 
-    // Packs a label of three numbers, out of line.
+    // Packs a label of three numbers, in a function of its own.
     #[inline(never)]
     pub(crate) fn three_apart(
         &mut self,

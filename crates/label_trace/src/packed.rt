@@ -29,7 +29,7 @@ impl Model for PackedLabels {
 }
 
 impl PackedLabels {
-    /// A list of no label.
+    /// Makes a list of no label.
     pub fn new(alloc: Global) -> Self
         ensures { result ≡ [] }
     {
@@ -39,14 +39,14 @@ impl PackedLabels {
         }
     }
 
-    /// How many labels there are.
+    /// Returns how many labels there are.
     pub fn len(&self) -> usize
         ensures { result ≡ length self.now }
     {
         self.heads.len()
     }
 
-    /// The labels, the first one first.
+    /// Returns the labels, the first one first.
     #[inline(always)]
     pub fn labels(&self) -> Labels<'_>
         ensures { result ≡ self.now }
@@ -57,7 +57,7 @@ impl PackedLabels {
         }
     }
 
-    /// Adds a label. Where memory is wanting, the list is as before.
+    /// Adds a label. If it is out of memory, the list is as before.
     #[inline(always)]
     pub fn push(&mut self, label: Label) -> Result<(), AllocError>
         ensures ok { OnOk result (self.new ≡ self.old ++ label ∷ []) }

@@ -26,7 +26,7 @@ module _ {X : Type 0} where
   not_none None none some = absurd (cc)
   not_none (Some x) none some = absurd (cc)
 
-  -- what is there stands before the place of the new one
+  -- what is there is before the place of the new one
   pub there_before : (xs : List X) (j : ℕ) → IsSome (slice_get xs j) → j ≡ length xs → ⊥
   there_before xs j some same = not_none (slice_get xs j) (ap (slice_get xs) same ∙ no_last xs) some
 

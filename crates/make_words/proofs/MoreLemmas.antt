@@ -1,4 +1,4 @@
--- A table with an entry more: what stood there stands there still, and the new one has nodes of its own.
+-- A table with an entry more: what was there is there still, and the new one has nodes of its own.
 use Rattle.task_records.proofs.Core.{[], ap, arith, Bool, cases_eq, children_of-mapped, cond, Each, EachEntry, entry_put, eq-eqb, false, Filing, filings, found_record, found_record_at, get, get-insert, get-records, HasNumber, HaveNodes, inl, inr, insert, is_made, IsIndex, IsIndex-pushed, IsRows, IsTable, IsTable-mapped, key_in, link_for, List, mapped, nat_lt, ne_eqb, next_place, next_place_free, None, number_in, on_item, one_if_passes, Option, option_map, passing, passing-with_at, place_at, place_at-mapped, place_at-pushed, place_at-with_entry, Placed, placed_as, pushed, record_at, Records, records, refl, said, same_Some, keyed, size, size-insert_new, Some, SoundTable, Spot, subst, sym, Table, true, with_entry, ℕ, ◌+◌, ◌<◌, ◌==◌, ◌∙◌, ◌∷◌, ◌≡◌, ◌≤◌, ◌⊎◌}
 use Rattle.task_records.specs.declared.{single.Single.Single}
 use Rattle.make_words.specs.Loose.{IsSpare}

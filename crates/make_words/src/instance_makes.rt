@@ -67,8 +67,8 @@ fn add(
     Ok(())
 }
 
-/// Makes an instance and answers its number, from 0: its counters and words are 0, its flags are
-/// clear, and it has no handles. Where memory is wanting, all is as before.
+/// Makes an instance and answers its number, from 0: its counters and words are 0, its flags are clear, and it has no handles. If
+/// it is out of memory, all is as before.
 pub fn add_instance(parts: &mut CoreParts) -> Result<u32, NoMemory>
     requires sound { IsSoundCore parts.old }
     requires few { size (seen parts.old).core.instances < 4294967295 }

@@ -5,7 +5,7 @@ use node_words::make_mark_chain;
 use task_machine::NoMemory;
 use task_records::CoreParts;
 
-/// Makes the chain of high, where there is none. Where memory is wanting, all is as before.
+/// Makes the chain of high, where there is none. If it is out of memory, all is as before.
 pub fn open_high(parts: &mut CoreParts) -> Result<(), NoMemory>
     requires { IsSoundCore parts.old }
     ensures sound { IsSoundCore parts.new }
@@ -25,7 +25,7 @@ pub fn open_high(parts: &mut CoreParts) -> Result<(), NoMemory>
     }
 }
 
-/// Makes the chain of low, where there is none. Where memory is wanting, all is as before.
+/// Makes the chain of low, where there is none. If it is out of memory, all is as before.
 pub fn open_low(parts: &mut CoreParts) -> Result<(), NoMemory>
     requires { IsSoundCore parts.old }
     ensures sound { IsSoundCore parts.new }

@@ -65,7 +65,7 @@ fn take_back(parts: &mut CoreParts, set: SetId)
     parts.kept.used -= 1;
 }
 
-// The record of a set, with its chains and its handle. Where memory is wanting, the record is gone.
+// The record of a set, with its chains and its handle. If it is out of memory, the record is gone.
 fn name_set(parts: &mut CoreParts, instance: u32, set: WaitSet) -> Result<SetId, NoMemory>
     requires sound { IsSoundCore parts.old }
     requires there { instance < length parts.old.instances.items }
@@ -140,7 +140,7 @@ fn open_set_at(parts: &mut CoreParts, instance: u32, entry: u32) -> Result<SetId
     }
 }
 
-/// Makes a set of an instance, and its handle there. Where memory is wanting, all is as before.
+/// Makes a set of an instance, and its handle there. If it is out of memory, all is as before.
 #[tactic(auto, unfolding(task_records::specs::Seen::seen, task_records::specs::Seen::IsSoundCore))]
 pub fn open_set(parts: &mut CoreParts, instance: u32) -> Result<SetId, NoMemory>
     requires sound { IsSoundCore parts.old }

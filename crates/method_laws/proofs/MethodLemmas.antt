@@ -141,7 +141,7 @@ returns_keep c n v false s t r h q = refused_so c n s t r h (has_ended (task_of 
 
 -- ---- Direct calls
 
--- What a row that goes on or is refused is, by what it came to.
+-- What a row that goes on or is refused is, by what it resulted in.
 abbrev Met : Progress → Core → OpResult → Type 0
 Met p t (OpResult.Continues l m said) = p ≡ Continues l t m
 Met p t (OpResult.Traps why) = Unit {0}
@@ -217,7 +217,7 @@ module _ (c : Component) (o : Op) (n : ℕ) (e : Callee) (words : List ℕ) (s t
       (λ p. met_if (at_handle_limit s.core) Trap.HandleLimit _ s.core t.core r
       (λ q. met_goes (Label.Call (CallLabel.Enters n (next_thread s.core))) (enter_runs n e (export_kind c e) words s.core) (next_thread s.core) s.core t.core r q) p) q
 
-  -- what the op came to, where it goes on; a refusal changes nothing
+  -- what the op resulted in, where it goes on; a refusal changes nothing
   abbrev pub Entered : OpResult → Type 0
   Entered (OpResult.Continues l m said) = CoreInOrderAs (given n o (ops_of c t.core)) c (Turn.Run m) t.core
   Entered _ = t ≡ s

@@ -1,4 +1,5 @@
--- What the calls by which a host has the running thread do a piece of a row, or a row in place of the one at its place, leave in order.
+-- What the calls by which a host has the running thread do a piece of a rule, or a row in place of the one at its place, leave in
+-- order.
 use Rattle.op_dispatch.specs.Continues.{running_of}
 use Rattle.order_laws.specs.Given.{given, host_op, is_asked}
 use Rattle.order_laws.specs.Pieces.{IsPrepared}
@@ -47,7 +48,7 @@ pub record Rests (c : Component) (n : ℕ) (s : StateView) : Type 0 where
 abbrev pub InTurn : Component → StateView → Type 0
 InTurn c s = CoreInOrder c (turn_in s) s.core
 
--- What an op that n had done leaves, by what it came to: order in which n has the op; a refusal leaves the state in order.
+-- What an op that n had done leaves, by what it resulted in: order in which n has the op; a refusal leaves the state in order.
 abbrev pub KeepsFor : Component → Op → ℕ → OpResult → StateView → Type 0
 KeepsFor c o n (op_result.Continues l m said) t = CoreInOrderAs (given n o (ops_of c t.core)) c (turn.Run m) t.core
 KeepsFor c o n (op_result.Stops l) t = CoreInOrderAs (given n o (ops_of c t.core)) c turn.Main t.core
@@ -111,7 +112,8 @@ StartsKeep = (c : Component) (o : Op) (n : ℕ) (s t : StateView) (id : Qualifie
 
 -- ---- An op
 
--- where n did any op as a host has it done, but one on registers and words or one that ends an activation, wherever n is in its script
+-- where n did any op as a host has it done, but one on registers and memory cells or one that ends an activation, wherever n is in
+-- its script
 unfoldable pub OpsKeep : Type 0
 OpsKeep = (c : Component) (o : Op) (n : ℕ) (r : OpResult) (s t : StateView) → Rests c n s → ends_activation o ≡ false → is_data_op o ≡ false →
     Did (scripted_rule_of c o s.core) s r t → KeepsFor c o n r t

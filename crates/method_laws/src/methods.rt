@@ -30,9 +30,9 @@ pub fn calls_keep()
     ensures start { StartsKeep }
 {}
 
-/// An op that a host has the thread do, but one on registers and words or one that ends an activation, keeps order in which the thread
-/// has that op, wherever the thread is in its script. An op of `is_asked` (no export, no host, no end, not plain), and a call of a host,
-/// which need be none of the component's, leaves the state in order where it is done or refused.
+/// An op that a host has the thread do, but one on registers and memory cells or one that ends an activation, keeps order in which
+/// the thread has that op, wherever the thread is in its script. An op of `is_asked` (no export, no host, no end, not plain), and a
+/// call of a host, which need be none of the component's, leaves the state in order where it is done or refused.
 #[tactic(auto, using(crate::proofs::DidLemmas::ops_keep, crate::proofs::DidLemmas::hosts_keep, crate::proofs::DidLemmas::asks_keep))]
 pub fn asks_keep()
     ensures op { OpsKeep }

@@ -1,7 +1,7 @@
 ghost use Rattle.method_laws.specs.MethodWakes.{EntersLose, HostsLose, OpsLoseNone, StartsLose};
 
-/// An op that a host has the running thread do, where none of it is under way, loses no wake, as far as it came, wherever the thread is
-/// in its script: any op but one on registers and words or one that ends an activation.
+/// An op that a host has the running thread do, where none of it is under way, loses no wake, as far as it came, wherever the
+/// thread is in its script: any op but one on registers and memory cells or one that ends an activation.
 #[tactic(auto, using(crate::proofs::WakeLemmas::ops_lose_none))]
 pub fn ops_lose_none()
     ensures { OpsLoseNone }

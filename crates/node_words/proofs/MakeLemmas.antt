@@ -1,4 +1,4 @@
--- What was made, and that nothing was made where memory was wanting.
+-- What was made, and that nothing was made if it was out of memory.
 use Rattle.node_words.specs.Makes.{MakesSpot}
 use Rattle.task_machine.specs.declared.memory.NoMemory.{NoMemory}
 use Rattle.task_records.proofs.Core.{ap, Err, IsSoundCore, List, Ok, refl, Renames, seen, Spot, subst, sym, Unmade, ℕ, ◌≡◌}

@@ -1,4 +1,4 @@
--- What a make of a chain or of a node comes to.
+-- What a make of a chain or of a node results in.
 use Rattle.std.specs.Prelude.{◌≡◌, ℕ, [], List, IfOk, OnErr, Result}
 use Rattle.task_links.specs.Links.{ChainOf, FreeNode, Renames, Spot, Unmade}
 use Rattle.task_links.specs.declared.links.Node.{Node}
@@ -6,7 +6,7 @@ use Rattle.task_machine.specs.declared.memory.NoMemory.{NoMemory}
 use Rattle.task_records.specs.Seen.{IsSoundCore, seen}
 use Rattle.task_records.specs.declared.parts.CoreParts.{CoreParts}
 
--- In one list a number that named nothing names this, and nothing of it is seen. Where memory is wanting, all is as before.
+-- In one list a number that named nothing names this, and nothing of it is seen. If it is out of memory, all is as before.
 pub record MakesSpot {X P : Type 0} (number : X → ℕ) (spot : Spot P) (old new : List (Spot P)) (a b with_new : CoreParts) (result : Result X NoMemory) : Type 0 where
   pub sound : IsSoundCore b
   pub seen : seen b ≡ seen a

@@ -5,7 +5,7 @@ use task_links::Node;
 use task_machine::NoMemory;
 use task_records::CoreParts;
 
-/// A new chain among the entries of marks, which hangs on nothing yet. Where memory is wanting, all is as before.
+/// Returns a new chain among the entries of marks, which hangs on nothing yet. If it is out of memory, all is as before.
 #[inline(always)]
 pub fn make_mark_chain(parts: &mut CoreParts) -> Result<usize, NoMemory>
     requires { IsSoundCore parts.old }
@@ -17,7 +17,7 @@ pub fn make_mark_chain(parts: &mut CoreParts) -> Result<usize, NoMemory>
     }
 }
 
-/// A new node among the entries of marks, which hangs on nothing yet. Where memory is wanting, all is as before.
+/// Returns a new node among the entries of marks, which hangs on nothing yet. If it is out of memory, all is as before.
 #[inline(always)]
 pub fn make_mark_node(parts: &mut CoreParts) -> Result<Node, NoMemory>
     requires { IsSoundCore parts.old }
@@ -29,7 +29,8 @@ pub fn make_mark_node(parts: &mut CoreParts) -> Result<Node, NoMemory>
     }
 }
 
-/// A new chain among the entries of instances at a mark, which hangs on nothing yet. Where memory is wanting, all is as before.
+/// Returns a new chain among the entries of instances at a mark, which hangs on nothing yet. If it is out of memory, all is as
+/// before.
 #[inline(always)]
 pub fn make_instance_queue_chain(parts: &mut CoreParts) -> Result<usize, NoMemory>
     requires { IsSoundCore parts.old }
@@ -41,7 +42,8 @@ pub fn make_instance_queue_chain(parts: &mut CoreParts) -> Result<usize, NoMemor
     }
 }
 
-/// A new node among the entries of instances at a mark, which hangs on nothing yet. Where memory is wanting, all is as before.
+/// Returns a new node among the entries of instances at a mark, which hangs on nothing yet. If it is out of memory, all is as
+/// before.
 #[inline(always)]
 pub fn make_instance_queue_node(parts: &mut CoreParts) -> Result<Node, NoMemory>
     requires { IsSoundCore parts.old }

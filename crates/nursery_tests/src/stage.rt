@@ -84,7 +84,7 @@ fn new_store(rt: &impl Abort, alloc: Global) -> Store<(), ScriptedHost>
     }
 }
 
-// The same for that component.
+// Sets the stage for that component.
 pub(crate) fn store(
     rt: &impl Abort,
     alloc: Global,

@@ -1,4 +1,4 @@
--- The end of an op that the thread's script had it do: what its row says is done.
+-- The end of an op that the thread's script had it do: what its rule says is done.
 use Rattle.task_rules.specs.Ends.{exit_rule}
 use Rattle.task_rules.specs.Data.{data_rule}
 use Rattle.task_ops.proofs.DoesLemmas.{same_rest}
@@ -192,7 +192,7 @@ exit_meets id s t r did =
     let met = did.meets SomeHost in
     subst (λ (x : Core). Implements p s.core r x) (unended p s.core r (ended SomeHost n r t.core) (exit_unanswered n w s.core (is_explicit n s.core)) met SomeHost n t.core) met
 
--- it did the op that stands for the end, which polls no host
+-- it did the op that represents the end, which polls no host
 pub exit_op : (answer : HostPoll) (c : Component) (id : TableId ThreadKey) (s t : StateView) (r : OpResult) → DoesOp KeepsTold exits id s r t
     → DidOp answer c (op.Task task_op.Exit) id s (record { op_result = r; polled = None; work = None }) t
 exit_op answer c id s t r did = record {
@@ -203,7 +203,7 @@ exit_op answer c id s t r did = record {
   works = told_names s t did.kept;
 }
 
--- ---- On registers and words
+-- ---- On registers and memory cells
 
 pub data_op : (answer : HostPoll) (c : Component) (o : DataOp) (id : TableId ThreadKey) (s t : StateView) (r : OpResult) → s.current ≡ Some id → Implements (data_rule c (thread_of s id) s.core o) s.core r t.core → t.tags ≡ s.tags → t.current ≡ s.current
     → DidOp answer c (op.Data o) id s (record { op_result = r; polled = None; work = None }) t

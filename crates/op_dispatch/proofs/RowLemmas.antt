@@ -43,7 +43,7 @@ pub use Rattle.cancel_ops.proofs.Shows.{ShowsFor, here, ShowsAs, nobody, StopsAs
 use Rattle.op_dispatch.specs.Fits.{calls_host}
 use Rattle.op_dispatch.specs.Polls.{polled_host}
 
--- ---- Ops on registers and words
+-- ---- Ops on registers and memory cells
 
 skip_shows : (c : Component) (n ops : ℕ) (s : Core) (b : Bool) → ShowsAs n (skip_rule c n ops s b)
 skip_shows c n ops s true = (refl, refl)

@@ -42,7 +42,7 @@ use Rattle.task_table.specs.declared.id.TableId.{TableId}
 use Rattle.task_wait.specs.declared.keys.ThreadKey.{ThreadKey}
 use Rattle.task_words.specs.StateView.{StateView, thread_of}
 
--- ---- By what it came to
+-- ---- By what it resulted in
 
 module _ (A : Type 0) (k : AnswerKind) (n : ℕ) (s : Core) where
   met_below : (p : Progress) (r : OpResult) (t : Core) → LeavesPlace A k n s p → Implements p s r t → position_of n t ≤ position_of n s

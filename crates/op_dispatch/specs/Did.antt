@@ -21,7 +21,7 @@ use Rattle.task_table.specs.declared.id.TableId.{TableId}
 use Rattle.task_wait.specs.declared.keys.ThreadKey.{ThreadKey}
 use Rattle.task_words.specs.StateView.{StateView, thread_of}
 
--- the op of the thread, as its script has it done, by what it came to
+-- the op of the thread, as its script has it done, by what it resulted in
 abbrev pub scripted_rule_of : Component → Op → TableId ThreadKey → StateView → OpResult → Progress
 scripted_rule_of c o id s r = scripted_op_rule c (thread_of s id) s.core (choice_of (label_of (thread_of s id) r)) o
 
@@ -29,7 +29,7 @@ scripted_rule_of c o id s r = scripted_op_rule c (thread_of s id) s.core (choice
 abbrev pub StandsBefore : (end : ℕ) → Component → ℕ → Core → Type 0
 StandsBefore end c n s = (position_of n s < end) × (length (script_of c n s) ≡ end)
 
--- The op was done and ended: t is what its row says, a thread that goes on runs, and what polled is so.
+-- The op was done and ended: t is what its rule says, a thread that goes on runs, and what polled is so.
 pub record DidOp (answer : HostPoll) (c : Component) (o : Op) (id : TableId ThreadKey) (s : StateView) (done : Done) (t : StateView) : Type 0 where
   pub meets : Implements (scripted_rule_of c o id s done.op_result) s.core done.op_result t.core
   pub goes : OpGoesOn done.op_result t

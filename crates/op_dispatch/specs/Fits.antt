@@ -28,7 +28,7 @@ op_fits c (op.Set o) = set_op_fits o
 op_fits c (op.Call o) = call_op_fits c o
 op_fits c o = true
 
--- an op on registers and words
+-- an op on registers and memory cells
 abbrev pub is_data_op : Op → Bool
 is_data_op (op.Data o) = true
 is_data_op o = false

@@ -63,13 +63,14 @@ is_finished_task (task_op.CbWait x) = false
 is_finished_task (task_op.Code x) = false
 is_finished_task _ = true
 
--- an op that a host may have done: none on registers and words, and none that ends its thread or its activation
+-- an op that a host may have done: none on registers and memory cells, and none that ends its thread or its activation
 abbrev pub is_finished : Op → Bool
 is_finished (op.Data o) = false
 is_finished (op.Task o) = is_finished_task o
 is_finished _ = true
 
--- A thread that a host has do an op keeps its place in its script and its registers, but for a call of a host, whose value may go to one.
+-- Says that a thread that a host has do an op keeps its position and its registers, but for a call of a host, whose value may go to
+-- one.
 unfoldable pub HostLeavesInPlace : Type 0
 HostLeavesInPlace = (c : Component) (n : ℕ) (s : Core) (ch : Choice) (o : Op) → is_finished o ≡ true → calls_host o ≡ false →
     IsUnderWay n s → (is_return o ≡ true → CallsItself n s → ⊥) → IsInPlace n (in_script n s) (op_rule SomeHost c n s ch o)
@@ -119,7 +120,7 @@ may_answer k (op_answer.Value v) = false
 may_answer AnEvent (op_answer.Event g) = true
 may_answer k (op_answer.Event g) = false
 
--- the same of what the op came to
+-- the same of what the op resulted in
 abbrev pub answers_so : AnswerKind → OpResult → Bool
 answers_so k (op_result.Continues l m said) = may_answer k said
 answers_so k _ = true

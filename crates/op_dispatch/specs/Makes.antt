@@ -9,7 +9,7 @@ use Rattle.task_machine.specs.declared.records.OpProgress.{OpProgress}
 use Rattle.task_machine.specs.declared.records.OpProgress.TheVariants as op_progress
 use Rattle.task_machine.specs.declared.records.Subtask.TheVariants as subtask
 
--- The calls, `set_new` and `thread_new` may take memory. No other op does, and so none answers that memory is wanting.
+-- The calls, `set_new` and `thread_new` may take memory. No other op does, and so none answers that it is out of memory.
 abbrev pub takes_memory : Op → Bool
 takes_memory (op.Call (call_op.Call r q e xs)) = true
 takes_memory (op.Call (call_op.CallSync r e xs)) = true

@@ -89,7 +89,7 @@ fn call<W: Primitives>(
     begin_call(w, thread, callee, kind, goal, &words[..params.len()])
 }
 
-// `call_sync R F X*`, as it begins. It is apart, as the words that are passed stand in memory.
+// `call_sync R F X*`, as it begins. It is a function of its own, as the values that are passed are in memory.
 #[inline(always)]
 fn begins_sync<W: Primitives>(
     component: &Component,
@@ -185,7 +185,7 @@ fn call_sync_of_host<W: Primitives>(
     })
 }
 
-/// Whether the op is a call of a host.
+/// Returns whether the op is a call of a host.
 #[inline(always)]
 pub fn is_host_call(op: &CallOp) -> bool
     ensures { result ≡ is_host_call op.now }
@@ -193,7 +193,7 @@ pub fn is_host_call(op: &CallOp) -> bool
     matches!(op, CallOp::CallHost { .. } | CallOp::CallSyncHost { .. })
 }
 
-// The host of a `call_sync`, which is polled as the call begins: none where the call is under way.
+// The host of a `call_sync`, which is polled as the call begins: none if the call is under way.
 fn first_host<W: Primitives>(
     component: &Component,
     w: &W,
@@ -210,8 +210,8 @@ fn first_host<W: Primitives>(
     Some((host, found))
 }
 
-/// The host that an op of the running thread, none at the end of a script, polls first, with its place in the component. None where
-/// the op calls no host, and where its call is under way.
+/// Returns the host that an op of the running thread, none at the end of a script, polls first, with its place in the component.
+/// None if the op calls no host, and where its call is under way.
 pub fn called_host<W: Primitives>(
     component: &Component,
     w: &W,
@@ -232,8 +232,8 @@ pub fn called_host<W: Primitives>(
     }
 }
 
-/// A call of a host, which was polled first and if it is open has answered so: the host and the work that the call makes
-/// are named. Where memory is wanting, all is as before.
+/// Does a call of a host, which was polled first and if it is open has answered so: the host and the work that the call makes are
+/// named. If it is out of memory, all is as before.
 pub fn do_host_call<W: Primitives>(
     component: &Component,
     w: &mut W,
@@ -260,7 +260,7 @@ pub fn do_host_call<W: Primitives>(
     }
 }
 
-// `cancel R X`, or `cancel_sync R X` where it is sync. It is apart, as what it comes to stands in memory.
+// `cancel R X`, or `cancel_sync R X` where it is sync. It is a function of its own, as what it results in is in memory.
 #[inline(always)]
 fn cancel<W: Primitives>(w: &mut W, thread: ThreadId, handle: u64, sync: bool) -> Result<OpResult, NoMemory>
     requires runner { Runner thread (W.view w.old) }
@@ -270,7 +270,7 @@ fn cancel<W: Primitives>(w: &mut W, thread: ThreadId, handle: u64, sync: bool) -
     Ok(cancels(w, thread, handle, sync))
 }
 
-/// An op on subtasks that calls no host. Where memory is wanting, all is as before.
+/// Returns an op on subtasks that calls no host. If it is out of memory, all is as before.
 #[inline(always)]
 pub(crate) fn do_plain_call<W: Primitives>(
     component: &Component,

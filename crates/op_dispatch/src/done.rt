@@ -4,7 +4,7 @@ use task_machine::HostDef;
 use task_ops::OpResult;
 use task_words::WorkId;
 
-/// What an op of the running thread came to.
+/// What an op of the running thread resulted in.
 #[derive(Clone, Copy)]
 pub struct Done {
     pub op_result: OpResult,
@@ -14,7 +14,7 @@ pub struct Done {
     pub work: Option<WorkId>,
 }
 
-/// An op that polled no host.
+/// Returns an op that polled no host.
 pub(crate) fn plain(op_result: OpResult) -> Done
     ensures { result ≡ record { op_result = op_result; polled = None; work = None } }
 {

@@ -29,7 +29,7 @@ fn exit_by_kind<W: Primitives>(w: &mut W, thread: ThreadId, call: CallId) -> OpR
     }
 }
 
-/// The thread exits.
+/// Has the thread exit.
 #[inline(always)]
 pub fn exit<W: Primitives>(w: &mut W, thread: ThreadId) -> OpResult
     requires runner { Runner thread (W.view w.old) }

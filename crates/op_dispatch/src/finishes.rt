@@ -78,7 +78,7 @@ fn thread_answer(op: &ThreadOp) -> u8
     }
 }
 
-// The register of the answer of an op that has one: it stands at one place in each, so that nothing is tested.
+// The register of the answer of an op that has one: it is at one place in each, so that nothing is tested.
 #[inline(always)]
 fn answer_register(op: &Op) -> u8
     requires { has_register (answers_of op.now) ≡ true }
@@ -92,7 +92,8 @@ fn answer_register(op: &Op) -> u8
     }
 }
 
-/// Ends the op of the thread's script that came to this, if an answer is due: it goes to the op's register, and the thread to the next op.
+/// Ends the op of the thread's script that resulted in this, if an answer is due: it goes to the op's register, and the thread to
+/// the next op.
 #[inline(always)]
 pub fn finish<W: Primitives>(w: &mut W, thread: ThreadId, op: &Op, op_result: OpResult)
     requires position { ends_op op_result ≡ true → position_of (thread_of (W.view w.old) thread) (W.view w.old).core + 1 < 2 ^ 32 }

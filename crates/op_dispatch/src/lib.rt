@@ -1,4 +1,4 @@
-//! The op of the running thread over the words of a core: its row is done, whatever op it is.
+//! The op of the running thread over the primitives of a core: its rule is done, whatever op it is.
 #![tactic(auto)]
 
 mod call_dispatch;

@@ -22,8 +22,8 @@ use task_machine::{Component, HostPoll, NoMemory, Op};
 use task_ops::{OpResult, compute};
 use task_words::{ThreadId, Primitives};
 
-/// An op that isn't on registers and words, and calls no host, is done by the running thread, whether or not it is the one at its place
-/// and whoever has it done: whoever that is ends it with what it answers. Where memory is wanting, all is as before.
+/// Has the running thread do an op that isn't on registers and memory cells, and calls no host, whether or not it is the one at its
+/// place and whoever has it done: whoever that is ends it with what it answers. If it is out of memory, all is as before.
 #[inline(always)]
 pub fn do_plain_op<W: Primitives>(
     component: &Component,
@@ -49,9 +49,9 @@ pub fn do_plain_op<W: Primitives>(
     }
 }
 
-/// An op that isn't on registers and words is done by the running thread, whether or not it is the one at its place and whoever has it
-/// done: whoever that is ends it with what it answers. An open host that it polls first has answered so. Where memory is wanting, all is
-/// as before.
+/// Has the running thread do an op that isn't on registers and memory cells, whether or not it is the one at its place and whoever
+/// has it done: whoever that is ends it with what it answers. An open host that it polls first has answered so. If it is out of
+/// memory, all is as before.
 pub fn do_other_op<W: Primitives>(
     component: &Component,
     w: &mut W,
@@ -77,8 +77,8 @@ pub fn do_other_op<W: Primitives>(
     }
 }
 
-/// The op of the thread's script, which ends at `end`, is done and ended. An open host that it polls first has answered so. Where memory
-/// is wanting, all is as before.
+/// Does the op of the thread's script, which ends at `end`, and ends it. An open host that it polls first has answered so. If it is
+/// out of memory, all is as before.
 pub fn do_op<W: Primitives>(
     component: &Component,
     w: &mut W,

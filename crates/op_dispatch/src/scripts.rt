@@ -4,7 +4,7 @@ ghost use Rattle.task_rules.specs.Scripts.{export_at, export_kind, host_at, scri
 
 use task_machine::{Callee, Component, ExportDef, ExportKind, HostDef, Op, Script, Slot};
 
-/// What runs under an export, none where the component has no such export.
+/// Returns what runs under an export, none if the component has no such export.
 pub fn export_def(component: &Component, callee: Callee) -> Option<&ExportDef>
     ensures { option_copied result ≡ export_at component.now callee }
 {
@@ -15,7 +15,7 @@ pub fn export_def(component: &Component, callee: Callee) -> Option<&ExportDef>
     instance.exports.as_slice().get(callee.export as usize)
 }
 
-/// An export's kind.
+/// Returns an export's kind.
 pub(crate) fn export_kind(component: &Component, callee: Callee) -> ExportKind
     ensures { result ≡ export_kind component.now callee }
 {
@@ -25,7 +25,7 @@ pub(crate) fn export_kind(component: &Component, callee: Callee) -> ExportKind
     }
 }
 
-/// A host; one that never ends, where the component has no such host.
+/// Returns a host; one that never ends, where the component has no such host.
 pub(crate) fn host_def(component: &Component, host: u32) -> HostDef
     ensures { result ≡ host_at component.now host }
 {
@@ -38,7 +38,7 @@ pub(crate) fn host_def(component: &Component, host: u32) -> HostDef
     }
 }
 
-/// What stands in a slot of an instance, none where the component has no such slot.
+/// Returns what is in a slot of an instance, none if the component has no such slot.
 pub(crate) fn slot_line(component: &Component, instance: u32, slot: u8) -> Option<&Slot>
     ensures { option_copied result ≡ option_and_then (λ d. slice_get d.slots slot) (slice_get component.now.instances instance) }
 {
@@ -56,7 +56,7 @@ fn slot_ops(component: &Component, instance: u32, slot: u8) -> &[Op]
     }
 }
 
-/// A script; empty where the component has none.
+/// Returns a script; empty where the component has none.
 pub fn script_ops(component: &Component, callee: Callee, script: Script) -> &[Op]
     ensures { result.now ≡ script_in component.now callee script }
 {
@@ -72,7 +72,7 @@ pub fn script_ops(component: &Component, callee: Callee, script: Script) -> &[Op
     }
 }
 
-/// The op at a place of a script, none at its end.
+/// Returns the op at a place of a script, none at its end.
 pub fn op_at(script: &[Op], position: u32) -> Option<&Op>
     ensures { option_copied result ≡ slice_get script.now position }
 {

@@ -29,7 +29,7 @@ fn wait<W: Primitives>(w: &mut W, thread: ThreadId, handle: u64) -> OpResult
     }
 }
 
-/// An op on waitable sets. Where memory is wanting, all is as before.
+/// Returns an op on waitable sets. If it is out of memory, all is as before.
 pub(crate) fn do_set_op<W: Primitives>(w: &mut W, thread: ThreadId, op: SetOp) -> Result<OpResult, NoMemory>
     requires runner { Runner thread (W.view w.old) }
     requires handles { is_some (get (W.view w.old).core.handles (instance_of (thread_of (W.view w.old) thread) (W.view w.old).core)) ≡ true }

@@ -22,7 +22,7 @@ fn ends<W: Primitives>(w: &mut W, thread: ThreadId, label: Label, code: u64) -> 
     end_activation(w, thread, label, code)
 }
 
-// `cb_wait X`: trap 12 where the code has more than 32 bits.
+// `cb_wait X`: trap 12 if the code has more than 32 bits.
 fn ends_waiting<W: Primitives>(w: &mut W, thread: ThreadId, label: Label, set: u64) -> OpResult
     requires quiet { outcome_of_label label ≡ None }
     requires runner { Runner thread (W.view w.old) }
@@ -34,7 +34,7 @@ fn ends_waiting<W: Primitives>(w: &mut W, thread: ThreadId, label: Label, set: u
     ends(w, thread, label, 16 * set + 2)
 }
 
-// `exit`. It is apart, as what it comes to stands in memory.
+// `exit`. It is a function of its own, as what it results in is in memory.
 #[inline(always)]
 fn exits<W: Primitives>(w: &mut W, thread: ThreadId) -> OpResult
     requires runner { Runner thread (W.view w.old) }
@@ -43,7 +43,7 @@ fn exits<W: Primitives>(w: &mut W, thread: ThreadId) -> OpResult
     exit(w, thread)
 }
 
-/// An op that ends the task or the activation, or changes backpressure.
+/// Returns an op that ends the task or the activation, or changes backpressure.
 pub(crate) fn do_task_op<W: Primitives>(w: &mut W, thread: ThreadId, op: TaskOp) -> OpResult
     requires runner { Runner thread (W.view w.old) }
     ensures does { DoesOp KeepsTold (λ d n ch s. task_rule d n s ch op) thread (W.view w.old) result (W.view w.new) }

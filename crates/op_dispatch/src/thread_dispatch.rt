@@ -29,7 +29,7 @@ fn is_resumed<W: Primitives>(w: &W, thread: ThreadId) -> bool
     matches!(w.op_progress(thread), OpProgressId::Suspends | OpProgressId::Yields)
 }
 
-// The op is done.
+// Moves the thread past its op, which is done.
 fn ends<W: Primitives>(w: &W, thread: ThreadId, label: ThreadLabel) -> OpResult
     requires { shown_thread label ≡ OpAnswer.Nothing }
     ensures { result ≡ goes_as (Label.Thread label) (thread_of (W.view w.now) thread) }
@@ -133,7 +133,7 @@ fn do_halting_op<W: Primitives>(w: &mut W, thread: ThreadId, op: ThreadOp) -> Op
     }
 }
 
-/// An op on the task's own threads. Where memory is wanting, all is as before.
+/// Returns an op on the task's own threads. If it is out of memory, all is as before.
 pub(crate) fn do_thread_op<W: Primitives>(
     component: &Component,
     w: &mut W,

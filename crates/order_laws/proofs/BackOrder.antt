@@ -72,7 +72,7 @@ low_queues : (n : ℕ) (w : Why) (s : Core) → ((put_low n w s).queues.switch �
 unfolding put_low push_low set_place on_thread
 low_queues n w s = (refl, (refl, refl))
 
--- how often a thread stands at each mark, where n has no entry
+-- how often a thread is at each mark, where n has no entry
 abbrev Without : ℕ → ℕ → Core → Type 0
 Without n j s = (switch_entries j s.queues.switch ≡ (if j == n then 0 else says is_at_switch (place_of j s)))
     × ((entries j s.queues.high ≡ (if j == n then 0 else says is_at_high (place_of j s))) × (entries j s.queues.low ≡ (if j == n then 0 else says is_at_low (place_of j s))))
@@ -137,7 +137,7 @@ module _ (c : Component) (p : Turn) (going : is_open p ≡ true) (m d : Mark) (n
 
   -- ---- Entries
 
-  -- how often a thread stands at each mark without the entry in hand
+  -- how often a thread is at each mark without the entry in hand
   alone : (j : ℕ) → (switch_entries j s.queues.switch ≡ (if j == n then 0 else says is_at_switch (place_of j s)))
       × ((entries j s.queues.high ≡ (if j == n then 0 else says is_at_high (place_of j s))) × (entries j s.queues.low ≡ (if j == n then 0 else says is_at_low (place_of j s))))
   alone j = by d at free (o.in_place.placed j)

@@ -115,7 +115,7 @@ ready_by n s h has = by (place_of n s) refl
     by (Some (Place.Behind f)) is = absurd (at_high (Some (Place.Behind f)) is refl refl)
     by (Some (Place.Under m)) is = absurd (at_high (Some (Place.Under m)) is refl refl)
 
--- who is ready has an entry at high or low where none stands at switch
+-- who is ready has an entry at high or low where none is at switch
 entry_of : (n : ℕ) (m : Mark) (w : Why) (s : Core) → HasPlace n s → s.queues.switch ≡ None → place_of n s ≡ Some (Place.Ready m w) → HasEntry n s
 entry_of n Mark.Switch w s h free at = absurd (let one = h.switch in grind (arith, one, free, at))
 entry_of n Mark.High w s h free at = by (has_entry n s.queues.high) refl

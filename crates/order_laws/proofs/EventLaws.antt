@@ -1,4 +1,4 @@
--- What calls tell, along the words of a step.
+-- What calls tell, along the primitives of a step.
 use Rattle.task_laws.proofs.Words.{add_call, add_group, add_set, add_thread, add_work, count_work, free_handle, free_thread_handle, give_handle, give_result, give_thread_handle, on_call, on_instance, on_thread, on_work, push_high, remove_call, remove_group, remove_set, remove_thread, remove_work, set_backpressure, set_cancel_delivered, set_cancelled, set_course, set_do_not_enter, set_do_not_suspend, set_end, set_event, set_exited, set_op_progress, set_join, set_task_event, set_phase, set_position, set_register, set_result, set_saved_callee, set_saved_own, set_script, set_stage, set_started, set_starting_published, set_subtask_handle, set_thread_handle, set_trapped, set_uninteresting, set_word, take_result, call_made, with_handle, with_thread_handle, work_queued, poll_pends, after_primitive, Allowed, along, ap, arith, Core, get, get-change, get-empty, get-insert, get-remove, nat_tests, Scene, Setting, State, Label, Some, None, Option, Status, Step, step_walks, Subtask, Thread, true, false, Walk, Primitive, ℕ, ◌≡◌, ◌⊎◌, ◌∙◌, is_explicit, place_of, task_of, is_some, by_number, ⊎_elim, fresh, Reached}
 use Rattle.order_laws.specs.Events.{EventsReached, level, level_of, RunsTellHigher, StepsTellHigher, TellsHigher}
 use Rattle.order_laws.proofs.WaitLemmas.{unstarted}
@@ -27,7 +27,7 @@ use Rattle.task_rules.specs.Takes.{starting_is_published}
 use Rattle.task_rules.specs.Words.{SetCallEvent}
 use Rattle.task_rules.specs.Scripts.{ops_of}
 
--- ---- What a call has to hand out it has come to
+-- ---- What a call has to hand out it has resulted in
 
 abbrev Published : Core → Type 0
 Published s = (k : ℕ) → event_of (Subtask.Guest k) s ≡ Some Status.Starting → starting_is_published k s ≡ true

@@ -1,4 +1,4 @@
--- What one move makes of what stands at the marks.
+-- What one move makes of what is at the marks.
 use Rattle.std.proofs.Common.{ap, ap₂, arith, sym, ◌∙◌}
 use Rattle.std.proofs.lemmas.List.{append-nil, append_assoc}
 use Rattle.std.proofs.lemmas.List.Elements.{filter-append}
@@ -46,7 +46,7 @@ come_parts m v vs = refl
 
 -- ---- Moves that a test spares
 
--- what is next stands first at its mark
+-- what is next is first at its mark
 next_is : (m : Mark) (e : Entry) (q : Queues) → or_high q.switch q.high q.low ≡ Some (m, e) → at m q ≡ e ∷ at m (moved (Takes m e) q)
 next_is m e q h = by m q.switch q.high q.low refl refl refl h
   where

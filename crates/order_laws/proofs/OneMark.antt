@@ -245,7 +245,7 @@ module _ (c : Component) (p : Turn) (going : is_open p ≡ true) (u : Core) (h :
     told = λ w. record { late = w.late; told = w.told; finishing = w.finishing };
   }
 
-  -- ---- A task's own event
+  -- ---- A task event
 
   pub task_event_fits : (k : ℕ) (d : Bool) → (d ≡ true → (z : Call) → get u.calls k ≡ Some z → (z.task_event ≡ Some TaskEvent.Cancelled) × (is_async_lifted z.kind ≡ true)) →
       (z : Call) → get u.calls k ≡ Some z → CallFits u k z (record z { task_event = None; cancel_delivered = cond d true z.cancel_delivered })

@@ -35,7 +35,7 @@ pub same_main : (m : Main) (t : Core) → SameMain m t m
 same_main (Scripted p) t = λ k. inl (k, refl)
 same_main Unscripted t = tt
 
--- the words of a walk make no instance, and take none away
+-- the primitives of a walk make no instance, and take none away
 pub walk_instances : {a : Scene} {s t : Core} → Walk a s t → SameInstances s t
 walk_instances {s = s} c = record {
   instances = λ i. along (λ u. is_some (get u.instances i) ≡ is_some (get s.instances i)) (λ w u ok same. instance_stays w u i ∙ same) refl c;
@@ -73,7 +73,7 @@ placing_counted s t h waits woken counted = counted_stay waits
 
 -- ---- The switch entry
 
--- where a thread is that has an entry, once it stands elsewhere
+-- where a thread is that has an entry, once it is elsewhere
 abbrev pub Moved : Option Place → Option Place → Type 0
 Moved o p = (p ≡ o) ⊎ ((a : Mark) × ((b : Mark) × ((v : Why) × ((o ≡ Some (Place.Ready a v)) × (p ≡ Some (Place.Ready b v))))))
 
@@ -85,7 +85,7 @@ pub moved_woken : (y : ℕ) (far : OpProgress) (o p : Option Place) → Moved o 
 moved_woken y far o p (inl e) on = ap (λ (q : Option Place). woken_place y q far) e ∙ on
 moved_woken y far o p (inr q) on = let from = q.1.1.1.0 in let to = q.1.1.1.1 in grind (arith, from, to, on)
 
--- what stands at switch has left it
+-- what is at switch has left it
 pub displaced_there : (o : Option ℕ) (s : Core) (j : ℕ) → is_some (place_of j (displaced o s)) ≡ is_some (place_of j s)
 unfolding push_high_first set_place on_thread
 displaced_there None s j = refl

@@ -126,8 +126,9 @@ module _ {X : Type 0} (plain : X → X) where
 
 -- ---- What a change shows
 
--- What order says of places, from s to t: who is under another or blocked is so still, and nobody else comes to be under one, held, or
--- at a place for a set or a delivery. Entries that are of no thread stand where they did; and what else is read of places is so of t.
+-- What order says of places, from s to t: who is under another or blocked is so still, and nobody else comes to be under one, held,
+-- or at a place for a set or a delivery. Entries that are of no thread are where they were; and what else is read of places is so
+-- of t.
 pub record PlacesFit (q : Turn) (s t : Core) : Type 0 where
   pub in_place : InPlace (state_in Unscripted q t)
   pub entries : (test : Entry → Bool) → ((n : ℕ) → test (Entry.Thread n) ≡ false) →

@@ -1,4 +1,4 @@
--- Calls whose first threads wait for their starts have not started: along the words of a step.
+-- Calls whose first threads wait for their starts have not started: along the primitives of a step.
 use Rattle.task_laws.proofs.Words.{add_call, add_group, add_set, add_thread, add_work, count_work, free_handle, free_thread_handle, give_handle, give_result, give_thread_handle, on_call, on_instance, on_thread, on_work, push_high, remove_call, remove_group, remove_set, remove_thread, remove_work, set_backpressure, set_cancel_delivered, set_cancelled, set_course, set_do_not_enter, set_do_not_suspend, set_end, set_event, set_exited, set_op_progress, set_join, set_task_event, set_phase, set_position, set_register, set_result, set_saved_callee, set_saved_own, set_script, set_stage, set_started, set_starting_published, set_subtask_handle, set_thread_handle, set_trapped, set_uninteresting, set_word, take_result, call_made, with_handle, with_thread_handle, work_queued, poll_pends, after_primitive, Allowed, along, ap, arith, Core, get-change, get-empty, get-insert, get-remove, nat_tests, Scene, Setting, State, Label, Step, step_walks, Thread, true, false, Turn, Walk, Primitive, Bool, ℕ, ◌≡◌, ◌⊎◌, ◌∙◌, by_number, ⊎_elim, fresh, Reached}
 use Rattle.order_laws.specs.Events.{StartsUnstarted}
 use Rattle.std.proofs.Common.{refl, inl, inr, sym}

@@ -1,4 +1,4 @@
--- A walk of words from a state in order leads to one.
+-- A walk of primitives from a state in order leads to one.
 use Rattle.order_laws.specs.Pieces.{WalkedInOrder}
 use Rattle.task_places.proofs.OrderLemmas.{walked_in_order as of_walks}
 

@@ -1,4 +1,4 @@
--- The ends of host works, along the words of a step.
+-- The ends of host works, along the primitives of a step.
 use Rattle.order_laws.specs.Works.{Answered, has_recorded, IsRecorded, IsUnended, NoWorkEndIsCovered, recorded_end, WorkEndsAreSaid, WorkEndsHandedAsTold, WorkEndsToldAsRecorded, WrittenWorkEndsAreNew}
 use Rattle.std.specs.Option.{option_map_or}
 use Rattle.std.specs.Prelude.{is_some, option_map}
@@ -43,7 +43,7 @@ told_as_recorded x s r i e is = by (get s.core.works i) refl
         let late = q.late in
         record { async = grind (arith, at, told); over = grind (arith, at, told); has = grind (arith, at, told, late); same = grind (arith, at, told) }
 
--- ---- Along words
+-- ---- Along primitives
 
 -- the step ends the work
 abbrev EndsNow : Scene → ℕ → Type 0

@@ -30,7 +30,7 @@ unfoldable pub StartsUnstarted : Type 0
 StartsUnstarted = (x : Setting) (s : State) → Reached x s → (k : ℕ) (t : Thread) → get s.core.threads k ≡ Some t → t.explicit ≡ false →
     is_fresh (Some t.place) ≡ true → was_started k s.core ≡ false
 
--- what a call has to hand out it has come to
+-- what a call has to hand out it has resulted in
 unfoldable pub EventsReached : Type 0
 EventsReached = (x : Setting) (s : State) → Reached x s → (k : ℕ) (c : Call) → get s.core.calls k ≡ Some c → (e : Status) →
     c.event ≡ Some e → level_of e ≤ level c

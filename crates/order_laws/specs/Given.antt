@@ -60,8 +60,8 @@ GivenDone = (x : Setting) (o : Op) (n : ℕ) (t : State) → t.turn ≡ turn.Run
 
 -- ---- As a host has the op done
 
--- A host has the running thread do the op that it has, which is none on registers and words and ends no activation, wherever it is in its
--- script. Order in which it has that op, and each other thread the one at its place, stays.
+-- A host has the running thread do the op that it has, which is none on registers and memory cells and ends no activation, wherever
+-- it is in its script. Order in which it has that op, and each other thread the one at its place, stays.
 unfoldable pub HostSteps : Type 0
 HostSteps = (x : Setting) (o : Op) (n : ℕ) (s t : State) (l : Label) → s.turn ≡ turn.Run n → ends_activation o ≡ false →
     is_data_op o ≡ false → InOrderAs (given n o (ops_of x.component s.core)) x.component s →

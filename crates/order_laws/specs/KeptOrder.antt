@@ -31,7 +31,7 @@ use Rattle.wake_laws.specs.Stands.{MayLeave}
 
 -- ---- An item in hand
 
--- an entry that was taken, with the mark at which it stood
+-- an entry that was taken, with the mark at which it was
 abbrev pub Hand : Type 0
 Hand = Option (Mark × Entry)
 
@@ -117,14 +117,14 @@ unfoldable pub SwitchInOrder : Type 0
 SwitchInOrder = (c : Component) (k n : ℕ) (w : Why) (s : Core) → MayPut n w s →
     KeepsOrder c (turn.Run k) s (turn.Run k) (put_at mark.Switch n w s)
 
--- The item of a thread that is in hand, and is no start, is put back at the end of high or low. Nothing stands at switch, if it was
+-- The item of a thread that is in hand, and is no start, is put back at the end of high or low. Nothing is at switch, if it was
 -- taken from there.
 unfoldable pub BackInOrder : Type 0
 BackInOrder = (c : Component) (p : Turn) (from m : Mark) (n : ℕ) (w : Why) (s : Core) → is_open p ≡ true →
     place_of n s ≡ Some (place.Ready from w) → (m ≡ mark.Switch → ⊥) → is_for_start w ≡ false →
     (from ≡ mark.Switch → s.queues.switch ≡ None) → KeepsOrder c p (put_back (Some (from, entry.Thread n)) s) p (put_at m n w s)
 
--- the entry of a thread that has one moves to switch, unless one stands there
+-- the entry of a thread that has one moves to switch, unless one is there
 unfoldable pub PromoteInOrder : Type 0
 PromoteInOrder = (c : Component) (p : Turn) (n : ℕ) (m : Mark) (w : Why) (s : Core) → is_open p ≡ true →
     place_of n s ≡ Some (place.Ready m w) → KeepsOrder c p s p (promoted_unless n s)
@@ -140,7 +140,7 @@ is_idle (turn.Run n) = false
 is_idle turn.Over = false
 is_idle p = true
 
--- nothing is in hand that stood at switch
+-- nothing is in hand that was at switch
 abbrev pub is_off_switch : Hand → Bool
 is_off_switch None = true
 is_off_switch (Some h) = not (is_switch h.0)

@@ -23,11 +23,11 @@ use Rattle.task_rules.specs.Takes.{rest_of}
 
 -- ---- Moves
 
--- A change of what stands at the marks.
+-- A change of what is at the marks.
 pub data Move : Type 0 where
   -- the entry, which is next, is taken from the mark
   Takes : (mark : Mark) → (entry : Entry) → Move
-  -- the entry comes to the end of the mark; at switch, who stood there goes to the front of high
+  -- the entry comes to the end of the mark; at switch, who was there goes to the front of high
   Comes : (mark : Mark) → (entry : Entry) → Move
   -- the thread's entry moves to switch
   Promotes : (thread : ℕ) → Move
@@ -52,7 +52,7 @@ moved (Comes mark.Low e) q = with_low (q.low ++ e ∷ []) q
 moved (Promotes n) q = with_switch (Some n) (unlined n q)
 moved (Withdraws n) q = with_switch (less_switch n q.switch) (unlined n q)
 
--- where the move may be done: what is taken is next, only a thread comes to switch, and one is promoted where none stands there
+-- where the move may be done: what is taken is next, only a thread comes to switch, and one is promoted where none is there
 abbrev pub May : Move → Queues → Type 0
 May (Takes m e) q = or_high q.switch q.high q.low ≡ Some (m, e)
 May (Comes mark.Switch e) q = is_some (entry_thread e) ≡ true
@@ -147,13 +147,13 @@ abbrev pub Spares : (Entry → Bool) → List Move → Type 0
 Spares test [] = Unit {0}
 Spares test (v ∷ vs) = SparesMove test v × Spares test vs
 
--- and one that stands at switch
+-- and one that is at switch
 abbrev pub SparesSwitch : (Entry → Bool) → Option ℕ → Type 0
 SparesSwitch test None = Unit {0}
 SparesSwitch test (Some n) = test (entry.Thread n) ≡ false
 
--- Of the entries that pass a test, where none of them stands at switch, comes to it or is withdrawn in a run: those that are taken from a
--- mark, and then those that stand there at last, are those that stood there at first, and then those that came to it, in that order.
+-- Of the entries that pass a test, where none of them is at switch, comes to it or is withdrawn in a run: those that are taken from
+-- a mark, and then those that are there at last, are those that were there at first, and then those that came to it, in that order.
 unfoldable pub RunsTakeInTurn : Type 0
 RunsTakeInTurn = (x : Setting) (s : State) (ls : List Label) (t : State) (run : Run x s ls t) (vs : List Move) → RunsBy x s ls t run vs →
     (test : Entry → Bool) → SparesSwitch test s.core.queues.switch → Spares test vs → (m : Mark) →

@@ -53,8 +53,8 @@ pub record SameInstances (s t : Core) : Type 0 where
 abbrev pub KeepsOrder : Component → Turn → Core → Turn → Core → Type 0
 KeepsOrder c p s q t = InOrderForAnyMain c p s → InOrderForAnyMain c q t × SameInstances s t
 
--- A walk of words, each where it may be done, leads from a state in order to one, where records stay those of the same and wakes are
--- counted at its end.
+-- A walk of primitives, each where it may be done, leads from a state in order to one, where records stay those of the same and
+-- wakes are counted at its end.
 unfoldable pub WalkedInOrder : Type 0
 WalkedInOrder = (x : Setting) (s : State) (l : Label) (t : State) → is_open s.turn ≡ true → InOrder x.component s → Walked x s l t →
     Steady s.core t.core → (is_open t.turn ≡ true → WakesCounted t.core) → InOrder x.component t
@@ -66,7 +66,7 @@ unfoldable pub ResumeKeeps : Type 0
 ResumeKeeps = (c : Component) (n k : ℕ) (w : Why) (s : Core) → resume_why k s ≡ Some w →
     KeepsOrder c (turn.Run n) s (turn.Run n) (put_switch k w s)
 
--- the running thread goes on, and the entry of another one that has yielded moves to switch, unless one stands there
+-- the running thread goes on, and the entry of another one that has yielded moves to switch, unless one is there
 unfoldable pub PromoteKeeps : Type 0
 PromoteKeeps = (c : Component) (n k : ℕ) (s : Core) → has_yielded k s ≡ true →
     KeepsOrder c (turn.Run n) s (turn.Run n) (promoted_unless k s)

@@ -1,12 +1,12 @@
 ghost use Rattle.order_laws.specs.Events.{EventsReached, RunsTellHigher, StartsUnstarted, StepsTellHigher};
 
-/// In a state that a run comes to, a call whose first thread waits for its start has not started.
+/// In a state that a run reach, a call whose first thread waits for its start has not started.
 #[tactic(auto, using(crate::proofs::WaitLemmas::starts_unstarted))]
 pub fn starts_wait_unstarted()
     ensures { StartsUnstarted }
 {}
 
-/// In such a state what a call has to hand out is a status that it has come to.
+/// In such a state what a call has to hand out is a status that it has resulted in.
 #[tactic(auto, using(crate::proofs::EventLaws::events_reached))]
 pub fn events_are_reached()
     ensures { EventsReached }

@@ -1,8 +1,8 @@
 ghost use Rattle.order_laws.specs.Moves.{RunsMoveEntries, RunsTakeInTurn, StepsMoveEntries};
 
-/// A step changes what stands at the marks by single moves alone. The entry that is next in its turn is taken, and no
-/// other; one comes to the end of high or of low, or a thread to switch, from where one that stood there goes to the front
-/// of high; one moves to switch where none stands; or one goes whose start the label says is withdrawn.
+/// A step changes what is at the marks by single moves alone. The entry that is next in its turn is taken, and no other; one comes
+/// to the end of high or of low, or a thread to switch, from where one that was there goes to the front of high; one moves to
+/// switch where none is there; or one goes whose start the label says is withdrawn.
 #[tactic(auto, using(crate::proofs::StepMoves::steps_move_entries))]
 pub fn steps_move_entries()
     ensures { StepsMoveEntries }
@@ -14,8 +14,8 @@ pub fn runs_move_entries()
     ensures { RunsMoveEntries }
 {}
 
-/// Of the entries that come to no switch and aren't withdrawn in a run, those that it takes from a mark, and then those that
-/// stand there at its end, are those that stood there at its start, and then those that came to it, in that order.
+/// Of the entries that come to no switch and aren't withdrawn in a run, those that it takes from a mark, and then those that are
+/// there at its end, are those that were there at its start, and then those that came to it, in that order.
 #[tactic(auto, using(crate::proofs::RunMoves::runs_take_in_turn))]
 pub fn runs_take_in_turn()
     ensures { RunsTakeInTurn }

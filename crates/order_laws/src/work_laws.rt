@@ -1,7 +1,7 @@
 ghost use Rattle.order_laws.specs.Works.{NoWorkEndIsCovered, WorkEndsAreSaid, WorkEndsHandedAsTold, WorkEndsToldAsRecorded, WrittenWorkEndsAreNew};
 
-/// In a state that a run comes to, an end that a host work has still to hand out is that in its record; the work is of an
-/// async call, and its entry was taken.
+/// In a state that a run reach, an end that a host work has still to hand out is that in its record; the work is of an async call,
+/// and its entry was taken.
 #[tactic(auto, using(crate::proofs::WorkEnds::told_as_recorded))]
 pub fn work_ends_are_told_as_recorded()
     ensures { WorkEndsToldAsRecorded }

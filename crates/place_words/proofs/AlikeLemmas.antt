@@ -10,13 +10,13 @@ id_same None = refl
 id_same (Some x) = refl
 
 module _ {T : Type 0} (f : T → T) (new old : Table (Single T)) (alike : Alike f new old) where
-  -- who stands in the one stands in the other
+  -- who is in the one is in the other
   pub place_alike : (r : ℕ) (q : Placed (Single T)) → place_at new r ≡ Some q → (p : Placed (Single T)) × ((place_at old r ≡ Some p) × (f p.entry.item ≡ f q.entry.item))
   place_alike r q at =
       let one = mapped_place (on_item f) old r (record { serial = q.serial; parent = q.parent; entry = on_item f q.entry }) (sym (ap (λ t. place_at t r) alike) ∙ place_mapped (on_item f) new r q at) in
       (one.0, (one.1.0, ap (λ (e : Single T). e.item) one.1.1))
 
-  -- a seat that looks no further
+  -- an order key that looks no further
   module _ {Q : Type 0} (order_key : ℕ → T → Q) (blind : (r : ℕ) (x : T) → order_key r (f x) ≡ order_key r x) where
     keyed_mapped : (t : Table (Single T)) (r : ℕ) → keyed order_key (mapped (on_item f) t) r ≡ keyed order_key t r
     keyed_mapped t r = ap (option_map (λ (p : Placed (Single T)). order_key r p.entry.item)) (place_at-mapped (on_item f) t r) ∙ by (place_at t r)
@@ -79,7 +79,7 @@ module _ {T : Type 0} (f : T → T) (new old : Table (Single T)) (alike : Alike 
       same : (x y : T) → f x ≡ f y → node x ≡ node y
       same x y is = sym (blind x) ∙ (ap node is ∙ blind y)
 
--- the tags of what stands alike
+-- the tags of what is alike
 pub tags_alike : {T X : Type 0} (f : T → T) (key : Single T → Option (ℕ × X)) → ((e : Single T) → number_in (key (on_item f e)) ≡ number_in (key e)) → (new old : Table (Single T)) → Alike f new old → tags_in key new ≡ tags_in key old
 unfolding mapped
 tags_alike {T} f key named new old alike = ap trimmed (sym (through new.places) ∙ (ap (λ (t : Table (Single T)). map (tag_of key) t.places) alike ∙ through old.places))

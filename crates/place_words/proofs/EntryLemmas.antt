@@ -7,7 +7,7 @@ use Rattle.task_records.proofs.KindLemmas.{item_number, item_stands, refused_num
 use Rattle.place_words.specs.Moved.{Alike, entry_set, recounted, rejoined, resumed_set, rewritten, rewritten_by, uncounted}
 use Rattle.queue_words.proofs.BareLemmas.{number_positive, one_place}
 
--- nothing stands past the end
+-- nothing is past the end
 pub refused_past : (t : Table (Single WaitSet)) (rep serial : ℕ) → length t.places ≤ 4294967295 → 4294967295 ≤ rep → Err ResourceTableError.NotPresent ≡ item_at item_of t rep serial
 unfolding found
 refused_past t rep serial few past = ap (λ (o : Option (Placed (Single WaitSet))). item_in item_of (of_serial serial o)) (sym none)

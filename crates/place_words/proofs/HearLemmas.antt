@@ -1,4 +1,4 @@
--- A host work with another event, set or stage, as the words write it.
+-- A host work with another event, set or stage, as the primitives write it.
 use Rattle.task_records.proofs.Core.{[], ap, AreHandlesNamed, arith, AtPlace, bare, bare_work, Bool, CallOf, change, cond, core_of, EachEntry, entry_of, filings, filings_at, HandleKind, HostTaskKey, IfSome, is_in_set, is_live, is_made, is_moving, IsHeldNamed, IsIndex, IsIndex-with_entry, IsSetKept, IsSome, IsSoundCore, IsWhole, item_at, item_of, Join, join_target, kinds, link_for, link_of, List, list_of, live_chain, live_value, live_work, loose_work, mapped, mapped-with_entry, mapped-with_entry_same, members_of, None, Ok, on_core, on_item, on_work, one_if_passes, Option, option_and_then, CoreImage, parts_of, passing, place_at, Placed, ready_in, ready_work, ready_work_chain, Records, records, Refiles, refl, Rep, Rises, seen, Set, set_key, set_of, SetKey, SetOf, Some, SoundTable, Spot, StateView, Status, subst, sym, Table, TableId, Tag, tags_in, ThreadOf, true, unmoved, WaitableKind, with_entry, Work, work_key, work_of, WorkOf, ℕ, ◌+◌, ◌∙◌, ◌≡◌, ◌≤◌}
 use Rattle.task_records.specs.declared.{instance_records.InstanceRecord.InstanceRecord, parts.CoreParts.CoreParts, set_records.WaitSet.WaitSet, single.Single.Single, work_records.WorkRecord.WorkRecord, work_records.LiveWork.LiveWork}
 use Rattle.task_records.proofs.HomeLemmas.{place_bare, place_in_bare, work_names}

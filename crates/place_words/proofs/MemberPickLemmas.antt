@@ -37,7 +37,7 @@ module _ {T X : Type 0} (number : T → ℕ) (rec : T → X) (node : T → ℕ) 
         ∙ ap (option_map (λ d. (d, member_order_key (entry q.entry.item) r))) has)
 
     module _ (v : OrderKey) (holds : Holds links c v) (rep serial : ℕ) (g : T) (item : Ok g ≡ item_at item_of t rep serial) (at : number g ≡ number_in (record_at (λ e. Some (number e.item, rec e.item)) t.places v.place)) where
-      -- the seat of the member with the number at its place
+      -- the order key of the member with the number at its place
       member_first : member_order_key (entry g) rep ≡ v
       member_first =
           let one = held_passes says chain t links index x c has (λ e. Some (number e.item, rec e.item)) test tests sound.apart v holds in

@@ -16,7 +16,7 @@ use Rattle.task_records.specs.RecordPlaces.{thread_order_key}
 use Rattle.task_wait.specs.Sets.{IsLeast}
 
 module _ (a : CoreParts) (sound : IsSoundCore a) (rep serial : ℕ) (x : WaitSet) (is : Ok x ≡ item_at item_of a.sets rep serial) (v : OrderKey) (holds : Holds a.places x.waiters v) where
-  -- the seat of a thread with the number at its place
+  -- the order key of a thread with the number at its place
   order_key_of_first : (id : TableId ThreadKey) → thread_of (seen a) id ≡ number_in (record_at thread_key a.threads.places v.place) → (g : GuestThread) → Ok g ≡ item_at item_of a.threads id.rep id.serial → g.number ≡ thread_of (seen a) id → thread_order_key id.rep g ≡ v
   unfolding IsSoundCore
   order_key_of_first id at g item named =

@@ -86,7 +86,7 @@ module _ (a : CoreParts) (sound : IsSoundCore a) (id : TableId ThreadKey) (g : G
       by None (Some c) is = absurd (cc)
       by (Some k) (Some c) is = is_whole.chained.places.live k c is
 
-  -- the links by the chain and the seat that the functions have
+  -- the links by the chain and the order key that the functions have
   pub refiled : (p : Place) (chain : Option ℕ) (order_key : OrderKey) (links : List (Spot OrderKey)) → order_key ≡ thread_order_key id.rep g → option_and_then (place_chain bared) (where_at g.instance g.barred p) ≡ chain →
       Refiles a.places links g.node.index (option_map (λ k. (k, order_key)) chain) → Refiles a.places links g.node.index (link_for (place_chain bared) (record { node = g.node.index; key = where_at g.instance g.barred p; value = thread_order_key id.rep g }))
   refiled p chain order_key links order_key_is chain_is =

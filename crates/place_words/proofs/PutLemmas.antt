@@ -1,4 +1,4 @@
--- A thread with another place, as the word writes it: records, sets and chains together.
+-- A thread with another place, as the primitive writes it: records, sets and chains together.
 use Rattle.task_records.proofs.Core.{ap, arith, bare_thread, Bool, cond, Core, entry_of, false, get, get-records, is_some, IsSome, IsSoundCore, item_at, item_of, keeps_set, loose_thread, mapped, ne_eqb, None, Ok, on_item, one_if_passes, Option, passing, Place, records, refl, same_map, set_key, size, size-change, Some, subst, sym, Table, Thread, thread_key, true, with_entry, ℕ, ◌+◌, ◌-◌, ◌<◌, ◌==◌, ◌∙◌, ◌≡◌, ◌≤◌}
 use Rattle.task_records.specs.declared.{parts.CoreParts.CoreParts, set_records.WaitSet.WaitSet, single.Single.Single, thread_records.GuestThread.GuestThread}
 use Rattle.task_records.proofs.KeptLemmas.{records_seconds, seconds}

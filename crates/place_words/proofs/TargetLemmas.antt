@@ -1,4 +1,4 @@
--- What an id names stands at the place of the id, and its chains are those of its number.
+-- What an id names is at the place of the id, and its chains are those of its number.
 use Rattle.task_records.proofs.Core.{ap, AtPlace, bare, bare_call, bare_thread, bare_work, BlockedOn, call_of, CallOf, found_record, GuestTaskKey, HostTaskKey, IsSoundCore, item_at, item_of, mapped, None, Ok, on_item, parts_of, place_chain, refl, seen, set_of, SetKey, SetOf, Some, SoundTable, subst, Subtask, sym, Table, TableId, thread_of, ThreadKey, ThreadOf, UnderOf, WaitsOn, work_of, WorkOf, ℕ, ◌∙◌, ◌≡◌}
 use Rattle.task_records.specs.declared.{call_records.GuestTask.GuestTask, parts.CoreParts.CoreParts, set_records.WaitSet.WaitSet, single.Single.Single, thread_records.GuestThread.GuestThread, work_records.WorkRecord.WorkRecord}
 use Rattle.task_records.proofs.HomeLemmas.{call_at_place, set_at_place, thread_at_place, work_at_place}
@@ -8,7 +8,7 @@ use Rattle.place_words.proofs.FiledLemmas.{kept_under}
 use Rattle.queue_words.proofs.CallerLemmas.{none_as}
 
 module _ {T X : Type 0} (number : T → ℕ) (rec : T → X) (t : Table (Single T)) (made : ℕ) (sound : SoundTable (λ e. Some (number e.item, rec e.item)) t made) (rep serial : ℕ) where
-  -- what a record that is there keeps under its number, and nothing where an id names none
+  -- what a record that is there keeps under its number, and nothing if an id names none
   module _ {Y : Type 0} (other : T → Y) where
     pub nothing_under : (n : ℕ) → n ≡ 0 → found_record (λ e. Some (number e.item, other e.item)) n t.places ≡ None
     nothing_under n zero = ap (λ m. found_record (λ e. Some (number e.item, other e.item)) m t.places) zero ∙ none_as number rec other 0 t.places sound.above_zero

@@ -1,4 +1,4 @@
--- A call with another event or set, as the words write it.
+-- A call with another event or set, as the primitives write it.
 use Rattle.task_records.proofs.Core.{[], ap, AreHandlesNamed, arith, AtPlace, bare, bare_call, Call, call_key, call_of, CallOf, change, cond, core_of, EachEntry, entry_of, filings, filings_at, GuestTaskKey, HandleKind, IfSome, is_in_set, is_made, IsHeldNamed, IsIndex, IsIndex-with_entry, IsSetKept, IsSome, IsSoundCore, IsWhole, item_at, item_of, Join, join_target, kinds, link_for, List, list_of, loose_call, mapped, mapped-with_entry, mapped-with_entry_same, members_of, None, Ok, on_call, on_core, on_item, one_if_passes, Option, option_and_then, CoreImage, parts_of, passing, place_at, Placed, ready_call, ready_call_chain, ready_in, Records, records, Refiles, refl, Rep, seen, Set, set_key, set_of, SetKey, SetOf, Some, SoundTable, Spot, StateView, Status, subst, sym, Table, TableId, Tag, tags_in, ThreadOf, true, uninterested, WaitableKind, with_entry, WorkOf, ℕ, ◌+◌, ◌∙◌, ◌≡◌, ◌≤◌}
 use Rattle.task_records.specs.declared.{call_records.GuestTask.GuestTask, instance_records.InstanceRecord.InstanceRecord, parts.CoreParts.CoreParts, set_records.WaitSet.WaitSet, single.Single.Single}
 use Rattle.task_records.proofs.HomeLemmas.{call_names, place_bare, place_in_bare}

@@ -35,7 +35,7 @@ same_item one two = let both = one ∙ sym two in cc
 pub why_is : (s : StateView) (n : ℕ) (t : Thread) → Some t ≡ get s.core.threads n → (w : Why) → w ≡ ready_why t.place → why_of n s.core ≡ w
 why_is s n t is w reason = sym (ap (λ o. option_map_or ready_why (option_map (λ (t : Thread). t.place) o) Why.Resumption) is) ∙ sym reason
 
--- no set counts a thread that stands alone
+-- no set counts a thread that is alone
 pub alone_unset : (a : CoreParts) (o : TableId SetKey) (p : Place) (h : OpProgress) → set_of (seen a) o ≡ 0 → StandsAlone p → set_of (seen a) o ≡ set_named (entry_set p h) (seen a).core
 alone_unset a o p h none alone = none ∙ sym (ap (λ x. set_named x (seen a).core) (alone.0 h))
 

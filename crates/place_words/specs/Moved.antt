@@ -82,7 +82,7 @@ recounted f = rewritten (λ x. record x { entries = f x.entries })
 abbrev pub rejoined : (ℕ → ℕ) → ℕ → ℕ → Table (Single WaitSet) → Table (Single WaitSet)
 rejoined f = rewritten (λ x. record x { members = f x.members })
 
--- the number of a set that is there, 0 where there is none
+-- the number of a set that is there, 0 if there is none
 abbrev pub set_named : Option ℕ → Core → ℕ
 set_named None s = 0
 set_named (Some x) s = kept_in s.sets x
@@ -110,11 +110,11 @@ still_work w = record w { work = quiet_work w.work; joined = 0 }
 abbrev pub live_key : Stage → Option (Unit {0})
 live_key x = if is_stage_live x then Some tt else None
 
--- a thread at another place, with where what it names there stands
+-- a thread at another place, with where what it names there is
 abbrev pub placed : GuestThread → Place → ℕ → GuestThread
 placed g p beside = record g { thread = record g.thread { place = p }; beside = beside }
 
--- a thread that has come to another point of its op, with where what it names there stands
+-- a thread that has come to another point of its op, with where what it names there is
 abbrev pub arrived : GuestThread → OpProgress → ℕ → GuestThread
 arrived g h awaited = record g { thread = record g.thread { op_progress = h }; awaited = awaited }
 

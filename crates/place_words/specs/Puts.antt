@@ -38,7 +38,7 @@ pub record BecomesBy (a b : CoreParts) (step : Core → Core) : Type 0 where
   pub sound : IsSoundCore b
   pub new : seen b ≡ on_core step (seen a)
 
--- The thread of the id, if it is there, is at the place, with where what it names there stands. In no chain it has no link.
+-- The thread of the id, if it is there, is at the place, with where what it names there is. In no chain it has no link.
 pub record IsPut (a b : CoreParts) (id : TableId ThreadKey) (p : Place) (beside : ℕ) (chain : Option ℕ) : Type 0 where
   pub sound : IsSoundCore b
   pub new : seen b ≡ on_core (set_place (thread_of (seen a) id) p) (seen a)

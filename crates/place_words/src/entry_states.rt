@@ -45,7 +45,7 @@ fn one_more(sets: &mut RecordTable<Single<WaitSet>>, id: SetId)
     }
 }
 
-/// One entry less of the one set and one more of the other, where the ids name any.
+/// Takes one entry off the count of the one set, and adds one to the other, if the ids name any.
 #[inline(always)]
 pub(crate) fn recount(sets: &mut RecordTable<Single<WaitSet>>, from: SetId, to: SetId)
     requires { MayRecount sets.old from to }
@@ -55,7 +55,7 @@ pub(crate) fn recount(sets: &mut RecordTable<Single<WaitSet>>, from: SetId, to: 
     one_more(sets, to);
 }
 
-/// An id that names no set: no table has this place.
+/// Returns an id that names no set: no table has this place.
 #[inline(always)]
 pub(crate) fn no_set(parts: &CoreParts) -> SetId
     requires { IsSoundCore parts.now }
@@ -65,7 +65,7 @@ pub(crate) fn no_set(parts: &CoreParts) -> SetId
     TableId::new(u32::MAX, 0)
 }
 
-// The set of a number that was kept with a place, out of line, since most threads have no entry for a set.
+// The set of a number that was kept with a place, in a function of its own, since most threads have no entry for a set.
 #[inline(never)]
 fn kept_set(parts: &CoreParts, place: u32, set: u64) -> SetId
     requires sound { IsSoundCore parts.now }
@@ -87,8 +87,8 @@ fn resumed_set(parts: &CoreParts, place: u32, op_progress: &OpProgress) -> SetId
     }
 }
 
-/// The set for which a thread at this place that has come so far has an entry, or on which it waits; the id names none
-/// where there is none. The numbers are the places that are kept with what `place` and `op_progress` name.
+/// Returns the set for which a thread at this place that has come so far has an entry, or on which it waits; the id names none if
+/// there is none. The numbers are the places that are kept with what `place` and `op_progress` name.
 #[inline(always)]
 pub(crate) fn entry_set(
     parts: &CoreParts,

@@ -48,7 +48,7 @@ fn chains_for(
     }
 }
 
-/// The chain that a call is filed in as a ready member.
+/// Returns the chain that a call is filed in as a ready member.
 pub(crate) fn call_chain(
     parts: &CoreParts,
     place: u32,
@@ -65,7 +65,7 @@ pub(crate) fn call_chain(
     }
 }
 
-/// The chain that a host work is filed in as a ready member.
+/// Returns the chain that a host work is filed in as a ready member.
 pub(crate) fn work_chain(
     parts: &CoreParts,
     place: u32,
@@ -120,7 +120,7 @@ fn set_work_event(parts: &mut CoreParts, work: WorkId, event: Option<Status>)
     }
 }
 
-/// The status that is to be handed out of a subtask is this one, or none.
+/// Sets the event of a subtask: a status that is to be handed out, or none.
 pub fn set_event(parts: &mut CoreParts, subtask: SubtaskId, event: Option<Status>)
     requires { IsSoundCore parts.old }
     ensures sound { IsSoundCore parts.new }

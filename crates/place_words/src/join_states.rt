@@ -42,7 +42,7 @@ fn enter(sets: &mut RecordTable<Single<WaitSet>>, id: SetId)
     }
 }
 
-// The set that something is in; the id names none where there is none.
+// The set that something is in; the id names none if there is none.
 fn joined_set(parts: &CoreParts, place: u32, join: Join) -> SetId
     requires sound { IsSoundCore parts.now }
     requires at { AtPlace (parts_of parts.now) place (join_target join) }
@@ -122,7 +122,7 @@ fn set_work_join(parts: &mut CoreParts, work: WorkId, join: JoinId)
     }
 }
 
-// Joins the subtask to a set or to a thread, wherever it was joined. It is out of line, as it is long.
+// Joins the subtask to a set or to a thread, wherever it was joined. It is a function of its own, as it is long.
 #[inline(never)]
 fn rejoin(parts: &mut CoreParts, subtask: SubtaskId, join: JoinId)
     requires { IsSoundCore parts.old }
@@ -187,7 +187,7 @@ fn part(parts: &mut CoreParts, subtask: SubtaskId)
     }
 }
 
-/// The subtask is joined to this set, to the own set of a thread, or to none.
+/// Joins the subtask to this set, to the own set of a thread, or to none.
 #[inline(always)]
 pub fn set_join(parts: &mut CoreParts, subtask: SubtaskId, join: JoinId)
     requires { IsSoundCore parts.old }

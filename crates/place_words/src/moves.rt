@@ -23,7 +23,7 @@ use task_machine::{Delivery, OpProgress, Place, Script, Why};
 use task_records::{CoreParts, GuestThread, Node, Single};
 use task_words::ThreadId;
 
-// The node is in this chain alone, with the seat, or in none.
+// The node is in this chain alone, with the order key, or in none.
 #[inline(always)]
 pub(crate) fn refresh_key(links: &mut OrderedLists, node: Node, chain: Option<usize>, order_key: OrderKey)
     requires made { is_made links.old node.index ≡ true }
@@ -40,7 +40,7 @@ pub(crate) fn refresh_key(links: &mut OrderedLists, node: Node, chain: Option<us
     }
 }
 
-// The seat of a thread.
+// The order key of a thread.
 #[inline(always)]
 fn thread_order_key(place: u32, thread: &GuestThread) -> OrderKey
     ensures { result ≡ thread_order_key place thread.now }
@@ -52,7 +52,7 @@ fn thread_order_key(place: u32, thread: &GuestThread) -> OrderKey
     }
 }
 
-/// The seat of a call or of a host work, by its places in the resource table and in the table of its kind.
+/// Returns the order key of a call or of a host work, by its places in the resource table and in the table of its kind.
 pub(crate) fn member_order_key(entry: u32, place: u32) -> OrderKey
     ensures { result ≡ member_order_key entry place }
 {
@@ -208,7 +208,7 @@ fn stands_alone(place: &Place) -> bool
     }
 }
 
-// The node, which is in no chain, is in this chain from now on, with the seat, if there is one.
+// The node, which is in no chain, is in this chain from now on, with the order key, if there is one.
 #[inline(always)]
 fn file_in(links: &mut OrderedLists, node: Node, chain: Option<usize>, order_key: OrderKey)
     requires made { is_made links.old node.index ≡ true }
@@ -248,7 +248,7 @@ pub(crate) fn put_counted(
     }
 }
 
-// Calls `put_counted`, out of line: few threads are in a chain or counted by a set before they move.
+// Calls `put_counted`, and isn't inlined: few threads are in a chain or counted by a set before they move.
 #[inline(never)]
 pub(crate) fn put_away(
     parts: &mut CoreParts,
@@ -290,8 +290,7 @@ pub(crate) fn put_alone(
     }
 }
 
-/// The thread is at another place from now on, in the chain in which it is filed there. An id that names no thread
-/// changes nothing.
+/// Moves the thread to another place, and into the chain of that place. An id that names no thread changes nothing.
 #[inline(always)]
 pub(crate) fn put(
     parts: &mut CoreParts,
@@ -330,8 +329,7 @@ fn put_there_counted(parts: &mut CoreParts, id: ThreadId, op_progress: OpProgres
     }
 }
 
-/// The thread has come to another point of its op, where it is: no set counts a thread that runs. An id that names no
-/// thread changes nothing.
+/// Sets the progress of the op of a thread that runs: no set counts such a thread. An id that names no thread changes nothing.
 #[inline(always)]
 pub(crate) fn put_there(parts: &mut CoreParts, id: ThreadId, op_progress: OpProgress, awaited: u32)
     requires sound { IsSoundCore parts.old }
@@ -384,7 +382,7 @@ pub(crate) fn put_stand_counted(
     }
 }
 
-// Calls `put_stand_counted`, out of line.
+// Calls `put_stand_counted`, in a function of its own.
 #[inline(never)]
 fn put_stand_away(
     parts: &mut CoreParts,
@@ -404,8 +402,8 @@ fn put_stand_away(
     put_stand_counted(parts, id, place, beside, op_progress, awaited, chain);
 }
 
-/// The thread is at another place and at another point of its op from now on, in the chain in which it is filed there. An
-/// id that names no thread changes nothing.
+/// Moves the thread to another place, and into the chain of that place, and sets the progress of its op. An id that names no thread
+/// changes nothing.
 #[inline(always)]
 pub(crate) fn put_stand(
     parts: &mut CoreParts,
@@ -451,7 +449,7 @@ fn put_op_counted(parts: &mut CoreParts, id: ThreadId, position: u32)
     }
 }
 
-/// The thread is about to begin the op at this position: no set counts a thread that runs. An id that names no thread
+/// Moves a thread that runs to the start of the op at this position: no set counts such a thread. An id that names no thread
 /// changes nothing.
 #[inline(always)]
 pub(crate) fn put_op(parts: &mut CoreParts, id: ThreadId, position: u32)
@@ -517,7 +515,7 @@ fn put_begun_counted(parts: &mut CoreParts, id: ThreadId, words: (u64, u64, u64)
     }
 }
 
-/// The thread begins an activation, with these words in r0, r1 and r2. An id that names no thread changes nothing.
+/// Begins an activation of the thread, with these values in r0, r1 and r2. An id that names no thread changes nothing.
 #[inline(always)]
 pub(crate) fn put_begun(parts: &mut CoreParts, id: ThreadId, words: (u64, u64, u64))
     requires { IsSoundCore parts.old }

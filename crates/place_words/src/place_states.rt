@@ -31,7 +31,7 @@ use task_machine::{Delivery, Mark, Place, Why};
 use task_records::{CoreParts, set_id_at};
 use task_words::{OpProgressId, PlaceId, SetId, ThreadId, WhyId};
 
-/// Where the thread is, by the numbers of what that names.
+/// Returns the thread's place, by the numbers of what that names.
 pub fn place(parts: &CoreParts, thread: ThreadId) -> Option<Place>
     requires { IsSoundCore parts.now }
     ensures { result ≡ place_of (thread_of (seen parts.now) thread) (seen parts.now).core }
@@ -52,7 +52,7 @@ fn ready_why(place: Place) -> Why
     }
 }
 
-/// Why the thread's entry is queued.
+/// Returns why the thread's entry is queued.
 pub fn why(parts: &CoreParts, thread: ThreadId) -> Why
     requires { IsSoundCore parts.now }
     ensures { result ≡ why_of (thread_of (seen parts.now) thread) (seen parts.now).core }
@@ -77,7 +77,7 @@ fn delivery_from_id(parts: &CoreParts, place: u32, why: Why) -> Option<SetId>
     }
 }
 
-/// The set that the thread's queued delivery is for.
+/// Returns the set that the thread's queued delivery is for.
 pub fn delivered_set(parts: &CoreParts, thread: ThreadId) -> Option<SetId>
     requires { IsSoundCore parts.now }
     ensures { option_map (λ id. set_of (seen parts.now) id) result ≡ option_map (λ x. live_set x (seen parts.now).core) (delivered_set (why_of (thread_of (seen parts.now) thread) (seen parts.now).core)) }
@@ -151,7 +151,7 @@ fn wait_on(parts: &mut CoreParts, thread: ThreadId, set: SetId, by_callback: boo
     put(parts, thread, place, set.rep(), chain);
 }
 
-/// The thread is suspended from now on.
+/// Suspends the thread.
 #[inline(always)]
 pub fn suspend(parts: &mut CoreParts, thread: ThreadId)
     requires { IsSoundCore parts.old }
@@ -176,7 +176,8 @@ fn put_at(parts: &mut CoreParts, thread: ThreadId, place: PlaceId)
     }
 }
 
-/// The thread is at this place from now on. Those that most threads go to stand apart, since less is to be done there.
+/// Records that the thread is at this place from now on. Those that most threads go to have functions of their own, since less is
+/// to be done there.
 #[inline(always)]
 pub fn set_place(parts: &mut CoreParts, thread: ThreadId, place: PlaceId)
     requires { IsSoundCore parts.old }
@@ -184,7 +185,7 @@ pub fn set_place(parts: &mut CoreParts, thread: ThreadId, place: PlaceId)
     ensures new { seen parts.new ≡ on_core (set_place (thread_of (seen parts.old) thread) (place_in (seen parts.old).tags place)) (seen parts.old) }
 {
     match place {
-        // seldom one that stood where no set counts it
+        // seldom one that was where no set counts it
         PlaceId::Running => put_counted(parts, thread, Place::Running, 0, None),
         PlaceId::Ready { mark, why } => queue(parts, thread, mark, why),
         PlaceId::Held(why) => hold_for(parts, thread, why),
@@ -265,7 +266,7 @@ fn stand_waiting(
     put_stand(parts, thread, place, set.rep(), point, awaited, chain);
 }
 
-/// The thread is at this place from now on, and has come so far in its op: the two words in one look-up.
+/// Moves the thread to this place, and sets the progress of its op: the two in one look-up.
 #[inline(always)]
 pub fn stand_at(parts: &mut CoreParts, thread: ThreadId, place: PlaceId, op_progress: OpProgressId)
     requires { IsSoundCore parts.old }
@@ -289,7 +290,7 @@ pub fn stand_at(parts: &mut CoreParts, thread: ThreadId, place: PlaceId, op_prog
     }
 }
 
-/// The thread's entry is at this mark from now on, for the same reason.
+/// Records that the thread's entry is at this mark, for the same reason as before.
 pub fn set_mark(parts: &mut CoreParts, thread: ThreadId, mark: Mark)
     requires { IsSoundCore parts.old }
     ensures sound { IsSoundCore parts.new }
@@ -302,7 +303,7 @@ pub fn set_mark(parts: &mut CoreParts, thread: ThreadId, mark: Mark)
     }
 }
 
-/// The thread is held with its entry, which was taken.
+/// Holds the thread with its entry, which was taken.
 pub fn hold(parts: &mut CoreParts, thread: ThreadId)
     requires { IsSoundCore parts.old }
     ensures sound { IsSoundCore parts.new }
@@ -316,7 +317,7 @@ pub fn hold(parts: &mut CoreParts, thread: ThreadId)
     }
 }
 
-/// The thread that is held has its entry at high from now on, for the same reason.
+/// Queues the entry of a held thread at high, for the same reason as before.
 #[inline(always)]
 pub fn unhold(parts: &mut CoreParts, thread: ThreadId)
     requires sound { IsSoundCore parts.old }

@@ -8,7 +8,7 @@ ghost use Rattle.task_words.specs.StateView.{set_of, thread_of};
 use task_records::{CoreParts, call_at, thread_at, work_at};
 use task_words::{SetId, SubtaskId, ThreadId};
 
-/// The first waiter of a set: the least by the places of its call and of itself in the resource table.
+/// Returns the first waiter of a set: the least by the places of its call and of itself in the resource table.
 pub fn first_waiter(parts: &CoreParts, set: SetId) -> Option<ThreadId>
     requires sound { IsSoundCore parts.now }
     requires live { 0 < set_of (seen parts.now) set }
@@ -24,8 +24,8 @@ pub fn first_waiter(parts: &CoreParts, set: SetId) -> Option<ThreadId>
     }
 }
 
-/// The first ready member of a set, in the order of `Waitable`: host works, then calls, each by its place in the
-/// resource table.
+/// Returns the first ready member of a set, in the order of `Waitable`: host works, then calls, each by its place in the resource
+/// table.
 pub fn first_ready(parts: &CoreParts, set: SetId) -> Option<SubtaskId>
     requires sound { IsSoundCore parts.now }
     requires live { 0 < set_of (seen parts.now) set }
@@ -43,7 +43,7 @@ pub fn first_ready(parts: &CoreParts, set: SetId) -> Option<SubtaskId>
     }
 }
 
-/// Whether a set has a member that has an event.
+/// Returns whether a set has a member that has an event.
 pub fn has_ready_member(parts: &CoreParts, set: SetId) -> bool
     requires sound { IsSoundCore parts.now }
     requires live { 0 < set_of (seen parts.now) set }

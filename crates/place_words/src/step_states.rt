@@ -17,7 +17,7 @@ use task_machine::Given;
 use task_records::CoreParts;
 use task_words::{OpProgressId, ThreadId};
 
-/// The thread has come so far in its op.
+/// Sets the progress of the thread's op.
 #[inline(always)]
 pub fn set_op_progress(parts: &mut CoreParts, thread: ThreadId, op_progress: OpProgressId)
     requires { IsSoundCore parts.old }
@@ -28,7 +28,7 @@ pub fn set_op_progress(parts: &mut CoreParts, thread: ThreadId, op_progress: OpP
     put_there(parts, thread, named, awaited);
 }
 
-/// The thread goes on with the op at this position.
+/// Moves the thread to the op at this position.
 #[inline(always)]
 pub fn move_to(parts: &mut CoreParts, thread: ThreadId, position: u32)
     requires { IsSoundCore parts.old }
@@ -50,7 +50,7 @@ fn write_registers(parts: &mut CoreParts, thread: ThreadId, registers: &[u64; 16
     }
 }
 
-/// The thread is about to begin the op at this position, with these registers.
+/// Sets the thread's position, at the start of an op, and its registers.
 pub fn set_context(parts: &mut CoreParts, thread: ThreadId, position: u32, registers: &[u64; 16])
     requires { IsSoundCore parts.old }
     ensures sound { IsSoundCore parts.new }
@@ -60,7 +60,7 @@ pub fn set_context(parts: &mut CoreParts, thread: ThreadId, position: u32, regis
     put_op(parts, thread, position);
 }
 
-/// The op is done.
+/// Moves the thread past its op, which is done.
 #[inline(always)]
 pub fn advance(parts: &mut CoreParts, thread: ThreadId)
     requires sound { IsSoundCore parts.old }
@@ -72,7 +72,7 @@ pub fn advance(parts: &mut CoreParts, thread: ThreadId)
     move_to(parts, thread, at + 1);
 }
 
-/// The op is done, with its answer in a register.
+/// Moves the thread past its op, and writes the op's answer to a register.
 pub fn assign(parts: &mut CoreParts, thread: ThreadId, register: u8, value: u64)
     requires sound { IsSoundCore parts.old }
     requires few { position_of (thread_of (seen parts.old) thread) (seen parts.old).core + 1 < 2 ^ 32 }
@@ -83,7 +83,7 @@ pub fn assign(parts: &mut CoreParts, thread: ThreadId, register: u8, value: u64)
     put_answer(parts, thread, register, value, at + 1);
 }
 
-// The words that an activation is given: code, handle and result.
+// The primitives that an activation is given: code, handle and result.
 #[inline(always)]
 fn words_of(given: Given) -> (u64, u64, u64)
     ensures code { result.0 ≡ given_code given }
@@ -97,8 +97,8 @@ fn words_of(given: Given) -> (u64, u64, u64)
     }
 }
 
-/// An activation begins: the thread is given what is there in r0, r1 and r2, its instance keeps other entries out, and
-/// it runs the react script from its start.
+/// Begins an activation: the thread is given what is there in r0, r1 and r2, its instance keeps other entries out, and it runs the
+/// react script from its start.
 pub fn activate(parts: &mut CoreParts, thread: ThreadId, instance: u32, given: Given)
     requires { IsSoundCore parts.old }
     ensures sound { IsSoundCore parts.new }

@@ -140,7 +140,7 @@ fn blocked_chain(parts: &CoreParts, subtask: SubtaskId) -> Option<usize>
     }
 }
 
-/// The chain of the threads of an instance that are held: barred starts stand apart.
+/// Returns the chain of the threads of an instance that are held: barred starts are in a list of their own.
 pub(crate) fn held_chain(parts: &CoreParts, instance: u32, barred: bool, why: Why) -> Option<usize>
     ensures { place_chain (bare (parts_of parts.now)) (held_list instance barred why) ≡ result }
 {
@@ -185,7 +185,7 @@ pub(crate) fn under_chain(parts: &CoreParts, thread: ThreadId) -> Option<usize>
     }
 }
 
-/// The chain that a thread of the instance is filed in at a place, if it is.
+/// Returns the chain that a thread of the instance is filed in at a place, if it is.
 pub(crate) fn chain_at(
     parts: &CoreParts,
     instance: u32,

@@ -12,7 +12,7 @@ use task_machine::{OpProgress, Place, Subtask};
 use task_records::CoreParts;
 use task_words::{CallId, ThreadId};
 
-/// A thread that is there runs from now on: seldom one that was anywhere but at New.
+/// Lets a thread that is there run: seldom one that was anywhere but at New.
 #[inline(always)]
 pub fn run_first(parts: &mut CoreParts, thread: ThreadId)
     requires sound { IsSoundCore parts.old }
@@ -23,7 +23,7 @@ pub fn run_first(parts: &mut CoreParts, thread: ThreadId)
     put(parts, thread, Place::Running, 0, None);
 }
 
-/// The thread is under the thread of a call, and inside that call, from now on: nothing is tested of those two.
+/// Moves the thread under the thread of a call, and inside that call: nothing is tested of those two.
 #[inline(always)]
 pub fn stand_under(parts: &mut CoreParts, thread: ThreadId, callee: ThreadId, call: CallId)
     requires sound { IsSoundCore parts.old }

@@ -12,7 +12,7 @@ at_index (y ∷ xs) zero x within is = ap (λ z. Some z) (sym is)
 at_index (y ∷ xs) (suc i) x within is = at_index xs i x within is
 
 module _ {T X : Type 0} (number : T → ℕ) (rec : T → X) (t : Table (Single T)) (made : ℕ) (sound : SoundTable (λ e. Some (number e.item, rec e.item)) t made) where
-  -- what stands at a place has a number
+  -- what is at a place has a number
   pub number_positive : (rep : ℕ) (q : Placed (Single T)) → place_at t rep ≡ Some q → 0 < number q.entry.item
   number_positive rep q at = by (number q.entry.item) refl
     where
@@ -30,7 +30,7 @@ module _ {T X : Type 0} (number : T → ℕ) (rec : T → X) (t : Table (Single 
       (ap (key_in (λ e. Some (number e.item, rec e.item))) at_s)
 
 module _ {E F : Type 0} (f : E → F) (t : Table E) (rep : ℕ) where
-  -- what stands in the table seen by f
+  -- what is in the table seen by f
   pub place_mapped : (p : Placed E) → place_at t rep ≡ Some p → place_at (mapped f t) rep ≡ Some (record { serial = p.serial; parent = p.parent; entry = f p.entry })
   place_mapped p at = place_at-mapped f t rep ∙ ap (placed_as f) at
 

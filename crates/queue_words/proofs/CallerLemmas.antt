@@ -11,7 +11,7 @@ use Rattle.queue_words.proofs.WholeLemmas.{KeepsNodes, chains_sound, chains_whol
 abbrev pub numbers_of : List Follower → List ℕ
 numbers_of fs = map (λ (f : Follower). f.number) fs
 
--- the follower that stands by the node
+-- the follower that is by the node
 abbrev pub is_by : ℕ → Follower → Bool
 is_by k f = f.node.index == k
 
@@ -287,7 +287,7 @@ module _ (a : CoreParts) where
           (ap numbers_of more_here ∙ (map-append (λ (f : Follower). f.number) (callers_row bared n) (v ∷ []) ∙ ap (λ (l : List ℕ). l ++ v.number ∷ []) (sym (callers_row_of n))))
           (λ m d at_m other. more_other m other)
 
-    -- ---- A caller more, as a word adds it
+    -- ---- A caller more, as a primitive adds it
 
     module _ (id other : TableId ThreadKey) (g h : GuestThread) (is : Ok g ≡ item_at item_of a.threads id.rep id.serial) (is_other : Ok h ≡ item_at item_of a.threads other.rep other.serial) (rep : ℕ) (rep_is : rep ≡ other.rep) (apart : IsBehindNobody (thread_of (seen a) other) (seen a).core) (links : IsLinks a.behind) where
       abbrev pub added : Follower

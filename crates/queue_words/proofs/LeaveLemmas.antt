@@ -1,4 +1,4 @@
--- An entry leaves its mark, as words take it out.
+-- An entry leaves its mark, as primitives take it out.
 use Rattle.task_records.proofs.Core.{[], ap, ap₂, arith, bare, cond, Entry, eqb-true, false, has_entry, High, inl, inr, is_entry_of, is_made, is_some, IsLinks, IsKeyed, IsSome, IsSoundCore, IsWhole, less_by, List, list_any, Low, map, Mark, ne_eqb, None, on_core, CoreImage, parts_of, popped, refl, removed, rest_of, Row, row, same_Some, seen, set_high, set_low, Some, Spot, subst, sym, true, unqueued, ℕ, ◌<◌, ◌||◌, ◌∙◌, ◌∷◌, ◌≡◌}
 use Rattle.task_index.proofs.Queues.{unqueued_both}
 use Rattle.task_records.specs.declared.{parts.CoreParts.CoreParts, thread_records.Queued.Queued}

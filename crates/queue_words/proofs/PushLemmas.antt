@@ -1,4 +1,4 @@
--- A push of a thread's entry, or of a work's host entry, as words make it.
+-- A push of a thread's entry, or of a work's host entry, as primitives make it.
 use Rattle.task_records.proofs.Core.{[], ap, bare, bare_instance, bare_work, entries, Entry, eqb-true, false, High, host_entry, HostTaskKey, inl, inr, is_entry_of, is_free, IsLinks, IsOfThread, IsKeyed, IsSome, IsSoundCore, IsUnqueued, IsWhole, item_at, item_of, linked, List, list_any, list_of, Low, None, Ok, on_core, on_item, Option, option_map, CoreImage, parts_of, place_at, Placed, push_high, push_high_first, push_low, refl, Row, row, row_chain, same_Some, seen, instance_queue_chain, slice_get, slice_get-map, Some, Spot, subst, sym, TableId, thread_entry, thread_of, ThreadKey, true, work_entries, work_of, ℕ, ◌++◌, ◌∙◌, ◌∷◌, ◌≡◌}
 use Rattle.task_records.specs.declared.{parts.CoreParts.CoreParts, single.Single.Single, thread_records.GuestThread.GuestThread, thread_records.Queued.Queued, work_records.WorkRecord.WorkRecord}
 use Rattle.task_records.proofs.HomeLemmas.{thread_home}

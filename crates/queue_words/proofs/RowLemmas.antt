@@ -66,7 +66,7 @@ module _ (p : CoreImage) (whole : IsWhole p) where
   pub instance_queue_made : (v : Queued) → OfThread p v → is_made p.instance_queues v.instance_queue.index ≡ true
   instance_queue_made v at = subst (λ (x : Queued). is_made p.instance_queues x.instance_queue.index ≡ true) at.is (whole.nodes.instance_queues.made v.place at.placed at.at)
 
-  -- that of an entry which stands nowhere is free
+  -- that of an entry which is nowhere is free
   pub mark_free : (v : Queued) → IsKeyed p v → IsLinks p.marks → ((r : Row) → list_any (leaves v) (row p r) ≡ false) → is_free p.marks v.mark.index ≡ true
   mark_free v is sound none = free_in_none (row_chain p) (λ q. q.mark.index) (IsKeyed p) p.marks (row p) whole.chained.marks sound (leaves v) v.mark.index (knows_mark p whole v is) (mark_made v is) none
 
@@ -165,7 +165,7 @@ module _ (p : CoreImage) (whole : IsWhole p) where
   -- ---- An entry leaves its mark
 
   module _ (q : Queued) (is_q : IsKeyed p q) (sound : IsLinks p.marks) where
-    -- where it stands at one mark nothing leaves the other
+    -- where it is at one mark nothing leaves the other
     pub left_elsewhere : (j k : Row) → (j ≡ k → ⊥) → list_any (leaves q) (row p j) ≡ true → left p q k ≡ row p k
     left_elsewhere j k differ any = by (row_chain p j) (row_chain p k) refl refl
       where

@@ -8,7 +8,7 @@ use Rattle.queue_words.proofs.WholeLemmas.{chains_sound, chains_whole}
 
 module _ (a : CoreParts) where
   module _ (sound : IsSoundCore a) (id : TableId ThreadKey) (g : GuestThread) (is : Ok g ≡ item_at item_of a.threads id.rep id.serial) (rep : ℕ) (rep_is : rep ≡ id.rep) where
-    -- a thread as it stands among callers, or at switch
+    -- a thread as it is among callers, or at switch
     pub follower_kept : IsFollower (bare (parts_of a)) (record { number = g.number; place = rep; node = g.caller })
     unfolding IsSoundCore
     follower_kept =
@@ -19,7 +19,7 @@ module _ (a : CoreParts) where
   pub follower_number : (id : TableId ThreadKey) (g : GuestThread) → Ok g ≡ item_at item_of a.threads id.rep id.serial → Some g.number ≡ Some (thread_of (seen a) id)
   follower_number id g is = ap (λ (n : ℕ). Some n) (thread_named a id g is)
 
-  -- a thread that is kept as a follower stands at its place
+  -- a thread that is kept as a follower is at its place
   module _ (sound : IsSoundCore a) (f : Follower) (is : IsFollower (bare (parts_of a)) f) where
     follower_placed : (q : Placed (Single GuestThread)) × ((place_at a.threads f.place ≡ Some q) × (f.number ≡ q.entry.item.number))
     follower_placed = by (place_at (bare (parts_of a)).threads f.place) refl is

@@ -1,4 +1,4 @@
--- What stands first at a mark, and of an instance there.
+-- What is first at a mark, and of an instance there.
 use Rattle.task_records.proofs.Core.{[], ap, bare, bare_thread, bare_work, Bool, chained, cond, Each, Entry, entry_thread, eq-eqb, eqb-true, false, filter, first_entry, first_in, first_low, first_of, found_here, High, IfSome, inl, inr, instance_of, is_entry_in, is_number, is_of_instance, IsKeyed, IsSome, IsSoundCore, IsWhole, item_at, item_in, item_of, key_in, List, list_of, loose_work, Low, map, Mark, next_entry, None, number_in, Ok, on_item, Option, option_and_then, option_map, or_first, or_high, part, CoreImage, parts_of, record_at, refl, Row, row, row_chain, same_Some, seen, instance_queue_chain, instance_queue_in, slice_get, Some, subst, sym, TableId, thread_entry, thread_key, ThreadKey, true, unmoved, values_are, work_key, ℕ, ◌<◌, ◌∙◌, ◌∷◌, ◌≡◌}
 use Rattle.std.specs.List.{find}
 use Rattle.task_index.specs.Rows.{values, with_nodes}
@@ -33,7 +33,7 @@ pub top-known : {P : Type 0} (Known : P → Type 0) (xs : List P) (x : P) → Ea
 top-known Known [] x all is = absurd (cc)
 top-known Known (y ∷ ys) x all is = subst Known (sym (same_Some x y is)) all.0
 
--- the first that stands by the node that it names
+-- the first that is by the node that it names
 pub marked_top : (xs : List Queued) (m : Node) (q : Queued) → Some (m.index, q) ≡ head_of (with_nodes (λ (x : Queued). x.mark.index) xs) → Some (record q { mark = m }) ≡ top xs
 marked_top [] m q is = absurd (cc)
 marked_top (x ∷ xs) m q is = by (same_Some {A = ℕ × Queued} (m.index, q) (x.mark.index, x) is)
@@ -169,7 +169,7 @@ module _ (a : CoreParts) where
         by None is = tt
         by (Some c) is = is_whole.chained.marks.live r c is
 
-    -- each entry stands by the node that it names
+    -- each entry is by the node that it names
     pub mark_nodes : (r : Row) → IfSome (row_chain bared r) (λ c. entries a.marks c ≡ with_nodes (λ (q : Queued). q.mark.index) (values a.marks c))
     mark_nodes r = by (row_chain bared r) refl
       where

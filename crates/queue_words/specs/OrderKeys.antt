@@ -1,4 +1,4 @@
--- Entries that stand at high or low: whose they are, and which one a node takes away.
+-- Entries that are at high or low: whose they are, and which one a node takes away.
 use Rattle.std.specs.Prelude.{◌≡◌, ◌==◌, ◌&&◌, ℕ, Bool, true, false, List, [], ◌∷◌, Option, Some, None}
 use Rattle.task_records.specs.Image.{CoreImage}
 use Rattle.task_index.specs.Rows.{less_by}
@@ -37,7 +37,7 @@ same_instance None None = true
 same_instance None (Some j) = false
 same_instance (Some i) o = is_number i o
 
--- x is the entry that stands by the node of q
+-- x is the entry that is by the node of q
 abbrev pub leaves : Queued → Queued → Bool
 leaves q x = (x.mark.index == q.mark.index) && same_instance q.instance x.instance
 
@@ -58,7 +58,7 @@ row_with High xs list Low = list Low
 row_with Low xs list High = list High
 row_with Low xs list Low = xs
 
--- the entries of each mark without the one that stands by the node of q
+-- the entries of each mark without the one that is by the node of q
 abbrev pub left : CoreImage → Queued → Row → List Queued
 left p q r = less_by (leaves q) (row p r)
 

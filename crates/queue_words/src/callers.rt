@@ -11,7 +11,7 @@ use crate::order_keys::live_thread;
 use task_records::{CoreParts, Follower, thread_at};
 use task_words::ThreadId;
 
-/// Whether some thread is behind this one.
+/// Returns whether some thread is behind this one.
 pub fn has_callers(parts: &CoreParts, thread: ThreadId) -> bool
     requires { IsSoundCore parts.now }
     ensures { result ≡ not (is_nil (callers_of (thread_of (seen parts.now) thread) (seen parts.now).core)) }

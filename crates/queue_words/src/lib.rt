@@ -1,7 +1,7 @@
 //! Words on the marks of a core and on the callers of threads.
 //!
-//! Each is one equation of what contracts see, as the traits of `task_words` say it. An entry has its
-//! nodes from the start, so no word takes memory, and none goes through a list.
+//! Each is one equation of what contracts see, as the traits of `task_words` say it. An entry has its nodes from the start, so no
+//! primitive takes memory, and none goes through a list.
 #![tactic(auto)]
 
 mod callers;

@@ -17,7 +17,7 @@ use task_machine::Entry;
 use task_records::{CoreParts, GuestThread, WorkRecord, Queued, standing_thread, work_at};
 use task_words::{EntryId, ThreadId, WorkId};
 
-/// The record of a thread that is there.
+/// Returns the record of a thread that is there.
 pub(crate) fn live_thread(parts: &CoreParts, id: ThreadId) -> GuestThread
     requires sound { IsSoundCore parts.now }
     requires live { 0 < thread_of (seen parts.now) id }
@@ -26,7 +26,7 @@ pub(crate) fn live_thread(parts: &CoreParts, id: ThreadId) -> GuestThread
     *task_records::thread_there(parts, id)
 }
 
-/// The record of a host work that is there.
+/// Returns the record of a host work that is there.
 pub(crate) fn live_work(parts: &CoreParts, id: WorkId) -> WorkRecord
     requires sound { IsSoundCore parts.now }
     requires live { 0 < work_of (seen parts.now) id }
@@ -35,7 +35,7 @@ pub(crate) fn live_work(parts: &CoreParts, id: WorkId) -> WorkRecord
     *task_records::work_there(parts, id)
 }
 
-/// The entry of the thread at a place.
+/// Returns the entry of the thread at a place.
 pub(crate) fn entry_of(place: u32, thread: GuestThread) -> Queued
     ensures { result ≡ thread_entry place thread }
 {
@@ -50,7 +50,7 @@ pub(crate) fn entry_of(place: u32, thread: GuestThread) -> Queued
     }
 }
 
-/// The host entry of the work at a place.
+/// Returns the host entry of the work at a place.
 pub(crate) fn host_entry_of(place: u32, work: WorkRecord) -> Queued
     ensures { result ≡ host_entry place work }
 {
@@ -63,7 +63,7 @@ pub(crate) fn host_entry_of(place: u32, work: WorkRecord) -> Queued
     }
 }
 
-/// The chain of high, and that of an instance's entries there.
+/// Returns the chain of high, and that of an instance's entries there.
 pub(crate) fn high_chains(parts: &CoreParts, instance: u32) -> (usize, usize)
     requires sound { IsSoundCore parts.now }
     requires within { IsSome (slice_get parts.now.instances.items instance) }
@@ -76,7 +76,7 @@ pub(crate) fn high_chains(parts: &CoreParts, instance: u32) -> (usize, usize)
     }
 }
 
-/// The chain of low, and that of an instance's entries there.
+/// Returns the chain of low, and that of an instance's entries there.
 pub(crate) fn low_chains(parts: &CoreParts, instance: u32) -> (usize, usize)
     requires sound { IsSoundCore parts.now }
     requires within { IsSome (slice_get parts.now.instances.items instance) }
@@ -89,7 +89,7 @@ pub(crate) fn low_chains(parts: &CoreParts, instance: u32) -> (usize, usize)
     }
 }
 
-/// The first entry of a chain, where it was made.
+/// Returns the first entry of a chain, where it was made.
 pub(crate) fn first_queued(links: &Links<Queued>, chain: Option<usize>) -> Option<Queued>
     requires { IfSome chain (λ c. IsSome (list_of links.now c)) }
     ensures { result ≡ top (chained links.now chain) }
@@ -103,7 +103,7 @@ pub(crate) fn first_queued(links: &Links<Queued>, chain: Option<usize>) -> Optio
     }
 }
 
-/// The first entry of a mark, where its chain was made. Its node is the one at which it was found, so that it leaves
+/// Returns the first entry of a mark, where its chain was made. Its node is the one at which it was found, so that it leaves
 /// without a second look.
 #[inline(always)]
 pub(crate) fn first_marked(links: &Links<Queued>, chain: Option<usize>) -> Option<Queued>
@@ -120,7 +120,7 @@ pub(crate) fn first_marked(links: &Links<Queued>, chain: Option<usize>) -> Optio
     }
 }
 
-/// The id of an entry.
+/// Returns the id of an entry.
 pub(crate) fn entry_id(parts: &CoreParts, queued: Queued) -> EntryId
     requires sound { IsSoundCore parts.now }
     requires keyed { IsKeyed (bare (parts_of parts.now)) queued }

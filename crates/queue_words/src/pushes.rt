@@ -10,7 +10,7 @@ use crate::order_keys::{entry_of, high_chains, host_entry_of, live_thread, live_
 use task_records::{CoreParts, Follower};
 use task_words::{ThreadId, WorkId};
 
-/// This thread has the entry at switch, or none has.
+/// Gives this thread the entry at switch, or leaves switch empty.
 pub fn set_switch(parts: &mut CoreParts, thread: Option<ThreadId>)
     requires sound { IsSoundCore parts.old }
     requires live { IfSome thread (λ id. 0 < thread_of (seen parts.old) id) }
@@ -32,7 +32,7 @@ pub fn set_switch(parts: &mut CoreParts, thread: Option<ThreadId>)
     }
 }
 
-/// The thread's entry is put at the end of high.
+/// Puts the thread's entry at the end of high.
 #[inline(always)]
 pub fn push_high(parts: &mut CoreParts, thread: ThreadId)
     requires sound { IsSoundCore parts.old }
@@ -52,7 +52,7 @@ pub fn push_high(parts: &mut CoreParts, thread: ThreadId)
     parts.instance_queues.push_back(instance_queue, queued.instance_queue, queued);
 }
 
-/// At the front of high.
+/// Puts the thread's entry at the front of high.
 pub fn push_high_first(parts: &mut CoreParts, thread: ThreadId)
     requires sound { IsSoundCore parts.old }
     requires live { 0 < thread_of (seen parts.old) thread }
@@ -69,7 +69,7 @@ pub fn push_high_first(parts: &mut CoreParts, thread: ThreadId)
     parts.instance_queues.push_front(instance_queue, queued.instance_queue, queued);
 }
 
-/// The thread's entry is put at the end of low.
+/// Puts the thread's entry at the end of low.
 #[inline(always)]
 pub fn push_low(parts: &mut CoreParts, thread: ThreadId)
     requires sound { IsSoundCore parts.old }

@@ -32,7 +32,7 @@ pub(crate) fn leave(parts: &mut CoreParts, queued: Queued)
     }
 }
 
-/// The thread's entry leaves high, or else low.
+/// Removes the thread's entry from high, or else from low.
 pub fn unqueue(parts: &mut CoreParts, thread: ThreadId)
     requires { IsSoundCore parts.old }
     ensures sound { IsSoundCore parts.new }
@@ -66,7 +66,7 @@ fn pop_low(parts: &mut CoreParts)
     }
 }
 
-/// The first entry of the mark is gone.
+/// Removes the first entry of the mark.
 #[inline(always)]
 pub fn pop(parts: &mut CoreParts, mark: Mark)
     requires { IsSoundCore parts.old }

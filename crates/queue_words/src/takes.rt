@@ -1,4 +1,4 @@
-//! The taking of what stands first.
+//! The taking of what is first.
 ghost use Rattle.std.specs.Prelude.{◌≡◌, IfSome, is_none, option_map, true};
 ghost use Rattle.task_machine.specs.Read.{next_entry};
 ghost use Rattle.task_records.specs.Seen.{IsSoundCore, seen};
@@ -12,7 +12,7 @@ use task_machine::Mark;
 use task_records::{CoreParts, thread_at};
 use task_words::EntryId;
 
-/// What is taken next leaves its mark.
+/// Removes the entry that is taken next from its mark, and returns it.
 #[inline(always)]
 pub fn take_next(parts: &mut CoreParts) -> Option<(Mark, EntryId)>
     requires { IsSoundCore parts.old }

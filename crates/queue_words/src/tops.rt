@@ -1,4 +1,4 @@
-//! What stands at the marks.
+//! What is at the marks.
 ghost use Rattle.std.specs.Prelude.{◌≡◌, ◌<◌, IfSome, option_map};
 ghost use Rattle.task_machine.specs.Moves.{first_entry};
 ghost use Rattle.task_machine.specs.Read.{next_entry};
@@ -11,7 +11,7 @@ use task_machine::Mark;
 use task_records::{CoreParts, thread_at};
 use task_words::{EntryId, ThreadId};
 
-/// The thread at switch.
+/// Returns the thread at switch.
 pub fn switch(parts: &CoreParts) -> Option<ThreadId>
     requires { IsSoundCore parts.now }
     ensures is { option_map (λ id. thread_of (seen parts.now) id) result ≡ (seen parts.now).core.queues.switch }
@@ -23,7 +23,7 @@ pub fn switch(parts: &CoreParts) -> Option<ThreadId>
     }
 }
 
-/// The thread of the first entry of an instance, at high, else at low.
+/// Returns the thread of the first entry of an instance, at high, else at low.
 pub fn first_entry(parts: &CoreParts, instance: u32) -> Option<ThreadId>
     requires { IsSoundCore parts.now }
     ensures is { option_map (λ id. thread_of (seen parts.now) id) result ≡ first_entry instance (seen parts.now).core }
@@ -41,7 +41,7 @@ pub fn first_entry(parts: &CoreParts, instance: u32) -> Option<ThreadId>
     }
 }
 
-/// What is taken next.
+/// Returns the entry that is taken next, with its mark.
 #[inline(always)]
 pub fn next_entry(parts: &CoreParts) -> Option<(Mark, EntryId)>
     requires { IsSoundCore parts.now }

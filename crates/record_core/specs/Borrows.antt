@@ -7,7 +7,7 @@ use Rattle.task_machine.specs.Maps.{get}
 use Rattle.task_machine.specs.Write.{on_call, on_work}
 use Rattle.task_words.specs.StateView.{StateView, call_of, work_of}
 
--- the borrows of the call, or host call, that is named; None where none is
+-- the borrows of the call, or host call, that is named; None if none is
 abbrev pub borrows_in : Scope → StateView → Option ℕ
 borrows_in (scope.Id call) s = option_map (λ c. c.borrows) (get s.core.calls (call_of s call))
 borrows_in (scope.HostId work) s = option_map (λ w. w.borrows) (get s.core.works (work_of s work))

@@ -22,7 +22,7 @@ pub struct CallContext {
     pub borrows: u32,
 }
 
-// The borrows of a call; none where the id names none.
+// The borrows of a call; none if the id names none.
 fn call_borrows(parts: &CoreParts, call: CallId) -> Option<u32>
     requires { IsSoundCore parts.now }
     ensures { result ≡ option_map (λ c. c.borrows) (get (seen parts.now).core.calls (call_of (seen parts.now) call)) }
@@ -33,7 +33,7 @@ fn call_borrows(parts: &CoreParts, call: CallId) -> Option<u32>
     }
 }
 
-// The borrows of a host work; none where the id names none.
+// The borrows of a host work; none if the id names none.
 fn work_borrows(parts: &CoreParts, work: WorkId) -> Option<u32>
     requires { IsSoundCore parts.now }
     ensures { result ≡ option_map (λ c. c.borrows) (get (seen parts.now).core.works (work_of (seen parts.now) work)) }
@@ -65,8 +65,7 @@ fn set_work_borrows(parts: &mut CoreParts, work: WorkId, borrows: u32)
 }
 
 impl TaskCore {
-    /// The borrows that a call holds, 0 of a new one. None exactly where the id names no call that is
-    /// there.
+    /// Returns the borrows that a call holds, 0 of a new one. None exactly where the id names no call that is there.
     pub fn call_context(&self, scope: Scope) -> Option<CallContext>
         ensures { option_map (λ x. x.borrows) result ≡ borrows_in scope self.now }
     {
@@ -80,8 +79,7 @@ impl TaskCore {
         }
     }
 
-    /// The call holds so many borrows. False exactly where the id names no call that is there, and
-    /// then nothing is changed.
+    /// Sets how many borrows the call holds. False exactly where the id names no call that is there, and then nothing is changed.
     pub fn set_call_context(&mut self, scope: Scope, context: CallContext) -> bool
         ensures there { IsTrue result ↔ IsSome (borrows_in scope self.old) }
         ensures new { self.new ≡ on_core (scope_borrowing scope context.borrows self.old) self.old }

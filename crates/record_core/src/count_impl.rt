@@ -33,21 +33,21 @@ fn groups(parts: &CoreParts) -> u64
 }
 
 impl TaskCore {
-    /// How many instances there are.
+    /// Returns how many instances there are.
     pub fn instances(&self) -> usize
         ensures { result ≡ size self.now.core.instances }
     {
         instances(&self.parts)
     }
 
-    /// How many handles are live in all instances, those of threads among them.
+    /// Returns how many handles are live in all instances, those of threads among them.
     pub fn live_handles(&self) -> u32
         ensures { result ≡ live_count self.now.core }
     {
         live_handles(&self.parts)
     }
 
-    /// How many groups are live.
+    /// Returns how many groups are live.
     pub fn groups(&self) -> u64
         ensures { result ≡ length self.now.core.groups }
     {

@@ -10,8 +10,8 @@ use crate::task_core::TaskCore;
 use task_words::ThreadId;
 
 impl TaskCore {
-    /// The number of the group of a thread that is there, as long as that group is known: nothing is tested. 0 once its end
-    /// was told.
+    /// Returns the number of the group of a thread that is there, as long as that group is tracked: nothing is tested. 0 once its
+    /// end was told.
     #[inline(always)]
     pub fn group_unchecked(&self, thread: ThreadId) -> u64
         requires { 0 < thread_of self.now thread }
@@ -20,7 +20,7 @@ impl TaskCore {
         record_words::group_unchecked(&self.parts, thread)
     }
 
-    /// Whether a group has ended since the core was last asked which.
+    /// Returns whether a group has ended since the core was last asked which.
     #[inline(always)]
     pub fn has_ended(&self) -> bool
         ensures ended { result ≡ not (is_nil (ended_groups self.now)) }
@@ -29,9 +29,9 @@ impl TaskCore {
         count_words::has_ended(&self.parts)
     }
 
-    /// The groups that have ended since the core was last asked, in order of number: those that were live then, less those
-    /// that are live now. The core is as before: `forget_ended` says that it was asked. It takes time that grows with the
-    /// number of these groups, times its logarithm.
+    /// Returns the groups that have ended since the core was last asked, in order of number: those that were live then, less those
+    /// that are live now. The core is as before: `forget_ended` says that it was asked. It takes time that grows with the number of
+    /// these groups, times its logarithm.
     pub fn ended(&mut self) -> &[u64]
         ensures numbers { result.now ≡ ended_groups self.old }
         ensures* same { sem 𝓛 (StaysAs self.entry self.old) }
@@ -39,14 +39,14 @@ impl TaskCore {
         count_words::ended(&mut self.parts)
     }
 
-    /// Each live group is known: those that have ended and the live ones are as many as are known.
+    /// Says that each live group is tracked: those that have ended and the live ones are as many as are tracked.
     pub fn count_ended(&self)
         ensures { CountsEnded self.now }
     {
         count_words::count_ended(&self.parts);
     }
 
-    /// The core was asked which groups have ended: from now on it knows the live ones alone.
+    /// Forgets the groups that have ended: the core was asked for them, and tracks the live ones alone from now on.
     #[inline(always)]
     pub fn forget_ended(&mut self)
         ensures { self.new ≡ asked self.old }

@@ -10,8 +10,8 @@ use crate::task_core::TaskCore;
 use task_machine::NoMemory;
 
 impl TaskCore {
-    /// Makes an instance and answers its number, from 0: its counters and words are 0, its flags
-    /// are clear, and it has no handles. Where memory is wanting, the core is as before.
+    /// Makes an instance and answers its number, from 0: its counters and words are 0, its flags are clear, and it has no handles.
+    /// If it is out of memory, the core is as before.
     pub fn add_instance(&mut self) -> Result<u32, NoMemory>
         requires { size self.old.core.instances < 4294967295 }
         ensures number { IfOk result (λ i. i ≡ size self.old.core.instances) }
@@ -23,14 +23,14 @@ impl TaskCore {
         make_words::add_instance(&mut self.parts)
     }
 
-    /// How many entries have room in the table.
+    /// Returns how many entries have room in the table.
     pub fn capacity(&self) -> usize
         ensures { result ≡ self.now.core.capacity }
     {
         count_words::capacity(&self.parts)
     }
 
-    /// How many entries of the table are taken.
+    /// Returns how many entries of the table are taken.
     pub fn used(&self) -> u64
         ensures { result ≡ table_use self.now.core }
     {
@@ -46,7 +46,7 @@ impl TaskCore {
         count_words::set_capacity(&mut self.parts, entries);
     }
 
-    /// How many handles may be live at once.
+    /// Returns how many handles may be live at once.
     pub fn handle_limit(&self) -> u32
         ensures is { result ≡ self.now.core.handle_limit }
         ensures bound { result ≤ 268435455 }

@@ -34,8 +34,7 @@ impl Model for TaskCore {
 }
 
 impl TaskCore {
-    /// A core in which nothing was made: no instance, a limit of 100,000 handles, and room for
-    /// 1,000,000 entries.
+    /// Makes a core in which nothing was made: no instance, a limit of 100,000 handles, and room for 1,000,000 entries.
     pub fn new(alloc: Global) -> TaskCore
         ensures { result ≡ nothing }
     {

@@ -1,4 +1,4 @@
--- A record table is the table of the places that its rows stand for, so that what holds of that one holds of it.
+-- A record table is the table of the places that its rows represent, so that what holds of that one holds of it.
 use Rattle.std.proofs.Common.{◌≡◌, ℕ, ◌-◌, ◌<◌, ◌^◌, ◌==◌, Bool, true, false, cond, List, [], ◌∷◌, length, map, set, get_or, slice_get, Option, Some, None, IsSome, Result, Ok, Err, IsOk, is_some, option_map, option_and_then, refl, sym, ap, subst, ◌∙◌, arith}
 use Rattle.std.proofs.lemmas.Bool.{eq-eqb, ne_eqb}
 use Rattle.std.proofs.lemmas.List.{map-set, map_push, length-map}
@@ -44,7 +44,7 @@ module _ {E : Type 0} where
   unfolding with_capacity
   new_shown rows free none nothing = ap (λ rs. records_shown rs free 0) none ∙ ap (λ ns. records_shown [] ns 0) nothing
 
-  -- a place of a row, by its serial
+  -- a place of a rule, by its serial
   of_free : (r : RecordRow E) → r.serial ≡ 2 ^ 64 - 1 → place_of r ≡ Free
   of_free r is = ap (λ b. cond b Free (Taken (record { serial = r.serial; parent = None; children = 0; entry = r.entry }))) (eq-eqb r.serial (2 ^ 64 - 1) is)
 
@@ -100,7 +100,7 @@ module _ {E : Type 0} where
     pub row_entry : option_map (λ p. p.entry) (row_shown rows rep) ≡ Some read.entry
     row_entry = ap (λ o. option_map (λ p. p.entry) (option_and_then (λ r. placed_in (place_of r)) o)) row_read.0 ∙ ap (λ p. option_map (λ q. q.entry) (placed_in p)) row_read.1
 
-  -- where the next place is free, its row is there
+  -- where the next place is free, its rule is there
   pub next_is_there : (free : List ℕ) (rows : List (RecordRow E)) → NextIsFree free (map place_of rows) → NextIsThere free rows
   next_is_there [] rows next = tt
   next_is_there (rep ∷ rest) rows next = let within = slice_get_within (map place_of rows) rep Free next in let same = length-map rows place_of in omega arith
@@ -139,7 +139,7 @@ module _ {E : Type 0} where
       place_there rows rep r one.1 ∙ ap (λ b. Some (cond b Free (Taken (record { serial = r.serial; parent = None; children = 0; entry = r.entry })))) one.2 in
       subst IsCounted (sym is) (counted-vacate (map place_of rows) rep (record { serial = r.serial; parent = None; children = 0; entry = r.entry }) found refl counted)
 
-  -- where an entry is seen its row is
+  -- where an entry is seen its rule is
   pub row_within : (rows : List (RecordRow E)) (free : List ℕ) (given rep : ℕ) (t : Table E) → records_shown rows free given ≡ t → IsSome (place_at t rep) → rep < length rows
   row_within rows free given rep t is some =
       let one = row_there rows rep (subst IsSome (sym (row_seen rows free given rep t is)) some) in

@@ -13,7 +13,7 @@ module _ {E : Type 0} where
   abbrev pub row_placed : RecordRow E → Placed E
   row_placed r = record { serial = r.serial; parent = None; entry = r.entry }
 
-  -- the place that a row stands for
+  -- the place that a row represents
   abbrev pub place_of : RecordRow E → TableCell E
   place_of r = if r.serial == 2 ^ 64 - 1 then Free else Taken (record { serial = r.serial; parent = None; children = 0; entry = r.entry })
 

@@ -20,7 +20,7 @@ pub(crate) struct RecordRow<E> {
     pub(crate) entry: E,
 }
 
-/// The taken row at a place.
+/// Returns the taken row at a place.
 #[inline(always)]
 pub(crate) fn row_at<E>(rows: &Vec<RecordRow<E>>, rep: u32) -> Option<&RecordRow<E>>
     ensures { option_map row_placed (option_copied result) ≡ row_shown rows.now.items rep }
@@ -31,7 +31,7 @@ pub(crate) fn row_at<E>(rows: &Vec<RecordRow<E>>, rep: u32) -> Option<&RecordRow
     }
 }
 
-/// The taken row at a place, if its entry has this serial.
+/// Returns the taken row at a place, if its entry has this serial.
 #[inline(always)]
 pub(crate) fn row_in<E>(rows: &Vec<RecordRow<E>>, rep: u32, serial: u64) -> Option<&RecordRow<E>>
     ensures { option_map row_placed (option_copied result) ≡ of_serial serial (row_shown rows.now.items rep) }

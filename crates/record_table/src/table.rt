@@ -19,7 +19,7 @@ use task_table::{Kind, PushError, ResourceTableError, TableId};
 #[derive(Drop)]
 pub struct RecordTable<E> {
     rows: Vec<RecordRow<E>>,
-    // The free rows, the one freed last at the end. It has room for each row.
+    // The free rows, the one freed last at the end. It has room for each rule.
     free: Vec<u32>,
     // How many serials were given.
     given: u64,
@@ -43,7 +43,7 @@ impl<E> Model for RecordTable<E> {
 impl<E: Copy> RecordTable<E> {
     ghost use Rattle.record_table.specs.LentRecords.{lends_entry, lends_item, lends_known};
 
-    /// An empty table, whose places are as many as there can be: 4,294,967,295.
+    /// Makes an empty table, whose places are as many as there can be: 4,294,967,295.
     pub fn new(alloc: Global) -> RecordTable<E>
         ensures empty { result ≡ with_capacity 4294967295 new_table }
         ensures sound { IsTable result }
@@ -55,7 +55,7 @@ impl<E: Copy> RecordTable<E> {
         }
     }
 
-    /// How many entries there are.
+    /// Returns how many entries there are.
     pub fn len(&self) -> usize
         ensures len { result ≡ table_len self.now }
         ensures sound { IsTable self.now }
@@ -91,7 +91,8 @@ impl<E: Copy> RecordTable<E> {
         self.free.is_empty() && self.rows.len() >= 4_294_967_295 || self.given == u64::MAX
     }
 
-    /// The item of the entry with this id. `NotPresent` where no entry has its place and serial, `WrongType` where that entry is of another kind.
+    /// Returns the item of the entry with this id. `NotPresent` where no entry has its place and serial, `WrongType` where that
+    /// entry is of another kind.
     pub fn get<K: Kind<E>>(&self, id: TableId<K>) -> Result<&K::Item, ResourceTableError>
         ensures { result_copied result ≡ item_at K.item_of self.now id.rep id.serial }
     {
@@ -110,7 +111,8 @@ impl<E: Copy> RecordTable<E> {
         &mut self.rows[rep as usize].entry
     }
 
-    /// The item of the entry with this id, for writing. It is refused as `get` is. After a write the entry is the one that the kind makes of the item written, under the same id.
+    /// Returns the item of the entry with this id, for writing. It is refused as `get` is. After a write the entry is the one that
+    /// the kind makes of the item written, under the same id.
     pub fn get_mut<K: Kind<E>>(
         &mut self,
         id: TableId<K>,
@@ -127,7 +129,7 @@ impl<E: Copy> RecordTable<E> {
         }
     }
 
-    /// The place that the next push gives. `None` where no push is allowed.
+    /// Returns the place that the next push gives. `None` where no push is allowed.
     pub fn next_place(&self) -> Option<u32>
         ensures some { IfSome result (λ rep. rep ≡ next_place self.now) }
         ensures none { (result ≡ None) ↔ (is_full self.now ≡ true) }
@@ -200,7 +202,7 @@ impl<E: Copy> RecordTable<E> {
         }
     }
 
-    /// The serial of what stands at a place, so that an id may be made of the place alone.
+    /// Returns the serial of what is at a place, so that an id may be made of the place alone.
     pub fn serial_at(&self, rep: u32) -> Option<u64>
         ensures { result ≡ option_map (λ p. p.serial) (place_at self.now rep) }
     {
@@ -210,7 +212,7 @@ impl<E: Copy> RecordTable<E> {
         }
     }
 
-    /// The serial of what is known to stand at a place: nothing is tested.
+    /// Returns the serial of what is known to be at a place: nothing is tested.
     pub fn serial_unchecked(&self, rep: u32) -> u64
         requires { IsSome (place_at self.now rep) }
         ensures { Some result ≡ option_map (λ p. p.serial) (place_at self.now rep) }
@@ -218,7 +220,7 @@ impl<E: Copy> RecordTable<E> {
         self.rows[rep as usize].serial
     }
 
-    /// The item of what stands at a place, whatever its serial, if it is of this kind.
+    /// Returns the item of what is at a place, whatever its serial, if it is of this kind.
     pub fn item_at<K: Kind<E>>(&self, rep: u32) -> Option<&K::Item>
         ensures { option_copied result ≡ option_and_then (λ p. K.item_of p.entry) (place_at self.now rep) }
     {
@@ -228,7 +230,7 @@ impl<E: Copy> RecordTable<E> {
         }
     }
 
-    /// The item of an entry that is known to stand at a place: nothing is tested.
+    /// Returns the item of an entry that is known to be at a place: nothing is tested.
     pub fn there<K: Kind<E>>(&self, rep: u32) -> &K::Item
         requires { IsSome (option_and_then (λ p. K.item_of p.entry) (place_at self.now rep)) }
         ensures { Some result.now ≡ option_and_then (λ p. K.item_of p.entry) (place_at self.now rep) }
@@ -239,7 +241,7 @@ impl<E: Copy> RecordTable<E> {
         }
     }
 
-    /// The item of the entry with this id, which is known to be there: nothing is tested.
+    /// Returns the item of the entry with this id, which is known to be there: nothing is tested.
     pub fn known<K: Kind<E>>(&self, id: TableId<K>) -> &K::Item
         requires { IsOk (item_at K.item_of self.now id.rep id.serial) }
         ensures { Ok result.now ≡ item_at K.item_of self.now id.rep id.serial }
@@ -247,7 +249,8 @@ impl<E: Copy> RecordTable<E> {
         self.there::<K>(id.rep)
     }
 
-    /// The item of the entry with this id, which is known to be there, for writing: nothing is tested. After a write the entry is the one that the kind makes of the item written, under the same id.
+    /// Returns the item of the entry with this id, which is known to be there, for writing: nothing is tested. After a write the
+    /// entry is the one that the kind makes of the item written, under the same id.
     pub fn get_mut_unchecked<K: Kind<E>>(&mut self, id: TableId<K>) -> &mut K::Item
         requires { IsOk (item_at K.item_of self.old id.rep id.serial) }
         ensures* writes_back { sem 𝓛 (lends_known E.row self.entry id.rep K.Item.row K.entry_of result) }
@@ -270,7 +273,7 @@ impl<E: Copy> RecordTable<E> {
         self.free.push_reserved(id.rep);
     }
 
-    /// Each entry with its place, in order of the place.
+    /// Returns each entry with its place, in order of the place.
     pub fn iter(&self) -> RecordIter<'_, E>
         ensures entries { result ≡ entries self.now }
         ensures len { length result ≡ table_len self.now }

@@ -1,4 +1,4 @@
--- The call that stands at the place that a thread keeps is the thread's.
+-- The call that is at the place that a thread keeps is the thread's.
 use Rattle.task_records.proofs.Core.{ap, bare, bare_call, Call, call_group, call_key, get, HasNumber, IsCallNamed, IsSome, IsSoundCore, item_at, item_of, None, Ok, on_item, Option, option_and_then, option_map, option_map_or, parts_of, place_at, place_at-mapped, Placed, placed_as, records, refl, seen, Some, subst, sym, ℕ, ◌<◌, ◌∙◌, ◌≡◌}
 use Rattle.task_machine.specs.Read.{callee_of, no_callee}
 use Rattle.task_records.proofs.KindLemmas.{item_number, item_read}

@@ -1,4 +1,4 @@
--- Whether a group is known, by what is kept of those that have ended.
+-- Whether a group is tracked, by what is kept of those that have ended.
 use Rattle.std.proofs.Common.{[], ap, arith, Bool, false, if◌then◌else◌, inl, inr, List, nat_lt, not, refl, subst, sym, true, ℕ, ◌<◌, ◌==◌, ◌∙◌, ◌∷◌, ◌≡◌, ◌||◌}
 use Rattle.std.proofs.lemmas.Bool.{cases_eq, eq-eqb, ne_eqb}
 use Rattle.std.specs.List.{list_any}

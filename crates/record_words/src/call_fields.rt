@@ -15,7 +15,7 @@ use task_records::CoreParts;
 use task_wait::GuestTaskKey;
 use task_words::{CallId, ThreadId};
 
-/// The number of a call; 0 where the id names none.
+/// Returns the number of a call; 0 if the id names none.
 pub fn call_number(parts: &CoreParts, call: CallId) -> u64
     requires { IsSoundCore parts.now }
     ensures { result ≡ call_of (seen parts.now) call }
@@ -26,7 +26,7 @@ pub fn call_number(parts: &CoreParts, call: CallId) -> u64
     }
 }
 
-/// The export that the call is of.
+/// Returns the export that the call is of.
 pub fn callee(parts: &CoreParts, call: CallId) -> Callee
     requires { IsSoundCore parts.now }
     ensures { result ≡ callee_of (call_of (seen parts.now) call) (seen parts.now).core }
@@ -40,7 +40,7 @@ pub fn callee(parts: &CoreParts, call: CallId) -> Callee
     }
 }
 
-/// The kind of the call's export.
+/// Returns the kind of the call's export.
 pub fn kind(parts: &CoreParts, call: CallId) -> ExportKind
     requires { IsSoundCore parts.now }
     ensures { result ≡ kind_of (call_of (seen parts.now) call) (seen parts.now).core }
@@ -51,7 +51,7 @@ pub fn kind(parts: &CoreParts, call: CallId) -> ExportKind
     }
 }
 
-/// The kind of the export of a call that is there: nothing is tested of it.
+/// Returns the kind of the export of a call that is there: nothing is tested of it.
 pub fn kind_unchecked(parts: &CoreParts, call: CallId) -> ExportKind
     requires sound { IsSoundCore parts.now }
     requires live { 0 < call_of (seen parts.now) call }
@@ -60,7 +60,7 @@ pub fn kind_unchecked(parts: &CoreParts, call: CallId) -> ExportKind
     task_records::call_there(parts, call).call.kind
 }
 
-/// Where the call's result goes.
+/// Returns where the call's result goes.
 pub fn goal(parts: &CoreParts, call: CallId) -> Goal
     requires { IsSoundCore parts.now }
     ensures { result ≡ goal_of (call_of (seen parts.now) call) (seen parts.now).core }
@@ -71,7 +71,7 @@ pub fn goal(parts: &CoreParts, call: CallId) -> Goal
     }
 }
 
-/// Where the result of a call goes that is there: nothing is tested of it.
+/// Returns where the result of a call goes that is there: nothing is tested of it.
 pub fn goal_unchecked(parts: &CoreParts, call: CallId) -> Goal
     requires sound { IsSoundCore parts.now }
     requires live { 0 < call_of (seen parts.now) call }
@@ -80,7 +80,7 @@ pub fn goal_unchecked(parts: &CoreParts, call: CallId) -> Goal
     task_records::call_there(parts, call).call.goal
 }
 
-/// How the call has ended, if it has.
+/// Returns how the call has ended, if it has.
 pub fn end_of(parts: &CoreParts, call: CallId) -> Option<CallEnd>
     requires { IsSoundCore parts.now }
     ensures { result ≡ end_of (call_of (seen parts.now) call) (seen parts.now).core }
@@ -91,7 +91,7 @@ pub fn end_of(parts: &CoreParts, call: CallId) -> Option<CallEnd>
     }
 }
 
-/// Whether the call's start has run.
+/// Returns whether the call's start has run.
 pub fn was_started(parts: &CoreParts, call: CallId) -> bool
     requires { IsSoundCore parts.now }
     ensures { result ≡ was_started (call_of (seen parts.now) call) (seen parts.now).core }
@@ -102,7 +102,7 @@ pub fn was_started(parts: &CoreParts, call: CallId) -> bool
     }
 }
 
-/// Whether the caller was told that the call is Starting.
+/// Returns whether the caller was told that the call is Starting.
 pub fn starting_is_published(parts: &CoreParts, call: CallId) -> bool
     requires { IsSoundCore parts.now }
     ensures { result ≡ starting_is_published (call_of (seen parts.now) call) (seen parts.now).core }
@@ -113,7 +113,7 @@ pub fn starting_is_published(parts: &CoreParts, call: CallId) -> bool
     }
 }
 
-/// The task's own event, if one is there.
+/// Returns the task event, if one is there.
 pub fn task_event(parts: &CoreParts, call: CallId) -> Option<TaskEvent>
     requires { IsSoundCore parts.now }
     ensures { result ≡ task_event_of (call_of (seen parts.now) call) (seen parts.now).core }
@@ -124,7 +124,7 @@ pub fn task_event(parts: &CoreParts, call: CallId) -> Option<TaskEvent>
     }
 }
 
-/// Whether a cancel request has come to the task.
+/// Returns whether a cancel request has come to the task.
 pub fn cancel_was_delivered(parts: &CoreParts, call: CallId) -> bool
     requires { IsSoundCore parts.now }
     ensures { result ≡ cancel_was_delivered (call_of (seen parts.now) call) (seen parts.now).core }
@@ -135,7 +135,7 @@ pub fn cancel_was_delivered(parts: &CoreParts, call: CallId) -> bool
     }
 }
 
-/// The result of a `call_sync` that wasn't taken yet; 0 where there is none.
+/// Returns the result of a `call_sync` that wasn't taken yet; 0 if there is none.
 pub fn result_of(parts: &CoreParts, call: CallId) -> u64
     requires { IsSoundCore parts.now }
     ensures { result ≡ result_of (call_of (seen parts.now) call) (seen parts.now).core }
@@ -149,7 +149,7 @@ pub fn result_of(parts: &CoreParts, call: CallId) -> u64
     }
 }
 
-/// Whether the call's first thread and its task have ended.
+/// Returns whether the call's first thread and its task have ended.
 pub fn is_finished(parts: &CoreParts, call: CallId) -> bool
     requires { IsSoundCore parts.now }
     ensures { result ≡ option_map_or is_finished (get (seen parts.now).core.calls (call_of (seen parts.now) call)) false }
@@ -160,7 +160,7 @@ pub fn is_finished(parts: &CoreParts, call: CallId) -> bool
     }
 }
 
-/// The number of the thread's group, as long as that is known: 0 once its end was told.
+/// Returns the number of the thread's group, as long as that is tracked: 0 once its end was told.
 pub fn thread_group(parts: &CoreParts, thread: ThreadId) -> u64
     requires { IsSoundCore parts.now }
     ensures { result ≡ tracked_group (thread_of (seen parts.now) thread) (seen parts.now) }
@@ -174,7 +174,7 @@ pub fn thread_group(parts: &CoreParts, thread: ThreadId) -> u64
     }
 }
 
-/// The same of a thread that is there: nothing is tested.
+/// Returns the same of a thread that is there: nothing is tested.
 pub fn group_unchecked(parts: &CoreParts, thread: ThreadId) -> u64
     requires sound { IsSoundCore parts.now }
     requires live { 0 < thread_of (seen parts.now) thread }
@@ -185,7 +185,7 @@ pub fn group_unchecked(parts: &CoreParts, thread: ThreadId) -> u64
     if_tracked(parts, item.call.group)
 }
 
-/// The call's start has run.
+/// Marks the call as started.
 pub fn set_started(parts: &mut CoreParts, call: CallId)
     requires { IsSoundCore parts.old }
     ensures sound { IsSoundCore parts.new }
@@ -206,7 +206,7 @@ pub fn set_started_unchecked(parts: &mut CoreParts, call: CallId)
     parts.calls.get_mut_unchecked(call).call.started = true;
 }
 
-/// The caller was told that the call is Starting.
+/// Records that the caller was told that the call is Starting.
 pub fn set_starting_published(parts: &mut CoreParts, call: CallId)
     requires { IsSoundCore parts.old }
     ensures sound { IsSoundCore parts.new }
@@ -217,7 +217,7 @@ pub fn set_starting_published(parts: &mut CoreParts, call: CallId)
     }
 }
 
-/// The call has ended so.
+/// Records how the call has ended.
 pub fn set_end(parts: &mut CoreParts, call: CallId, end_of_call: CallEnd)
     requires { IsSoundCore parts.old }
     ensures sound { IsSoundCore parts.new }
@@ -238,7 +238,7 @@ pub fn set_end_unchecked(parts: &mut CoreParts, call: CallId, end_of_call: CallE
     parts.calls.get_mut_unchecked(call).call.end = Some(end_of_call);
 }
 
-/// The task's own event is this one, or none.
+/// Records that the task event is this one, or none.
 pub fn set_task_event(parts: &mut CoreParts, call: CallId, event: Option<TaskEvent>)
     requires { IsSoundCore parts.old }
     ensures sound { IsSoundCore parts.new }
@@ -249,7 +249,7 @@ pub fn set_task_event(parts: &mut CoreParts, call: CallId, event: Option<TaskEve
     }
 }
 
-/// A cancel request has come to the task.
+/// Records that a cancel request was delivered to the task.
 pub fn set_cancel_delivered(parts: &mut CoreParts, call: CallId)
     requires { IsSoundCore parts.old }
     ensures sound { IsSoundCore parts.new }
@@ -260,7 +260,7 @@ pub fn set_cancel_delivered(parts: &mut CoreParts, call: CallId)
     }
 }
 
-/// The call's first thread has ended.
+/// Records that the call's first thread has ended.
 pub fn set_exited(parts: &mut CoreParts, call: CallId)
     requires { IsSoundCore parts.old }
     ensures sound { IsSoundCore parts.new }
@@ -281,7 +281,7 @@ pub fn set_exited_unchecked(parts: &mut CoreParts, call: CallId)
     parts.calls.get_mut_unchecked(call).call.exited = true;
 }
 
-/// The result of a `call_sync` that its caller is to take, or none.
+/// Stores the result of a `call_sync` for its caller to take, or removes it.
 pub fn set_result(parts: &mut CoreParts, call: CallId, value: Option<u64>)
     requires { IsSoundCore parts.old }
     ensures sound { IsSoundCore parts.new }

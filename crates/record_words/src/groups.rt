@@ -1,4 +1,4 @@
-//! Which groups are known.
+//! Which groups are tracked.
 ghost use Rattle.std.specs.Prelude.{◌≡◌, ◌<◌};
 ghost use Rattle.record_words.specs.Groups.{HasGroup};
 ghost use Rattle.task_records.specs.Image.{tracked_in};
@@ -8,7 +8,7 @@ ghost use Rattle.task_words.specs.Groups.{if_tracked};
 
 use task_records::CoreParts;
 
-// Whether the group is among those that have ended. It is out of line, as few are asked for that have.
+// Whether the group is among those that have ended. It is a function of its own, as few are asked for that have.
 #[cold]
 #[inline(never)]
 fn has_ended(ended: &[u64], group: u64) -> bool
@@ -17,7 +17,7 @@ fn has_ended(ended: &[u64], group: u64) -> bool
     ended.contains(&group)
 }
 
-/// Whether a group that has a record is known.
+/// Returns whether a group that has a record is tracked.
 #[inline(always)]
 pub(crate) fn is_tracked(parts: &CoreParts, group: u64) -> bool
     requires sound { IsSoundCore parts.now }
@@ -30,7 +30,7 @@ pub(crate) fn is_tracked(parts: &CoreParts, group: u64) -> bool
     has_ended(parts.ended.as_slice(), group)
 }
 
-/// The number of a group that has a record, as long as that is known: 0 once its end was told.
+/// Returns the number of a group that has a record, as long as that is tracked: 0 once its end was told.
 #[inline(always)]
 pub(crate) fn if_tracked(parts: &CoreParts, group: u64) -> u64
     requires sound { IsSoundCore parts.now }

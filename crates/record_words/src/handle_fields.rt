@@ -9,7 +9,7 @@ use task_handles::{HandleKind, WaitableKind};
 use task_records::{CoreParts, call_id_at, set_id_at, thread_id_at, work_id_at};
 use task_words::{SetId, SubtaskId, ThreadId};
 
-/// The subtask that a handle names.
+/// Returns the subtask that a handle names.
 pub fn subtask_at(parts: &CoreParts, instance: u32, handle: u64) -> Option<SubtaskId>
     requires { IsSoundCore parts.now }
     ensures is { option_map (subtask_in (seen parts.now).tags) result ≡ option_map (λ sub. live_subtask sub (seen parts.now).core) (subtask_at instance handle (seen parts.now).core) }
@@ -34,7 +34,7 @@ pub fn subtask_at(parts: &CoreParts, instance: u32, handle: u64) -> Option<Subta
     }
 }
 
-/// The set that a handle names.
+/// Returns the set that a handle names.
 pub fn set_at(parts: &CoreParts, instance: u32, handle: u64) -> Option<SetId>
     requires { IsSoundCore parts.now }
     ensures is { option_map (λ id. set_of (seen parts.now) id) result ≡ option_map (λ x. live_set x (seen parts.now).core) (set_at instance handle (seen parts.now).core) }
@@ -50,7 +50,7 @@ pub fn set_at(parts: &CoreParts, instance: u32, handle: u64) -> Option<SetId>
     }
 }
 
-/// The thread that a thread handle names.
+/// Returns the thread that a thread handle names.
 pub fn thread_at(parts: &CoreParts, instance: u32, handle: u64) -> Option<ThreadId>
     requires { IsSoundCore parts.now }
     ensures { option_map (λ id. thread_of (seen parts.now) id) result ≡ option_map (λ n. live_thread n (seen parts.now).core) (thread_at instance handle (seen parts.now).core) }
@@ -61,7 +61,7 @@ pub fn thread_at(parts: &CoreParts, instance: u32, handle: u64) -> Option<Thread
     }
 }
 
-/// The handle that the instance gives next.
+/// Returns the handle that the instance gives next.
 pub fn new_handle(parts: &CoreParts, instance: u32) -> u32
     ensures { result ≡ new_handle instance (seen parts.now).core }
 {
@@ -71,7 +71,7 @@ pub fn new_handle(parts: &CoreParts, instance: u32) -> u32
     }
 }
 
-/// The thread handle that the instance gives next.
+/// Returns the thread handle that the instance gives next.
 pub fn new_thread_handle(parts: &CoreParts, instance: u32) -> u32
     ensures { result ≡ new_thread_handle instance (seen parts.now).core }
 {

@@ -8,14 +8,14 @@ ghost use Rattle.task_words.specs.StateView.{on_core};
 use crate::words::{put_word, word_in};
 use task_records::CoreParts;
 
-/// Whether there is such an instance.
+/// Returns whether there is such an instance.
 pub fn has_instance(parts: &CoreParts, instance: u32) -> bool
     ensures { result ≡ is_some (get (seen parts.now).core.instances instance) }
 {
     task_records::instance(parts, instance).is_some()
 }
 
-/// The instance's count of backpressure, 0 to 65535; 0 where there is no such instance.
+/// Returns the instance's count of backpressure, 0 to 65535; 0 if there is no such instance.
 pub fn backpressure(parts: &CoreParts, instance: u32) -> u16
     ensures { result ≡ backpressure_of instance (seen parts.now).core }
 {
@@ -25,7 +25,7 @@ pub fn backpressure(parts: &CoreParts, instance: u32) -> u16
     }
 }
 
-/// Whether the instance keeps entries out (`do_not_enter`); not where there is no such instance.
+/// Returns whether the instance keeps entries out (`do_not_enter`); not where there is no such instance.
 pub fn may_not_enter(parts: &CoreParts, instance: u32) -> bool
     ensures { result ≡ may_not_enter instance (seen parts.now).core }
 {
@@ -35,7 +35,7 @@ pub fn may_not_enter(parts: &CoreParts, instance: u32) -> bool
     }
 }
 
-/// Whether a thread of the instance may not stop (`do_not_suspend`); not where there is no such instance.
+/// Returns whether a thread of the instance may not stop (`do_not_suspend`); not where there is no such instance.
 pub fn may_not_suspend(parts: &CoreParts, instance: u32) -> bool
     ensures { result ≡ may_not_suspend instance (seen parts.now).core }
 {
@@ -45,7 +45,7 @@ pub fn may_not_suspend(parts: &CoreParts, instance: u32) -> bool
     }
 }
 
-/// One of the instance's words, 0 to 15; 0 where there is none.
+/// Returns one of the instance's memory cells, 0 to 15; 0 if there is none.
 pub fn word(parts: &CoreParts, instance: u32, word: u8) -> u64
     ensures { result ≡ word_of instance word (seen parts.now).core }
 {
@@ -55,7 +55,7 @@ pub fn word(parts: &CoreParts, instance: u32, word: u8) -> u64
     }
 }
 
-/// The instance's count of backpressure is this one.
+/// Sets the instance's count of backpressure.
 pub fn set_backpressure(parts: &mut CoreParts, instance: u32, count: u16)
     requires { IsSoundCore parts.old }
     ensures sound { IsSoundCore parts.new }
@@ -67,7 +67,7 @@ pub fn set_backpressure(parts: &mut CoreParts, instance: u32, count: u16)
     }
 }
 
-/// The instance keeps entries out from now on, or no longer.
+/// Sets whether the instance keeps entries out.
 pub fn set_do_not_enter(parts: &mut CoreParts, instance: u32, flag: bool)
     requires { IsSoundCore parts.old }
     ensures sound { IsSoundCore parts.new }
@@ -79,7 +79,7 @@ pub fn set_do_not_enter(parts: &mut CoreParts, instance: u32, flag: bool)
     }
 }
 
-/// No thread of the instance may stop from now on, or may again.
+/// Sets whether threads of the instance may not stop.
 pub fn set_do_not_suspend(parts: &mut CoreParts, instance: u32, flag: bool)
     requires { IsSoundCore parts.old }
     ensures sound { IsSoundCore parts.new }
@@ -91,7 +91,7 @@ pub fn set_do_not_suspend(parts: &mut CoreParts, instance: u32, flag: bool)
     }
 }
 
-/// One of the instance's words, 0 to 15, is written.
+/// Writes one of the instance's memory cells, 0 to 15.
 pub fn set_word(parts: &mut CoreParts, instance: u32, word: u8, value: u64)
     requires { IsSoundCore parts.old }
     ensures sound { IsSoundCore parts.new }

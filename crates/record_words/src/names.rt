@@ -40,7 +40,7 @@ fn op_progress_id(parts: &CoreParts, place: u32, op_progress: OpProgress) -> OpP
     }
 }
 
-/// How far the op at a thread's position has come.
+/// Returns how far the op at a thread's position has come.
 #[inline(always)]
 pub fn op_progress(parts: &CoreParts, thread: ThreadId) -> OpProgressId
     requires { IsSoundCore parts.now }
@@ -63,7 +63,7 @@ fn caller_id(parts: &CoreParts, place: u32, caller: Caller) -> CallerId
     }
 }
 
-/// Who made a call.
+/// Returns who made a call.
 pub fn caller(parts: &CoreParts, call: CallId) -> CallerId
     requires { IsSoundCore parts.now }
     ensures { caller_in (seen parts.now).tags result ≡ live_caller (caller_of (call_of (seen parts.now) call) (seen parts.now).core) (seen parts.now).core }
@@ -89,7 +89,7 @@ fn work_caller_id(parts: &CoreParts, place: u32, caller: WorkCaller) -> WorkCall
     }
 }
 
-/// Who made a host work.
+/// Returns who made a host work.
 pub fn work_caller(parts: &CoreParts, work: WorkId) -> WorkCallerId
     requires { IsSoundCore parts.now }
     ensures { work_caller_in (seen parts.now).tags result ≡ live_work_caller (work_caller_of (work_of (seen parts.now) work) (seen parts.now).core) (seen parts.now).core }
@@ -132,7 +132,7 @@ fn work_join(parts: &CoreParts, work: WorkId) -> JoinId
     }
 }
 
-/// In which set a subtask is.
+/// Returns in which set a subtask is.
 #[inline(always)]
 pub fn join(parts: &CoreParts, subtask: SubtaskId) -> JoinId
     requires { IsSoundCore parts.now }

@@ -9,7 +9,7 @@ use task_machine::{Stage, Status};
 use task_records::CoreParts;
 use task_words::{CallId, SubtaskId, WorkId};
 
-/// The status of a subtask that was not handed out yet, if there is one.
+/// Returns the status of a subtask that was not handed out yet, if there is one.
 pub fn event(parts: &CoreParts, subtask: SubtaskId) -> Option<Status>
     requires { IsSoundCore parts.now }
     ensures { result ≡ event_of (subtask_in (seen parts.now).tags subtask) (seen parts.now).core }
@@ -26,7 +26,7 @@ pub fn event(parts: &CoreParts, subtask: SubtaskId) -> Option<Status>
     }
 }
 
-/// The handle that names the subtask, if it has one.
+/// Returns the handle that names the subtask, if it has one.
 pub fn subtask_handle(parts: &CoreParts, subtask: SubtaskId) -> Option<u32>
     requires { IsSoundCore parts.now }
     ensures { result ≡ subtask_handle (subtask_in (seen parts.now).tags subtask) (seen parts.now).core }
@@ -43,7 +43,7 @@ pub fn subtask_handle(parts: &CoreParts, subtask: SubtaskId) -> Option<u32>
     }
 }
 
-/// Whether the call or the work has ended.
+/// Returns whether the call or the work has ended.
 pub fn has_ended(parts: &CoreParts, subtask: SubtaskId) -> bool
     requires { IsSoundCore parts.now }
     ensures { result ≡ subtask_ended (subtask_in (seen parts.now).tags subtask) (seen parts.now).core }
@@ -80,7 +80,7 @@ fn set_work_handle(parts: &mut CoreParts, work: WorkId, handle: Option<u32>)
     }
 }
 
-/// The handle that names the subtask is this one, or none.
+/// Sets the handle that names the subtask, or removes it.
 pub fn set_subtask_handle(parts: &mut CoreParts, subtask: SubtaskId, handle: Option<u32>)
     requires { IsSoundCore parts.old }
     ensures sound { IsSoundCore parts.new }

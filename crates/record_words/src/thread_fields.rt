@@ -12,7 +12,7 @@ use task_records::CoreParts;
 use task_wait::GuestTaskKey;
 use task_words::{CallId, ThreadAt, ThreadId};
 
-/// The number of a thread; 0 where the id names none.
+/// Returns the number of a thread; 0 if the id names none.
 pub fn number(parts: &CoreParts, thread: ThreadId) -> u64
     requires { IsSoundCore parts.now }
     ensures { result ≡ thread_of (seen parts.now) thread }
@@ -23,7 +23,7 @@ pub fn number(parts: &CoreParts, thread: ThreadId) -> u64
     }
 }
 
-/// The number of a thread that is there: nothing is tested.
+/// Returns the number of a thread that is there: nothing is tested.
 pub fn number_unchecked(parts: &CoreParts, thread: ThreadId) -> u64
     requires sound { IsSoundCore parts.now }
     requires live { 0 < thread_of (seen parts.now) thread }
@@ -32,7 +32,7 @@ pub fn number_unchecked(parts: &CoreParts, thread: ThreadId) -> u64
     task_records::thread_there(parts, thread).number
 }
 
-/// The instance of the thread's call.
+/// Returns the instance of the thread's call.
 pub fn instance_of(parts: &CoreParts, thread: ThreadId) -> u32
     requires { IsSoundCore parts.now }
     ensures { result ≡ instance_of (thread_of (seen parts.now) thread) (seen parts.now).core }
@@ -43,7 +43,7 @@ pub fn instance_of(parts: &CoreParts, thread: ThreadId) -> u32
     }
 }
 
-/// The instance of the call of a thread that is there: nothing is tested.
+/// Returns the instance of the call of a thread that is there: nothing is tested.
 pub fn instance_unchecked(parts: &CoreParts, thread: ThreadId) -> u32
     requires sound { IsSoundCore parts.now }
     requires live { 0 < thread_of (seen parts.now) thread }
@@ -52,7 +52,7 @@ pub fn instance_unchecked(parts: &CoreParts, thread: ThreadId) -> u32
     task_records::thread_there(parts, thread).instance
 }
 
-/// The call of a thread that is there: nothing is tested.
+/// Returns the call of a thread that is there: nothing is tested.
 pub fn task_unchecked(parts: &CoreParts, thread: ThreadId) -> CallId
     requires sound { IsSoundCore parts.now }
     requires live { 0 < thread_of (seen parts.now) thread }
@@ -63,7 +63,7 @@ pub fn task_unchecked(parts: &CoreParts, thread: ThreadId) -> CallId
     task_records::standing_call(parts, entry.task)
 }
 
-/// One of the thread's registers, 0 to 15.
+/// Returns one of the thread's registers, 0 to 15.
 pub fn register(parts: &CoreParts, thread: ThreadId, register: u8) -> u64
     requires { IsSoundCore parts.now }
     ensures { result ≡ register_of (thread_of (seen parts.now) thread) register (seen parts.now).core }
@@ -74,7 +74,7 @@ pub fn register(parts: &CoreParts, thread: ThreadId, register: u8) -> u64
     }
 }
 
-/// One of the registers, 0 to 15, of a thread that is there: nothing is tested of the thread.
+/// Returns one of the registers, 0 to 15, of a thread that is there: nothing is tested of the thread.
 pub fn register_unchecked(parts: &CoreParts, thread: ThreadId, register: u8) -> u64
     requires sound { IsSoundCore parts.now }
     requires live { 0 < thread_of (seen parts.now) thread }
@@ -86,7 +86,7 @@ pub fn register_unchecked(parts: &CoreParts, thread: ThreadId, register: u8) -> 
     )
 }
 
-/// All registers.
+/// Returns all registers.
 pub fn registers(parts: &CoreParts, thread: ThreadId) -> [u64; 16]
     requires sound { IsSoundCore parts.now }
     requires live { 0 < thread_of (seen parts.now) thread }
@@ -95,7 +95,7 @@ pub fn registers(parts: &CoreParts, thread: ThreadId) -> [u64; 16]
     task_records::thread_there(parts, thread).thread.registers
 }
 
-/// The place in its script at which the thread is, from 0; the script's length at its end.
+/// Returns the thread's position in its script, from 0; the script's length at its end.
 pub fn position(parts: &CoreParts, thread: ThreadId) -> u32
     requires { IsSoundCore parts.now }
     ensures { result ≡ position_of (thread_of (seen parts.now) thread) (seen parts.now).core }
@@ -106,7 +106,7 @@ pub fn position(parts: &CoreParts, thread: ThreadId) -> u32
     }
 }
 
-/// Where a thread is in its code.
+/// Returns where a thread is in its code.
 pub fn at(parts: &CoreParts, thread: ThreadId) -> ThreadAt
     requires sound { IsSoundCore parts.now }
     requires live { 0 < thread_of (seen parts.now) thread }
@@ -123,7 +123,7 @@ pub fn at(parts: &CoreParts, thread: ThreadId) -> ThreadAt
     }
 }
 
-/// Whether the thread isn't the first one of its call.
+/// Returns whether the thread isn't the first one of its call.
 pub fn is_explicit(parts: &CoreParts, thread: ThreadId) -> bool
     requires { IsSoundCore parts.now }
     ensures { result ≡ is_explicit (thread_of (seen parts.now) thread) (seen parts.now).core }
@@ -134,7 +134,7 @@ pub fn is_explicit(parts: &CoreParts, thread: ThreadId) -> bool
     }
 }
 
-/// Whether a thread that is there isn't the first one of its call: nothing is tested of it.
+/// Returns whether a thread that is there isn't the first one of its call: nothing is tested of it.
 pub fn explicit_unchecked(parts: &CoreParts, thread: ThreadId) -> bool
     requires sound { IsSoundCore parts.now }
     requires live { 0 < thread_of (seen parts.now) thread }
@@ -143,7 +143,7 @@ pub fn explicit_unchecked(parts: &CoreParts, thread: ThreadId) -> bool
     task_records::thread_there(parts, thread).thread.explicit
 }
 
-/// Whether the instance of a thread that is there may keep its start out: it isn't explicit, and its export isn't sync.
+/// Returns whether the instance of a thread that is there may keep its start out: it isn't explicit, and its export isn't sync.
 pub fn is_barred(parts: &CoreParts, thread: ThreadId) -> bool
     requires sound { IsSoundCore parts.now }
     requires live { 0 < thread_of (seen parts.now) thread }
@@ -152,7 +152,7 @@ pub fn is_barred(parts: &CoreParts, thread: ThreadId) -> bool
     task_records::thread_there(parts, thread).barred
 }
 
-/// The thread's handle in its instance, if it has one.
+/// Returns the thread's handle in its instance, if it has one.
 pub fn thread_handle(parts: &CoreParts, thread: ThreadId) -> Option<u32>
     requires { IsSoundCore parts.now }
     ensures { result ≡ thread_handle_of (thread_of (seen parts.now) thread) (seen parts.now).core }
@@ -163,7 +163,7 @@ pub fn thread_handle(parts: &CoreParts, thread: ThreadId) -> Option<u32>
     }
 }
 
-/// The thread's instance's flag `do_not_suspend` as it was before the thread's start, if that was saved.
+/// Returns the thread's instance's flag `do_not_suspend` as it was before the thread's start, if that was saved.
 pub fn saved_own(parts: &CoreParts, thread: ThreadId) -> Option<bool>
     requires { IsSoundCore parts.now }
     ensures { result ≡ saved_own_of (thread_of (seen parts.now) thread) (seen parts.now).core }
@@ -174,7 +174,7 @@ pub fn saved_own(parts: &CoreParts, thread: ThreadId) -> Option<bool>
     }
 }
 
-/// The callee's flag `do_not_suspend` as it was before the thread's call, if that was saved.
+/// Returns the callee's flag `do_not_suspend` as it was before the thread's call, if that was saved.
 pub fn saved_callee(parts: &CoreParts, thread: ThreadId) -> Option<bool>
     requires { IsSoundCore parts.now }
     ensures { result ≡ saved_callee_of (thread_of (seen parts.now) thread) (seen parts.now).core }
@@ -185,7 +185,7 @@ pub fn saved_callee(parts: &CoreParts, thread: ThreadId) -> Option<bool>
     }
 }
 
-/// One of the thread's registers, 0 to 15, is written.
+/// Writes one of the thread's registers, 0 to 15.
 pub fn set_register(parts: &mut CoreParts, thread: ThreadId, register: u8, value: u64)
     requires { IsSoundCore parts.old }
     ensures sound { IsSoundCore parts.new }
@@ -196,7 +196,7 @@ pub fn set_register(parts: &mut CoreParts, thread: ThreadId, register: u8, value
     }
 }
 
-/// The flag of the thread's own instance is kept, or no longer.
+/// Saves the flag of the thread's own instance, or removes what was saved.
 pub fn set_saved_own(parts: &mut CoreParts, thread: ThreadId, flag: Option<bool>)
     requires { IsSoundCore parts.old }
     ensures sound { IsSoundCore parts.new }
@@ -207,7 +207,7 @@ pub fn set_saved_own(parts: &mut CoreParts, thread: ThreadId, flag: Option<bool>
     }
 }
 
-/// The flag of the callee's instance is kept, or no longer.
+/// Saves the flag of the callee's instance, or removes what was saved.
 pub fn set_saved_callee(parts: &mut CoreParts, thread: ThreadId, flag: Option<bool>)
     requires { IsSoundCore parts.old }
     ensures sound { IsSoundCore parts.new }

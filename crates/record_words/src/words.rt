@@ -1,6 +1,6 @@
 ghost use Rattle.std.specs.Prelude.{◌≡◌, slice_index, slice_set};
 
-// Sets a word, 0 to 15; there are no others, and a write of one changes nothing.
+// Sets a primitive, 0 to 15; there are no others, and a write of one changes nothing.
 pub(crate) fn put_word(words: &mut [u64; 16], place: u8, value: u64)
     ensures { words.new ≡ slice_set words.old place value }
 {
@@ -9,7 +9,7 @@ pub(crate) fn put_word(words: &mut [u64; 16], place: u8, value: u64)
     }
 }
 
-// What stands in a word or register; 0 where there is none.
+// What is in a word or register; 0 if there is none.
 pub(crate) fn word_in(words: &[u64; 16], place: u8) -> u64
     ensures { result ≡ slice_index words.now place }
 {

@@ -10,7 +10,7 @@ use task_machine::{Course, Phase};
 use task_records::CoreParts;
 use task_words::WorkId;
 
-/// The number of a work; 0 where the id names none.
+/// Returns the number of a work; 0 if the id names none.
 pub fn work_number(parts: &CoreParts, work: WorkId) -> u64
     requires { IsSoundCore parts.now }
     ensures { result ≡ work_of (seen parts.now) work }
@@ -21,7 +21,7 @@ pub fn work_number(parts: &CoreParts, work: WorkId) -> u64
     }
 }
 
-/// How the work goes on, with the polls that are left and its end, or how it has ended.
+/// Returns how the work goes on, with the polls that are left and its end, or how it has ended.
 pub fn course(parts: &CoreParts, work: WorkId) -> Course
     requires { IsSoundCore parts.now }
     ensures { result ≡ course_of (work_of (seen parts.now) work) (seen parts.now).core }
@@ -32,7 +32,7 @@ pub fn course(parts: &CoreParts, work: WorkId) -> Course
     }
 }
 
-/// The phase of the work's join handle.
+/// Returns the phase of the work's join handle.
 pub fn phase(parts: &CoreParts, work: WorkId) -> Phase
     requires { IsSoundCore parts.now }
     ensures { result ≡ phase_of (work_of (seen parts.now) work) (seen parts.now).core }
@@ -43,7 +43,7 @@ pub fn phase(parts: &CoreParts, work: WorkId) -> Phase
     }
 }
 
-/// The number of the work's group, if it is a call, as long as that group is known.
+/// Returns the number of the work's group, if it is a call, as long as that group is tracked.
 pub fn work_group(parts: &CoreParts, work: WorkId) -> Option<u64>
     requires { IsSoundCore parts.now }
     ensures { result ≡ tracked_work_group (work_of (seen parts.now) work) (seen parts.now) }
@@ -63,7 +63,7 @@ pub fn work_group(parts: &CoreParts, work: WorkId) -> Option<u64>
     }
 }
 
-/// Whether the work was cancelled by its caller.
+/// Returns whether the work was cancelled by its caller.
 pub fn was_cancelled(parts: &CoreParts, work: WorkId) -> bool
     requires { IsSoundCore parts.now }
     ensures { result ≡ was_cancelled (work_of (seen parts.now) work) (seen parts.now).core }
@@ -74,7 +74,7 @@ pub fn was_cancelled(parts: &CoreParts, work: WorkId) -> bool
     }
 }
 
-/// The work was cancelled by its caller.
+/// Records that the work was cancelled by its caller.
 pub fn set_cancelled(parts: &mut CoreParts, work: WorkId)
     requires { IsSoundCore parts.old }
     ensures sound { IsSoundCore parts.new }

@@ -14,7 +14,7 @@ module _ {T X : Type 0} (number : T → ℕ) (rec : T → X) (f : T → T) (loos
   unfolding mapped
   none_there made n none = found_mapped key key (on_item f) loose seen n t.places ∙ ap (option_map loose) none
 
-  -- a number that is seen at a place is that of what stands there
+  -- a number that is seen at a place is that of what is there
   number_seen : (r n : ℕ) (x : X) → record_at key (mapped (on_item f) t).places r ≡ Some (n, x) → (y : X) × (record_at key t.places r ≡ Some (n, y))
   number_seen r n x at = by (place_at t r) refl (sym (ap (key_in key) (place_at-mapped (on_item f) t r)) ∙ at)
     where

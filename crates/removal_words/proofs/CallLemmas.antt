@@ -1,4 +1,4 @@
--- A call is gone, as the word takes it away.
+-- A call is gone, as the primitive takes it away.
 use Rattle.task_records.proofs.Core.{ap, ap₂, AreHandlesNamed, arith, bare, bare_call, bare_thread, BlockedOn, Call, call_group, call_key, call_of, calls_of, cond, Core, core_of, deleted, EachEntry, entry_of, eq-eqb, false, filings_at, filter, get, group_key, GroupKey, GuestTaskKey, has_thread, is_made, IsGroupKept, IsSome, IsSoundCore, IsTable, IsWhole, item_at, item_of, Join, join_of, KeepsBut, kinds, List, list_of, loose_call, lost_call, mapped-deleted, nat_lt, ne_eqb, None, number_of, Ok, on_item, one_if_passes, option_map_or, CoreImage, parts_of, passing, passing-with_at, place_at, Placed, ready_call, Records, records, refl, remove, remove_call, seen, set_number, Some, SoundTable, Spot, subst, Subtask, sym, Table, table_use, TableId, Thread, thread_number, true, uninterested, with_entry, work_number, ℕ, ◌+◌, ◌-◌, ◌<◌, ◌==◌, ◌∙◌, ◌≡◌, ◌≤◌, numbers, tracked_of}
 use Rattle.task_records.specs.declared.{call_records.GuestTask.GuestTask, call_records.TaskGroup.TaskGroup, parts.CoreParts.CoreParts, parts.CachedCounts.CachedCounts, single.Single.Single, thread_records.GuestThread.GuestThread}
 use Rattle.place_words.proofs.AlikeLemmas.{number_of_alike}
@@ -54,7 +54,7 @@ module _ (a : CoreParts) (sound : IsSoundCore a) (id : TableId GuestTaskKey) (g 
   named : g.number ≡ call_of (seen a) id
   named = call_named a id g is
 
-  -- ---- What the word asks
+  -- ---- What the primitive asks
 
   pub blocked_live : IsSome (list_of a.places g.blocked)
   blocked_live = whole.chained.places.live (BlockedOn (Subtask.Guest g.number)) g.blocked (kept_under number machine (λ (x : GuestTask). x.blocked) bared.calls a.made.threads calls_sound id.rep id.serial (bare_call g) bare_is)

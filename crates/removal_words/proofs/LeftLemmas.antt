@@ -1,8 +1,8 @@
--- What is left of the named where a record is gone: each stands where it stood.
+-- What is left of the named where a record is gone: each is where it was.
 use Rattle.task_records.proofs.Core.{AreHandlesNamed, call_key, CallOf, HandleKind, IsHeldNamed, IsNamedAt, Kinds, MadeCounts, Nothing, Rep, set_key, SetOf, StandsAt, subst, Target, thread_key, ThreadOf, WaitableKind, work_key, WorkOf, ℕ, ◌≡◌, ◌≤◌}
 use Rattle.task_records.specs.declared.{instance_records.InstanceRecord.InstanceRecord}
 
--- What stands in the one stands so in the other, and as many were made.
+-- What is in the one is so in the other, and as many were made.
 pub record Leaves (k l : Kinds) : Type 0 where
   pub threads : (rep n : ℕ) → StandsAt thread_key k.threads rep n → StandsAt thread_key l.threads rep n
   pub calls : (rep n : ℕ) → StandsAt call_key k.calls rep n → StandsAt call_key l.calls rep n

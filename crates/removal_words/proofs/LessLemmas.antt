@@ -1,4 +1,4 @@
--- A table with one record less: what is kept under the numbers, and what stands at the places.
+-- A table with one record less: what is kept under the numbers, and what is at the places.
 use Rattle.task_records.proofs.Core.{ap, arith, Bool, cond, deleted, EachEntry, entry_of, eq-eqb, false, found_record, found_record_at, get, get-records, item_at, item_of, key_in, list_any, nat_lt, ne_eqb, no_other, None, Ok, one_if_passes, Option, passing, passing-with_at, place_at, place_at-deleted, Placed, record_at-item, Records, records, refl, size, size-remove_present, Some, SoundTable, sym, Table, TakesRecord, TakesRecord-deleted, true, ℕ, ◌+◌, ◌==◌, ◌∙◌, ◌≡◌}
 use Rattle.task_records.specs.declared.{single.Single.Single}
 use Rattle.queue_words.proofs.CallerLemmas.{apart_as}
@@ -23,7 +23,7 @@ module _ {T X : Type 0} (number : T → ℕ) (rec : T → X) (t : Table (Single 
     pub found_still : (n : ℕ) → (n ≡ number g → ⊥) → found_record under n (deleted rep t).places ≡ found_record under n t.places
     found_still n apart = takes.found n ∙ ap (λ b. cond b None (found_record under n t.places)) (ne_eqb n (number g) apart)
 
-  -- what stands at a place stood there
+  -- what is at a place was there
   pub placed_before : (r : ℕ) (q : Placed (Single T)) → place_at (deleted rep t) r ≡ Some q → place_at t r ≡ Some q
   placed_before r q at = by (r == rep) (sym (place_at-deleted t rep r) ∙ at)
     where
@@ -39,7 +39,7 @@ module _ {T X : Type 0} (number : T → ℕ) (rec : T → X) (t : Table (Single 
       ap (λ m. size m + 1) (records_less number rec t made sound rep serial g is)
       ∙ size-remove_present (records key t.places) (number g) (rec g) (ap (get (records key t.places)) (sym (item_number number rec t rep serial g is)) ∙ sym (item_read number rec t made sound rep serial g is))
 
--- what stands at a place is had under its number
+-- what is at a place is had under its number
 module _ {T X : Type 0} (number : T → ℕ) (rec : T → X) (t : Table (Single T)) (made : ℕ) (sound : SoundTable (λ (e : Single T). Some (number e.item, rec e.item)) t made) where
   pub read_at : (r : ℕ) (p : Placed (Single T)) → place_at t r ≡ Some p → get (records (λ (e : Single T). Some (number e.item, rec e.item)) t.places) (number p.entry.item) ≡ Some (rec p.entry.item)
   read_at r p at =

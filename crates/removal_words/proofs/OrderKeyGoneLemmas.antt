@@ -1,4 +1,4 @@
--- One record of a table goes: the seats and the nodes of the others stay.
+-- One record of a table goes: the order keys and the nodes of the others stay.
 use Rattle.task_records.proofs.Core.{ap, cases_eq, cond, deleted, entry_of, eq-eqb, FreeNode, HaveNodes, inl, inr, is_made, item_at, item_of, List, ne_eqb, None, Ok, Option, option_map, place_at, place_at-deleted, Placed, Renames, same_Some, keyed, Some, SoundTable, Spot, spot_is_made, sym, Table, true, Unmade, ℕ, ◌∙◌, ◌≡◌}
 use Rattle.task_records.specs.declared.{single.Single.Single}
 use Rattle.removal_words.proofs.LessLemmas.{placed_before}

@@ -8,7 +8,7 @@ module _ {T X : Type 0} (number : T → ℕ) (rec : T → X) (t : Table (Single 
   stands : (p : Placed (Single T)) × ((place_at t rep ≡ Some p) × ((p.serial ≡ serial) × (p.entry ≡ entry_of g)))
   stands = item_stands number rec t made sound rep serial g is
 
-  -- what holds of each holds of what stands there
+  -- what holds of each holds of what is there
   pub each_there : (P : T → Type 0) → EachEntry P t → P g
   each_there P each = subst (λ (e : Single T). P e.item) stands.1.1.1 (each rep stands.0 stands.1.0)
 

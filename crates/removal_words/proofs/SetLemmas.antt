@@ -1,4 +1,4 @@
--- A set is gone, as it stands.
+-- A set is gone, as it is.
 use Rattle.task_records.proofs.Core.{ap, arith, bare, BlockedOn, call_number, cases_eq, core_of, deleted, HasHome, HeldIn, inl, inr, IsCallNamed, IsSetKept, IsSome, IsSoundCore, IsTable, IsWhole, IsWorkNamed, item_at, item_of, KeepsBut, kinds, List, list_of, lost_set, None, number_of, Ok, CoreImage, parts_of, place_chain, ready_call_chain, ready_work_chain, records, refl, remove, remove_set, seen, set_key, set_of, SetKey, Some, Spot, subst, Subtask, sym, Table, table_use, TableId, thread_number, ThreadOf, UnderOf, WaitsOn, Where, work_number, ℕ, ◌-◌, ◌∙◌, ◌≡◌, ◌≤◌, ◌⊎◌, StartsIn}
 use Rattle.task_records.specs.declared.{call_records.GuestTask.GuestTask, parts.CoreParts.CoreParts, set_records.WaitSet.WaitSet, single.Single.Single, thread_records.GuestThread.GuestThread, work_records.WorkRecord.WorkRecord}
 use Rattle.removal_words.proofs.GoneLemmas.{IsIndex-shut}
@@ -93,7 +93,7 @@ module _ (a : CoreParts) (sound : IsSoundCore a) (id : TableId SetKey) (g : Wait
       ∙ (number_left (λ (x : WaitSet). x.number) (λ (x : WaitSet). x.set) a.sets a.made.sets sound.tables.sets id.rep id.serial g is other.rep other.serial (λ same. differs (set_shown a other ∙ (same ∙ set_named a id g is)))
       ∙ sym (set_shown a other)))
 
-  -- ---- What the word asks
+  -- ---- What the primitive asks
 
   pub waiters_live : IsSome (list_of a.places g.waiters)
   unfolding IsSoundCore

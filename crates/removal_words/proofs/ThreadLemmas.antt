@@ -1,4 +1,4 @@
--- A suspended thread is gone, as the word takes it away.
+-- A suspended thread is gone, as the primitive takes it away.
 use Rattle.task_records.proofs.Core.{[], ap, ap₂, AreHandlesNamed, arith, bare, bare_call, bare_thread, Bool, Call, call_key, call_number, callers_chain, callers_in, callers_of, callers_row, cases_eq, chained, cond, Core, core_of, deleted, Each, EachEntry, Entry, entry_of, eq-eqb, Err, false, filings_at, follower, FreeNode, get, get-change_same, get-remove, GuestTaskKey, High, inl, inr, is_entry_of, is_free, is_made, IsApart, IsBehindNobody, IsCallKept, IsLinks, IsSome, IsSoundCore, IsTable, IsWhole, item_at, item_of, keeps_set, KeepsBut, kinds, List, list_any, list_of, loose_call, loose_thread, lost_thread, Low, map, mapped, mapped-deleted, mapped-with_entry, ne_eqb, None, Ok, on_item, on_thread, one_if, Option, option_map, OwnsHandle, CoreImage, parts_of, passing, Place, place_at, place_filing, place_of, Placed, Records, records, refl, remove, remove-change_same, remove_thread, Renames, ResourceTableError, Result, Row, row, same_map, same_Some, seen, set_number, set_place, slice_get, Some, SoundTable, Spot, subst, switch_entries, sym, Table, table_use, TableId, Tag, Thread, thread_entry, thread_key, thread_of, ThreadKey, threads_of, times, true, UnderOf, uninterested, Unmade, values, with_entry, work_number, ℕ, ◌+◌, ◌-◌, ◌⊎◌, ◌<◌, ◌==◌, ◌||◌, ◌∙◌, ◌∷◌, ◌≡◌, ◌≤◌}
 use Rattle.task_records.specs.declared.{call_records.GuestTask.GuestTask, parts.CoreParts.CoreParts, parts.CachedCounts.CachedCounts, single.Single.Single, thread_records.Follower.Follower, thread_records.GuestThread.GuestThread, thread_records.Queued.Queued}
 use Rattle.task_rules.specs.Places.{entries}

@@ -1,4 +1,4 @@
--- A host work is gone, as the word takes it away.
+-- A host work is gone, as the primitive takes it away.
 use Rattle.task_records.proofs.Core.{[], ap, ap₂, AreHandlesNamed, arith, bare, bare_work, BlockedOn, Bool, call_number, calls_of, chained, cond, Core, core_of, deleted, Each, EachEntry, Entry, entry_of, eq-eqb, false, filings_at, filter, free_unlinked, FreeNode, get, group_key, GroupKey, High, host_entry, HostTaskKey, is_aborted, is_free, is_host_call, is_live, is_made, is_moving, is_never, is_of_group, is_some, is_stage_live, IsGroupKept, IsLinks, IsOfThread, IsKeyed, IsSome, IsSoundCore, IsTable, IsWhole, item_at, item_of, Join, join_of, KeepsBut, kinds, link_for, link_of, List, list_any, list_of, live_chain, live_value, live_work, loose_work, lost_work, Low, map, mapped, mapped-deleted, nat_lt, ne_eqb, None, not, Ok, on_item, one_if_passes, Option, option_and_then, option_map_or, CoreImage, parts_of, passing, passing-with_at, place_at, Placed, ready_work, Records, records, refl, remove, remove_work, Renames, Row, row, seen, set_number, Some, SoundTable, Spot, Stage, stage_of, subst, Subtask, sym, Table, table_use, TableId, thread_number, true, Unmade, unmoved, Work, work_entries, work_group, work_key, work_of, ℕ, ◌&&◌, ◌+◌, ◌-◌, ◌==◌, ◌||◌, ◌∙◌, ◌∷◌, ◌≡◌, ◌≤◌, numbers, tracked_of}
 use Rattle.task_records.specs.declared.{call_records.TaskGroup.TaskGroup, parts.CoreParts.CoreParts, parts.CachedCounts.CachedCounts, single.Single.Single, thread_records.Queued.Queued, work_records.WorkRecord.WorkRecord, work_records.LiveWork.LiveWork}
 use Rattle.place_words.proofs.AlikeLemmas.{number_of_alike}
@@ -66,7 +66,7 @@ module _ (a : CoreParts) (sound : IsSoundCore a) (id : TableId HostTaskKey) (g :
   named : g.number ≡ work_of (seen a) id
   named = work_named a id g is
 
-  -- ---- What the word asks
+  -- ---- What the primitive asks
 
   pub blocked_live : IsSome (list_of a.places g.blocked)
   blocked_live = whole.chained.places.live (BlockedOn (Subtask.Host g.number)) g.blocked (kept_under number machine (λ (x : WorkRecord). x.blocked) bared.works a.made.works works_sound id.rep id.serial (bare_work g) bare_is)

@@ -13,7 +13,7 @@ pub record Closes {P : Type 0} (old new : List (Spot P)) (chain : ℕ) : Type 0 
   pub lists : (c : ℕ) → (c ≡ chain → ⊥) → list_of new c ≡ list_of old c
   pub made : (n : ℕ) → is_made old n ≡ true → is_made new n ≡ true
 
--- The same while the chain is there, with fewer nodes.
+-- As before, while the chain is there with fewer nodes.
 pub record Empties {P : Type 0} (old now : List (Spot P)) (chain : ℕ) : Type 0 where
   pub live : IsSome (list_of now chain)
   pub links : (n : ℕ) → link_but chain (link_of now n) ≡ link_but chain (link_of old n)

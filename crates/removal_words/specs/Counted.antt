@@ -28,7 +28,7 @@ Lowers old new (Some n) None = ⊥
 Lowers old new (Some n) (Some id) = (r : TaskGroup) × ((Ok r ≡ item_at item_of old id.rep id.serial) × ((r.number ≡ n) ×
     (new ≡ with_entry id.rep (entry_of (record r { calls = r.calls - 1 })) old)))
 
--- The group stands in the table.
+-- The group is in the table.
 abbrev pub IsIn : TaskGroup → Table (Single TaskGroup) → Type 0
 IsIn r t = (rep : ℕ) × ((serial : ℕ) × (Ok r ≡ item_at item_of t rep serial))
 

@@ -83,7 +83,7 @@ fn delete_outlined(parts: &mut CoreParts, call: CallId)
     settle_counted(parts, group, counted);
 }
 
-// A call is gone, wherever it is joined. It is out of line, as most calls are in no set then.
+// A call is gone, wherever it is joined. It is a function of its own, as most calls are in no set then.
 #[inline(never)]
 fn delete_joined(parts: &mut CoreParts, call: CallId)
     requires sound { IsSoundCore parts.old }
@@ -96,7 +96,7 @@ fn delete_joined(parts: &mut CoreParts, call: CallId)
     delete_outlined(parts, call);
 }
 
-/// A call is gone, and its group is finished, if nothing of it is left.
+/// Deletes a call, and finishes its group if nothing of the group is left.
 pub fn delete_call(parts: &mut CoreParts, call: CallId)
     requires sound { IsSoundCore parts.old }
     requires live { 0 < call_of (seen parts.old) call }

@@ -18,7 +18,7 @@ pub(crate) fn close<P: Copy>(links: &mut Links<P>, chain: usize)
     links.drop_chain(chain);
 }
 
-/// Takes every node out of a chain that stands in the order of seats, and drops it.
+/// Takes every node out of a chain that is in the order of order keys, and drops it.
 #[inline(always)]
 pub(crate) fn close_order_keys(links: &mut OrderedLists, chain: usize)
     requires { IsSome (list_of links.old chain) }

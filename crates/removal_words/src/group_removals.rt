@@ -23,7 +23,7 @@ pub(crate) fn one_if(flag: bool) -> u64
     if flag { 1 } else { 0 }
 }
 
-// The group that stands at a place, with its id.
+// The group that is at a place, with its id.
 pub(crate) fn group_unchecked(
     groups: &RecordTable<Single<TaskGroup>>,
     place: u32,
@@ -36,7 +36,7 @@ pub(crate) fn group_unchecked(
     (id, *groups.there::<GroupKey>(place))
 }
 
-/// The group of a host call has one call less, and the id names it; a spawned work has none.
+/// Takes one call off the group of a host call, which the id names; a spawned work has none.
 pub(crate) fn lower_group(
     groups: &mut RecordTable<Single<TaskGroup>>,
     place: u32,
@@ -55,7 +55,7 @@ pub(crate) fn lower_group(
     Some(id)
 }
 
-/// The group is finished, if nothing of it is left.
+/// Finishes the group if nothing of it is left.
 pub(crate) fn settle_group(parts: &mut CoreParts, group: TableId<GroupKey>)
     requires sound { IsSoundCore parts.old }
     requires live { 0 < number_of group_key parts.old.groups group.rep group.serial }

@@ -1,6 +1,6 @@
 //! Words that take records away.
 //!
-//! What stood in the chains of a record is taken out of them, and its nodes and chains are dropped.
+//! What was in the chains of a record is taken out of them, and its nodes and chains are dropped.
 #![tactic(auto)]
 
 mod call_removals;

@@ -13,7 +13,7 @@ use crate::chains::close_order_keys;
 use task_records::CoreParts;
 use task_words::SetId;
 
-// A set is gone, as it stands.
+// A set is gone, as it is.
 fn remove_set(parts: &mut CoreParts, set: SetId)
     requires sound { IsSoundCore parts.old }
     requires live { 0 < set_of (seen parts.old) set }
@@ -43,7 +43,7 @@ fn free_set_handle(parts: &mut CoreParts, instance: u32, handle: u32)
         .waitable_set_remove(&mut parts.counter, handle);
 }
 
-/// A set is gone, and its handle in the instance.
+/// Removes a set, and frees its handle in the instance.
 pub fn close_set(parts: &mut CoreParts, instance: u32, handle: u32, set: SetId)
     requires sound { IsSoundCore parts.old }
     requires live { 0 < set_of (seen parts.old) set }

@@ -73,7 +73,7 @@ fn runs(parts: &CoreParts, thread: ThreadId) -> bool
     }
 }
 
-// A thread is gone, wherever it stands. It is out of line, as most threads end where they run.
+// A thread is gone, whatever its place is. It is a function of its own, as most threads end where they run.
 #[inline(never)]
 fn remove_other(parts: &mut CoreParts, thread: ThreadId)
     requires sound { IsSoundCore parts.old }
@@ -86,7 +86,7 @@ fn remove_other(parts: &mut CoreParts, thread: ThreadId)
     drop_thread(parts, thread);
 }
 
-/// A thread is gone, as it stands, and no thread is behind it any more.
+/// Removes a thread whatever its place is; no thread is behind it any more.
 pub fn remove_thread(parts: &mut CoreParts, thread: ThreadId)
     requires sound { IsSoundCore parts.old }
     requires live { 0 < thread_of (seen parts.old) thread }
@@ -115,7 +115,7 @@ fn free_thread_handle(parts: &mut CoreParts, instance: u32, handle: u32)
         .guest_thread_remove(&mut parts.counter, handle);
 }
 
-/// A thread gives back its handle and is gone.
+/// Removes a thread, and frees its handle.
 pub fn retire_thread(parts: &mut CoreParts, thread: ThreadId)
     requires sound { IsSoundCore parts.old }
     requires live { 0 < thread_of (seen parts.old) thread }

@@ -79,7 +79,7 @@ fn end_stage(parts: &mut CoreParts, work: WorkId)
     }
 }
 
-/// A work is gone, and its group is finished, if nothing of it is left.
+/// Deletes a work, and finishes its group if nothing of the group is left.
 pub fn delete_work(parts: &mut CoreParts, work: WorkId)
     requires sound { IsSoundCore parts.old }
     requires live { 0 < work_of (seen parts.old) work }

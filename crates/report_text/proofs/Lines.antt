@@ -1,4 +1,4 @@
--- Lines whose front stands, and whose rest was written behind it.
+-- Lines whose front is, and whose rest was written behind it.
 use Rattle.std.proofs.Common.{◌≡◌, ◌++◌, ◌∙◌, List, ℕ, ap, append_assoc, arith, refl}
 use Rattle.std.proofs.lemmas.Fmt.{decimal_digit}
 use Rattle.std.specs.Prelude.{codes, decimal}

@@ -1,4 +1,4 @@
--- A full page, and what stands behind it.
+-- A full page, and what is behind it.
 use Rattle.std.proofs.Common.{◌≡◌, ◌≤◌, ◌++◌, ◌+◌, ◌-◌, ◌∙◌, ℕ, List, ap, append_assoc, arith, drop, length, sym, take}
 use Rattle.std.proofs.Math.Seq.{take-append_seam}
 use Rattle.std.proofs.lemmas.List.{drop-take, length-drop, length-take-le, take-take}
@@ -9,7 +9,7 @@ used_up_to page used items now room is full = omega (arith, full, ap (λ (bs : L
 pub filled_page : (page used : ℕ) (items now : List ℕ) → used ≤ length items → take used items ≡ now → page ≤ length now → take page items ≡ take page now
 filled_page page used items now room is full = sym (take-take page used items (used_up_to page used items now room is full)) ∙ ap (λ (bs : List ℕ). take page bs) is
 
--- what stands behind a full page was copied to the front of the room
+-- what is behind a full page was copied to the front of the room
 pub turned : (page used room : ℕ) (items new mid more behind now : List ℕ) → page ≤ used → used ≤ length items → used ≤ room → take used items ≡ now → new ≡ take (used - page) (drop page items) → take (used - page) (take room (((new ++ mid) ++ more) ++ behind)) ≡ drop page now
 turned page used room items new mid more behind now full short fits is e =
     let left : used - page ≤ length (drop page items) = omega (arith, length-drop page items) in

@@ -142,7 +142,8 @@ fn polled(out: &mut [u8], at: usize, work: u64, what: &[u8]) -> usize
     words(out, end, what)
 }
 
-// The labels of the loop that are seldom. They stand apart, so that all that is common fits into the loop that prints.
+// The labels of the loop that are seldom. They have a function of their own, so that all that is common fits into the loop that
+// prints.
 #[inline(never)]
 fn seldom_label(out: &mut [u8], at: usize, kind: LoopKind, work: u64) -> usize
     requires { at + LINE ≤ length out.old }
@@ -375,7 +376,7 @@ fn task_label(out: &mut [u8], at: usize, kind: TaskKind, small: u32, xs: &[u64])
     }
 }
 
-// ` wait`, the task's own event, and the thread that was woken.
+// ` wait`, the task event, and the thread that was woken.
 fn waits_and_wakes(out: &mut [u8], at: usize, event: TaskEvent, woken: u64) -> usize
     requires { at + 65 ≤ length out.old }
     ensures end { result ≤ at + 60 }

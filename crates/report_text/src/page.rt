@@ -8,8 +8,8 @@ use std::alloc::{AllocError, Global};
 use std::marker::Model;
 use task_machine::Outcome;
 
-/// A full page has so many bytes. There is room for a line as long as no more stand on it. A file is written fastest by
-/// pieces of such a size, each of which begins where the file's own pages do.
+/// A full page has so many bytes. There is room for a line as long as no more rest on it. A file is written fastest by pieces of
+/// such a size, each of which begins where the file's own pages do.
 pub const PAGE: usize = 131_072;
 
 /// Text that gathers in room that was made before. Adding a line takes no memory. A contract sees
@@ -33,7 +33,7 @@ impl Model for Page {
 }
 
 impl Page {
-    /// An empty page. An error where its room can't be had.
+    /// Makes an empty page. An error where its room can't be had.
     pub fn new(alloc: Global) -> Result<Page, AllocError>
         ensures { IfOk result (λ p. p ≡ []) }
     {
@@ -41,9 +41,9 @@ impl Page {
         Ok(Page { bytes, used: 0 })
     }
 
-    /// Adds lines of the labels that are left, up to a full page, and takes these labels away. Answers whether the
-    /// page is full; else no labels are left. It stands apart, and goes over labels of its own, so that its loop has all
-    /// registers and all that it keeps is in them.
+    /// Adds lines of the labels that are left, up to a full page, and takes these labels away. Answers whether the page is full;
+    /// else no labels are left. It is apart, and goes over labels of its own, so that its loop has all registers and all that it
+    /// keeps is in them.
     #[inline(never)]
     pub fn fill(&mut self, labels: &mut Labels<'_>) -> bool
         ensures lines { self.new ++ lines_of labels.new ≡ self.old ++ lines_of labels.old }
@@ -75,14 +75,14 @@ impl Page {
         self.used = outcome_line(self.bytes.as_mut_slice(), self.used, outcome);
     }
 
-    /// The text.
+    /// Returns the text.
     pub fn as_slice(&self) -> &[u8]
         ensures { result.now ≡ self.now }
     {
         &self.bytes[..self.used]
     }
 
-    /// The page that is full, without what stands behind it.
+    /// Returns the page that is full, without what is behind it.
     pub fn full(&self) -> &[u8]
         requires { PAGE ≤ length self.now }
         ensures { result.now ≡ take PAGE self.now }
@@ -90,7 +90,7 @@ impl Page {
         &self.bytes[..PAGE]
     }
 
-    /// Takes the page away that is full. What stands behind it comes to the front.
+    /// Takes the page away that is full. What is behind it comes to the front.
     pub fn turn(&mut self)
         requires { PAGE ≤ length self.old }
         ensures rest { self.new ≡ drop PAGE self.old }

@@ -34,7 +34,7 @@ abbrev pub IsBadIn : List ℕ → List ℕ → ℕ → ℕ → Type 0
 IsBadIn scenario rest count n =
     IsBadLine scenario n ⊎ ((tree : ScenarioText) × IsTextOf tree scenario × (count < n) × IsBadRequest tree.instances rest (n - count))
 
--- the scenario's tree and the requests, or the bad line; memory may be wanting
+-- the scenario's tree and the requests, or the bad line; it may be out of memory
 abbrev pub ReadsParts : List ℕ → List ℕ → ℕ → Result Input TextError → Type 0
 ReadsParts scenario rest count (Ok read) =
     IsTextOf read.scenario scenario × AreRequests read.scenario.instances (spelled rest) read.requests.items

@@ -37,7 +37,7 @@ pub record IsBadRequest (is : List InstanceText) (text : List ℕ) (n : ℕ) : T
   pub before : (rs : List Request) × AreRequests is (take (n - 1) (spelled text)) rs
   pub at : (rs : List Request) → AreRequests is (take n (spelled text)) rs → ⊥
 
--- A text's lines say requests, or the bad one is told, where the first one has this number; memory may be wanting.
+-- A text's lines say requests, or the bad one is told, where the first one has this number; it may be out of memory.
 abbrev pub ReadsRequests : List InstanceText → List ℕ → ℕ → Result (Vec Request) TextError → Type 0
 ReadsRequests is text first (Ok rs) = AreRequests is (spelled text) rs.items
 ReadsRequests is text first (Err (errors.Bad n)) = (first ≤ n) × IsBadRequest is text (n + 1 - first)

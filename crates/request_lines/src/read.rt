@@ -36,9 +36,9 @@ fn add_line<'a>(
     }
 }
 
-/// The requests that a text's lines `call INSTANCE.EXPORT X*` say, in their order: at most 10,000, each of which names an export of the
-/// scenario and has a number for each of its parameters. Another line is refused by its number, where the first one has the number
-/// `first`; that is the least n such that the first lines up to it are no requests.
+/// Returns the requests that a text's lines `call INSTANCE.EXPORT X*` say, in their order: at most 10,000, each of which names an
+/// export of the scenario and has a number for each of its parameters. Another line is refused by its number, where the first one
+/// has the number `first`; that is the least n such that the first lines up to it are no requests.
 pub fn read_requests(
     alloc: Global,
     scenario: &ScenarioText,

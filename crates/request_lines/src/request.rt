@@ -54,7 +54,7 @@ fn request_after(
     })
 }
 
-/// The request that the words of a line say.
+/// Returns the request that the words of a line say.
 #[tactic(auto, unfolding(crate::specs::Reading::request_of))]
 pub(crate) fn request_of(
     alloc: Global,

@@ -497,7 +497,7 @@ module _ {T H G : Type 0} (course : H → HostDef) (c : Component) (m : ServerMa
       stands = h.stands ∙ waited.stands;
     }
 
--- ---- What a start in the scope comes to
+-- ---- What a start in the scope results in
 
 module _ {T H G : Type 0} (n m : Scope) (s t : Store T H G) (unclosed : n.closed ≡ false) where
   -- a start that isn't refused as Full found room
@@ -510,7 +510,7 @@ module _ {T H G : Type 0} (n m : Scope) (s t : Store T H G) (unclosed : n.closed
   was_full c f words r refuses none begins =
       ⊎_elim (λ lt. absurd (none (begins lt))) (λ le. (le, (refuses.full unclosed le).1)) (less_or (count_where is_open_call n.children) n.limit)
 
--- ---- What the nursery's clauses come to
+-- ---- What the nursery's clauses result in
 
 not_so : (b : Bool) → (b ≡ true → ⊥) → b ≡ false
 not_so true no_more = absurd (no_more refl)

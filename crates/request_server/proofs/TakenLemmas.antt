@@ -34,7 +34,7 @@ module _ (s : ScenarioText) where
   all_taken (q ∷ qs) each zero r at = let same : q ≡ r = cc in subst (λ (x : Request). Takes (scenario_of s).component x) same (taken_one q each.0)
   all_taken (q ∷ qs) each (suc i) r at = all_taken qs each.1 i r at
 
--- the same of each scenario that the text stands for: it is this one
+-- the same of each scenario that the text represents: it is this one
 pub taken_by_text : (text : List ℕ) (tree : ScenarioText) (x : Scenario) (rs : List Request) → IsTextOf tree text → Reads text x → EachSuits tree.instances rs → AllTaken x.component rs
 taken_by_text text tree x rs is reads each =
     let same : tree ≡ reads.0 = one_tree tree reads.0 text is reads.1 in

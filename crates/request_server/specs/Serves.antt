@@ -29,8 +29,8 @@ server_setting x = record { component = x.component; script = []; idle = x.idle 
 abbrev pub server_opening : Scenario → State
 server_opening x = opening (length x.component.instances) x.handles x.table Unscripted
 
--- Some run of the scenario's component with at most so many steps shows these labels and has come to this outcome. In it the requests are
--- served.
+-- Some run of the scenario's component with at most so many steps shows these labels and has ended in this outcome. In it the
+-- requests are served.
 pub record IsServedBy (x : Scenario) (rs : List Request) (limit steps : ℕ) (served : Served) : Type 0 where
   pub last : State
   pub run : Run (server_setting x) (server_opening x) served.trace last

@@ -76,7 +76,7 @@ pub record IsLongInput (input : List ℕ) : Type 0 where
   pub parts : InputParts input
   pub long : 1048576 < length parts.scenario
 
--- the parts were served, or the bad line is told; memory may be wanting
+-- the parts were served, or the bad line is told; it may be out of memory
 abbrev pub ServesParts : List ℕ → List ℕ → ℕ → ℕ → ℕ → Result Served TextError → Type 0
 ServesParts scenario rest count limit steps (Ok served) = AreServed scenario rest limit steps served
 ServesParts scenario rest count limit steps (Err (errors.Bad n)) = IsBadIn scenario rest count n
@@ -88,7 +88,7 @@ ServesParts scenario rest count limit steps (Err errors.NoMemory) = Unit {0}
 pub data InputEnded (l n : ℕ) (all : List ℕ) (old new : Option (List ℕ)) (status : ℕ) : Type 0 where
   -- 0: the replies and the outcome are written
   Replied : (s : Served) → status ≡ 0 → IsServedInput l n all s → Appends old new (served_text s) → InputEnded l n all old new status
-  -- 1: memory was wanting
+  -- 1: it was out of memory
   NoneReplied : status ≡ 1 → InputEnded l n all old new status
   -- 3: the input is no scenario with requests, and its bad line is written
   SaidBadLine : status ≡ 3 → (line : ℕ) → IsBadInput all line → Appends old new (bad_line_text line) → InputEnded l n all old new status
@@ -115,7 +115,7 @@ pub data SourceEnded (l n : ℕ) (before after old new : Option (List ℕ)) (sta
   SaidTooLong : status ≡ 6 → IsMore before after → Appends old new too_long_text → SourceEnded l n before after old new status
   -- 5: a front of that line is written
   TooLongCut : status ≡ 5 → IsMore before after → IsFront old new too_long_text → SourceEnded l n before after old new status
-  -- 1 or 4: memory was wanting, or the source failed, after some bytes were read
+  -- 1 or 4: it was out of memory, or the source failed, after some bytes were read
   Unread : (status ≡ 1) ⊎ (status ≡ 4) → ((all : List ℕ) → before ≡ Some all → (taken : List ℕ) × IsTaken all taken after) →
       SourceEnded l n before after old new status
 

@@ -161,10 +161,10 @@ fn form_of(words: &[String]) -> Option<(u32, u32)>
 
 /// Does what the program does with the words `serve LIMIT STEPS`, with a limit of 1 to 1,024 and 1 to 1,000,000 steps: it reads a
 /// scenario and the lines of requests after it to the source's end, serves these requests, and writes a line for each reply and one
-/// for the outcome. The status is 0 if all was written, 1 if memory was wanting, and then nothing was written, 2 if the words are
-/// others, which writes the usage line and leaves the source as it was, 3 if the input isn't of that form, which writes its first bad
-/// line, 4 if the source failed, 5 if the sink did, and 6 if the source gave more than 4,194,304 bytes or the scenario has more than
-/// 1,048,576, which writes a line that says so.
+/// for the outcome. The status is 0 if all was written, 1 if it was out of memory, and then nothing was written, 2 if the words are
+/// others, which writes the usage line and leaves the source as it was, 3 if the input isn't of that form, which writes its first
+/// bad line, 4 if the source failed, 5 if the sink did, and 6 if the source gave more than 4,194,304 bytes or the scenario has more
+/// than 1,048,576, which writes a line that says so.
 pub fn serve_tool<S: Source, K: Sink>(
     alloc: Global,
     words: &[String],
@@ -172,9 +172,9 @@ pub fn serve_tool<S: Source, K: Sink>(
     sink: &mut K,
 ) -> u8
     ensures untouched { IsNoServe (map string_bytes words.now) → source.new ≡ source.old }
-    // What stands after each status.
+    // What is after each status.
     ensures ended { Ended (map string_bytes words.now) (S.left source.old) (S.left source.new) (K.held sink.old) (K.held sink.new) result }
-    // Only want of memory and a fault stand in the way of 0 for an input of that form, of 3 for another and of 6 for a longer one.
+    // Only lack of memory and a fault stand in the way of 0 for an input of that form, of 3 for another and of 6 for a longer one.
     ensures due { (l n : ℕ) (all : List ℕ) → IsServe (map string_bytes words.now) l n → S.left source.old ≡ Some all → IsDue all result }
     ensures unwritten { (result ≡ 1) ⊎ (result ≡ 4) → sink.new ≡ sink.old }
     ensures read { result ≡ 4 → HasRisen (S.faults source.old) (S.faults source.new) }

@@ -72,7 +72,7 @@ impl<'a> ServerMain<'a> {
         })
     }
 
-    /// The replies, one for each request.
+    /// Returns the replies, one for each request.
     pub(crate) fn replies(&self, alloc: Global) -> Result<Vec<Reply>, AllocError>
         ensures { IfOk result (λ rs. rs.items ≡ map reply_of self.now.stages.items) }
     {

@@ -1,6 +1,6 @@
 //! Tests of requests: the inputs that say them, and the lines of their replies.
 //!
-//! They stand apart, so that the crates that they test are proved without them.
+//! They are in a crate of their own, so that the crates that they test are proved without them.
 #![tactic(auto)]
 
 #[cfg(test)]

@@ -1,4 +1,4 @@
--- How many results stand in the rooms.
+-- How many results are in the rooms.
 use Rattle.std.proofs.Common.{ap, arith, subst, sym, ◌∙◌}
 use Rattle.std.proofs.lemmas.Map.Entries.{sum_by-insert_entry, sum_by-remove_entry}
 use Rattle.std.proofs.lemmas.List.Sums.{sum_by-cons}
@@ -14,7 +14,7 @@ use Rattle.std.specs.Prelude.{[], Bool, cond, Contains, false, is_some, IsSome, 
 use Rattle.result_rooms.specs.Rooms.{count_given, given_in, weight}
 use Rattle.result_rooms.specs.declared.rooms.ResultRoom.{ResultRoom}
 
--- 1 where there is a result
+-- 1 if there is a result
 abbrev pub one_of : Option ℕ → ℕ
 one_of o = cond (is_some o) 1 0
 
@@ -34,7 +34,7 @@ count_few (e ∷ es) =
     let one = at_most_one e.1.given in
     omega (arith, all, rest, one)
 
--- where none is counted, none stands anywhere
+-- where none is counted, none is anywhere
 pub none_given : (test : ℕ → Bool) (es : List (ℕ × ResultRoom)) → count_given es ≡ 0 → given_in (lookup test es) ≡ None
 none_given test [] none = refl
 none_given test (e ∷ es) none = by e.1.given e.1.lives (test e.0) (sym (counts e es) ∙ none) (none_given test es)
@@ -44,7 +44,7 @@ none_given test (e ∷ es) none = by e.1.given e.1.lives (test e.0) (sym (counts
     by None l false none rest = rest (omega (arith, none))
     by (Some v) l b none rest = absurd (omega (arith, none))
 
--- where some are counted, one stands in the room of an entry
+-- where some are counted, one is in the room of an entry
 abbrev OneIsGiven : List (ℕ × ResultRoom) → Type 0
 OneIsGiven es = (e : ℕ × ResultRoom) × Contains es e × IsSome e.1.given
 
@@ -60,7 +60,7 @@ some_entry (e ∷ es) some = by e.1.given refl (counts e es) (some_entry es)
         (x.0, (suc x.1.0, omega (arith, less), x.1.2), x.2)
     by (Some v) is all rest = (e, (0, omega arith, refl), subst IsSome (sym is) refl)
 
--- a count that isn't above 0 is 0, and one that is is some
+-- a count that isn't above 0 is 0, and one that is some
 pub none_less : (n : ℕ) → nat_lt 0 n ≡ false → n ≡ 0
 none_less zero is = refl
 none_less (suc n) is = absurd (let some : nat_lt 0 (suc n) ≡ true = grind arith in cc)

@@ -16,12 +16,12 @@ pub struct ResultRoom {
     pub lives: bool,
 }
 
-/// The rooms for results, by the numbers of calls by main: contracts see its entries. How many results stand there is kept
-/// beside, so that main, which asks again and again for one that isn't there yet, mostly has its answer at once.
+/// The rooms for results, by the numbers of calls by main: contracts see its entries. How many results are there is kept beside, so
+/// that main, which asks again and again for one that isn't there yet, mostly has its answer at once.
 #[derive(Drop)]
 pub struct ResultRooms {
     rooms: BTreeMap<u64, ResultRoom>,
-    // How many results stand in the rooms.
+    // How many results are in the rooms.
     given: u64,
 }
 
@@ -37,7 +37,7 @@ impl Model for ResultRooms {
     ghost invariant = { λ r. r.given ≡ count_given r.rooms.entries };
 }
 
-// 1 where a result stands in the room.
+// 1 if a result is in the room.
 #[inline(always)]
 fn weight(given: Option<u64>) -> u64
     ensures { (lives : Bool) → result ≡ weight (record { given = given; lives = lives }) }
@@ -45,7 +45,7 @@ fn weight(given: Option<u64>) -> u64
     if given.is_some() { 1 } else { 0 }
 }
 
-// The result that stands in the room of a call, if there is one.
+// The result that is in the room of a call, if there is one.
 #[inline(always)]
 fn given_in(rooms: &BTreeMap<u64, ResultRoom>, call: u64) -> Option<u64>
     ensures { result ≡ given_in (lookup (is_at (nat_cmp call)) rooms.now.entries) }
@@ -69,7 +69,7 @@ fn given_unchecked(rooms: &BTreeMap<u64, ResultRoom>, given: u64, call: u64) -> 
 }
 
 impl ResultRooms {
-    /// No room.
+    /// Makes an empty list of rooms.
     pub fn new(alloc: Global) -> ResultRooms
         ensures { result ≡ [] }
     {
@@ -79,7 +79,7 @@ impl ResultRooms {
         }
     }
 
-    /// The result that stands in the room of a call, if there is one.
+    /// Returns the result that is in the room of a call, if there is one.
     #[inline(always)]
     pub fn result(&self, call: u64) -> Option<u64>
         ensures { result ≡ given_in (lookup (is_at (nat_cmp call)) self.now) }
@@ -87,7 +87,7 @@ impl ResultRooms {
         given_unchecked(&self.rooms, self.given, call)
     }
 
-    /// Whether a result stands in some room.
+    /// Returns whether a result is in some room.
     #[inline(always)]
     pub fn has_given(&self) -> bool
         ensures none { result ≡ false → (call : ℕ) → given_in (lookup (is_at (nat_cmp call)) self.now) ≡ None }
@@ -97,15 +97,14 @@ impl ResultRooms {
         0 < self.given
     }
 
-    /// The room of a call, if there is one.
+    /// Returns the room of a call, if there is one.
     pub fn room(&self, call: u64) -> Option<ResultRoom>
         ensures { result ≡ lookup (is_at (nat_cmp call)) self.now }
     {
         self.rooms.get(&call).copied()
     }
 
-    /// Makes room for a call that is there; a result that stands in its room stays. Where memory is wanting, all is as
-    /// before.
+    /// Makes room for a call that is there; a result that is in its room stays. If it is out of memory, all is as before.
     pub fn make(&mut self, call: u64) -> Result<(), NoMemory>
         ensures made { OnOk result ((q : ℕ) → lookup (is_at (nat_cmp q)) self.new ≡ (if is_at (nat_cmp call) q then Some (record { given = given_in (lookup (is_at (nat_cmp call)) self.old); lives = true }) else lookup (is_at (nat_cmp q)) self.old)) }
         ensures err { OnErr result (self.new ≡ self.old) }
@@ -117,7 +116,7 @@ impl ResultRooms {
         }
     }
 
-    /// Writes the room of a call, which is there. It goes where its call is gone and no result stands in it.
+    /// Writes the room of a call, which is there. It goes where its call is gone and no result is in it.
     pub fn write(&mut self, call: u64, room: ResultRoom)
         requires { IsSome (lookup (is_at (nat_cmp call)) self.old) }
         ensures { (q : ℕ) → lookup (is_at (nat_cmp q)) self.new ≡ (if is_at (nat_cmp call) q then wanted room else lookup (is_at (nat_cmp q)) self.old) }

@@ -5,7 +5,8 @@ ghost use Rattle.run_pace.specs.YieldBudget.{counted, counted_past, since_driven
 use label_trace::PackedLabels;
 use task_machine::{Mark, Turn};
 
-/// Tells whether a turn rests before which an entry of this mark is next, or none: only one that takes entries does, where none stands.
+/// Tells whether a turn rests before which an entry of this mark is next, or none: only one that takes entries does, where none is
+/// there.
 #[inline(always)]
 pub fn rests(turn: Turn, next: Option<Mark>) -> bool
     ensures { result ≡ rests_by turn next }
@@ -28,7 +29,7 @@ pub struct YieldBudget {
 }
 
 impl YieldBudget {
-    /// That of a run that begins.
+    /// Makes the budget of a run that begins.
     pub fn new() -> Self
         ensures since { result.since ≡ 0 }
         ensures passes { result.passes ≡ false }
@@ -39,7 +40,7 @@ impl YieldBudget {
         }
     }
 
-    /// That of a run that has yielded: before an entry, which is then taken, or else as its steps were used up.
+    /// Returns the budget of a run that has yielded: before an entry, which is then taken, or else as its steps were used up.
     pub fn yielded(before: bool) -> Self
         ensures since { result.since ≡ 0 }
         ensures passes { result.passes ≡ before }
@@ -50,7 +51,7 @@ impl YieldBudget {
         }
     }
 
-    /// Whether the run yields before an entry of this mark; before none it doesn't.
+    /// Returns whether the run yields before an entry of this mark; before none it doesn't.
     pub fn yields(self, mark: Option<Mark>) -> bool
         ensures { result ≡ yields_before self.passes self.since mark }
     {
@@ -64,7 +65,7 @@ impl YieldBudget {
         }
     }
 
-    /// That after a step that took an entry of this mark, or none. The run didn't yield before it.
+    /// Returns the budget after a step that took an entry of this mark, or none. The run didn't yield before it.
     pub fn after(self, mark: Option<Mark>) -> Self
         requires { yields_before self.passes self.since mark ≡ false }
         ensures since { result.since ≡ counted self.since mark }
@@ -80,7 +81,8 @@ impl YieldBudget {
         }
     }
 
-    /// That after a step that took an entry of this mark, or none, where the run is polled on if it yields before that entry.
+    /// Returns the budget after a step that took an entry of this mark, or none, where the run is polled on if it yields before
+    /// that entry.
     pub fn past(self, mark: Option<Mark>) -> Self
         ensures since { result.since ≡ counted_past self.passes self.since mark }
         ensures passes { result.passes ≡ false }
@@ -90,7 +92,8 @@ impl YieldBudget {
         }
         self.after(mark)
     }
-    /// That after the steps whose labels stand in the trace from this place on, where the run is polled on wherever it yields.
+    /// Returns the budget after the steps whose labels are in the trace from this index on, where the run is polled on wherever it
+    /// yields.
     pub fn driven(self, trace: &PackedLabels, from: usize) -> Self
         ensures since { result.since ≡ since_driven self.passes self.since (drop from trace.now) }
         ensures passes { result.passes ≡ false }

@@ -10,7 +10,7 @@ use task_run::{
 const ONE_CALL: &[u8] =
     b"scenario 1\nhandles 100000\ntable 1000000\nidle trap\ninstance a\nexport f callback 1\nret r0\nexit\nmain\nstart a.f 7\nfinish 1 r0\nanswer r0\nend\n";
 
-// The same text with one line more.
+// A text with one line more.
 const TWO_ENDS: &[u8] =
     b"scenario 1\nhandles 100000\ntable 1000000\nidle trap\ninstance a\nexport f callback 1\nret r0\nexit\nmain\nstart a.f 7\nfinish 1 r0\nanswer r0\nend\nend\n";
 

@@ -104,7 +104,7 @@ fn calls(op: &Op) -> bool {
     )
 }
 
-// The second instance calls the first one's second export, which stands after two slots.
+// The second instance calls the first one's second export, which is after two slots.
 fn has_call(rt: &impl Abort, instance: &InstanceText) {
     let Some(PartText::Export(export)) = instance.parts.as_slice().first() else {
         panic!(rt; "an export")
@@ -157,7 +157,7 @@ fn is_bad_at(rt: &impl Abort, alloc: Global, text: &[u8], line: u32) {
     assert!(rt; bad_line(read_text(alloc, text)) == line);
 }
 
-// The first bad line, or 0 where there is none.
+// The first bad line, or 0 if there is none.
 fn bad_line(read: Result<ScenarioText, TextError>) -> u32 {
     match read {
         Err(TextError::Bad(line)) => line,

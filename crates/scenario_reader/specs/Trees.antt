@@ -5,7 +5,7 @@ use Rattle.scenario_reader.specs.declared.error.RunError.TheVariants as errors
 use Rattle.scenario_text.specs.Grammar.{IsBadLine, IsTextOf}
 use Rattle.scenario_text.specs.declared.tree.ScenarioText.{ScenarioText}
 
--- a text is refused with its bad line; memory may be wanting
+-- a text is refused with its bad line; it may be out of memory
 abbrev pub RefusedAs : List ℕ → RunError → Type 0
 RefusedAs text (errors.BadScenario n) = IsBadLine text n
 RefusedAs text errors.NoMemory = Unit {0}

@@ -81,7 +81,7 @@ host_fits hosts name xs h e =
     let t = host_named hosts name k.0 k.1 in
     subst (FittingHost hosts name xs) g.1 (record { named = t.0; known = t.1; none = nil_from_length xs (eqb-true _ _ g.0) })
 
--- ---- A named call is this call, and its callee stands on an earlier line
+-- ---- A named call is this call, and its callee is on an earlier line
 
 abbrev pub IsCall : List HostText → List InstanceText → NamedCall → CallOp → Type 0
 IsCall hosts is c o = (named_call_words c ≡ call_op_words hosts is o) × CallStands hosts is o

@@ -31,7 +31,7 @@ exports_named name (part.Export e ∷ parts) = ap (λ b. bytes_eq e.name name ||
 exports_named name (part.Thread s ops ∷ parts) = exports_named name parts
 exports_named name (part.Bad s ∷ parts) = exports_named name parts
 
--- ---- The export at a place stands after those before it
+-- ---- The export at a place is after those before it
 
 pub exports_append : (xs ys : List PartText) → exports_in (xs ++ ys) ≡ exports_in xs ++ exports_in ys
 exports_append [] ys = refl

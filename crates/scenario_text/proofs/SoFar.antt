@@ -80,7 +80,7 @@ pub record AnswerFits (b : Body) (ops : List MainOpText) (x : Operand) (aborters
   pub answer : operand_fits x ≡ true
   pub each : EachStands (AborterStands ops) [] aborters
 
--- what was read stands where it does
+-- what was read is where it does
 abbrev pub IsSound : State → Type 0
 IsSound state.Empty = Unit {0}
 IsSound state.Titled = Unit {0}

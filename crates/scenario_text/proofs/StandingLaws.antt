@@ -18,7 +18,7 @@ stands_last S before [] x each last = (subst (λ ys. S ys x) (append-nil before)
 stands_last S before (y ∷ xs) x each last =
     (each.0, stands_last S (before ++ y ∷ []) xs x each.1 (subst (λ ys. S ys x) (sym (append_assoc before (y ∷ []) xs)) last))
 
--- an item that stands after all may follow them
+-- an item that is after all may follow them
 pub each_more : {X : Type 0} (S : List X → X → Type 0) (xs : List X) (x : X) → EachStands S [] xs → S xs x → EachStands S [] (xs ++ x ∷ [])
 each_more S xs x each last = stands_last S [] xs x each last
 
@@ -30,7 +30,7 @@ stands_after S before (y ∷ xs) zero x each e = subst (λ z. S (before ++ []) z
 stands_after S before (y ∷ xs) (suc k) x each e =
     subst (λ ys. S ys x) (append_assoc before (y ∷ []) (take k xs)) (stands_after S (before ++ y ∷ []) xs k x each.1 e)
 
--- it stands after those before that place
+-- it is after those before that place
 pub stands_at : {X : Type 0} (S : List X → X → Type 0) (xs : List X) (k : ℕ) (x : X) → EachStands S [] xs → slice_get xs k ≡ Some x → S (take k xs) x
 stands_at S xs k x each e = stands_after S [] xs k x each e
 
@@ -49,7 +49,7 @@ found_by p y xs k false h e later =
     let t = later j.0 j.1 in
     (t.0, ap (slice_get (y ∷ xs)) (sym j.2) ∙ t.1, t.2)
 
--- what stands at the place that was found passes the test
+-- what is at the place that was found passes the test
 pub place_takes : {X : Type 0} (p : X → Bool) (xs : List X) (k : ℕ) → position p xs ≡ Some k → (x : X) × (slice_get xs k ≡ Some x) × (p x ≡ true)
 place_takes p [] k e = absurd cc
 place_takes p (y ∷ xs) k e = found_by p y xs k (p y) refl e (place_takes p xs)
@@ -68,7 +68,7 @@ same_bytes xs ys e = (bytes_eq-Decides xs ys).0 e
 pub bytes_same : (xs : List ℕ) → bytes_eq xs xs ≡ true
 bytes_same xs = (bytes_eq-Decides xs xs).1 refl
 
--- as many as may stand
+-- as many as may be
 pub few_after : {X : Type 0} (S : List X → X → Type 0) (n : ℕ) → ((before : List X) (x : X) → S before x → length before < n) → (before xs : List X) → length before ≤ n → EachStands S before xs → length (before ++ xs) ≤ n
 few_after S n bound before [] le each = omega (arith, length-append before [])
 few_after S n bound before (x ∷ xs) le each =
@@ -76,7 +76,7 @@ few_after S n bound before (x ∷ xs) le each =
     let h = few_after S n bound (before ++ x ∷ []) xs (omega (arith, length-append before (x ∷ []))) each.1 in
     omega (arith, h, length-append (before ++ x ∷ []) xs, length-append before (x ∷ []), length-append before (x ∷ xs))
 
--- as many stand before a place as its number says
+-- as many are before a place as its number says
 pub length_before : {X : Type 0} (xs : List X) (k : ℕ) (x : X) → slice_get xs k ≡ Some x → length (take k xs) ≡ k
 length_before [] k x e = absurd cc
 length_before (y ∷ xs) zero x e = refl

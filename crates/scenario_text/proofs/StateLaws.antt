@@ -222,7 +222,7 @@ main_follows s t e sound =
     subst (Follows s main_words) (some_is (state.Main b.0 []) t b.2)
     (record { lines = ap (λ (ls : Lines). ls ++ main_words ∷ []) (sym c.lines); sound = record { body = c.body; each = tt } })
 
--- named ops are this op of main, and it stands after those before it
+-- named ops are this op of main, and it is after those before it
 abbrev pub IsMainOp : Body → List MainOpText → NamedOp → MainOpText → Type 0
 IsMainOp b before l o = (named_words l ≡ main_op_words b.hosts b.instances o) × MainOpStands b.hosts b.instances before o
 

@@ -52,7 +52,7 @@ found_from s n (ws ∷ ls) x e sound = found_on s n ws ls x (after_words s ws) r
 abbrev reads_as : ScenarioText → Result ScenarioText ℕ
 reads_as x = Ok x
 
--- Reading from s stops at line m: what stands before it begins a scenario, and whatever follows it, reading stops there.
+-- Reading from s stops at line m: what is before it begins a scenario, and whatever follows it, reading stops there.
 record Stops (s : State) (n : ℕ) (ls : Lines) (m : ℕ) : Type 0 where
   count : ℕ
   is : m ≡ n + count
@@ -131,7 +131,7 @@ one_tree x y text a b =
     let two = read_again y b.well_formed in
     ok_is x y (sym one ∙ ap (read_from state.Empty 1) (sym a.lines ∙ b.lines) ∙ two)
 
--- a scenario's text is refused for want of memory alone
+-- a scenario's text is refused for lack of memory alone
 pub only_memory : (r : Result ScenarioText TextError) (x : ScenarioText) (text : List ℕ) → AnswersLine r text → IsTextOf x text → IsOkUnless r errors.NoMemory
 only_memory (Ok y) x text answer text_of = tt
 only_memory (Err (errors.Bad n)) x text answer text_of = absurd (answer.past x text_of)

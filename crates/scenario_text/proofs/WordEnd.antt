@@ -5,7 +5,7 @@ use Rattle.std.proofs.lemmas.List.{get_or_default}
 use Rattle.std.specs.Prelude.{◌==◌, position}
 use Rattle.scenario_text.proofs.FirstByte.{first_byte}
 
--- no space stands before place i
+-- no space is before place i
 abbrev pub NoSpace : List ℕ → ℕ → Type 0
 NoSpace xs i = (k : ℕ) → k < i → get_or xs k 0 ≡ 32 → ⊥
 

@@ -18,7 +18,7 @@ words line = slice_split (λ b. b == 32) line
 abbrev pub spelled : List ℕ → Lines
 spelled text = map words (lines text)
 
--- the text stands for this tree
+-- the text represents this tree
 pub record IsTextOf (s : ScenarioText) (text : List ℕ) : Type 0 where
   pub well_formed : IsWellFormed s
   pub lines : spelled text ≡ lines_of s

@@ -1,4 +1,4 @@
--- What a scenario's tree must keep: each value fits its line, and each line may stand after those before it.
+-- What a scenario's tree must keep: each value fits its line, and each line may be after those before it.
 use Rattle.std.specs.Prelude.{◌≡◌, ℕ, ◌+◌, ◌≤◌, ◌<◌, Bool, true, false, not, List, [], ◌∷◌, ◌++◌, length, count_by, Option, Some, None, slice_get, nat_lt, nat_le, ◌==◌, ◌&&◌, ◌||◌}
 use Rattle.std.specs.List.{list_all, list_any, sum_by}
 use Rattle.std.specs.Option.{option_map}
@@ -24,14 +24,14 @@ use Rattle.scenario_text.specs.declared.tree.MainOpText.TheVariants as main
 use Rattle.scenario_text.specs.declared.tree.ScenarioText.{ScenarioText}
 use Rattle.scenario_text.specs.Spelling.{exports_of}
 
--- each item stands after those before it
+-- each item is after those before it
 abbrev pub EachStands : {X : Type 0} → (List X → X → Type 0) → List X → List X → Type 0
 EachStands Stands before [] = Unit {0}
 EachStands Stands before (x ∷ xs) = Stands before x × EachStands Stands (before ++ x ∷ []) xs
 
 -- ---- Hosts
 
--- a host of this name may stand after those before it: 256, with other names
+-- a host of this name may be after those before it: 256, with other names
 abbrev pub host_opens : List HostText → List ℕ → Bool
 host_opens before name = nat_lt (length before) 256 && not (list_any (λ h. bytes_eq h.name name) before)
 
@@ -46,7 +46,7 @@ pub record HostStands (before : List HostText) (h : HostText) : Type 0 where
 abbrev pub params_of : List InstanceText → Callee → Option ℕ
 params_of instances f = option_map (λ e. e.params) (slice_get (exports_of instances f.instance) f.export)
 
--- a callee stands on an earlier line, an export's instance is an earlier one, and there are as many operands as parameters
+-- a callee is on an earlier line, an export's instance is an earlier one, and there are as many operands as parameters
 abbrev pub CallStands : List HostText → List InstanceText → CallOp → Type 0
 CallStands hosts earlier (call_op.Call r q f xs) =
     (register_fits r && register_fits q && list_all operand_fits xs ≡ true) × (params_of earlier f ≡ Some (length xs))
@@ -63,7 +63,7 @@ is_callback_end (task_op.CbWait x) = true
 is_callback_end (task_op.Code x) = true
 is_callback_end _ = false
 
--- an op may stand in a callback's scripts, or in others too
+-- an op may be in a callback's scripts, or in others too
 abbrev pub op_suits : Bool → Op → Bool
 op_suits callback (op.Task o) = callback || not (is_callback_end o)
 op_suits callback _ = true
@@ -76,7 +76,7 @@ OpFits hosts earlier o = plain_op_fits o ≡ true
 abbrev pub has_room_for_op : List Op → Bool
 has_room_for_op before = nat_lt (length before) 4096
 
--- an op may stand after these in a script, of a callback or not, of an instance after these
+-- an op may be after these in a script, of a callback or not, of an instance after these
 pub record OpStands (hosts : List HostText) (earlier : List InstanceText) (callback : Bool) (before : List Op) (o : Op) : Type 0 where
   pub room : has_room_for_op before ≡ true
   pub suits : op_suits callback o ≡ true

@@ -86,7 +86,7 @@ part_lines hosts earlier (part.Bad s) = bad_words s ∷ []
 abbrev pub instance_lines : List HostText → List InstanceText → InstanceText → Lines
 instance_lines hosts earlier i = instance_words i.name ∷ flat_map (part_lines hosts earlier) i.parts
 
--- the lines of these instances, which stand after earlier ones
+-- the lines of these instances, which are after earlier ones
 abbrev pub lines_after : List HostText → List InstanceText → List InstanceText → Lines
 lines_after hosts earlier [] = []
 lines_after hosts earlier (i ∷ is) = instance_lines hosts earlier i ++ lines_after hosts (earlier ++ i ∷ []) is

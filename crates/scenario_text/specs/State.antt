@@ -315,7 +315,7 @@ abbrev pub go_on : ℕ → (State → Result ScenarioText ℕ) → Option State 
 go_on n more None = Err n
 go_on n more (Some t) = more t
 
--- The scenario, or the number of the first line that may not stand where it does. n is the next line's number.
+-- The scenario, or the number of the first line that may not be where it does. n is the next line's number.
 unfoldable pub read_from : State → ℕ → Lines → Result ScenarioText ℕ
 read_from s n [] = end_at n (scenario_of s)
 read_from s n (words ∷ lines) = go_on n (λ t. read_from t (n + 1) lines) (after_words s words)

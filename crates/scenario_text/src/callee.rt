@@ -69,7 +69,7 @@ fn parts_of(instances: &[InstanceText], place: u32) -> &[PartText]
     }
 }
 
-/// The export of these names.
+/// Finds the export of these names.
 #[tactic(auto, unfolding(crate::specs::State::callee_of))]
 pub fn callee_of(instances: &[InstanceText], instance: &[u8], export: &[u8]) -> Option<Callee>
     ensures { result ≡ callee_of instances.now instance.now export.now }
@@ -79,7 +79,7 @@ pub fn callee_of(instances: &[InstanceText], instance: &[u8], export: &[u8]) -> 
     Some(Callee { instance, export })
 }
 
-/// How many parameters an export has, where there is one.
+/// Returns how many parameters an export has, where there is one.
 pub fn params_of(instances: &[InstanceText], callee: Callee) -> Option<u32>
     ensures { result ≡ params_of instances.now callee }
 {
@@ -88,7 +88,7 @@ pub fn params_of(instances: &[InstanceText], callee: Callee) -> Option<u32>
     Some(export.params)
 }
 
-/// The export of these names, where it takes so many operands.
+/// Finds the export of these names, if it takes so many operands.
 #[tactic(auto, unfolding(crate::specs::State::fitting_export))]
 pub fn fitting_export(
     instances: &[InstanceText],
@@ -112,7 +112,7 @@ fn host_position(hosts: &[HostText], name: &[u8]) -> Option<usize>
     hosts.iter().position(|h| h.name.as_slice() == name)
 }
 
-/// The host of this name.
+/// Returns the host of this name.
 pub fn host_place(hosts: &[HostText], name: &[u8]) -> Option<u32>
     ensures { result ≡ host_place hosts.now name.now }
 {
@@ -184,7 +184,7 @@ fn call_sync_to(
     }
 }
 
-/// The call whose callee has this name, of a host or of an export of an earlier instance.
+/// Returns the call whose callee has this name, of a host or of an export of an earlier instance.
 #[tactic(auto, unfolding(crate::specs::State::call_of))]
 pub fn call_of(hosts: &[HostText], earlier: &[InstanceText], call: NamedCall) -> Option<CallOp>
     ensures { result ≡ call_of hosts.now earlier.now call }

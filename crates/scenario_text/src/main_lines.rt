@@ -58,7 +58,7 @@ impl Model for MainLines {
 }
 
 impl MainLines {
-    /// No ops.
+    /// Makes an empty list of ops.
     pub fn new(alloc: Global) -> Self
         ensures { result ≡ [] }
     {
@@ -70,7 +70,7 @@ impl MainLines {
         }
     }
 
-    /// The ops, in order.
+    /// Returns the ops, in order.
     pub fn into_ops(self) -> Seq<MainOpText>
         ensures { result ≡ self }
     {
@@ -83,14 +83,14 @@ impl MainLines {
         ops
     }
 
-    /// Whether an op may follow these, if nothing else forbids it.
+    /// Returns whether an op may follow these, if nothing else forbids it.
     pub fn has_room(&self) -> bool
         ensures { result ≡ main_has_room self.now }
     {
         self.ops.len() < MAIN_OPS
     }
 
-    /// Whether a start may follow these ops.
+    /// Returns whether a start may follow these ops.
     pub fn start_opens(&self) -> bool
         ensures { result ≡ start_opens self.now }
     {
@@ -105,28 +105,28 @@ impl MainLines {
         self.finished[start as usize - 1]
     }
 
-    /// Whether a finish of this start, an earlier one that isn't finished, may follow these ops.
+    /// Returns whether a finish of this start, an earlier one that isn't finished, may follow these ops.
     pub fn finish_opens(&self, start: u32) -> bool
         ensures { result ≡ finish_opens self.now start }
     {
         self.has_room() && 1 <= start && start as usize <= self.starts && !self.is_finished(start)
     }
 
-    /// Whether a spawn may follow these ops.
+    /// Returns whether a spawn may follow these ops.
     pub fn spawn_opens(&self) -> bool
         ensures { result ≡ spawn_opens self.now }
     {
         self.has_room() && self.spawns < SPAWNS
     }
 
-    /// Whether this spawn is an earlier one.
+    /// Returns whether this spawn is an earlier one.
     pub fn is_spawned(&self, spawn: u32) -> bool
         ensures { result ≡ is_spawned self.now spawn }
     {
         1 <= spawn && spawn as usize <= self.spawns
     }
 
-    /// Whether an op on this spawn, an earlier one, may follow these ops.
+    /// Returns whether an op on this spawn, an earlier one, may follow these ops.
     pub fn spawn_named(&self, spawn: u32) -> bool
         ensures { result ≡ spawn_named self.now spawn }
     {
@@ -139,7 +139,7 @@ impl MainLines {
         spawns.iter().all(|k| self.is_spawned(*k))
     }
 
-    /// Whether an aborter of these spawns may follow those before it.
+    /// Returns whether an aborter of these spawns may follow those before it.
     pub fn aborter_opens(&self, before: &[Seq<u32>], spawns: &[u32]) -> bool
         ensures { result ≡ aborter_opens self.now before.now spawns.now }
     {

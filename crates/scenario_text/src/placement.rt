@@ -1,4 +1,4 @@
-//! Where a line may stand: the limits, and the names that stand on earlier lines.
+//! Where a line may be: the limits, and the names that rest on earlier lines.
 ghost use Rattle.std.specs.Prelude.{◌≡◌, ◌+◌, ◌-◌, ◌&&◌};
 ghost use Rattle.std.specs.List.{list_any};
 ghost use Rattle.std.specs.Str.{bytes_eq};
@@ -24,7 +24,7 @@ fn has_host(before: &[HostText], name: &[u8]) -> bool
     before.iter().any(|h| h.name.as_slice() == name)
 }
 
-/// Whether a host of this name may stand after those before it.
+/// Returns whether a host of this name may be after those before it.
 pub fn host_opens(before: &[HostText], name: &[u8]) -> bool
     ensures { result ≡ host_opens before.now name.now }
 {
@@ -55,14 +55,14 @@ fn op_suits(callback: bool, op: &Op) -> bool
     }
 }
 
-/// Whether an op may follow these in a script, of a callback or not.
+/// Returns whether an op may follow these in a script, of a callback or not.
 pub fn op_opens(callback: bool, before: &[Op], op: &Op) -> bool
     ensures { result ≡ (has_room_for_op before.now && op_suits callback op.now) }
 {
     has_room_for_op(before) && op_suits(callback, op)
 }
 
-/// Whether an export of this kind has a react script.
+/// Returns whether an export of this kind has a react script.
 pub fn is_callback(kind: ExportKind) -> bool
     ensures { result ≡ is_callback kind }
 {
@@ -75,7 +75,7 @@ fn has_instance(before: &[InstanceText], name: &[u8]) -> bool
     before.iter().any(|i| i.name.as_slice() == name)
 }
 
-/// Whether an instance of this name may begin after those before it.
+/// Returns whether an instance of this name may begin after those before it.
 pub fn instance_opens(before: &[InstanceText], name: &[u8]) -> bool
     ensures { result ≡ instance_opens before.now name.now }
 {
@@ -127,8 +127,7 @@ fn has_export(before: &[PartText], name: &[u8]) -> bool
     before.iter().any(|p| is_export_named(p, name))
 }
 
-/// Whether an export of this name may begin after those of earlier instances and these parts of its
-/// own.
+/// Returns whether an export of this name may begin after those of earlier instances and these parts of its own.
 #[tactic(auto, unfolding(crate::specs::Placement::export_opens))]
 pub fn export_opens(earlier: &[InstanceText], before: &[PartText], name: &[u8]) -> bool
     ensures { result ≡ export_opens earlier.now before.now name.now }
@@ -152,7 +151,7 @@ fn is_filled(before: &[PartText], slot: u8) -> bool
     before.iter().any(|p| fills(p, slot))
 }
 
-/// Whether a slot may be given after these parts of its instance.
+/// Returns whether a slot may be given after these parts of its instance.
 pub fn slot_opens(before: &[PartText], slot: u8) -> bool
     ensures { result ≡ slot_opens before.now slot }
 {

@@ -29,8 +29,8 @@ fn line_end(text: &[u8]) -> Option<usize>
     memchr(b'\n', text)
 }
 
-/// Takes the first line off a text: that line, which ends at a line feed or at the text's end, and the text after it. None where the text is
-/// empty.
+/// Takes the first line off a text: that line, which ends at a line feed or at the text's end, and the text after it. None if the
+/// text is empty.
 pub fn first_line(text: &[u8]) -> Option<(&[u8], &[u8])>
     ensures cases { MatchOption result (text.now ≡ []) (λ p. lines text.now ≡ p.0.now ∷ lines p.1.now) }
     ensures shorter { IfSome result (λ p. length p.1.now < length text.now) }
@@ -75,7 +75,8 @@ fn word_end(line: &[u8]) -> Option<usize>
     None
 }
 
-/// Puts the words of a line, which have one space between them, into a list that is used for each line. What stood in the list is gone.
+/// Puts the words of a line, which have one space between them, into a list that is used for each line. What was in the list is
+/// gone.
 pub fn split_words<'a>(list: &mut Vec<&'a [u8]>, line: &'a [u8]) -> Result<(), AllocError>
     ensures { OnOk result (map (λ w. w.now) list.new.items ≡ words line.now) }
 {
@@ -121,20 +122,20 @@ fn read(alloc: Global, text: &[u8]) -> Result<ScenarioText, TextError>
     state.into_scenario().ok_or(TextError::Bad(number))
 }
 
-/// The tree of a scenario text. A text that is none is refused with its bad line: the least n such
-/// that its first n lines begin no scenario, or one past the last where only more lines are missing.
-/// The lines and their places are those of the scenario grammar.
+/// Returns the tree of a scenario text. A text that is none is refused with its bad line: the least n such that its first n lines
+/// begin no scenario, or one past the last where only more lines are missing. The lines and their places are those of the scenario
+/// grammar.
 pub fn read_text(alloc: Global, text: &[u8]) -> Result<ScenarioText, TextError>
     requires { length text.now < 4294967295 }
     // A tree is the text's own, and a line is the bad one.
     ensures answer { AnswersLine result text.now }
-    // A scenario's text is refused for want of memory alone.
+    // A scenario's text is refused for lack of memory alone.
     ensures only { (tree : ScenarioText) → IsTextOf tree text.now → IsOkUnless result TextError.NoMemory }
 {
     read(alloc, text)
 }
 
-/// Two trees of one text are the same one: `read_text` answers no other than the text's own.
+/// Says that two trees of one text are equal: `read_text` answers no other than the text's own.
 pub fn one_tree()
     ensures { (x y : ScenarioText) (text : List ℕ) → IsTextOf x text → IsTextOf y text → x ≡ y }
 {}

@@ -458,7 +458,7 @@ impl State {
         }
     }
 
-    // Adds a call. It stays out of line, as `add_line`.
+    // Adds a call. It stays a function of its own, as `add_line`.
     #[inline(never)]
     #[tactic(auto, unfolding(crate::specs::State::after_call))]
     fn add_call(&mut self, call: NamedCall) -> Result<(), LineError>
@@ -488,7 +488,7 @@ impl State {
         }
     }
 
-    // Adds an op of main in place. It stays out of line, as `add_line`.
+    // Adds an op of main in place. It stays a function of its own, as `add_line`.
     #[inline(never)]
     #[tactic(auto, unfolding(crate::specs::State::after_main_op, crate::specs::State::main_open))]
     fn add_main_op(&mut self, op: NamedOp) -> Result<(), LineError>
@@ -504,7 +504,7 @@ impl State {
         Ok(())
     }
 
-    // Adds a start in place: its names aren't copied. It stays out of line, as `add_line`.
+    // Adds a start in place: its names aren't copied. It stays a function of its own, as `add_line`.
     #[inline(never)]
     #[tactic(auto, unfolding(text_lines::specs::Line::line_after, text_lines::specs::Line::main_op_after, crate::specs::State::after, crate::specs::State::after_main_op, crate::specs::State::main_open, crate::specs::State::main_op_of, crate::specs::State::start_of))]
     fn add_start(&mut self, alloc: Global, words: &[&[u8]]) -> Result<(), LineError>
@@ -525,7 +525,7 @@ impl State {
         Ok(())
     }
 
-    // Adds a finish in place. It stays out of line, as `add_line`.
+    // Adds a finish in place. It stays a function of its own, as `add_line`.
     #[inline(never)]
     #[tactic(auto, unfolding(text_lines::specs::Line::line_after, text_lines::specs::Line::main_op_after, crate::specs::State::after, crate::specs::State::after_main_op, crate::specs::State::main_open, crate::specs::State::main_op_of))]
     fn add_finish(&mut self, words: &[&[u8]]) -> Result<(), LineError>
@@ -615,7 +615,7 @@ impl State {
         }
     }
 
-    // Adds any line. It stays out of line, so that the lines of scripts don't pay for its values.
+    // Adds any line. It stays a function of its own, so that the lines of scripts don't pay for its values.
     #[inline(never)]
     #[tactic(auto, unfolding(crate::specs::State::after))]
     fn add_line(
@@ -701,7 +701,7 @@ impl State {
         }
     }
 
-    /// The scenario, if it has ended.
+    /// Returns the scenario, if it has ended.
     #[tactic(auto, unfolding(crate::specs::State::scenario_of))]
     pub fn into_scenario(self) -> Option<ScenarioText>
         ensures { result ≡ scenario_of self }

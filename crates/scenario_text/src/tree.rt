@@ -21,7 +21,7 @@ pub struct ExportText {
     pub react: Option<Seq<Op>>,
 }
 
-/// What stands in an instance.
+/// What is in an instance.
 #[derive(Drop)]
 pub enum PartText {
     Export(ExportText),
@@ -31,7 +31,7 @@ pub enum PartText {
     Bad(u8),
 }
 
-/// An `instance` line, and what stands after it.
+/// An `instance` line, and what is after it.
 #[derive(Drop)]
 pub struct InstanceText {
     pub name: Name,

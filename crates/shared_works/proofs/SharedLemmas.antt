@@ -50,7 +50,7 @@ met_snoc fs f =
     ∙ (aborters_snoc 0 (phases_in fs) f.found.items
     ∙ ap (λ (n : ℕ). aborters_from 0 (phases_in fs) ++ aborter_at n f.found.items ∷ []) here)
 
--- each that was met stands at its place
+-- each that was met is at its place
 aborter_there : (j k : ℕ) (pss : List (List Phase)) → k < length pss → (ps : List Phase) × (get_elem? (aborters_from j pss) k ≡ some (aborter_at (j + k) ps))
 aborter_there j k [] lt = absurd (omega arith)
 aborter_there j zero (ps ∷ pss) lt = let same : j ≡ j + 0 = omega arith in (ps, ap (λ (n : ℕ). some (aborter_at n ps)) same)

@@ -31,7 +31,7 @@ impl AborterPass {
         }
     }
 
-    /// Aborts the work, and keeps the phase that it found. It is one atomic step. Where memory is wanting for the list, nothing is
+    /// Aborts the work, and keeps the phase that it found. It is one atomic step. If it is out of memory for the list, nothing is
     /// done.
     pub fn abort(&mut self) -> Result<Phase, NoMemory>
         ensures cell { pass_cell_of self.new ≡ pass_cell_of self.old }

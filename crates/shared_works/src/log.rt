@@ -14,7 +14,7 @@ pub struct Found {
     pub found: Vec<Phase>,
 }
 
-// Adds an item to a list. Where memory is wanting, the list is as before.
+// Adds an item to a list. If it is out of memory, the list is as before.
 pub(crate) fn add<T: Drop>(list: &mut Vec<T>, item: T) -> Result<(), NoMemory>
     ensures ok { OnOk result (list.new.items ≡ list.old.items ++ item ∷ []) }
     ensures err { OnErr result (list.new.items ≡ list.old.items) }
@@ -25,7 +25,7 @@ pub(crate) fn add<T: Drop>(list: &mut Vec<T>, item: T) -> Result<(), NoMemory>
     }
 }
 
-// The stage in which an entry stands, 1 to 5.
+// The stage in which an entry is, 1 to 5.
 fn stage(answer: Phase, call: PhaseCall) -> u8
     ensures { result ≡ stage answer call }
 {
@@ -157,7 +157,7 @@ fn by_stages(alloc: Global, entries: &[LogEntry<u32>]) -> Result<Vec<LogEntry<u3
 }
 
 /// Puts a log together by stages. The calls of caller 0 are `own`, of which the first `early` were made before the last round; the
-/// aborters stand in the order of their numbers.
+/// aborters are in the order of their numbers.
 pub fn staged(
     alloc: Global,
     own: &[CallMade],

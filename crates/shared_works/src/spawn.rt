@@ -18,7 +18,7 @@ use std::alloc::Global;
 use task_abort::{Abortable, CallMade, JoinHandle, JoinPass, LogEntry, PhaseCall};
 use task_machine::{NoMemory, Phase};
 
-// A call that is to be made: it stands in its list before, so that each call that was made is listed.
+// A call that is to be made: it is in its list before, so that each call that was made is listed.
 fn unanswered(call: PhaseCall) -> CallMade
     ensures { result ≡ made call None }
 {
@@ -26,7 +26,7 @@ fn unanswered(call: PhaseCall) -> CallMade
 }
 
 impl SharedSpawn {
-    /// A cell in phase `Running`, of which no call was made.
+    /// Makes a cell in phase `Running`, of which no call was made.
     pub fn new(alloc: Global) -> Result<SharedSpawn, NoMemory>
         ensures view { IfOk result (λ s. spawn_view s ≡ first_view) }
         ensures open { IfOk result (λ s. is_finished s ≡ false) }
@@ -45,7 +45,7 @@ impl SharedSpawn {
         }
     }
 
-    /// A pass for an aborter, which has seen what the run has. It is refused only where memory is wanting.
+    /// Returns a pass for an aborter, which has seen what the run has. It is refused only if it is out of memory.
     pub fn split(&mut self, alloc: Global) -> Result<AborterPass, NoMemory>
         ensures cell { spawn_cell self.new ≡ spawn_cell self.old }
         ensures left { OnOk result (spawn_view self.new ≡ split_left (spawn_view self.old)) }
@@ -67,8 +67,8 @@ impl SharedSpawn {
         Ok(AborterPass::new(alloc, handle, pass, place))
     }
 
-    /// Asks whether the work may be polled, which it may where `Running` was found. A work that is over isn't asked: it is `Complete`.
-    /// Where memory is wanting for the list, nothing is done.
+    /// Asks whether the work may be polled, which it may where `Running` was found. A work that is over isn't asked: it is
+    /// `Complete`. If it is out of memory for the list, nothing is done.
     pub fn poll(&mut self) -> Result<Phase, NoMemory>
         ensures cell { spawn_cell self.new ≡ spawn_cell self.old }
         ensures call { IfOk result (λ found. MatchBool (is_finished self.old) ((found ≡ Complete) × (spawn_view self.new ≡ spawn_view self.old)) (Calls PollFuture (spawn_view self.old) found (spawn_view self.new))) }
@@ -90,7 +90,7 @@ impl SharedSpawn {
         Ok(found)
     }
 
-    /// Says that the work is over; where it was, nothing is done. Where memory is wanting for the list, nothing is done either.
+    /// Says that the work is over; where it was, nothing is done. If it is out of memory for the list, nothing is done either.
     pub fn finish(&mut self) -> Result<(), NoMemory>
         ensures cell { spawn_cell self.new ≡ spawn_cell self.old }
         ensures call { OnOk result (MatchBool (is_finished self.old) (spawn_view self.new ≡ spawn_view self.old) ((found : Phase) × Calls Finish (spawn_view self.old) found (spawn_view self.new))) }
@@ -115,7 +115,8 @@ impl SharedSpawn {
         Ok(())
     }
 
-    /// Aborts the work by the run itself, and answers the phase that it found. Where memory is wanting for the list, nothing is done.
+    /// Aborts the work by the run itself, and answers the phase that it found. If it is out of memory for the list, nothing is
+    /// done.
     pub fn abort(&mut self) -> Result<Phase, NoMemory>
         ensures cell { spawn_cell self.new ≡ spawn_cell self.old }
         ensures call { IfOk result (λ found. Calls Abort (spawn_view self.old) found (spawn_view self.new)) }
@@ -134,7 +135,7 @@ impl SharedSpawn {
         Ok(found)
     }
 
-    /// Ready exactly where the work is over. Where memory is wanting for the list, nothing is done.
+    /// Returns `Ready` exactly if the work is over. If it is out of memory for the list, nothing is done.
     pub fn poll_handle(&mut self) -> Result<Poll<()>, NoMemory>
         ensures cell { spawn_cell self.new ≡ spawn_cell self.old }
         ensures call { IfOk result (λ poll. (found : Phase) × Calls PollHandle (spawn_view self.old) found (spawn_view self.new) × TellsComplete found poll) }
@@ -155,8 +156,8 @@ impl SharedSpawn {
         Ok(poll)
     }
 
-    /// Takes an aborter's pass in, under the number of its line. Passes are met in the order in which they were split off. Where memory
-    /// is wanting for the list, the pass is dropped, and all else is as before.
+    /// Takes an aborter's pass in, under the number of its line. Passes are met in the order in which they were split off. If it is
+    /// out of memory for the list, the pass is dropped, and all else is as before.
     pub fn meet(&mut self, number: u32, other: AborterPass) -> Result<(), NoMemory>
         requires cell { pass_cell_of other ≡ spawn_cell self.old }
         requires order { place_of other ≡ length (met_list self.old) }
@@ -177,7 +178,7 @@ impl SharedSpawn {
         Ok(())
     }
 
-    /// How many calls the run has made. All aborts of the passes that were met have been made by now.
+    /// Returns how many calls the run has made. All aborts of the passes that were met have been made by now.
     pub fn calls(&self) -> usize
         ensures count { result ≡ length (own_list self.now) }
         ensures round { LastRound (spawn_view self.now) result }
@@ -185,8 +186,8 @@ impl SharedSpawn {
         self.calls.len()
     }
 
-    /// The log of all calls, put together by stages, once each pass that was split off was met. The run's calls after its first `early`
-    /// ones were made when all aborts had been: they stand behind them. The log is legal.
+    /// Returns the log of all calls, put together by stages, once each pass that was split off was met. The run's calls after its
+    /// first `early` ones were made when all aborts had been: they are behind them. The log is legal.
     pub fn log(&self, alloc: Global, early: usize) -> Result<Vec<LogEntry<u32>>, NoMemory>
         requires met { HasMetEach self.now }
         requires last { LastRound (spawn_view self.now) early }

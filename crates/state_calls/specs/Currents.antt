@@ -45,7 +45,7 @@ is_free_beside old _ = false
 abbrev pub is_left : ℕ → Option ℕ → Core → Bool
 is_left n new s = not (is_number n new) && is_at n s is_running
 
--- the thread that is to run has no entry, and neither waits nor stands behind another
+-- the thread that is to run has no entry, and neither waits nor is behind another
 abbrev pub MayRun : StateView → CurrentThread → Type 0
 MayRun s (current.Guest q) = IsLive s q × (is_at (thread_of s q.thread) s.core (is_free_beside (runner s)) ≡ true)
 MayRun s current.None = Unit {0}

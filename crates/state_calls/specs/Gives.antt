@@ -11,7 +11,7 @@ use Rattle.task_wait.specs.declared.codes.Event.{Event}
 use Rattle.task_wait.specs.declared.codes.Event.TheVariants as event
 use Rattle.task_words.specs.StateView.{StateView, on_core}
 
--- what the task is given by the set, with this member chosen; without a set its own event alone; None where the choice isn't lawful
+-- what the task is given by the set, with this member chosen; without a set its task event alone; None if the choice isn't lawful
 abbrev pub picked_event_of : Bool → ℕ → Option ℕ → Option Subtask → Core → Option PickedEvent
 picked_event_of cancellable k None chosen s = Some (own_or_nothing (picked_task_event_of cancellable k s))
 picked_event_of cancellable k (Some x) chosen s = picked_event cancellable k x chosen s
@@ -24,7 +24,7 @@ own_told own.Cancelled = event.Cancelled
 abbrev pub member_told : Subtask → Core → Event × ℕ
 member_told sub s = (event.Subtask (unwrap_or (event_of sub s) status.Starting), unwrap_or (subtask_handle sub s) 0)
 
--- the event, and the handle of the member whose it is; the handle of the own event is 0
+-- the event, and the handle of the member whose it is; the handle of the task event is 0
 abbrev pub handed : PickedEvent → Core → Option (Event × ℕ)
 handed (PickedTaskEvent e) s = Some (own_told e, 0)
 handed (PickedMember sub) s = Some (member_told sub s)

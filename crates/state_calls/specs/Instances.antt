@@ -15,6 +15,6 @@ shown none_held r = record {
   do_not_suspend = r.do_not_suspend;
 }
 
--- the instance of this number; None where there is none
+-- the instance of this number; None if there is none
 abbrev pub instance_state : ℕ → Core → Option ConcurrentInstanceState
 instance_state i s = option_map (shown (is_nil (held_in i s))) (get s.instances i)

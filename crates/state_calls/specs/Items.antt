@@ -65,8 +65,8 @@ is_kept_back (place.Behind n) = true
 is_kept_back (place.Under n) = true
 is_kept_back _ = false
 
--- The thread has no entry and isn't kept back, and it is New just where the item is a start. What stands at switch, if that is where the
--- item comes to, has no other entry.
+-- The thread has no entry and isn't kept back, and it is New just where the item is a start. What is at switch, if that is where
+-- the item comes to, has no other entry.
 pub record MayPut (m : Mark) (n : ℕ) (w : Why) (s : Core) : Type 0 where
   pub unqueued : IsUnqueued n s
   pub switch : switch_entries n s.queues.switch ≡ 0
@@ -86,7 +86,7 @@ pub record MayStand (m : Mark) (i : ℕ) (test : Stage → Bool) (s : Core) : Ty
   pub unqueued : work_entries i s.queues.high ≡ 0
   pub stage : test (stage_of i s) ≡ true
 
--- An item that may be put at the mark: its ids are live, and it stands nowhere.
+-- An item that may be put at the mark: its ids are live, and it is nowhere.
 abbrev pub MayQueue : Mark → Item → StateView → Type 0
 MayQueue m (item.StartImplicit id) s = IsLive s id × MayPut m (thread_of s id.thread) why.Start s.core
 MayQueue m (item.StartExplicit id) s = IsLive s id × MayPut m (thread_of s id.thread) why.Start s.core
@@ -103,7 +103,7 @@ CanGet (item.Deliver id d) s = GetsEntry (thread_of s id.thread) (why.Delivery (
 CanGet (item.Resume id) s = GetsEntry (thread_of s id.thread) why.Resumption s.core
 CanGet _ s = ⊥
 
--- The thread has this item in hand, taken from the mark, and it is no start. Nothing stands at switch, if it was taken from there.
+-- The thread has this item in hand, taken from the mark, and it is no start. Nothing is at switch, if it was taken from there.
 pub record IsHeld (from : Mark) (n : ℕ) (w : Why) (s : Core) : Type 0 where
   pub place : place_of n s ≡ Some (place.Ready from w)
   pub plain : is_for_start w ≡ false

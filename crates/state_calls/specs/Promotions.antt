@@ -12,10 +12,10 @@ abbrev pub is_ready_to_begin : Place → Bool
 is_ready_to_begin (place.Ready m w) = not (is_resumption w)
 is_ready_to_begin _ = false
 
--- the thread's start, delivery or resumption of a yield moves to switch, unless an entry stands there
+-- the thread's start, delivery or resumption of a yield moves to switch, unless an entry is there
 abbrev pub thread_promoted : ℕ → Core → Core
 thread_promoted n s = if is_at n s is_ready_to_begin || has_yielded n s then promoted_unless n s else s
 
--- the instance's first entry moves to switch, unless an entry stands there
+-- the instance's first entry moves to switch, unless an entry is there
 abbrev pub local_promoted : ℕ → Core → Core
 local_promoted i s = if is_some s.queues.switch then s else promoted_first (first_entry i s) s

@@ -69,12 +69,11 @@ fn pass_to<W: Primitives>(w: &mut W, thread: CurrentThread)
     w.set_current(id);
 }
 
-/// Another thread runs from now on, or none, and the thread that ran is answered. One that ran and isn't
-/// named by the new one is suspended. The new one has no entry, is neither waiting nor blocked nor behind
-/// another, and is under none but the thread that ran; a thread that is suspended by the call has no
-/// callers at its foot. It is refused by nothing. No wake is lost by it where the thread that is suspended
-/// isn't inside a wait, and the one that runs wasn't woken by a delivery. Order goes over from a turn of
-/// the one to a turn of the other, where that one may be resumed.
+/// Changes the thread that runs, or lets none run, and returns the thread that ran. One that ran and isn't named by the new one is
+/// suspended. The new one has no entry, is neither waiting nor blocked nor behind another, and is under none but the thread that
+/// ran; a thread that is suspended by the call has no callers at its foot. It is refused by nothing. No wake is lost by it where
+/// the thread that is suspended isn't inside a wait, and the one that runs wasn't woken by a delivery. Order goes over from a turn
+/// of the one to a turn of the other, where that one may be resumed.
 pub fn set_thread<W: Primitives>(w: &mut W, thread: CurrentThread) -> Result<CurrentThread, TaskError>
     requires may { MayRun (W.view w.old) thread }
     requires leaves { LeavesNobody (runner (W.view w.old)) (number_in (W.view w.old) thread) (W.view w.old).core }

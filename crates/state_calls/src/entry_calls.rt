@@ -67,11 +67,10 @@ fn put_item<W: Primitives + StatePrimitives>(w: &mut W, item: Item, mark: Mark)
     }
 }
 
-/// Queues an item that stands nowhere, at the end of its mark; what stood at switch goes to the front
-/// of high. A start is of a thread that is New, and a delivery or a resumption of one that isn't and
-/// that isn't kept back. A work's item comes to high. It is the machine's Put, and is never refused.
-/// Order is kept where the thread's place is one from which it may get that entry: at switch, only
-/// while a thread runs. Where the item was in hand, and is no start, it is out of hand then.
+/// Queues an item that is nowhere, at the end of its mark; what was at switch goes to the front of high. A start is of a thread
+/// that is New, and a delivery or a resumption of one that isn't and that isn't kept back. A work's item comes to high. It is the
+/// machine's Put, and is never refused. Order is kept where the thread's place is one from which it may get that entry: at switch,
+/// only while a thread runs. Where the item was in hand, and is no start, it is out of hand then.
 pub fn push_work_item<W: Primitives + StatePrimitives>(
     w: &mut W,
     item: Item,
@@ -147,10 +146,9 @@ fn take_next<W: Primitives>(w: &mut W) -> Option<(Mark, Item)>
     Some((mark, item))
 }
 
-/// Takes the item that stands at switch, else the first at high, else the first at low; none exactly
-/// where nothing stands. No item that was taken before is still in hand: each thread has its place. A
-/// thread whose item is in hand counts as ready, and so no wake is lost by it. With the item put back
-/// the core is as it was: one that was in order is so with that item in hand.
+/// Takes the item that is at switch, else the first at high, else the first at low; none exactly where nothing is there. No item
+/// that was taken before is still in hand: each thread has its place. A thread whose item is in hand counts as ready, and so no
+/// wake is lost by it. With the item put back the core is as it was: one that was in order is so with that item in hand.
 pub fn take_item<W: Primitives>(w: &mut W) -> Option<(Mark, Item)>
     requires { Placed (W.view w.old).core }
     ensures taken { Takes (W.view w.old) (next_entry (W.view w.old).core) result (W.view w.new) }

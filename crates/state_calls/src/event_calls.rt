@@ -46,8 +46,8 @@ pub fn set_event<W: Primitives>(
     Ok(woken)
 }
 
-/// The event of a waitable, which is gone then; none exactly where there was none. No wake is lost by
-/// it, and order is kept where a handle names the waitable.
+/// Returns the event of a waitable, which is gone then; none exactly where there was none. No wake is lost by it, and order is kept
+/// where a handle names the waitable.
 pub fn take_event<W: Primitives>(w: &mut W, waitable: Waitable) -> Option<Event>
     requires live { IsLiveWaitable (W.view w.old) waitable }
     ensures event { result ≡ option_map events.Subtask (event_of (waitable_in (W.view w.old).tags waitable) (W.view w.old).core) }
@@ -64,8 +64,8 @@ pub fn take_event<W: Primitives>(w: &mut W, waitable: Waitable) -> Option<Event>
     }
 }
 
-/// A waitable that has an event is ready, and a waiter of its set, if there is one, is woken and
-/// answered. It is the machine's Wake, and is never refused. No wake is lost by it, and order is kept.
+/// Makes a waitable that has an event ready, wakes a waiter of its set, if there is one, and returns it. It is the machine's Wake,
+/// and is never refused. No wake is lost by it, and order is kept.
 pub fn mark_ready<W: Primitives>(
     w: &mut W,
     waitable: Waitable,

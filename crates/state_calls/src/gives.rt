@@ -13,7 +13,7 @@ use task_machine::{TaskEvent, Status};
 use task_wait::Event;
 use task_words::{CallId, SetId, SubtaskId, Primitives};
 
-// The own event, Cancelled only where it may be told.
+// The task event, Cancelled only where it may be told.
 fn task_event<W: Primitives>(w: &W, task: CallId, cancellable: bool) -> Option<TaskEvent>
     ensures { result ≡ picked_task_event_of cancellable (call_of (W.view w.now) task) (W.view w.now).core }
 {
@@ -24,7 +24,7 @@ fn task_event<W: Primitives>(w: &W, task: CallId, cancellable: bool) -> Option<T
     }
 }
 
-// The own event is taken.
+// The task event is taken.
 fn take_own<W: Primitives>(w: &mut W, task: CallId, event: TaskEvent)
     ensures { W.view w.new ≡ on_core (taken_own event (call_of (W.view w.old) task)) (W.view w.old) }
 {
@@ -34,7 +34,7 @@ fn take_own<W: Primitives>(w: &mut W, task: CallId, event: TaskEvent)
     }
 }
 
-// The own event as an event.
+// The task event as an event.
 fn told(event: TaskEvent) -> Event
     ensures { result ≡ own_told event }
 {
@@ -67,11 +67,10 @@ fn take_member<W: Primitives>(w: &mut W, member: SubtaskId) -> (Event, u32)
     (Event::Subtask(status), handle)
 }
 
-/// Gives a task its own event, and else that of the first ready member of the set, with the member's
-/// handle. Its own event is that it was cancelled only where it may be told so, and comes with 0. The
-/// event is gone then. None exactly where neither is there. The set is one that a guest made. It is the
-/// machine's Give, and no wake is lost by it. Order is kept where a task of another export than an
-/// async-lifted one isn't told that it was cancelled.
+/// Gives a task its task event, and else that of the first ready member of the set, with the member's handle. Its task event is
+/// that it was cancelled only where it may be told so, and comes with 0. The event is gone then. None exactly where neither is
+/// there. The set is one that a guest made. It is the machine's Give, and no wake is lost by it. Order is kept where a task of
+/// another export than an async-lifted one isn't told that it was cancelled.
 pub fn get_event<W: Primitives>(
     w: &mut W,
     task: CallId,

@@ -15,28 +15,28 @@ pub struct ConcurrentInstanceState {
 }
 
 impl ConcurrentInstanceState {
-    /// Whether no thread of the instance is held.
+    /// Returns whether no thread of the instance is held.
     pub fn pending_is_empty(&self) -> bool
         ensures { result ≡ self.now.pending_is_empty }
     {
         self.pending_is_empty
     }
 
-    /// How often entries of the instance are asked to wait; 0 where they needn't.
+    /// Returns how often entries of the instance are asked to wait; 0 where they needn't.
     pub fn backpressure(&self) -> u16
         ensures { result ≡ self.now.backpressure }
     {
         self.backpressure
     }
 
-    /// Whether an entry of the instance holds it.
+    /// Returns whether an entry of the instance holds it.
     pub fn do_not_enter(&self) -> bool
         ensures { result ≡ self.now.do_not_enter }
     {
         self.do_not_enter
     }
 
-    /// Whether the instance may not block.
+    /// Returns whether the instance may not block.
     pub fn do_not_suspend(&self) -> bool
         ensures { result ≡ self.now.do_not_suspend }
     {
@@ -44,7 +44,7 @@ impl ConcurrentInstanceState {
     }
 }
 
-/// The instance of this number, as it stands; none exactly where there is no such instance.
+/// Returns the instance of this number, as it is; none exactly where there is no such instance.
 pub fn instance<W: Primitives + StatePrimitives>(w: &W, index: u32) -> Option<ConcurrentInstanceState>
     ensures { result ≡ instance_state index (W.view w.now).core }
 {

@@ -71,10 +71,10 @@ fn joins<W: Primitives>(w: &W, set: Option<SetId>) -> JoinId
     }
 }
 
-/// A waitable on which no thread is blocked leaves its set and joins this one, if one is given: a set
-/// that a guest made, whose members have handles. Where it has an event it is ready there, and a
-/// waiter of the set, if there is one, is woken and answered. It is never refused, and no wake is lost
-/// by it. Order is kept where no op cancels the waitable and a handle of the set's instance names it.
+/// Takes a waitable on which no thread is blocked out of its set, and joins it to this one, if one is given: a set that a guest
+/// made, whose members have handles. Where it has an event it is ready there, and a waiter of the set, if there is one, is woken
+/// and answered. It is never refused, and no wake is lost by it. Order is kept where no op cancels the waitable and a handle of the
+/// set's instance names it.
 pub fn join<W: Primitives>(
     w: &mut W,
     waitable: Waitable,

@@ -1,6 +1,6 @@
-//! The public calls of a store's state, over the words of a core: events and joins of waitables, the
-//! items that are queued and taken, promotions, a stop, the end of a thread, and what a host reads of
-//! an instance. Each makes one move of the machine, and nothing else.
+//! The public calls of a store's state, over the primitives of a core: events and joins of waitables, the items that are queued and
+//! taken, promotions, a stop, the end of a thread, and what a host reads of an instance. Each makes one move of the machine, and
+//! nothing else.
 #![tactic(auto)]
 
 mod currents;

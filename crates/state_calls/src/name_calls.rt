@@ -14,7 +14,7 @@ pub struct QualifiedThreadId {
     pub thread: ThreadId,
 }
 
-/// Whether the id names a live thread and its call: the test for the condition on ids.
+/// Returns whether the id names a live thread and its call: the test for the condition on ids.
 pub fn is_live<W: Primitives>(w: &W, thread: QualifiedThreadId) -> bool
     ensures { IsTrue result ↔ IsLive (W.view w.now) thread }
 {

@@ -1,4 +1,4 @@
-//! Promotions: an entry moves to switch, where none stands.
+//! Promotions: an entry moves to switch, where none is there.
 ghost use Rattle.order_laws.specs.Pieces.{KeepsOrder};
 ghost use Rattle.std.specs.Prelude.{◌≡◌, ◌<◌, IsSome, is_some, true};
 ghost use Rattle.state_calls.specs.Named.{IsLive};
@@ -27,7 +27,7 @@ fn is_ready_to_begin<W: Primitives>(w: &W, thread: ThreadId) -> bool
     }
 }
 
-// The thread's start, delivery or resumption of a yield moves to switch, unless an entry stands there.
+// The thread's start, delivery or resumption of a yield moves to switch, unless an entry is there.
 fn move_ready<W: Primitives>(w: &mut W, thread: ThreadId)
     requires live { 0 < thread_of (W.view w.old) thread }
     requires placed { HasPlace (thread_of (W.view w.old) thread) (W.view w.old).core }
@@ -38,9 +38,8 @@ fn move_ready<W: Primitives>(w: &mut W, thread: ThreadId)
     }
 }
 
-/// Moves a thread's start, delivery or resumption of a yield to switch, unless an entry stands there.
-/// Answers whether an entry stands at switch afterwards. The thread has its place, and so an entry
-/// just where that says so: its item isn't in hand. Order is kept.
+/// Moves a thread's start, delivery or resumption of a yield to switch, unless an entry is there. Answers whether an entry is at
+/// switch afterwards. The thread has its place, and so an entry just where that says so: its item isn't in hand. Order is kept.
 pub fn promote_thread_work_item<W: Primitives>(w: &mut W, thread: QualifiedThreadId) -> bool
     requires live { IsLive (W.view w.old) thread }
     requires placed { HasPlace (thread_of (W.view w.old) thread.thread) (W.view w.old).core }
@@ -52,7 +51,7 @@ pub fn promote_thread_work_item<W: Primitives>(w: &mut W, thread: QualifiedThrea
     w.switch().is_some()
 }
 
-// The instance's first entry moves to switch, unless an entry stands there.
+// The instance's first entry moves to switch, unless an entry is there.
 fn move_first<W: Primitives>(w: &mut W, instance: u32)
     requires { IsSome (get (W.view w.old).core.instances instance) }
     ensures { W.view w.new ≡ on_core (local_promoted instance) (W.view w.old) }
@@ -64,8 +63,8 @@ fn move_first<W: Primitives>(w: &mut W, instance: u32)
     }
 }
 
-/// Moves the oldest entry of an instance at high, and else the oldest at low, to switch, unless an
-/// entry stands there. Answers whether an entry stands at switch afterwards. Order is kept.
+/// Moves the oldest entry of an instance at high, and else the oldest at low, to switch, unless an entry is there. Answers whether
+/// an entry is at switch afterwards. Order is kept.
 pub fn promote_instance_local_thread_work_item<W: Primitives>(w: &mut W, instance: u32) -> bool
     requires { IsSome (get (W.view w.old).core.instances instance) }
     ensures answer { result ≡ is_some (W.view w.new).core.queues.switch }

@@ -14,10 +14,10 @@ use crate::error::TaskError;
 use crate::name_calls::QualifiedThreadId;
 use task_words::Primitives;
 
-/// The strand with this foot stops: its callers go behind the foot of the entry at switch, if one
-/// stands there; else the newest gets that entry, and the others get theirs at high, oldest first. The
-/// entry at switch is of no thread whose foot this is. It is the machine's Stop, and is never refused. No
-/// wake is lost by it. Order is kept while no thread runs and nothing is in hand that stood at switch.
+/// Stops the strand with this foot: its callers go behind the foot of the entry at switch, if one is there; else the newest gets
+/// that entry, and the others get theirs at high, oldest first. The entry at switch is of no thread whose foot this is. It is the
+/// machine's Stop, and is never refused. No wake is lost by it. Order is kept while no thread runs and nothing is in hand that was
+/// at switch.
 pub fn stop<W: Primitives>(w: &mut W, foot: QualifiedThreadId) -> Result<(), TaskError>
     requires live { IsLive (W.view w.old) foot }
     requires may { MayStop (thread_of (W.view w.old) foot.thread) (W.view w.old).core }

@@ -1,4 +1,4 @@
--- A thread more, with other tables of calls and of groups: what is named stands where it stood.
+-- A thread more, with other tables of calls and of groups: what is named is where it was.
 use Rattle.task_machine.specs.Read.{kind_of}
 use Rattle.task_records.proofs.Core.{ap, AreNamed, arith, AtPlace, call_instance, call_key, CallOf, core_of, EachEntry, follower, group_key, HasHome, HasNumber, IfSome, IsCallNamed, IsFollower, IsWorkNamed, None, Nothing, Option, CoreImage, pushed, SetOf, Some, SoundTable, StandsAt, Table, Target, thread_key, ThreadOf, WorkOf, ℕ, ◌+◌, ◌<◌, ◌∙◌, ◌≡◌, ◌≤◌}
 use Rattle.task_records.specs.declared.{call_records.GuestTask.GuestTask, call_records.TaskGroup.TaskGroup, parts.CachedCounts.CachedCounts, single.Single.Single, thread_records.Follower.Follower, thread_records.GuestThread.GuestThread, work_records.WorkRecord.WorkRecord}
@@ -7,7 +7,7 @@ use Rattle.make_words.proofs.MoreLemmas.{order_key_stays}
 use Rattle.task_records.proofs.MakeLemmas.{stands_more}
 use Rattle.task_words.specs.Barred.{bars_start}
 
--- What stands in the tables of calls and groups of the parts stands in these.
+-- What is in the tables of calls and groups of the parts is in these.
 pub record Grows (p : CoreImage) (calls : Table (Single GuestTask)) (groups : Table (Single TaskGroup)) : Type 0 where
   pub stands : (rep n : ℕ) → n ≤ p.made.threads → StandsAt call_key p.calls rep n → StandsAt call_key calls rep n
   pub number : (rep n : ℕ) → HasNumber call_key p.calls rep n → 0 < n → HasNumber call_key calls rep n

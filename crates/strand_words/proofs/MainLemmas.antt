@@ -1,4 +1,4 @@
--- A call by main: what the makes of its group and of its records come to, and what is left where one fails.
+-- A call by main: what the makes of its group and of its records result in, and what is left where one fails.
 use Rattle.task_records.proofs.Core.{call_number, Keeps, KeepsWith, set_number, StateView, Tags, thread_number, with_group, work_number, [], add_group, ap, ap₂, arith, bare, Core, deleted, fits, IsSoundCore, IsTable, length-append, MadeCounts, next_place, CoreImage, parts_of, pushed, subst, Table, table_use, true, ℕ, ◌+◌, ◌-◌, ◌∙◌, ◌∷◌, ◌≡◌, ◌≤◌}
 use Rattle.task_records.specs.declared.{call_records.TaskGroup.TaskGroup, parts.CoreParts.CoreParts, parts.CachedCounts.CachedCounts, single.Single.Single}
 use Rattle.make_words.proofs.RestoreLemmas.{Restores-deleted, restored_from}

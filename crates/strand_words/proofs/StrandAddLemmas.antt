@@ -20,7 +20,7 @@ use Rattle.task_records.proofs.KindLemmas.{item_stands, table_written}
 use Rattle.task_records.proofs.MakeLemmas.{number_kept, number_new, records_more, table_more}
 use Rattle.task_records.proofs.ReadLemmas.{call_shown}
 
--- few stand in a table
+-- few are in a table
 pub places_few : {E X : Type 0} (key : E → Option (ℕ × X)) (t : Table E) → IsTable t → AreApart key t.places → length (records key t.places).list ≤ 4294967295
 unfolding size
 places_few key t table apart =

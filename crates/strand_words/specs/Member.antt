@@ -7,7 +7,7 @@ use Rattle.task_records.specs.declared.call_records.GuestTask.{GuestTask}
 use Rattle.task_records.specs.declared.thread_records.GuestThread.{GuestThread}
 use Rattle.task_words.specs.Barred.{bars_start}
 
--- It has the next number, stands nowhere yet, and is of the call at the place, in an instance that is there.
+-- It has the next number, is nowhere yet, and is of the call at the place, in an instance that is there.
 pub record IsMember (p : CoreImage) (c : GuestTask) (rep : ℕ) (g : GuestThread) : Type 0 where
   pub next : g.number ≡ p.made.threads + 1
   pub of_call : g.thread.call ≡ c.number

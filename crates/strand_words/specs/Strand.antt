@@ -11,8 +11,8 @@ use Rattle.task_records.specs.declared.thread_records.GuestThread.{GuestThread}
 use Rattle.task_table.specs.Changes.{next_place}
 use Rattle.task_words.specs.Barred.{bars_start}
 
--- The next number is that of both. The thread stands nowhere yet, and its instance is there, as are who called and
--- room for a result that goes to main.
+-- The next number is that of both. The thread is nowhere yet, and its instance is there, as are who called and room for a result
+-- that goes to main.
 pub record IsStrand (p : CoreImage) (c : GuestTask) (g : GuestThread) : Type 0 where
   pub call_next : c.number ≡ p.made.threads + 1
   pub thread_next : g.number ≡ p.made.threads + 1

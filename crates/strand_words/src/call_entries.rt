@@ -12,7 +12,7 @@ pub struct Entries {
     pub thread: u32,
 }
 
-// The places of a thread of the call at a place: its set's is taken first. Where memory is wanting, none is taken.
+// The places of a thread of the call at a place: its set's is taken first. If it is out of memory, none is taken.
 #[inline(always)]
 pub(crate) fn take_thread(places: &mut TablePlaces, task: u32) -> Result<Entries, NoMemory>
     ensures entries { IfOk result (λ e. e ≡ record { task = task; set = next_place places.old; thread = next_place (taken places.old) }) }
@@ -28,7 +28,7 @@ pub(crate) fn take_thread(places: &mut TablePlaces, task: u32) -> Result<Entries
     }
 }
 
-// The places of a call and then of its first thread. Where memory is wanting, none is taken.
+// The places of a call and then of its first thread. If it is out of memory, none is taken.
 #[inline(always)]
 pub(crate) fn take_strand(places: &mut TablePlaces) -> Result<Entries, NoMemory>
     ensures entries { IfOk result (λ e. e ≡ record { task = next_place places.old; set = next_place (taken places.old); thread = next_place (taken (taken places.old)) }) }

@@ -28,8 +28,8 @@ use task_table::TableId;
 use task_wait::GroupKey;
 use task_words::{CallId, ThreadId};
 
-// A call of a group that is there, and its first thread, with nodes that were made for them. Where
-// memory is wanting, neither is there.
+// A call of a group that is there, and its first thread, with nodes that were made for them. If it is out of memory, neither is
+// there.
 #[inline(always)]
 pub fn add_call_with_thread(
     parts: &mut CoreParts,
@@ -72,8 +72,7 @@ pub fn add_call_with_thread(
     }
 }
 
-// The nodes of a call and of its first thread, and room for a result that goes to main. Where memory
-// is wanting, all is as before.
+// The nodes of a call and of its first thread, and room for a result that goes to main. If it is out of memory, all is as before.
 #[inline(always)]
 pub fn prepare(parts: &mut CoreParts, goal: Goal) -> Result<(CallNodes, ThreadNodes), NoMemory>
     requires sound { IsSoundCore parts.old }
@@ -91,7 +90,7 @@ pub fn prepare(parts: &mut CoreParts, goal: Goal) -> Result<(CallNodes, ThreadNo
     Ok(nodes)
 }
 
-// Calls `add_call_with_thread`, out of line.
+// Calls `add_call_with_thread`, and isn't inlined.
 #[inline(never)]
 pub fn add_call_with_thread_outlined(
     parts: &mut CoreParts,
@@ -111,7 +110,7 @@ pub fn add_call_with_thread_outlined(
     add_call_with_thread(parts, id, group, request, words, nodes)
 }
 
-// Calls `prepare`, out of line.
+// Calls `prepare`, and isn't inlined.
 #[inline(never)]
 pub fn prepare_outlined(
     parts: &mut CoreParts,
@@ -127,7 +126,7 @@ pub fn prepare_outlined(
     prepare(parts, goal)
 }
 
-// A call by main in a group that is made for it, at this place of the resource table. Where memory is wanting, neither is there.
+// A call by main in a group that is made for it, at this place of the resource table. If it is out of memory, neither is there.
 fn add_main_strand(
     parts: &mut CoreParts,
     entry: u32,
@@ -207,8 +206,8 @@ fn make_call_by_main_with(
     }
 }
 
-/// Makes a group, a call by main in it, with room for a result that goes to main, and the call's
-/// first thread. Where memory is wanting, all is as before.
+/// Makes a group, a call by main in it, with room for a result that goes to main, and the call's first thread. If it is out of
+/// memory, all is as before.
 #[tactic(auto, unfolding(task_records::specs::Seen::seen, task_records::specs::Seen::IsSoundCore))]
 pub fn make_call_by_main(
     parts: &mut CoreParts,
@@ -245,8 +244,7 @@ pub fn make_call_by_main(
     }
 }
 
-// A call of a group that is there, and its first thread with its handle. Where memory is wanting,
-// neither is there.
+// A call of a group that is there, and its first thread with its handle. If it is out of memory, neither is there.
 pub fn add_named_strand(
     parts: &mut CoreParts,
     id: TableId<GroupKey>,

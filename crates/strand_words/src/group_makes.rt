@@ -13,7 +13,7 @@ use task_records::{CoreParts, TaskGroup};
 use task_table::TableId;
 use task_wait::GroupKey;
 
-// There is room for one more group to end. Where memory is wanting, all is as before.
+// There is room for one more group to end. If it is out of memory, all is as before.
 #[inline(always)]
 pub fn reserve_end(parts: &mut CoreParts) -> Result<(), NoMemory>
     requires sound { IsSoundCore parts.old }
@@ -30,7 +30,7 @@ pub fn reserve_end(parts: &mut CoreParts) -> Result<(), NoMemory>
     }
 }
 
-// A group, with no call yet, at this place of the resource table. Where memory is wanting, all is as before.
+// A group, with no call yet, at this place of the resource table. If it is out of memory, all is as before.
 pub fn push_group(parts: &mut CoreParts, entry: u32) -> Result<TableId<GroupKey>, NoMemory>
     requires sound { IsSoundCore parts.old }
     requires few { parts.old.made.groups + 1 < 2 ^ 64 }

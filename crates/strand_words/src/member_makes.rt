@@ -53,7 +53,7 @@ fn one_thread_more(call: GuestTask) -> GuestTask
     more
 }
 
-// The record of a thread of a call that is there. Where memory is wanting, all is as before.
+// The record of a thread of a call that is there. If it is out of memory, all is as before.
 fn push_thread(
     parts: &mut CoreParts,
     task: CallId,
@@ -105,8 +105,7 @@ fn drop_member(parts: &mut CoreParts, task: CallId, call: GuestTask, new: Thread
     parts.kept.used -= 2;
 }
 
-// A thread of a call, with nodes that were made for it, and its handle. Where memory is wanting, it
-// isn't there.
+// A thread of a call, with nodes that were made for it, and its handle. If it is out of memory, it isn't there.
 fn add_member(
     parts: &mut CoreParts,
     task: CallId,
@@ -168,8 +167,8 @@ fn make_thread_with(
     }
 }
 
-/// Makes a thread of a call that runs the script of a slot of the call's instance with these words,
-/// and gives it its handle. Where memory is wanting, all is as before.
+/// Makes a thread of a call that runs the script of a slot of the call's instance with these words, and gives it its handle. If it
+/// is out of memory, all is as before.
 #[tactic(auto, unfolding(task_records::specs::Seen::seen, task_records::specs::Seen::IsSoundCore))]
 pub fn make_thread(
     parts: &mut CoreParts,

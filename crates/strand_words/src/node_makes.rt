@@ -34,7 +34,7 @@ pub struct CallNodes {
     pub blocked: usize,
 }
 
-// The nodes and chains that a thread is to have. Where memory is wanting, all is as before.
+// The nodes and chains that a thread is to have. If it is out of memory, all is as before.
 #[inline(always)]
 pub fn new_thread_nodes(parts: &mut CoreParts) -> Result<ThreadNodes, NoMemory>
     requires { IsSoundCore parts.old }
@@ -60,7 +60,7 @@ pub fn new_thread_nodes(parts: &mut CoreParts) -> Result<ThreadNodes, NoMemory>
     })
 }
 
-// The node and the chain that a call is to have. Where memory is wanting, all is as before.
+// The node and the chain that a call is to have. If it is out of memory, all is as before.
 #[inline(always)]
 pub fn new_call_nodes(parts: &mut CoreParts) -> Result<CallNodes, NoMemory>
     requires { IsSoundCore parts.old }
@@ -74,7 +74,7 @@ pub fn new_call_nodes(parts: &mut CoreParts) -> Result<CallNodes, NoMemory>
     Ok(CallNodes { ready, blocked })
 }
 
-// Those of a call and of its first thread. Where memory is wanting, all is as before.
+// Those of a call and of its first thread. If it is out of memory, all is as before.
 #[inline(always)]
 pub fn new_strand_nodes(parts: &mut CoreParts) -> Result<(CallNodes, ThreadNodes), NoMemory>
     requires { IsSoundCore parts.old }

@@ -75,8 +75,7 @@ pub fn drop_call(calls: &mut RecordTable<Single<GuestTask>>, id: CallId)
     }
 }
 
-// The record of a call, in a group that is there, and that of its first thread. Where memory is
-// wanting, neither is there.
+// The record of a call, in a group that is there, and that of its first thread. If it is out of memory, neither is there.
 #[inline(always)]
 pub fn push_call_with_thread(
     parts: &mut CoreParts,

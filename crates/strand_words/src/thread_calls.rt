@@ -75,8 +75,7 @@ fn make_call_with(
     }
 }
 
-/// Makes a call by a thread, in the thread's group, and the call's first thread. Where memory is
-/// wanting, all is as before.
+/// Makes a call by a thread, in the thread's group, and the call's first thread. If it is out of memory, all is as before.
 #[tactic(auto, unfolding(task_records::specs::Seen::seen, task_records::specs::Seen::IsSoundCore))]
 pub fn make_call(
     parts: &mut CoreParts,
@@ -145,8 +144,8 @@ fn make_direct_call_with(
     }
 }
 
-/// Makes a direct call by a thread, in the thread's group, and gives the call's first thread its
-/// handle. Where memory is wanting, all is as before.
+/// Makes a direct call by a thread, in the thread's group, and gives the call's first thread its handle. If it is out of memory,
+/// all is as before.
 #[tactic(auto, unfolding(task_records::specs::Seen::seen, task_records::specs::Seen::IsSoundCore))]
 pub fn make_direct_call(
     parts: &mut CoreParts,

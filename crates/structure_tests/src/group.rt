@@ -105,7 +105,7 @@ fn made(rt: &impl Abort, groups: &mut Watched<'_>, number: u64) {
     assert!(rt; made == number);
 }
 
-// The group's number, or 0 where the hook failed.
+// The group's number, or 0 if the hook failed.
 fn number_of(made: Result<TaskGroupId, GroupError>) -> u64 {
     match made {
         Ok(id) => id.number,

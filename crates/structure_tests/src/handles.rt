@@ -50,7 +50,7 @@ impl Counted {
     }
 }
 
-// What stands for a handle or an id where there is none.
+// What represents a handle or an id where there is none.
 const NONE: u32 = 0;
 
 fn given(answer: Result<u32, HandleError>) -> u32 {

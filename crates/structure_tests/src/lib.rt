@@ -1,7 +1,7 @@
 //! Tests of the plain data and of the structures that the component's state is made of: tables, links, handles, strands
 //! and groups.
 //!
-//! They stand apart, so that those crates are proved without them.
+//! They are in a crate of their own, so that those crates are proved without them.
 #![tactic(auto)]
 
 #[cfg(test)]

@@ -1,6 +1,6 @@
 use result_rooms::{ResultRoom, ResultRooms};
 
-// Writes what stands in a room that is there, and whether its call is.
+// Writes what is in a room that is there, and whether its call is.
 fn write(rooms: &mut ResultRooms, call: u64, given: Option<u64>, lives: bool) {
     if rooms.room(call).is_some() {
         rooms.write(call, ResultRoom { given, lives });

@@ -10,7 +10,7 @@ fn frame(thread: u64) -> Frame {
     }
 }
 
-// The thread of a frame, or 0 where there is none.
+// The thread of a frame, or 0 if there is none.
 fn thread_of(frame: Option<Frame>) -> u64 {
     match frame {
         Some(frame) => frame.thread,

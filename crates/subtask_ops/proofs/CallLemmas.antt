@@ -39,7 +39,7 @@ use Rattle.task_rules.specs.Scripts.{registers_for}
 use Rattle.task_words.specs.Apart.{IsBehindNobody, IsSwitchUnqueued, IsUnqueued}
 use Rattle.task_words.specs.StateView.{Keeps, StateView, call_of, on_core, thread_of}
 
--- ---- What stands at switch has no other entry
+-- ---- What is at switch has no other entry
 
 one_entry : (o : Option Place) → says is_at_switch o + (says is_at_high o + says is_at_low o) ≤ 1
 one_entry o = grind arith

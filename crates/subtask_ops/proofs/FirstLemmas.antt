@@ -1,4 +1,4 @@
--- What the rule of a call of a host comes to, by what the host's first poll has found.
+-- What the rule of a call of a host results in, by what the host's first poll has found.
 use Rattle.std.specs.Prelude.{Err, IfOk, Ok, Result, ◌≡◌}
 use Rattle.subtask_ops.specs.First.{first_heard}
 use Rattle.task_machine.specs.Core.{Core}

@@ -28,7 +28,7 @@ pub absent_work : (i : ℕ) (f : Work → Work) (s : Core) → get s.works i ≡
 unfolding on_work
 absent_work i f s gone = ap (λ m. record s { works = m }) (change-absent s.works i f gone)
 
--- the two read alike, and are written alike as to where they stand
+-- the two read alike, and are written alike as to where they are
 pub record Alike (a b : Subtask) (s : Core) : Type 0 where
   pub join : join_of a s ≡ join_of b s
   pub event : event_of a s ≡ event_of b s

@@ -21,7 +21,7 @@ abbrev pub GoesOnWith : FirstPoll → Option (TableId HostTaskKey) → StateView
 GoesOnWith (Later left) (Some id) s = course_of (work_of s id) s.core ≡ course.Continues left
 GoesOnWith _ _ s = Unit {0}
 
--- The id of the work that was made is named beside what the call came to, and the work goes on so.
+-- The id of the work that was made is named beside what the call resulted in, and the work goes on so.
 pub record NamesQueued (p : FirstPoll) (s : StateView) (r : OpResult × Option (TableId HostTaskKey)) (t : StateView) : Type 0 where
   pub work : option_map (λ id. work_of t id) r.1 ≡ queued_work p r.0 s.core
   pub goes_on : GoesOnWith p r.1 t

@@ -29,7 +29,7 @@ fn clear_flag<W: Primitives>(w: &mut W, thread: ThreadId, instance: u32, kind: E
     w.set_do_not_suspend(instance, false);
 }
 
-/// The start of a call that was made becomes the switch entry, and the calling thread goes behind it.
+/// Makes the start of a new call the switch entry, and puts the calling thread behind it.
 pub fn start_made<W: Primitives>(
     w: &mut W,
     thread: ThreadId,
@@ -72,8 +72,8 @@ fn queue_start<W: Primitives>(
     Ok(other)
 }
 
-/// A call that begins and queues its callee's start: `call R Q F X*`, or `call_sync R F X*` of a
-/// stackful or callback export. Where memory is wanting, all is as before.
+/// Returns a call that begins and queues its callee's start: `call R Q F X*`, or `call_sync R F X*` of a stackful or callback
+/// export. If it is out of memory, all is as before.
 pub fn begin_call<W: Primitives>(
     w: &mut W,
     thread: ThreadId,

@@ -17,14 +17,14 @@ use task_machine::Trap;
 use task_ops::OpResult;
 use task_words::{JoinId, SubtaskId, ThreadId, Primitives};
 
-// Whether the subtask stands in any set.
+// Whether the subtask is in any set.
 fn is_joined<W: Primitives>(w: &W, subtask: SubtaskId) -> bool
     ensures { result ≡ is_joined (join_of (subtask_in (W.view w.now).tags subtask) (W.view w.now).core) }
 {
     !matches!(w.join(subtask), JoinId::Nowhere)
 }
 
-/// `cancel R X`, and `cancel_sync R X`, as they begin
+/// Does `cancel R X`, and `cancel_sync R X`, as they begin
 pub fn cancel<W: Primitives>(w: &mut W, thread: ThreadId, handle: u64, sync: bool) -> OpResult
     requires live { 0 < thread_of (W.view w.old) thread }
     requires running { IsRunning (thread_of (W.view w.old) thread) (W.view w.old).core }

@@ -55,8 +55,8 @@ fn run_on_top<W: Primitives>(
     Ok((other, to))
 }
 
-/// `call_sync R F X*` of a sync or blocking export, as it begins: the callee's thread is current from
-/// then on. Where memory is wanting, all is as before.
+/// Does `call_sync R F X*` of a sync or blocking export, as it begins: the callee's thread is current from then on. If it is out of
+/// memory, all is as before.
 pub fn enter<W: Primitives>(
     w: &mut W,
     thread: ThreadId,
@@ -88,8 +88,8 @@ pub fn enter<W: Primitives>(
     ))
 }
 
-// `call_sync R F X*` of a stackful or callback export, as it begins. It is apart, as what `begin_call` answers stands in
-// memory.
+// `call_sync R F X*` of a stackful or callback export, as it begins. It is a function of its own, as what `begin_call` answers is
+// in memory.
 #[inline(always)]
 fn begin_queued<W: Primitives>(
     w: &mut W,
@@ -113,7 +113,7 @@ fn begin_queued<W: Primitives>(
     }
 }
 
-/// `call_sync R F X*`, as it begins. Where memory is wanting, all is as before.
+/// Does `call_sync R F X*`, as it begins. If it is out of memory, all is as before.
 pub fn begin_call_sync<W: Primitives>(
     w: &mut W,
     thread: ThreadId,
@@ -138,7 +138,7 @@ pub fn begin_call_sync<W: Primitives>(
     }
 }
 
-/// `call_sync R F X*`, once its direct callee has answered.
+/// Does `call_sync R F X*`, once its direct callee has answered.
 pub fn answer_call<W: Primitives>(w: &W, thread: ThreadId, value: u64) -> OpResult
     ensures does { DoesRule SameNames (answers_value value) thread (W.view w.now) result (W.view w.now) }
 {

@@ -51,7 +51,7 @@ fn is_callback_yield<W: Primitives>(w: &W, thread: ThreadId) -> bool
     }
 }
 
-// The task finds Cancelled as its own event.
+// The task finds Cancelled as its task event.
 #[tactic(auto, unfolding(task_rules::specs::Cancels::cancel_asks))]
 fn ask<W: Primitives>(w: &mut W, call: CallId)
     ensures { W.view w.new ≡ on_core (cancel_asks (call_of (W.view w.old) call)) (W.view w.old) }
@@ -59,7 +59,7 @@ fn ask<W: Primitives>(w: &mut W, call: CallId)
     w.set_task_event(call, Some(TaskEvent::Cancelled));
 }
 
-// A thread goes behind the entry at switch, if one stands there.
+// A thread goes behind the entry at switch, if one is there.
 fn put_behind_switch<W: Primitives>(w: &mut W, thread: ThreadId)
     requires live { 0 < thread_of (W.view w.old) thread }
     requires apart { IsBehindNobody (thread_of (W.view w.old) thread) (W.view w.old).core }
@@ -104,7 +104,7 @@ fn wake_callback<W: Primitives>(w: &mut W, thread: ThreadId, call: CallId, first
     go_behind(w, thread, call);
 }
 
-// The callback's yield moves to switch, unless an entry stands there.
+// The callback's yield moves to switch, unless an entry is there.
 #[tactic(auto, unfolding(task_rules::specs::Cancels::cancel_promotes_yield))]
 fn promote_yield<W: Primitives>(w: &mut W, thread: ThreadId, call: CallId, first: ThreadId)
     requires live { 0 < thread_of (W.view w.old) thread }

@@ -148,8 +148,8 @@ fn call_host_found<W: Primitives>(
     }
 }
 
-/// `call R Q H`: the host was polled once, and if it is open its work has answered so. Where it pends, the
-/// id of its work is answered, too. Where memory is wanting, all is as before.
+/// Does `call R Q H`: the host was polled once, and if it is open its work has answered so. Where it pends, the id of its work is
+/// answered, too. If it is out of memory, all is as before.
 pub fn call_host<W: Primitives>(
     w: &mut W,
     thread: ThreadId,
@@ -234,8 +234,8 @@ fn call_sync_host_found<W: Primitives>(
     }
 }
 
-/// `call_sync R H`, as it begins: the host was polled once, and if it is open its work has answered so. Where
-/// it pends, the id of its work is answered, too. Where memory is wanting, all is as before.
+/// Does `call_sync R H`, as it begins: the host was polled once, and if it is open its work has answered so. Where it pends, the id
+/// of its work is answered, too. If it is out of memory, all is as before.
 pub fn call_sync_host<W: Primitives>(
     w: &mut W,
     thread: ThreadId,
@@ -253,7 +253,7 @@ pub fn call_sync_host<W: Primitives>(
     call_sync_host_found(w, thread, first)
 }
 
-/// `call_sync R H`, once the work that it was blocked on has ended: the work is gone.
+/// Does `call_sync R H`, once the work that it was blocked on has ended: the work is gone.
 pub fn go_on_calling_host<W: Primitives>(w: &mut W, thread: ThreadId, work: WorkId) -> OpResult
     requires live { 0 < thread_of (W.view w.old) thread }
     requires work { 0 < work_of (W.view w.old) work }

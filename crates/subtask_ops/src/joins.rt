@@ -16,7 +16,7 @@ use task_moves::wake;
 use task_ops::{OpResult, OpAnswer, set_named};
 use task_words::{JoinId, SetId, SubtaskId, ThreadId, Primitives};
 
-// Whether the subtask stands in a thread's own set.
+// Whether the subtask is in a thread's own set.
 pub(crate) fn is_watched<W: Primitives>(w: &W, subtask: SubtaskId) -> bool
     ensures { result ≡ is_watched (join_of (subtask_in (W.view w.now).tags subtask) (W.view w.now).core) }
 {
@@ -87,7 +87,7 @@ fn join_set<W: Primitives>(w: &mut W, thread: ThreadId, subtask: SubtaskId, set:
     }
 }
 
-/// `join X Y`
+/// Does `join X Y`
 pub fn join<W: Primitives>(w: &mut W, thread: ThreadId, handle: u64, set: u64) -> OpResult
     requires running { IsRunning (thread_of (W.view w.old) thread) (W.view w.old).core }
     requires sets { SetsThere (W.view w.old).core }

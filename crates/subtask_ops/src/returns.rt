@@ -76,7 +76,7 @@ fn take_return<W: Primitives>(w: &mut W, thread: ThreadId, call: CallId)
     w.set_saved_callee(thread, None);
 }
 
-// The subtask gets a handle, and the answer is packed of it and the status. Where memory is wanting, all is as before.
+// The subtask gets a handle, and the answer is packed of it and the status. If it is out of memory, all is as before.
 fn pend<W: Primitives>(
     w: &mut W,
     thread: ThreadId,
@@ -97,7 +97,7 @@ fn pend<W: Primitives>(
     Ok(value)
 }
 
-/// `call R Q F X*`, going on inside the call. Where memory is wanting, all is as before.
+/// Does `call R Q F X*`, going on inside the call. If it is out of memory, all is as before.
 pub fn go_on_calling<W: Primitives>(w: &mut W, thread: ThreadId, call: CallId) -> Result<OpResult, NoMemory>
     requires live { 0 < thread_of (W.view w.old) thread }
     requires call { 0 < call_of (W.view w.old) call }
@@ -173,7 +173,7 @@ fn stop_sync<W: Primitives>(w: &mut W, thread: ThreadId, call: CallId)
     stop_blocked(w, thread, SubtaskId::Guest(call));
 }
 
-/// `call_sync R F X*`, going on inside the call.
+/// Does `call_sync R F X*`, going on inside the call.
 pub fn go_on_calling_sync<W: Primitives>(w: &mut W, thread: ThreadId, call: CallId) -> OpResult
     requires live { 0 < thread_of (W.view w.old) thread }
     requires call { 0 < call_of (W.view w.old) call }

@@ -10,7 +10,7 @@ ghost use Rattle.task_words.specs.StateView.{call_of, lost_thread, on_core, thre
 use task_machine::CallEnd;
 use task_words::{CallId, ThreadId, Primitives};
 
-// Whether the thread's entry stands at switch.
+// Whether the thread's entry is at switch.
 fn is_switched<W: Primitives>(w: &W, thread: ThreadId) -> bool
     ensures yes { result ≡ true → less_switch (thread_of (W.view w.now) thread) (W.view w.now).core.queues.switch ≡ None }
     ensures no { result ≡ false → less_switch (thread_of (W.view w.now) thread) (W.view w.now).core.queues.switch ≡ (W.view w.now).core.queues.switch }
@@ -21,7 +21,7 @@ fn is_switched<W: Primitives>(w: &W, thread: ThreadId) -> bool
     }
 }
 
-// The thread's entry is gone, wherever it stands.
+// The thread's entry is gone, wherever it is.
 fn take_out<W: Primitives>(w: &mut W, thread: ThreadId)
     ensures { W.view w.new ≡ on_core (λ s. set_switch (less_switch (thread_of (W.view w.old) thread) s.queues.switch) (unqueued (thread_of (W.view w.old) thread) s)) (W.view w.old) }
 {
@@ -32,7 +32,7 @@ fn take_out<W: Primitives>(w: &mut W, thread: ThreadId)
     }
 }
 
-// The start of the call's first thread is withdrawn, wherever it stands.
+// The start of the call's first thread is withdrawn, wherever it is.
 #[tactic(auto, unfolding(task_machine::specs::Moves::withdrawn))]
 pub(crate) fn withdraw<W: Primitives>(w: &mut W, call: CallId, first: ThreadId)
     requires live { 0 < call_of (W.view w.old) call }

@@ -65,7 +65,7 @@ there_event k j e s there x at = there x (grind (arith, nat_tests, get-change, a
 pub event_there : (id other : TableId GuestTaskKey) (e : Option Status) (s t : StateView) → t ≡ on_core (set_event (subtask.Guest (call_of s other)) e) s → ((k : ℕ) → IsJoinThere (subtask.Guest k) s.core) → IsJoinThere (subtask.Guest (call_of t id)) t.core
 event_there id other e s t is there = subst (λ (v : StateView). IsJoinThere (subtask.Guest (call_of v id)) v.core) (sym is) (there_event (call_of s id) (call_of s other) e s.core (there (call_of s id)))
 
--- nothing stands at switch
+-- nothing is at switch
 pub stops_freely : (f : ℕ) (r : Option (TableId ThreadKey)) (s : StateView) → option_map (λ id. thread_of s id) r ≡ s.core.queues.switch → is_none r ≡ true → Placed s.core → MayStop f s.core
 stops_freely f None s is none placed = placed_may_stop f s.core placed (λ m at. absurd (let e = is ∙ at in cc))
 stops_freely f (Some id) s is none placed = absurd (cc)

@@ -50,7 +50,8 @@ fn first_thread(rt: &impl Abort, store: &Store<(), ScriptedHost>) -> QualifiedTh
 
 type Queued = Store<(), ScriptedHost>;
 
-// What is asked of that store. The calls stand in functions that are lent it: what a function owns is proved anew at each of its calls.
+// What is asked of that store. The calls are in functions that are lent it: what a function owns is proved anew at each of its
+// calls.
 #[derive(Clone, Copy)]
 enum Ask {
     SetsAndTakes,

@@ -237,7 +237,7 @@ fn a_run_ends_where_main_answers_or_nothing_goes_on(rt: HostRuntime) {
     assert!(rt; matches!(first, Some(Label::Loop(LoopLabel::MainPends))));
 }
 
-// What the return of a thread that has just begun comes to, with this type.
+// What the return of a thread that has just begun results in, with this type.
 fn returned(rt: &impl Abort, alloc: Global, ty: u32) -> Result<(), TaskError> {
     let component = component(rt, alloc);
     let mut store = store(rt, alloc, &component);

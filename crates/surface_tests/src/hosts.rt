@@ -85,7 +85,7 @@ fn new_store(rt: &impl Abort, alloc: Global) -> Store<u64, Counting>
     }
 }
 
-// What the scenario comes to in the store.
+// What the scenario results in in the store.
 fn drive(
     rt: &impl Abort,
     alloc: Global,
@@ -112,7 +112,7 @@ fn drive(
     outcome
 }
 
-// What the text's scenario comes to, and how often its works were polled.
+// What the text's scenario results in, and how often its works were polled.
 fn ran(rt: &impl Abort, alloc: Global, text: &[u8]) -> (Outcome, u64)
     requires { length text.now ≤ 1048576 }
 {

@@ -177,7 +177,7 @@ trait Asks {
         requires fresh { CanAsk instance.index at.old.store.state };
 }
 
-// The same after so many labels of the text's scenario.
+// Sets the stage after so many labels of the text's scenario.
 fn holds(
     rt: &impl Abort,
     alloc: Global,

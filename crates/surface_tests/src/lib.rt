@@ -1,6 +1,6 @@
 //! Tests of what a host calls: a store and its state, the loop, and the calls of its instances; each public call once, on its happy path.
 //!
-//! They stand apart, so that those crates are proved without them.
+//! They are in a crate of their own, so that those crates are proved without them.
 #![tactic(auto)]
 
 #[cfg(test)]

@@ -78,7 +78,7 @@ fn polled_by_steps<H: AccessorTask<()> + FromHost, M: MainTask<(), H, NoHook>>(
     panic!(rt; "an answer")
 }
 
-// The same for a scenario, in a new store.
+// Polls a run of a scenario in a new store.
 fn ran_by_steps(
     rt: &impl Abort,
     alloc: Global,

@@ -1,4 +1,4 @@
--- Chains that stand in the order of seats stay so where a node goes, or where one comes to its place.
+-- Chains that are in the order of order keys stay so where a node goes, or where one comes to its place.
 use Rattle.std.proofs.Common.{cond, inl, inr, ◌≡◌, ℕ, Bool, true, false, List, [], ◌∷◌, ◌++◌, Option, Some, None, IsSome, refl, sym, ap, subst, ◌∙◌}
 use Rattle.std.proofs.lemmas.Bool.{cases_eq, or_from, or_parts}
 use Rattle.std.specs.Cmp.{IsTotalOrder}

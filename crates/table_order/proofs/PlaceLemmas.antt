@@ -32,7 +32,7 @@ module _ (x : ℕ) (xs : List ℕ) (p : Places) where
   made_one more true = more (freed true)
   made_one more false = more p
 
--- what is given back stands in front, the last one first
+-- what is given back is in front, the last one first
 free_each : (places : List ℕ) (p : Places) → reverse (given_each places p).free ≡ reverse p.free ++ take (used p) places
 free_each [] p = sym (ap (λ (l : List ℕ). reverse p.free ++ l) (take_all (used p) [] (omega arith)) ∙ append-nil (reverse p.free))
 free_each (x ∷ xs) p = free_one x xs p (free_each xs) (nat_lt (length p.free) p.made) refl
@@ -42,7 +42,7 @@ made_each [] p = refl
 made_each (x ∷ xs) p = made_one x xs p (made_each xs) (nat_lt (length p.free) p.made)
 
 module _ (number place : ℕ → ℕ) (names : List ℕ) (before : Places) (xs ys order : List ℕ) (made : ℕ) where
-  -- names that stand in order, and then their places
+  -- names that are in order, and then their places
   pub in_order : record { free = reverse xs; made = made } ≡ given_each names before → IsPermutation (drop (length before.free) xs) order → IsNonDecreasingBy number order → ys ≡ take (length before.free) xs ++ map place order → GivenInOrder number place names before (record { free = reverse ys; made = made })
   in_order is same rises put =
       let kept = length before.free in

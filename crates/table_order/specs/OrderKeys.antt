@@ -1,4 +1,4 @@
--- The order of seats, and links whose chains stand in it.
+-- The order of order keys, and links whose chains are in it.
 use Rattle.std.specs.Ordering.{is_lt, nat_cmp, ordering_then}
 use Rattle.std.specs.Prelude.{ℕ, ◌∷◌, if◌then◌else◌, Bool, false, List, Option, Some, None}
 use Rattle.std.specs.declared.cmp.Ordering.{Ordering}
@@ -10,7 +10,7 @@ use Rattle.task_wait.specs.Sets.{IsAscending, placed}
 abbrev pub order_key_order : OrderKey → OrderKey → Ordering
 order_key_order a b = ordering_then (nat_cmp a.task b.task) (ordering_then (nat_cmp a.thread b.thread) (nat_cmp a.place b.place))
 
--- Each chain stands in that order.
+-- Each chain is in that order.
 abbrev pub AreOrdered : List (Spot OrderKey) → Type 0
 AreOrdered links = (chain : ℕ) → IsAscending order_key_order (entries links chain)
 

@@ -1,4 +1,4 @@
-//! The order of the resource table's places: which is given next, and lists that stand in that order.
+//! The order of the resource table's places: which is given next, and lists that are in that order.
 #![tactic(auto)]
 
 mod skip_lists;

@@ -24,7 +24,7 @@ pub struct OrderKey {
     pub place: u32,
 }
 
-/// The seat of nothing.
+/// The order key of nothing.
 pub(crate) const NOWHERE: OrderKey = OrderKey {
     task: 0,
     thread: 0,
@@ -170,8 +170,8 @@ fn put_at_end<P: Copy + Ord>(links: &mut Links<P>, chain: usize, node: Node, val
     false
 }
 
-// Puts a free node into a live chain, where its seat belongs, which isn't first. It takes the seat's numbers, so that a seat
-// that belongs at an end isn't in memory for it.
+// Puts a free node into a live chain, where its order key belongs, which isn't first. It takes the order key's numbers, so that an
+// order key that belongs at an end isn't in memory for it.
 #[cold]
 #[inline(never)]
 fn put_inside(
@@ -198,7 +198,7 @@ fn put_inside(
     put_between(links, chain, skip_lists.near(chain, order_key), node, order_key);
 }
 
-// Puts a free node into a live chain, where its seat belongs.
+// Puts a free node into a live chain, where its order key belongs.
 #[inline(always)]
 fn put(links: &mut Links<OrderKey>, skip_lists: &SkipLists, chain: usize, node: Node, order_key: OrderKey)
     requires chain { IsSome (list_of links.old chain) }
@@ -220,7 +220,7 @@ fn put(links: &mut Links<OrderKey>, skip_lists: &SkipLists, chain: usize, node: 
     }
 }
 
-/// Links whose chains stand in the order of seats.
+/// Links whose chains are in the order of order keys.
 #[derive(Drop)]
 pub struct OrderedLists {
     links: Links<OrderKey>,
@@ -241,7 +241,7 @@ impl Model for OrderedLists {
 }
 
 impl OrderedLists {
-    /// No chain and no node.
+    /// Makes lists without a chain and a node.
     pub fn new(alloc: Global) -> OrderedLists
         ensures { result ≡ [] }
     {
@@ -251,7 +251,7 @@ impl OrderedLists {
         }
     }
 
-    /// A new empty chain. Where there is no memory for it, all is as before.
+    /// Returns a new empty chain. Where there is no memory for it, all is as before.
     #[inline(always)]
     pub fn make_chain(&mut self) -> Result<usize, NoMemory>
         ensures made { IfOk result (λ chain. Renames self.old self.new chain Unmade (ChainOf [])) }
@@ -260,7 +260,7 @@ impl OrderedLists {
         self.links.make_chain()
     }
 
-    /// A new node, which is free. Where there is no memory for it, all is as before.
+    /// Returns a new node, which is free. Where there is no memory for it, all is as before.
     #[inline(always)]
     pub fn make_node(&mut self) -> Result<Node, NoMemory>
         ensures made { IfOk result (λ node. Renames self.old self.new node.index Unmade FreeNode) }
@@ -301,7 +301,7 @@ impl OrderedLists {
         self.links.no_node_is_twice();
     }
 
-    /// The law that each chain stands in the order of seats. It does nothing.
+    /// The law that each chain is in the order of order keys. It does nothing.
     pub fn chains_are_ordered(&self)
         ensures { AreOrdered self.now }
     {
@@ -318,8 +318,8 @@ impl OrderedLists {
         take_out(&mut self.links, &mut self.skip_lists, node);
     }
 
-    /// Puts a node into a chain, where its seat belongs; it leaves the chain that it was in. Where its seat is the
-    /// least or the greatest of the chain, that takes constant time, else logarithmic time.
+    /// Puts a node into a chain, where its order key belongs; it leaves the chain that it was in. Where its order key is the least
+    /// or the greatest of the chain, that takes constant time, else logarithmic time.
     #[inline(always)]
     pub fn file(&mut self, node: Node, chain: usize, order_key: OrderKey)
         requires made { is_made self.old node.index ≡ true }
@@ -332,7 +332,7 @@ impl OrderedLists {
         self.skip_lists.enter(node, chain, order_key);
     }
 
-    /// Puts a free node into a chain, where its seat belongs, in the time that `file` takes.
+    /// Puts a free node into a chain, where its order key belongs, in the time that `file` takes.
     #[inline(always)]
     pub fn file_free(&mut self, node: Node, chain: usize, order_key: OrderKey)
         requires free { is_free self.old node.index ≡ true }
@@ -343,7 +343,7 @@ impl OrderedLists {
         self.skip_lists.enter(node, chain, order_key);
     }
 
-    /// The first node of a live chain and its seat, which is the least. `None` where the chain is empty.
+    /// Returns the first node of a live chain and its order key, which is the least. `None` where the chain is empty.
     pub fn first(&self, chain: usize) -> Option<(Node, OrderKey)>
         requires { IsSome (list_of self.now chain) }
         ensures entry { option_map (λ e. (e.0.index, e.1)) result ≡ head_of (entries self.now chain) }
@@ -355,7 +355,7 @@ impl OrderedLists {
         self.links.first(chain)
     }
 
-    /// The node after one that is in a chain, and its seat. `None` where that one is the last.
+    /// Returns the node after one that is in a chain, and its order key. `None` where that one is the last.
     pub fn next(&self, node: Node) -> Option<(Node, OrderKey)>
         requires { IsSome (link_of self.now node.index) }
         ensures entry { option_map (λ e. (e.0.index, e.1)) result ≡ following node.index self.now }
@@ -364,7 +364,7 @@ impl OrderedLists {
         self.links.next(node)
     }
 
-    /// The chain of a made node and its seat. `None` where it is in no chain.
+    /// Returns the chain of a made node and its order key. `None` where it is in no chain.
     pub fn get(&self, node: Node) -> Option<(usize, OrderKey)>
         requires { is_made self.now node.index ≡ true }
         ensures { result ≡ link_of self.now node.index }

@@ -13,11 +13,11 @@ pub trait Holders {
 
     ghost place_of: { Self → ℕ → ℕ };
 
-    /// The number of the holder of a name.
+    /// Returns the number of the holder of a name.
     fn number(&self, name: u32) -> u64
         ensures { result ≡ number_of self.now name };
 
-    /// The place of the holder of a name.
+    /// Returns the place of the holder of a name.
     fn place(&self, name: u32) -> u32
         ensures { result ≡ place_of self.now name };
 }
@@ -61,7 +61,7 @@ fn name_places<H: Holders>(names: &mut [u32], holders: &H)
 }
 
 impl TablePlaces {
-    /// No place was given yet.
+    /// Makes a table of which no place was given yet.
     pub fn new(alloc: Global) -> TablePlaces
         ensures { result ≡ no_places }
     {
@@ -71,8 +71,8 @@ impl TablePlaces {
         }
     }
 
-    /// Gives a place: the one freed last, else the first that was never given. Where memory is wanting, or where
-    /// 4,294,967,295 places were given, all is as before.
+    /// Gives a place: the one freed last, else the first that was never given. If it is out of memory, or where 4,294,967,295
+    /// places were given, all is as before.
     #[inline(always)]
     pub fn take(&mut self) -> Result<u32, NoMemory>
         ensures place { IfOk result (λ place. place ≡ next_place self.old) }
@@ -101,7 +101,7 @@ impl TablePlaces {
         }
     }
 
-    /// How many places are free.
+    /// Returns how many places are free.
     pub fn free(&self) -> usize
         ensures { result ≡ length self.now.free }
     {

@@ -1,12 +1,12 @@
-//! Guides: from where a seat's place is looked for in a long chain.
+//! Guides: from where an order key's place is looked for in a long chain.
 //!
-//! One node in 64 has a stop in a lane over all chains, one in 1,024 also in a second lane, one in 16,384 in a third, and
-//! each lane stands in the order of chains and seats. So among up to 262,144 nodes a place is found past some fifty nodes
-//! and stops, however many of them stand in its chain. Above that the third lane grows by a stop for each 16,384 nodes,
-//! and is passed stop by stop: among 1,000,000 nodes some 60 at most. A lane is left after 1,024 stops, and a place that
-//! is further on is looked for from the end of its chain. Few nodes have stops since threads that are held in their order
-//! need none, and each of them would enter and leave its lanes. Nothing rests on the guides: who asks them tests the
-//! answer, and where memory is wanting a node has no stop. The first 64 names have none, as short chains need no guide.
+//! One node in 64 has a stop in a lane over all chains, one in 1,024 also in a second lane, one in 16,384 in a third, and each lane
+//! is in the order of chains and order keys. So among up to 262,144 nodes a place is found past some fifty nodes and stops, however
+//! many of them are in its chain. Above that the third lane grows by a stop for each 16,384 nodes, and is passed stop by stop:
+//! among 1,000,000 nodes some 60 at most. A lane is left after 1,024 stops, and a place that is further on is looked for from the
+//! end of its chain. Few nodes have stops since threads that are held in their order need none, and each of them would enter and
+//! leave its lanes. Nothing rests on the guides: who asks them tests the answer, and if it is out of memory a node has no stop. The
+//! first 64 names have none, as short chains need no guide.
 ghost use Rattle.std.specs.Prelude.{IfSome, IsSome};
 ghost use Rattle.task_links.specs.Links.{link_of};
 
@@ -15,7 +15,7 @@ use std::alloc::Global;
 use std::collections::BTreeMap;
 use task_links::{Links, Node};
 
-/// Where a node stands: its chain, its seat there, itself, and its stop in the lane below.
+/// Where a node is: its chain, its order key there, itself, and its stop in the lane below.
 #[derive(Clone, Copy)]
 struct SkipNode {
     chain: usize,
@@ -47,7 +47,7 @@ struct SkipLevels {
     high: usize,
 }
 
-/// The last stop of each lane that comes before a seat.
+/// The last stop of each lane that comes before an order key.
 #[derive(Clone, Copy)]
 struct Trail {
     low: Option<Node>,
@@ -86,7 +86,7 @@ fn has_high(name: usize) -> bool {
     spread(name) & 0xFFFC_0000 == 0x9C00_0000
 }
 
-// The stop that stands here, if one does.
+// The stop that is here, if one does.
 fn skip_node_at(stops: &Links<SkipNode>, at: Node) -> Option<SkipNode>
     ensures { IfSome result (λ _. IsSome (link_of stops.now at.index)) }
 {
@@ -116,12 +116,12 @@ fn next(stops: &Links<SkipNode>, skip_level: usize, at: Option<Node>) -> Option<
     }
 }
 
-// Whether a stop comes before a seat of a chain.
+// Whether a stop comes before an order key of a chain.
 fn comes_before(stop: SkipNode, chain: usize, order_key: OrderKey) -> bool {
     stop.chain < chain || stop.chain == chain && stop.order_key < order_key
 }
 
-// The last stop of a lane, from one on, that comes before a seat.
+// The last stop of a lane, from one on, that comes before an order key.
 fn pass(
     stops: &Links<SkipNode>,
     skip_level: usize,
@@ -154,7 +154,7 @@ fn below(stops: &Links<SkipNode>, at: Option<Node>) -> Option<Node> {
     }
 }
 
-// The stops before a seat.
+// The stops before an order key.
 fn find(stops: &Links<SkipNode>, skip_levels: SkipLevels, chain: usize, order_key: OrderKey) -> Trail {
     let high = pass(stops, skip_levels.high, None, chain, order_key);
     let middle = pass(stops, skip_levels.middle, below(stops, high), chain, order_key);
@@ -227,7 +227,7 @@ fn make_skip_levels(stops: &mut Links<SkipNode>) -> Option<SkipLevels> {
 }
 
 impl SkipLists {
-    /// No stop.
+    /// Makes skip lists without a level.
     pub(crate) fn new(alloc: Global) -> SkipLists {
         SkipLists {
             stops: Links::new(alloc, NO_STOP),
@@ -254,7 +254,7 @@ impl SkipLists {
         }
     }
 
-    /// A node was made.
+    /// Notes that a node was made.
     #[inline(always)]
     pub(crate) fn add(&mut self, node: Node) {
         if has_levels(node.index) {
@@ -271,7 +271,7 @@ impl SkipLists {
         }
     }
 
-    /// A node is dropped.
+    /// Notes that a node is dropped.
     #[inline(always)]
     pub(crate) fn forget(&mut self, node: Node) {
         if has_levels(node.index) {
@@ -293,7 +293,7 @@ impl SkipLists {
         }
     }
 
-    /// A node leaves the chain that it is in.
+    /// Notes that a node leaves its chain.
     #[inline(always)]
     pub(crate) fn leave(&mut self, node: Node) {
         if has_levels(node.index) {
@@ -301,7 +301,7 @@ impl SkipLists {
         }
     }
 
-    // It takes the seat's numbers, so that a seat of a node without a tower isn't in memory for it.
+    // It takes the order key's numbers, so that an order key of a node without a tower isn't in memory for it.
     #[cold]
     fn enter_skip_levels(&mut self, node: Node, chain: usize, task: u32, thread: u32, place: u32) {
         let order_key = OrderKey {
@@ -337,7 +337,7 @@ impl SkipLists {
         }
     }
 
-    /// A node was put into a chain.
+    /// Notes that a node was put into a chain.
     #[inline(always)]
     pub(crate) fn enter(&mut self, node: Node, chain: usize, order_key: OrderKey) {
         if has_levels(node.index) {
@@ -345,7 +345,7 @@ impl SkipLists {
         }
     }
 
-    /// A node near the place of a seat in its chain that doesn't come before it, if there is a stop there.
+    /// Returns a node near the place of an order key in its chain that doesn't come before it, if there is a stop there.
     #[cold]
     pub(crate) fn near(&self, chain: usize, order_key: OrderKey) -> Option<Node> {
         let Some(skip_levels) = self.skip_levels else {

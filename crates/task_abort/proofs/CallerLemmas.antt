@@ -24,13 +24,13 @@ module _ {A : Type 0} where
   at_written (z ∷ xs) zero x y h = refl
   at_written (z ∷ xs) (suc i) x y h = at_written xs i x y h
 
-  -- an element of two lists one after the other stands in one of them
+  -- an element of two lists one after the other is in one of them
   pub at_either : (xs ys : List A) (i : ℕ) (y : A) → get_elem? (xs ++ ys) i ≡ some y → (get_elem? xs i ≡ some y) ⊎ ((j : ℕ) × (get_elem? ys j ≡ some y))
   at_either [] ys i y h = inr (i, h)
   at_either (x ∷ xs) ys zero y h = inl h
   at_either (x ∷ xs) ys (suc i) y h = at_either xs ys i y h
 
-  -- and one that was added last stands past the others
+  -- and one that was added last is past the others
   pub at_last_or : (xs : List A) (x y : A) (i : ℕ) → get_elem? (xs ++ x ∷ []) i ≡ some y → (get_elem? xs i ≡ some y) ⊎ ((i ≡ length xs) × (x ≡ y))
   at_last_or [] x y zero h = inr (refl, some-injective x y h)
   at_last_or [] x y (suc i) h = absurd (some-ne-none y (sym h))

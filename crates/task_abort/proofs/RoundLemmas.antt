@@ -51,7 +51,7 @@ module _ {C : Type 0} where
   none_above u t (x ∷ xs) l h = let high = h.0 in
       ap (λ (b : Bool). cond b (x ∷ in_stage u xs) (in_stage u xs)) (ne_eqb (stage x.answer x.call) u (λ e. omega arith)) ∙ none_above u t xs l h.1
 
-  -- where no entry of the one list stands after one of the other, which is in order, the other stays last
+  -- where no entry of the one list is after one of the other, which is in order, the other stays last
   by_stages-last : (t : ℕ) (xs ys : List (LogEntry C)) → AllUpTo t xs → Sorted t ys → by_stages (xs ++ ys) ≡ by_stages xs ++ by_stages ys
   by_stages-last t xs ys h g =
       let each = λ (s : ℕ). filter-append (λ (e : LogEntry C). stage e.answer e.call == s) xs ys in

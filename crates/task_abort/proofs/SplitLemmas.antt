@@ -12,7 +12,7 @@ use Rattle.task_abort.specs.Rule.{named_at, At, Has, Stands, NameGoesOn, FitsLog
 use Rattle.task_abort.proofs.LogLemmas.{names, same_name-other, nothing_left, not_nil, same_head, same_tail}
 use Rattle.task_abort.proofs.CallerLemmas.{Stems, at_only, at_last_or, sum_by-none, counts, counts-other, named_at-none, named-one, has_own, met_apart, others_apart, sole, stands_before, among_after, old_log_after, by_place, apart_after}
 
--- a name that ends in x goes on from ys: it ends there, or what stands before x goes on too
+-- a name that ends in x goes on from ys: it ends there, or what is before x goes on too
 cut_last : (xs ys rest : Name) (x k : ℕ) → xs ++ x ∷ [] ≡ ys ++ k ∷ rest → ((xs ≡ ys) × (x ≡ k)) ⊎ ((r : Name) × (xs ≡ ys ++ k ∷ r))
 cut_last [] [] rest x k h = inl (refl, same_head x k [] rest h)
 cut_last [] (y ∷ ys) rest x k h = absurd (not_nil ys k rest (sym (same_tail x y [] (ys ++ k ∷ rest) h)))

@@ -63,7 +63,7 @@ aborters_finish_nothing (c ∷ ds) (a ∷ rest) h zero d at =
     subst (λ (z : HandleCaller). tally is_finish z.calls ≡ 0) (some-injective c d at) (ap (tally is_finish) h.0 ∙ aborts_finish_nothing c.name a.1)
 aborters_finish_nothing (c ∷ ds) (a ∷ rest) h (suc i) d at = aborters_finish_nothing ds rest h.1 i d at
 
--- where a call stands among those under a name, the log before it has those before it
+-- where a call is among those under a name, the log before it has those before it
 abbrev Stands_at : Name → Log → Log → LogEntry Name → Type 0
 Stands_at n log xs e = (before rest : Log) × (log ≡ before ++ e ∷ rest) × (calls_by n before ≡ xs)
 

@@ -9,7 +9,7 @@ use Rattle.task_abort.specs.declared.log.LogEntry.{LogEntry}
 use Rattle.task_abort.specs.declared.log.HandleCaller.{HandleCaller}
 use Rattle.task_abort.specs.declared.log.PassView.{PassView}
 
--- the number by which the word stands for a phase
+-- the number by which the word represents a phase
 abbrev pub code : Phase → ℕ
 code Running = 0
 code AbortRequested = 1

@@ -71,7 +71,7 @@ pub record Knows (v : PassView) : Type 0 where
 pub record Calls (call : PhaseCall) (v : PassView) (found : Phase) (w : PassView) : Type 0 where
   -- what other passes did since
   pub between : Log
-  -- its one entry stands last
+  -- its one entry is last
   pub seen : w.seen ≡ (v.seen ++ between) ++ entry v.own.name call found ∷ []
   -- it answers the phase found, and leaves the phase of this call
   pub finds : found ≡ phase (v.seen ++ between)
@@ -82,7 +82,7 @@ pub record Calls (call : PhaseCall) (v : PassView) (found : Phase) (w : PassView
   pub own : w.own ≡ record v.own { calls = v.own.calls ++ entry v.own.name call found ∷ [] }
   pub same : (w.met ≡ v.met) × (w.spent ≡ v.spent) × (w.heard ≡ v.heard)
   pub knows : Knows w
-  -- on a first pass that was never split nothing stands between
+  -- on a first pass that was never split nothing is between
   pub alone : IsFirst v → (found ≡ phase v.seen) × (w.seen ≡ v.seen ++ entry v.own.name call found ∷ [])
 
 -- a step that finds a word, from one state of a seat to another

@@ -65,8 +65,8 @@ entered n others requested (c ∷ cs) =
     entry 0 c.call (entered_answer (requested || (others && (n == 0))) c.answer)
     ∷ entered (n - 1) others (requested || tells_request c.call c.answer) cs
 
--- where an entry stands: polls that found Running, the abort or finish that found it, what found AbortRequested, the finish that
--- did, and what found Complete
+-- where an entry is: polls that found Running, the abort or finish that found it, what found AbortRequested, the finish that did,
+-- and what found Complete
 abbrev pub stage : Phase → PhaseCall → ℕ
 stage Running Abort = 2
 stage Running PollFuture = 1
@@ -88,7 +88,7 @@ by_stages es = in_stage 1 es ++ (in_stage 2 es ++ (in_stage 3 es ++ (in_stage 4 
 abbrev pub all_entries : List CallMade → List Aborter → ℕ → List (LogEntry ℕ)
 all_entries own aborters n = all_aborts aborters ++ entered n (any_abort aborters) false own
 
--- In each stage the aborters' entries stand first, in the order of the list, then those of caller 0
+-- In each stage the aborters' entries are first, in the order of the list, then those of caller 0
 abbrev pub staged : List CallMade → List Aborter → ℕ → List (LogEntry ℕ)
 staged own aborters n = by_stages (all_entries own aborters n)
 
@@ -96,7 +96,7 @@ staged own aborters n = by_stages (all_entries own aborters n)
 abbrev pub by_number : ℕ → List (LogEntry ℕ) → List (LogEntry ℕ)
 by_number k es = filter (λ e. e.caller == k) es
 
--- the aborters stand in the order of their numbers, each of which is above k
+-- the aborters are in the order of their numbers, each of which is above k
 abbrev pub Numbered : ℕ → List Aborter → Type 0
 Numbered k [] = Unit {0}
 Numbered k (a ∷ rest) = (k < a.0) × Numbered a.0 rest

@@ -13,7 +13,7 @@ use futures::task::Poll;
 use std::sync::Arc;
 use task_machine::{NoMemory, Phase};
 
-/// The phase for which a found word stands.
+/// Returns the phase for which a found word is.
 pub(crate) fn phase_of_word(word: u64) -> Phase
     ensures { result ≡ phase_of_code word }
 {
@@ -92,7 +92,7 @@ impl JoinHandle {
         shared.load::<Settling>(&mut pass.seat, 0);
     }
 
-    /// Another handle on the same cell. It is refused only where there is no memory for one more, and changes no phase.
+    /// Returns another handle on the same cell. It is refused only where there is no memory for one more, and changes no phase.
     pub fn share(&self) -> Result<JoinHandle, NoMemory>
         ensures { IfOk result (λ h. handle_cell h ≡ handle_cell self.now) }
     {

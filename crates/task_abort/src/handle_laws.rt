@@ -31,8 +31,8 @@ pub fn staged_log_is_legal(pass: &JoinPass)
     let _pass = pass;
 }
 
-/// The law that such a log has just the entries of each list, in the list's order, where the aborters stand in the order
-/// of their numbers. (What one caller's calls find never falls.)
+/// The law that such a log has just the entries of each list, in the list's order, where the aborters are in the order of their
+/// numbers. (What one caller's calls find never falls.)
 pub fn staged_log_keeps_lists(pass: &JoinPass)
     requires { AllKnown (view_of pass.now) }
     ensures run { (own : List CallMade) (aborters : List Aborter) (n : ℕ) → Lists (view_of pass.now) own aborters → LastRound (view_of pass.now) n → Numbered 0 aborters → by_number 0 (staged own aborters n) ≡ entered n (any_abort aborters) false own }

@@ -16,7 +16,7 @@ use std::alloc::Global;
 use task_machine::{NoMemory, Phase};
 
 impl OwnCell {
-    /// A cell in phase `Running`, whose pass has seen nothing.
+    /// Makes a cell in phase `Running`, whose pass has seen nothing.
     pub fn new(alloc: Global) -> Result<OwnCell, NoMemory>
         ensures { IfOk result (λ cell. own_view cell ≡ first_view) }
     {
@@ -29,7 +29,7 @@ impl OwnCell {
         }
     }
 
-    /// As `JoinHandle::abort`.
+    /// Aborts the work, as `JoinHandle::abort` does.
     pub fn abort(&mut self) -> Phase
         ensures { Calls Abort (own_view self.old) result (own_view self.new) }
     {
@@ -41,7 +41,7 @@ impl OwnCell {
         phase_of_word(word)
     }
 
-    /// As `JoinHandle::poll_handle`.
+    /// Polls the handle, as `JoinHandle::poll_handle` does.
     pub fn poll_handle(&mut self) -> Poll<()>
         ensures call { (found : Phase) × Calls PollHandle (own_view self.old) found (own_view self.new) × TellsComplete found result }
     {
@@ -53,7 +53,7 @@ impl OwnCell {
         }
     }
 
-    /// The step of `Abortable::running`: whether it found `Running`, so that the work may be polled.
+    /// Returns the step of `Abortable::running`: whether it found `Running`, so that the work may be polled.
     #[inline(always)]
     pub fn running(&mut self) -> bool
         ensures call { (found : Phase) × Calls PollFuture (own_view self.old) found (own_view self.new) × ((result ≡ true) ↔ (found ≡ Running)) }
@@ -63,7 +63,7 @@ impl OwnCell {
         matches!(phase_of_word(word), Phase::Running)
     }
 
-    /// As `Abortable::finish`: the phase that it found, which is `Complete` from then on.
+    /// Finishes the work, as `Abortable::finish` does, and returns the phase that it found, which is `Complete` from then on.
     pub fn finish(&mut self) -> Phase
         ensures { Calls Finish (own_view self.old) result (own_view self.new) }
     {

@@ -47,7 +47,7 @@ impl PhaseCell {
 }
 
 impl JoinHandle {
-    /// As `abort`; then it wakes the task whose poll of the future was registered. It takes the wakers' lock after its
+    /// Aborts as `abort` does, and then wakes the task whose poll of the future was registered. It takes the wakers' lock after its
     /// step.
     pub fn abort_and_wake<W: Wait>(&self, rt: &W, pass: &mut JoinPass) -> Phase
         requires { pass_cell pass.old ≡ handle_cell self.now }
@@ -82,8 +82,8 @@ impl JoinHandle {
 }
 
 impl<F: Drop> Abortable<F> {
-    /// As `finish`; then it wakes the task whose poll of the handle was registered. It takes the wakers' lock after its
-    /// step.
+    /// Finishes as `finish` does, and then wakes the task whose poll of the handle was registered. It takes the wakers' lock after
+    /// its step.
     pub fn finish_and_wake<W: Wait>(self, rt: &W, pass: &mut JoinPass) -> Phase
         requires { pass_cell pass.old ≡ work_cell self }
         ensures same { pass_cell pass.new ≡ pass_cell pass.old }

@@ -20,7 +20,7 @@ use std::alloc::Global;
 use std::sync::{Arc, Mutex};
 use task_machine::Phase;
 
-/// A cell in phase `Running`, with its first pass.
+/// Returns a cell in phase `Running`, with its first pass.
 fn new_cell(alloc: Global) -> Option<(Arc<PhaseCell, Global>, JoinPass)>
     ensures { IfSome result (λ r. (pass_cell r.1 ≡ (arc_value r.0).phase.shared.table_id) × (view_of r.1 ≡ first_view)) }
 {
@@ -63,7 +63,7 @@ impl<F> Abortable<F> {
     ghost use Rattle.std.specs.Borrow.{sem};
     ghost use Rattle.task_abort.specs.Lends.{LendsWork};
 
-    /// The poll of a work that isn't a `Future`: none exactly where it found another phase than `Running`, else the work,
+    /// Returns the poll of a work that isn't a `Future`: none exactly where it found another phase than `Running`, else the work,
     /// which the caller polls. It is the step of `poll`, which reads the word, and takes no lock and no memory.
     pub fn running(&mut self, pass: &mut JoinPass) -> Option<&mut F>
         requires { pass_cell pass.old ≡ work_cell self.old }
@@ -86,7 +86,7 @@ impl<F> Abortable<F> {
 }
 
 impl<F> Abortable<F> {
-    /// The step of `running`, told as the phase that it found: the work may be polled where that is `Running`.
+    /// Returns the step of `running`, told as the phase that it found: the work may be polled where that is `Running`.
     pub fn phase(&self, pass: &mut JoinPass) -> Phase
         requires { pass_cell pass.old ≡ work_cell self.now }
         ensures same { pass_cell pass.new ≡ pass_cell pass.old }

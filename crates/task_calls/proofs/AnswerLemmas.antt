@@ -1,4 +1,4 @@
--- What is answered, by what the op came to.
+-- What is answered, by what the op resulted in.
 use Rattle.std.proofs.Common.{refl, subst, sym}
 use Rattle.std.specs.Prelude.{Bool, Err, Ok, false, Result, ℕ, ◌≡◌}
 use Rattle.state_calls.specs.declared.error.TaskError.{TaskError}

@@ -1,4 +1,4 @@
--- What the starts of a host come to, and that order is kept.
+-- What the starts of a host result in, and that order is kept.
 use Rattle.std.proofs.Common.{ap, arith, refl, subst, sym, ◌∙◌}
 use Rattle.std.proofs.lemmas.Bool.Decides.{nat_tests}
 use Rattle.std.specs.Option.{option_map_or}
@@ -59,7 +59,7 @@ module _ (c : Component) (e : Callee) (d : ExportDef) (found : Some d ≡ export
   found_words n fit = let same = subst (λ (o : Option ExportDef). IfSome o (λ x. n ≡ x.params)) (sym found) fit in
       sym (ap (λ (o : Option ExportDef). option_map_or (λ x. x.params == n) o false) found) ∙ grind (arith, nat_tests, same)
 
--- memory is wanting, and the store is trapped
+-- it is out of memory, and the store is trapped
 pub out_of_memory : (c : Component) (e : Callee) (words : List ℕ) (s t u : StateView) (r : Option Trap) → r ≡ None → t ≡ s → u ≡ on_core set_trapped t → Starts c e words s r (Err task_error.NoMemory) u
 out_of_memory c e words s t u None free stays trapped = (refl, grind arith)
 out_of_memory c e words s t u (Some why) free stays trapped = absurd (cc)

@@ -1,4 +1,4 @@
--- What the halves of a direct call need of the running thread, and what they come to.
+-- What the halves of a direct call need of the running thread, and what they result in.
 use Rattle.std.proofs.Common.{ap, arith, refl, subst, sym, ◌∙◌}
 use Rattle.std.proofs.lemmas.Bool.Decides.{nat_tests}
 use Rattle.std.specs.Option.{option_map_or}

@@ -65,7 +65,7 @@ unpaused o w e h y a b u v (op_progress.AwaitsEnd sub) can paused = clash (is_sy
 unpaused o w e h y a b u v op_progress.Suspends can paused = clash (is_thread_op suspends o) u can
 unpaused o w e h y a b u v op_progress.Yields can paused = clash (is_thread_op yields o) v can
 
--- so it isn't on registers and words, and ends no activation
+-- so it isn't on registers and memory cells, and ends no activation
 paused_plain : (o : Op) (f : OpProgress) → can_come o f ≡ true → (f ≡ op_progress.Fresh → ⊥) → (ends_activation o ≡ false) × (is_data_op o ≡ false)
 paused_plain (op.Data o) f can paused = unpaused (op.Data o) refl refl refl refl refl refl refl refl f can paused
 paused_plain (op.Task o) f can paused = unpaused (op.Task o) refl refl refl refl refl refl refl refl f can paused

@@ -1,4 +1,4 @@
--- What a return needs of the running thread, and what it comes to.
+-- What a return needs of the running thread, and what it results in.
 use Rattle.std.proofs.Common.{ap, ap₂, arith, refl, subst, sym, ◌∙◌}
 use Rattle.std.proofs.lemmas.Bool.Decides.{nat_tests}
 use Rattle.std.specs.Prelude.{Bool, Option, false, not, true, ℕ, ◌+◌, ◌<◌, ◌^◌, ◌≡◌}

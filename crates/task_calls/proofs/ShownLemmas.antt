@@ -109,14 +109,14 @@ module _ (d b : Doer) (n : ℕ) where
   begins : (h : ℕ) (ch : Choice) (s : Core) → IsAlike d b n (wait_rule d n h ch s op_progress.Fresh) (wait_rule b n h ch s op_progress.Fresh)
   begins h ch s = if_found (set_at (instance_of n s) h s) _ (λ x. wait_begins_by d n ch s x (finds_nothing n x s)) (λ x. wait_begins_by b n ch s x (finds_nothing n x s)) (λ x. begins_by ch s x (finds_nothing n x s))
 
-  -- the own event, which is shown as an event also where a wake is handed on
+  -- the task event, which is shown as an event also where a wake is handed on
   own_goes : (x k : ℕ) (w : Option ℕ) (e : TaskEvent) (s : Core) → IsAlike d b n (Continues (wait_label n (given_for (PickedTaskEvent e) k s) w) (received_woken_by d n x w (PickedTaskEvent e) (given_for (PickedTaskEvent e) k s) s) n) (Continues (wait_label n (given_for (PickedTaskEvent e) k s) w) (received_woken_by b n x w (PickedTaskEvent e) (given_for (PickedTaskEvent e) k s) s) n)
   unfolding given_for
   own_goes x k None e s = let t = handed_on x (PickedTaskEvent e) None s in (refl, (refl, (refl, (taken (PickedTaskEvent e) (task_of n t) t, (refl, refl)))))
   own_goes x k (Some w) own.None s = let t = handed_on x (PickedTaskEvent own.None) (Some w) s in (refl, (refl, (refl, (taken (PickedTaskEvent own.None) (task_of n t) t, (refl, refl)))))
   own_goes x k (Some w) own.Cancelled s = let t = handed_on x (PickedTaskEvent own.Cancelled) (Some w) s in (refl, (refl, (refl, (taken (PickedTaskEvent own.Cancelled) (task_of n t) t, (refl, refl)))))
 
-  -- only who takes the own event hands a wake on
+  -- only who takes the task event hands a wake on
   member_goes : (x k : ℕ) (w : Option ℕ) (sub : Subtask) (s : Core) → IsAlike d b n
       (may (may_hand_on x (PickedMember sub) w s) (Continues (wait_label n (given_for (PickedMember sub) k s) w) (received_woken_by d n x w (PickedMember sub) (given_for (PickedMember sub) k s) s) n))
       (may (may_hand_on x (PickedMember sub) w s) (Continues (wait_label n (given_for (PickedMember sub) k s) w) (received_woken_by b n x w (PickedMember sub) (given_for (PickedMember sub) k s) s) n))

@@ -1,4 +1,4 @@
--- What a call whose thread is New comes to.
+-- What a call whose thread is New results in.
 use Rattle.std.proofs.Common.{ap, arith, refl, subst, sym, ◌∙◌}
 use Rattle.std.proofs.lemmas.Bool.Decides.{nat_tests}
 use Rattle.order_laws.proofs.NewLemmas.{prepare_keeps}

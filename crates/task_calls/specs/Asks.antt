@@ -67,7 +67,7 @@ abbrev pub after : OpResult → StateView → StateView
 after (op_result.Stops l) s = with_current None s
 after _ s = s
 
--- the op that came to this is ended, as a host has the thread n do it; no thread runs where the strand has stopped
+-- the op that resulted in this is ended, as a host has the thread n do it; no thread runs where the strand has stopped
 abbrev pub left_by : ℕ → OpResult → StateView → StateView
 left_by n r s = after r (on_core (ended SomeHost n r) s)
 
@@ -85,11 +85,12 @@ scripted_rule_of c o s n ch = op_rule SomeHost c n s ch o
 abbrev pub row_at : Component → Core → ℕ → Choice → Progress
 row_at c s n ch = scripted_rule_of c (op_of c n s) s n ch
 
--- the running thread did its row
+-- the running thread did its rule
 abbrev pub Did : (ℕ → Choice → Progress) → StateView → OpResult → StateView → Type 0
 Did row s r t = IfSome (running_of s) (λ n. Does (row n) n s r t)
 
--- It did its row, and what that came to is answered. Only one that takes memory answers that it is wanting, and then nothing is changed.
+-- It did its rule, and what that resulted in is answered. Only one that takes memory answers that it is wanting, and then nothing
+-- is changed.
 abbrev pub Answers : {A : Type 0} → (takes : Bool) → (ℕ → Choice → Progress) → (OpAnswer → A) → StateView → Result (Step A) TaskError →
     StateView → Type 0
 Answers takes row f s (Err task_error.NoMemory) t = (takes ≡ true) × (t ≡ s)

@@ -19,8 +19,8 @@ use Rattle.task_rules.specs.OpParts.{calls_host}
 use Rattle.task_turns.specs.Turn.{CoreInOrder}
 use Rattle.task_words.specs.StateView.{StateView}
 
--- Where the running thread did such an op, but a return, it is in its place then, with its registers, whatever the op came to. Where memory
--- was wanting nothing is changed.
+-- Where the running thread did such an op, but a return, it is in its place then, with its registers, whatever the op came to. If
+-- it was out of memory nothing is changed.
 unfoldable pub AsksLeaveInPlace : Type 0
 AsksLeaveInPlace = (c : Component) (o : Op) (n : ℕ) (r : OpResult) (s t : StateView) → running_of s ≡ Some n → CoreInOrder c (turn.Run n) s.core →
     is_finished o ≡ true → calls_host o ≡ false → is_return o ≡ false → Did (scripted_rule_of c o s.core) s r t →

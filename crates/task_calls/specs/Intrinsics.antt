@@ -1,4 +1,4 @@
--- The ops for which the calls of an instance stand, where more than one does.
+-- The ops for which there are calls of an instance, if there is more than one.
 use Rattle.std.specs.Prelude.{Bool, false, true, ℕ}
 use Rattle.task_calls.specs.declared.intrinsics.SuspensionTarget.{SuspensionTarget}
 use Rattle.task_calls.specs.declared.intrinsics.SuspensionTarget.TheVariants as target

@@ -1,4 +1,4 @@
--- What the calls of a host and the return of a guest's task come to.
+-- What the calls of a host and the return of a guest's task result in.
 use Rattle.std.specs.Prelude.{◌&&◌, ◌==◌, ◌≡◌, Bool, Err, List, None, Ok, Option, Result, Some, false, true, ℕ}
 use Rattle.futures.specs.declared.task.Poll.{Poll}
 use Rattle.futures.specs.declared.task.Poll.TheVariants.{Ready, Pending}
@@ -19,8 +19,8 @@ use Rattle.task_rules.specs.Task.{ret_bad_rule, ret_rule}
 use Rattle.task_words.specs.BecomesRecord.{BecomesRecord, BecomesGrouped}
 use Rattle.task_words.specs.StateView.{StateView, on_core, with_core}
 
--- A start with these words: refused for this cause, or memory is wanting, and then the store is trapped and nothing else is changed; else
--- the call is made, and its thread has the next number.
+-- A start with these words: refused for this cause, or it is out of memory, and then the store is trapped and nothing else is
+-- changed; else the call is made, and its thread has the next number.
 abbrev pub Starts : Component → Callee → List ℕ → StateView → Option Trap → Result ℕ TaskError → StateView → Type 0
 Starts c e words s (Some why) r t = (r ≡ Err (task_error.Trap why)) × BecomesRecord (set_trapped s.core) s t
 Starts c e words s None (Ok n) t = (n ≡ next_thread s.core) × BecomesGrouped (main_started c e words s.core) s t

@@ -49,7 +49,7 @@ abbrev pub has_stopped : OpResult → Bool
 has_stopped (op_result.Stops l) = true
 has_stopped _ = false
 
--- what is answered where the op came to this: what the op answers, a pause, or why it was refused
+-- what is answered where the op resulted in this: what the op answers, a pause, or why it was refused
 abbrev pub answered : {A : Type 0} → (OpAnswer → A) → OpResult → Result (Step A) TaskError
 answered f (op_result.Continues l m said) = Ok (step.Done (f said))
 answered f (op_result.Stops l) = Ok step.Pause

@@ -38,7 +38,7 @@ pub record Prepared (c : Component) (n : ℕ) (e : Callee) (words : List ℕ) (g
   pub can : CanStart n id t
   pub number : thread_of t id.thread ≡ next_thread s.core
 
--- Its entries don't fit, and nothing is changed; else it was made, or memory is wanting, and then the state is as before.
+-- Its entries don't fit, and nothing is changed; else it was made, or it is out of memory, and then the state is as before.
 abbrev pub Prepares : Component → ℕ → Callee → List ℕ → Goal → StateView → (room : Bool) → Result QualifiedThreadId TaskError → StateView →
     Type 0
 Prepares c n e words g s false r t = (r ≡ Err (task_error.Trap trap.TableFull)) × (t ≡ s)

@@ -26,7 +26,7 @@ resumed_by resume.Promote n h s = promoted_first n h s
 resumed_by resume.Resume n h s = resumed_first n h s
 resumed_by resume.ResumeLater n h s = first_in (resume_later_rule SomeHost n h s)
 
--- It came to this, and nothing else is changed.
+-- It resulted in this, and nothing else is changed.
 abbrev pub Resumed : First → StateView → Result Bool TaskError → StateView → Type 0
 Resumed (GoesFirst new) s r t = (r ≡ Ok true) × (t ≡ with_core new s)
 Resumed StaysBehind s r t = (r ≡ Ok false) × (t ≡ s)

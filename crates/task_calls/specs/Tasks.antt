@@ -1,4 +1,4 @@
--- What a call whose thread is New comes to.
+-- What a call whose thread is New results in.
 use Rattle.std.specs.Prelude.{◌+◌, ◌≡◌, Bool, Err, None, Ok, Option, Result, Some, [], false, if◌then◌else◌, true, ℕ}
 use Rattle.state_calls.specs.Named.{IsLive}
 use Rattle.task_words.specs.BecomesRecord.{BecomesWith}
@@ -35,7 +35,7 @@ task_made x i None s = call_made caller.Main (first_export i) x goal.Nowhere (s.
 abbrev pub task_begun : ExportKind → ℕ → Option QualifiedThreadId → StateView → Core
 task_begun x i f s = if s.core.trapped then set_trapped (task_made x i f s) else task_made x i f s
 
--- what is kept of the tags: a group more is known where it has no caller
+-- what is kept of the tags: a group more is tracked where it has no caller
 abbrev pub KeepsFor : Option QualifiedThreadId → StateView → Tags → Tags → Type 0
 KeepsFor (Some id) s = Keeps
 KeepsFor None s = KeepsWith (s.core.made.groups + 1)
@@ -46,7 +46,7 @@ pub record IsBegun (x : ExportKind) (i : ℕ) (f : Option QualifiedThreadId) (s 
   pub live : IsLive t id
   pub number : thread_of t id.thread ≡ next_thread s.core
 
--- Its entries don't fit, and nothing is changed; else it was made, or memory is wanting, and then the state is as before.
+-- Its entries don't fit, and nothing is changed; else it was made, or it is out of memory, and then the state is as before.
 abbrev pub Begins : ExportKind → ℕ → Option QualifiedThreadId → StateView → (room : Bool) → Result QualifiedThreadId TaskError → StateView →
     Type 0
 Begins x i f s false r t = (r ≡ Err (task_error.Trap trap.TableFull)) × (t ≡ s)

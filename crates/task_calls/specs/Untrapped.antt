@@ -10,8 +10,8 @@ use Rattle.task_rules.specs.Calls.{next_thread}
 use Rattle.task_rules.specs.MainOps.{main_started}
 use Rattle.task_words.specs.StateView.{StateView}
 
--- A start with these words: refused for this cause, or memory is wanting, and then nothing is changed; else the call is made, and its
--- thread has the next number.
+-- A start with these words: refused for this cause, or it is out of memory, and then nothing is changed; else the call is made, and
+-- its thread has the next number.
 abbrev pub StartsUntrapped : Component → Callee → List ℕ → StateView → Option Trap → Result ℕ TaskError → StateView → Type 0
 StartsUntrapped c e words s (Some why) r t = (r ≡ Err (task_error.Trap why)) × (t ≡ s)
 StartsUntrapped c e words s None (Ok n) t = (n ≡ next_thread s.core) × BecomesGrouped (main_started c e words s.core) s t

@@ -7,7 +7,7 @@ use state_calls::TaskError;
 use task_machine::Given;
 use task_ops::{OpResult, OpAnswer};
 
-/// What a call has come to that may stop its strand.
+/// What a call has resulted in that may stop its strand.
 #[derive(Clone, Copy)]
 pub enum Step<R> {
     Done(R),
@@ -38,7 +38,7 @@ fn given_words(given: Given) -> (u32, u32, u32)
     }
 }
 
-/// The event that an op answered: its code, handle and result; 0, 0, 0 where it answered none.
+/// Returns the event that an op answered: its code, handle and result; 0, 0, 0 if it answered none.
 pub(crate) fn event_answered(answer: OpAnswer) -> (u32, u32, u32)
     ensures { result ≡ event_answered answer }
 {
@@ -48,7 +48,7 @@ pub(crate) fn event_answered(answer: OpAnswer) -> (u32, u32, u32)
     }
 }
 
-/// The handle, packed status or end that an op answered; 0 where it answered none.
+/// Returns the handle, packed status or end that an op answered; 0 if it answered none.
 pub(crate) fn number_answered(answer: OpAnswer) -> u32
     ensures { result ≡ number_answered answer }
 {
@@ -58,7 +58,7 @@ pub(crate) fn number_answered(answer: OpAnswer) -> u32
     }
 }
 
-/// What the callee of a sync call returned; 0 where the op was no such call.
+/// Returns what the callee of a sync call returned; 0 if the op was no such call.
 pub(crate) fn value_answered(answer: OpAnswer) -> u64
     ensures { result ≡ value_answered answer }
 {
@@ -68,7 +68,7 @@ pub(crate) fn value_answered(answer: OpAnswer) -> u64
     }
 }
 
-/// What an op that may pause has answered.
+/// Returns what an op that may pause has answered.
 pub(crate) fn whole_answer(answer: OpAnswer) -> Answer
     ensures { result ≡ whole_answer answer }
 {

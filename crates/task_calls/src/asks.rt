@@ -17,8 +17,8 @@ use task_machine::{Component, HostPoll, Op};
 use task_ops::{OpResult, OpAnswer};
 use task_words::{OpProgressId, ThreadId, Primitives};
 
-// The op that a host had the thread do came to this: the host gets its answer, and none is under way any more; or the strand has stopped,
-// and no thread runs.
+// The op that a host had the thread do resulted in this: the host gets its answer, and none is under way any more; or the strand
+// has stopped, and no thread runs.
 pub(crate) fn leave<W: Primitives>(w: &mut W, thread: ThreadId, op_result: OpResult)
     ensures { W.view w.new ≡ left_by (thread_of (W.view w.old) thread) op_result (W.view w.old) }
 {
@@ -31,8 +31,8 @@ pub(crate) fn leave<W: Primitives>(w: &mut W, thread: ThreadId, op_result: OpRes
     }
 }
 
-// The running thread does the op, which isn't on registers and words and calls no host, whatever the op at its place is: its
-// registers and its place in its script stay. Where memory is wanting, nothing is changed.
+// The running thread does the op, which isn't on registers and memory cells and calls no host, whatever the op at its place is: its
+// registers and its place in its script stay. If it is out of memory, nothing is changed.
 fn ask<W: Primitives>(component: &Component, w: &mut W, op: Op) -> Result<OpResult, TaskError>
     requires running { IsRunningIn component.now (W.view w.old) }
     requires other { is_data_op op ≡ false }
@@ -54,8 +54,8 @@ fn ask<W: Primitives>(component: &Component, w: &mut W, op: Op) -> Result<OpResu
     Ok(op_result)
 }
 
-/// An op that answers nothing, done at once by the running thread, whatever the op at its place is, or refused as its rule
-/// says; then nothing is changed.
+/// Has the running thread do an op that answers nothing at once, whatever the op at its place is, or refused as its rule says; then
+/// nothing is changed.
 pub fn ask_nothing<W: Primitives>(component: &Component, w: &mut W, op: Op) -> Result<(), TaskError>
     requires running { IsRunningIn component.now (W.view w.old) }
     requires at_once { is_at_once op ≡ true }
@@ -68,8 +68,8 @@ pub fn ask_nothing<W: Primitives>(component: &Component, w: &mut W, op: Op) -> R
     Ok(())
 }
 
-/// An op that answers a handle, a packed status or an end, done at once by the running thread, whatever the op at its
-/// place is, or refused as its rule says; then nothing is changed. No register is written.
+/// Has the running thread do an op that answers a handle, a packed status or an end at once, whatever the op at its place is, or
+/// refused as its rule says; then nothing is changed. No register is written.
 pub fn ask_number<W: Primitives>(component: &Component, w: &mut W, op: Op) -> Result<u32, TaskError>
     requires running { IsRunningIn component.now (W.view w.old) }
     requires at_once { is_at_once op ≡ true }
@@ -82,7 +82,7 @@ pub fn ask_number<W: Primitives>(component: &Component, w: &mut W, op: Op) -> Re
     Ok(number_answered(answer))
 }
 
-/// An op that answers an event: its code, handle and result, done at once by the running thread, whatever the op at its
+/// Returns an op that answers an event: its code, handle and result, done at once by the running thread, whatever the op at its
 /// place is, or refused as its rule says; then nothing is changed. No register is written.
 pub fn ask_event<W: Primitives>(
     component: &Component,
@@ -100,7 +100,7 @@ pub fn ask_event<W: Primitives>(
     Ok(event_answered(answer))
 }
 
-/// The same for an op that may pause: then its strand has stopped, and no thread runs.
+/// Does an op that may pause: then its strand has stopped, and no thread runs.
 pub fn begin_nothing<W: Primitives>(
     component: &Component,
     w: &mut W,
@@ -120,7 +120,7 @@ pub fn begin_nothing<W: Primitives>(
     }
 }
 
-/// The same for an op that may pause: then its strand has stopped, and no thread runs.
+/// Does an op that may pause: then its strand has stopped, and no thread runs.
 pub fn begin_number<W: Primitives>(
     component: &Component,
     w: &mut W,
@@ -140,7 +140,7 @@ pub fn begin_number<W: Primitives>(
     }
 }
 
-/// The same for an op that may pause: then its strand has stopped, and no thread runs.
+/// Does an op that may pause: then its strand has stopped, and no thread runs.
 pub fn begin_event<W: Primitives>(
     component: &Component,
     w: &mut W,
@@ -160,8 +160,8 @@ pub fn begin_event<W: Primitives>(
     }
 }
 
-// The running thread takes the op at its place further, which has paused, as a host has it done: its registers and its place
-// in its script stay. Where memory is wanting, nothing is changed.
+// The running thread takes the op at its place further, which has paused, as a host has it done: its registers and its place in its
+// script stay. If it is out of memory, nothing is changed.
 fn take_on<W: Primitives>(component: &Component, w: &mut W) -> Result<OpResult, TaskError>
     requires running { IsRunningIn component.now (W.view w.old) }
     requires paused { (i : ℕ) × HasPaused i (W.view w.old) }
@@ -188,9 +188,9 @@ fn take_on<W: Primitives>(component: &Component, w: &mut W) -> Result<OpResult, 
     Ok(done.op_result)
 }
 
-/// Takes the op at the running thread's place further: it has paused, goes on, and may pause again. Its answer goes to the
-/// host, and the thread's registers and its place in its script stay. It polls no host: one that it calls was polled when it
-/// began. Where memory is wanting, nothing is changed.
+/// Takes the op at the running thread's place further: it has paused, goes on, and may pause again. Its answer goes to the host,
+/// and the thread's registers and its place in its script stay. It polls no host: one that it calls was polled when it began. If it
+/// is out of memory, nothing is changed.
 pub fn go_on<W: Primitives>(component: &Component, w: &mut W) -> Result<Step<Answer>, TaskError>
     requires running { IsRunningIn component.now (W.view w.old) }
     requires paused { (i : ℕ) × HasPaused i (W.view w.old) }

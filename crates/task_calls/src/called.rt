@@ -10,7 +10,7 @@ use op_dispatch::{called_host, op_at, script_ops};
 use task_machine::{Component, HostDef};
 use task_words::Primitives;
 
-/// The host that the op of the running thread, which has this number, polls first, with its place in the component. None where
+/// Returns the host that the op of the running thread, which has this number, polls first, with its place in the component. None if
 /// the op calls no host, and where its call is under way.
 #[inline(never)]
 pub fn host_called<W: Primitives>(component: &Component, w: &W, number: u64) -> Option<(u32, HostDef)>

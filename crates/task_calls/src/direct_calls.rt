@@ -17,10 +17,9 @@ use task_machine::{Callee, Component};
 use task_ops::{OpResult, exit_direct};
 use task_words::Primitives;
 
-/// The first half of a direct call: the callee is made with these words, 0 to 16, as many as it takes, and
-/// its thread, which is answered, runs on top of the calling one. Refused with trap 18 where its three
-/// entries don't fit into the table, and else with trap 17 where no handle may be given. Where it is
-/// refused, or memory is wanting, nothing is changed.
+/// Returns the first half of a direct call: the callee is made with these words, 0 to 16, as many as it takes, and its thread,
+/// which is answered, runs on top of the calling one. Refused with trap 18 where its three entries don't fit into the table, and
+/// else with trap 17 if no handle may be given. Where it is refused, or it is out of memory, nothing is changed.
 pub fn enter_call<W: Primitives>(
     component: &Component,
     w: &mut W,
@@ -55,9 +54,9 @@ pub fn enter_call<W: Primitives>(
     })
 }
 
-/// The second half of a direct call, by its first thread, which runs: its task ends as returned with the
-/// value, the thread ends, and the thread under it runs and answers the value when it goes on. Refused with
-/// trap 9 where the export is blocking and a check of its instance fails; nothing is changed then.
+/// Does the second half of a direct call, by its first thread, which runs: its task ends as returned with the value, the thread
+/// ends, and the thread under it runs and answers the value when it goes on. Refused with trap 9 if the export is blocking and a
+/// check of its instance fails; nothing is changed then.
 pub fn exit_call<W: Primitives>(component: &Component, w: &mut W, value: u64) -> Result<(), TaskError>
     requires running { IsRunningIn component.now (W.view w.old) }
     requires direct { IfSome (running_of (W.view w.old)) (λ n. IsDirect n (W.view w.old).core) }

@@ -13,10 +13,9 @@ use task_ops::{Acted, finish, start};
 use task_turns::export_def;
 use task_words::Primitives;
 
-/// Starts a call by the host with as many words as the export takes, 0 to 16, and answers the
-/// number of its thread. The call is queued, and runs when a run on the store takes it. Refused
-/// with trap 20 exactly where the store is trapped, and else with trap 18 exactly where its four
-/// entries don't fit into the table. Where it is refused, or memory is wanting, nothing is made, and
+/// Starts a call by the host with as many words as the export takes, 0 to 16, and answers the number of its thread. The call is
+/// queued, and runs when a run on the store takes it. Refused with trap 20 exactly where the store is trapped, and else with trap
+/// 18 exactly where its four entries don't fit into the table. Where it is refused, or it is out of memory, nothing is made, and
 /// the store is trapped.
 pub fn start_call<W: Primitives>(
     w: &mut W,
@@ -46,8 +45,7 @@ pub fn start_call<W: Primitives>(
     }
 }
 
-/// The result of a call that has returned, which is taken; pending where it hasn't, and then nothing
-/// is changed. A call is finished once.
+/// Takes the result of a call that has returned; pending where it hasn't, and then nothing is changed. A call is finished once.
 pub fn finish_call<W: Primitives>(w: &mut W, call: u64) -> Poll<u64>
     ensures finishes { Finishes call (W.view w.old) result (W.view w.new) }
     ensures order { (c : Component) → (p : Turn) → CoreInOrder c p (W.view w.old).core → CoreInOrder c p (W.view w.new).core }

@@ -1,4 +1,4 @@
-//! The ops for which the calls of an instance stand, where more than one does.
+//! The ops for which there are calls of an instance, if there is more than one.
 ghost use Rattle.op_dispatch.specs.Fits.{calls_host, is_data_op, op_fits};
 ghost use Rattle.op_dispatch.specs.Makes.{takes_memory};
 ghost use Rattle.std.specs.Prelude.{◌≡◌, false, true};
@@ -29,7 +29,7 @@ pub enum ResumeThread {
     ResumeLater,
 }
 
-/// `cancel` or `cancel_sync` of the subtask with this handle.
+/// Makes the op `cancel` or `cancel_sync` of the subtask with this handle.
 pub fn cancel_op(async_: bool, subtask: u32) -> Op
     ensures is { result ≡ cancel_op async_ subtask }
     ensures other { is_data_op result ≡ false }
@@ -44,7 +44,7 @@ pub fn cancel_op(async_: bool, subtask: u32) -> Op
     Op::Call(CallOp::CancelSync { to: 0, subtask })
 }
 
-/// `bp_inc` or `bp_dec`.
+/// Makes the op `bp_inc` or `bp_dec`.
 pub fn pressure_op(up: bool) -> Op
     ensures is { result ≡ pressure_op up }
     ensures at_once { is_at_once result ≡ true }
@@ -85,7 +85,7 @@ fn yields(target: SuspensionTarget) -> ThreadOp
     }
 }
 
-/// The op that suspends its thread or yields, with a thread that goes on next or none.
+/// Returns the op that suspends its thread or yields, with a thread that goes on next or none.
 pub fn suspension_op(yielding: bool, target: SuspensionTarget) -> Op
     ensures is { result ≡ suspension_op yielding target }
     ensures other { is_data_op result ≡ false }

@@ -1,4 +1,4 @@
-//! The calls by which a host and a guest's task change a store, over the words of a core.
+//! The calls by which a host and a guest's task change a store, over the primitives of a core.
 #![tactic(auto)]
 
 mod answer_calls;

@@ -25,7 +25,7 @@ fn entries_for(caller: Option<QualifiedThreadId>) -> usize
     }
 }
 
-// The call, whose entries fit. Where memory is wanting, all is as before.
+// The call, whose entries fit. If it is out of memory, all is as before.
 fn make_task<W: Primitives>(
     w: &mut W,
     kind: ExportKind,
@@ -54,13 +54,12 @@ fn make_task<W: Primitives>(
     Ok(QualifiedThreadId { task, thread })
 }
 
-/// Makes a call of this kind, of the first export of an instance, and answers its first thread. The
-/// thread is New, at the first op of its start script, with registers 0; the call is interesting, and
-/// its result goes nowhere. It is of the group of the caller's call, or of a new one where it has no
-/// caller. Refused with trap 18 exactly where its entries, 3 or 4 with the group, don't fit into the
-/// table, and then nothing is changed. Where memory is wanting, the state is as before. In a trapped
-/// store all groups are finished, and so a new one is finished at once. Order is kept at whatever turn, for
-/// a component in which that export has this kind.
+/// Makes a call of this kind, of the first export of an instance, and answers its first thread. The thread is New, at the first op
+/// of its start script, with registers 0; the call is interesting, and its result goes nowhere. It is of the group of the caller's
+/// call, or of a new one where it has no caller. Refused with trap 18 exactly where its entries, 3 or 4 with the group, don't fit
+/// into the table, and then nothing is changed. If it is out of memory, the state is as before. In a trapped store all groups are
+/// finished, and so a new one is finished at once. Order is kept at whatever turn, for a component in which that export has this
+/// kind.
 pub fn new_guest_task<W: Primitives>(
     w: &mut W,
     kind: ExportKind,

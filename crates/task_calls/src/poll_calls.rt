@@ -14,7 +14,7 @@ use task_machine::{Component, HostDef, HostPoll};
 use task_ops::OpResult;
 use task_words::Primitives;
 
-// The running thread calls the host, which is polled once, and goes on. Where memory is wanting, nothing is changed.
+// The running thread calls the host, which is polled once, and goes on. If it is out of memory, nothing is changed.
 fn call_polled<W: Primitives>(
     component: &Component,
     w: &mut W,
@@ -41,11 +41,10 @@ fn call_polled<W: Primitives>(
     Ok(op_result)
 }
 
-/// A call that goes on, of a host that does what `host` says, or has answered so where that is open. The packed status is answered:
-/// Returned where the value was there at once, which goes to the register, from 0 to 15; else Started with the handle
-/// of the work that was made. Refused, and then nothing is changed: by the host's failure; with trap 18 where an
-/// entry more doesn't fit into the table; with trap 17 where no handle may be given. Where memory is wanting,
-/// nothing is changed, too.
+/// Goes on with a call of a host that does what `host` says, or has answered so where that is open. The packed status is answered:
+/// Returned where the value was there at once, which goes to the register, from 0 to 15; else Started with the handle of the work
+/// that was made. Refused, and then nothing is changed: by the host's failure; with trap 18 if an entry more doesn't fit into the
+/// table; with trap 17 if no handle may be given. If it is out of memory, nothing is changed, too.
 pub fn poll_host<W: Primitives>(
     component: &Component,
     w: &mut W,
@@ -62,8 +61,7 @@ pub fn poll_host<W: Primitives>(
     Ok(number_answered(answer))
 }
 
-// The running thread calls the host, which is polled once, and waits for the value. Where memory is wanting, nothing is
-// changed.
+// The running thread calls the host, which is polled once, and waits for the value. If it is out of memory, nothing is changed.
 fn call_blocked<W: Primitives>(
     component: &Component,
     w: &mut W,
@@ -88,10 +86,10 @@ fn call_blocked<W: Primitives>(
     Ok(op_result)
 }
 
-/// A call that waits for its value, of a host that does what `host` says, or has answered so where that is open. The value is answered
-/// where it was there at once; else the work is made, and the strand stops until it has ended: then `go_on` answers
-/// the value. Refused, and then nothing is changed: by the host's failure; with trap 18 where an entry more doesn't
-/// fit into the table; with trap 9 where the thread may not block. Where memory is wanting, nothing is changed, too.
+/// Does a call that waits for its value, of a host that does what `host` says, or has answered so where that is open. The value is
+/// answered where it was there at once; else the work is made, and the strand stops until it has ended: then `go_on` answers the
+/// value. Refused, and then nothing is changed: by the host's failure; with trap 18 if an entry more doesn't fit into the table;
+/// with trap 9 if the thread may not block. If it is out of memory, nothing is changed, too.
 pub fn block_on_host<W: Primitives>(
     component: &Component,
     w: &mut W,

@@ -21,7 +21,7 @@ fn or_refused(first: Result<bool, Trap>) -> Result<bool, TaskError>
     }
 }
 
-// What `resume_later` came to.
+// What `resume_later` resulted in.
 fn came_later(op_result: OpResult) -> Result<bool, Trap>
     ensures { result ≡ came_later op_result }
 {
@@ -31,10 +31,10 @@ fn came_later(op_result: OpResult) -> Result<bool, Trap>
     }
 }
 
-/// The thread that the handle names goes on: next, where it has yielded or where it is suspended or wasn't started; or later, by a
-/// low entry, and the op is done. Answers false exactly where one that is to be promoted hasn't yielded, and nothing is changed then.
-/// Refused with trap 16 where the handle names no thread of the instance, and with trap 11 where that is the running
-/// thread, or one that isn't to be promoted and is neither suspended nor unstarted; nothing is changed then.
+/// Lets the thread that the handle names go on: next, where it has yielded or where it is suspended or wasn't started; or later, by
+/// a low entry, and the op is done. Answers false exactly where one that is to be promoted hasn't yielded, and nothing is changed
+/// then. Refused with trap 16 if the handle names no thread of the instance, and with trap 11 if that is the running thread, or one
+/// that isn't to be promoted and is neither suspended nor unstarted; nothing is changed then.
 pub fn resume_thread<W: Primitives>(
     component: &Component,
     w: &mut W,

@@ -34,10 +34,10 @@ pub fn is_own_type(ty: u32, encoding: u32, memory: u32) -> bool
     memory == 0
 }
 
-/// `task.return`: the task of the current thread, which has this number, ends as returned with the
-/// value, and the thread goes on; its registers and its place in its script stay. The type, the encoding
-/// and the memory are those of the lifted function where all three are 0. Refused with trap 1 exactly where the task has ended, and
-/// else with trap 3 exactly where they aren't 0; nothing is changed then.
+/// Does `task.return`: the task of the current thread, which has this number, ends as returned with the value, and the thread goes
+/// on; its registers and its place in its script stay. The type, the encoding and the memory are those of the lifted function where
+/// all three are 0. Refused with trap 1 exactly where the task has ended, and else with trap 3 exactly where they aren't 0; nothing
+/// is changed then.
 pub fn task_return<W: Primitives>(
     w: &mut W,
     component: &Component,

@@ -10,9 +10,9 @@ pub fn answers_are_shown()
     ensures { AnswersAreShown }
 {}
 
-/// A thread that a host has do an op keeps its place in its script and its registers, whether it goes on or its strand stops: so it is after
-/// each call of an op by the running thread, after one that had paused was taken on, and after a return, unless it has called its own task.
-/// A call of a host may give it a value.
+/// Says that a thread that a host has do an op keeps its position and its registers, whether it goes on or its strand stops: so it
+/// is after each call of an op by the running thread, after one that had paused was taken on, and after a return, unless it has
+/// called its own task. A call of a host may give it a value.
 #[tactic(auto, using(op_dispatch::proofs::LeavesLemmas::host_leaves_in_place, crate::proofs::PlaceLemmas::asks_leave_in_place, crate::proofs::PlaceLemmas::returns_leave_in_place, crate::proofs::PausedPlaceLemmas::paused_leave_in_place))]
 pub fn hosts_leave_in_place()
     ensures rule { HostLeavesInPlace }

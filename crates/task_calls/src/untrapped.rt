@@ -12,8 +12,8 @@ use task_ops::{Acted, start};
 use task_turns::export_def;
 use task_words::Primitives;
 
-/// Why a start by the host is refused: with trap 20 where the store is trapped, and else with trap 18 where its four
-/// entries don't fit into the table.
+/// Returns why a start by the host is refused: with trap 20 if the store is trapped, and else with trap 18 where its four entries
+/// don't fit into the table.
 #[tactic(auto, unfolding(task_rules::specs::MainOps::start_refusal))]
 pub fn start_refusal<W: Primitives>(w: &W) -> Option<Trap>
     ensures { result ≡ start_refusal (W.view w.now).core }
@@ -27,10 +27,9 @@ pub fn start_refusal<W: Primitives>(w: &W) -> Option<Trap>
     Some(Trap::TableFull)
 }
 
-/// Starts a call by the host with as many words as the export takes, 0 to 16, and answers the number of
-/// its thread. Refused with trap 20 exactly where the store is trapped, and else with trap 18 exactly
-/// where its four entries don't fit into the table. Where it is refused, or memory is wanting, all is as
-/// before: the store isn't trapped by that.
+/// Starts a call by the host with as many words as the export takes, 0 to 16, and answers the number of its thread. Refused with
+/// trap 20 exactly where the store is trapped, and else with trap 18 exactly where its four entries don't fit into the table. Where
+/// it is refused, or it is out of memory, all is as before: the store isn't trapped by that.
 pub fn start_untrapped<W: Primitives>(
     w: &mut W,
     component: &Component,

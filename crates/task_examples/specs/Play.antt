@@ -134,7 +134,7 @@ unfoldable pub play : Setting → List (ℕ × Swaps) → ℕ → List Label →
 play x os k [] s = stays s
 play x os k (l ∷ ls) s = on s (λ t. play x os (k + 1) ls t) (turned x s (choice_of l) (swaps_at k os) s.turn)
 
--- From the opening state of the scenario the machine may show these labels, and this is then what the run has come to.
+-- From the opening state of the scenario the machine may show these labels, and this is then what the run has resulted in.
 pub record Example (x : ScenarioDef) (steps : ℕ) (labels : List Label) (o : Outcome) : Type 0 where
   pub last : State
   pub run : Run (setting_of x) (opens x) labels last

@@ -1,4 +1,4 @@
-//! Each function is the statement that its scenario makes just these labels, and comes to this outcome.
+//! Each function is the statement that its scenario makes just these labels, and ends in this outcome.
 
 ghost use Rattle.task_examples.specs.Play.{Example};
 ghost use Rattle.task_examples.specs.Threads as the;

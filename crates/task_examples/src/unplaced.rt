@@ -1,4 +1,4 @@
-//! A state that no run comes to.
+//! A state that no run reach.
 
 ghost use Rattle.task_examples.specs.Unplaced.{IsUnplaced, behind_and_no_caller};
 

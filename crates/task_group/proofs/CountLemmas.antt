@@ -1,4 +1,4 @@
--- The finite map that the entries of an ordered map stand for.
+-- The finite map that the entries of an ordered map represent.
 use Rattle.std.proofs.Common.{◌≡◌, ℕ, zero, suc, ◌<◌, List, [], ◌∷◌, length, refl, sym, ap, subst, ◌∙◌, arith, Bool, true, false, cond}
 use Rattle.std.specs.Prelude.{Option, Some, None, IsSome, IfNone, unwrap_or}
 use Rattle.std.specs.List.{AllByRecursion}

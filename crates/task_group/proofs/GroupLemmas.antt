@@ -81,7 +81,7 @@ module _ (m : Counts) (made : ℕ) where
       ∙ ap (λ o. cond (eq_by_cmp nat_cmp q k) None o) (finite.get-insert nat_cmp_total m k v q)
       ∙ back (eq_by_cmp nat_cmp q k) (Some v) (finite.get m q) (λ e. let same : q ≡ k = equal q k (sym (unsigned_tied q k) ∙ e) in ap (finite.get m) same ∙ absent_above k _ refl above known))
 
--- one that was prepared and told of leaves nothing where it is taken back
+-- one that was prepared and told of leaves nothing if it is taken back
 pub made_back : (g m h : Groups) (number : ℕ) → IsKnown g.live g.made → m ≡ record g { live = finite.insert g.live m.made 1; made = m.made } → m.made ≡ numbered g.made number →
     (h.live ≡ m.live) × (h.made ≡ m.made) → finite.remove h.live h.made ≡ g.live
 made_back g m h number known ok next same =

@@ -16,7 +16,7 @@ abbrev pub raised_from : Counts → ℕ → Option ℕ → Counts
 raised_from live number None = live
 raised_from live number (Some count) = finite.insert live number (count + 1)
 
--- one more task in the group, or nothing where it is finished
+-- one more task in the group, or nothing if it is finished
 abbrev pub raised : Counts → ℕ → Counts
 raised live number = raised_from live number (finite.get live number)
 
@@ -25,7 +25,7 @@ lowered_from live number None = live
 lowered_from live number (Some count) =
     if nat_lt 1 count then finite.insert live number (count - 1) else finite.remove live number
 
--- one task fewer in the group, which is finished where that leaves none; nothing where it was finished
+-- one task fewer in the group, which is finished where that leaves none; nothing if it was finished
 abbrev pub lowered : Counts → ℕ → Counts
 lowered live number = lowered_from live number (finite.get live number)
 

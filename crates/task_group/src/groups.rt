@@ -43,7 +43,7 @@ impl<H: TaskGroupHook> Model for Groups<H> {
 }
 
 impl<H: TaskGroupHook> Groups<H> {
-    /// No group, no hook, and no notice is kept.
+    /// Makes an empty table of groups, without a hook, which keeps no notice.
     pub fn new(alloc: Global) -> Self
         ensures { result ≡ record { live = finite.empty; made = 0; listeners = nobody } }
     {
@@ -54,7 +54,7 @@ impl<H: TaskGroupHook> Groups<H> {
         }
     }
 
-    /// Whether there is a hook, which there isn't of a type that doesn't listen.
+    /// Returns whether there is a hook, which there isn't of a type that doesn't listen.
     #[inline(always)]
     pub fn is_hooked(&self) -> bool
         ensures hook { result ≡ is_some self.now.listeners.hook }
@@ -71,7 +71,7 @@ impl<H: TaskGroupHook> Groups<H> {
         self.listeners.set_hook(hook);
     }
 
-    /// A new group with one task, after the hook was told of its start. At most 2^61 groups are made.
+    /// Makes a group with one task, after the hook was told of its start. At most 2^61 groups are made.
     ///
     /// `NoMemory` where there is none for it, with all as before; `HookFailed` exactly where the hook answered an error, and then there is no such group, but the hook was told.
     pub fn make(&mut self) -> Result<TaskGroupId, GroupError>
@@ -81,7 +81,7 @@ impl<H: TaskGroupHook> Groups<H> {
         ensures made { OnOk result (self.new.made ≡ self.old.made + 1) }
         ensures refused { OnErr result ((self.new.live ≡ self.old.live) × (self.new.made ≡ self.old.made)) }
 
-        // The hook and the list are told of the start, unless memory is wanting.
+        // The hook and the list are told of the start, unless it is out of memory.
         ensures told { result ≢ Err GroupError.NoMemory → ToldListeners (start_of (record { number = self.old.made + 1 }) ∷ []) self.old.listeners self.new.listeners }
         ensures failed { (result ≡ Err GroupError.HookFailed) ↔ AnsweredErr self.old.listeners self.new.listeners }
         ensures no_memory { result ≡ Err GroupError.NoMemory → self.new ≡ self.old }
@@ -98,8 +98,8 @@ impl<H: TaskGroupHook> Groups<H> {
         answer
     }
 
-    /// A group that isn't told of yet, with one task: it is to be told of by `announce`, or taken back by `withdraw`,
-    /// before any other call. It gets this number, or the one after the last one made where that isn't below it.
+    /// Makes a group that isn't told of yet, with one task: it is to be told of by `announce`, or taken back by `withdraw`, before
+    /// any other call. It gets this number, or the one after the last one made where that isn't below it.
     ///
     /// `NoMemory` where there is none for it, or 2^64 - 1 is given, with all as before.
     pub fn prepare(&mut self, number: u64) -> Result<(), NoMemory>
@@ -156,7 +156,7 @@ impl<H: TaskGroupHook> Groups<H> {
         self.made = made;
     }
 
-    /// One more task in the group; nothing where it is finished. A group has fewer than 2^32 tasks.
+    /// Counts one more task in the group; it does nothing if the group is finished. A group has fewer than 2^32 tasks.
     pub fn increment(&mut self, id: TaskGroupId)
         requires { count_in self.old.live id.number < 4294967295 }
         ensures { self.new ≡ record self.old { live = raised self.old.live id.number } }
@@ -167,7 +167,8 @@ impl<H: TaskGroupHook> Groups<H> {
         }
     }
 
-    /// One task fewer in the group. Where that was its last, the group is finished and the hook is told so. Answers whether it finished by this call, which a group that was finished before doesn't.
+    /// Counts one task fewer in the group. If that was its last, the group is finished and the hook is told so. Answers whether it
+    /// finished by this call, which a group that was finished before doesn't.
     ///
     /// `HookFailed` exactly where the hook answered an error; the group is finished all the same.
     pub fn decrement(&mut self, id: TaskGroupId) -> Result<bool, GroupError>
@@ -193,7 +194,8 @@ impl<H: TaskGroupHook> Groups<H> {
         Ok(true)
     }
 
-    /// The thread that runs is one of another group, or of none: the hook is told of the exit from the old group and then of the enter into the new one, but for finished groups and for none. Nothing is told where both are the same.
+    /// Changes the group of the thread that runs, or leaves none: the hook is told of the exit from the old group and then of the
+    /// enter into the new one, but for finished groups and for none. Nothing is told where both are the same.
     ///
     /// `HookFailed` exactly where the hook answered an error; after an error at the exit the enter isn't told.
     #[inline(always)]
@@ -233,8 +235,8 @@ impl<H: TaskGroupHook> Groups<H> {
         }
     }
 
-    /// A work of the group is worked on, and left again, told at once: of a group that is known to be live, whose enter is kept in
-    /// four bytes, and without a hook. Answers whether it was; else nothing is told.
+    /// Tells at once that a work of the group is worked on, and left again: of a group that is known to be live, whose enter is
+    /// kept in four bytes, and without a hook. Answers whether it was; else nothing is told.
     #[inline(always)]
     pub fn visit_at_once(&mut self, id: TaskGroupId) -> bool
         ensures groups { (self.new.live ≡ self.old.live) × (self.new.made ≡ self.old.made) }
@@ -259,7 +261,8 @@ impl<H: TaskGroupHook> Groups<H> {
         }
     }
 
-    // Tells of the exit if it can't be told at once. It is out of line: a group that was entered at once is mostly left so.
+    // Tells of the exit if it can't be told at once. It is a function of its own: a group that was entered at once is mostly left
+    // so.
     #[cold]
     #[inline(never)]
     fn leave_outlined(&mut self, id: TaskGroupId)
@@ -334,7 +337,7 @@ impl<H: TaskGroupHook> Groups<H> {
         }
     }
 
-    /// How many tasks the group has, 0 for a finished one.
+    /// Returns how many tasks the group has, 0 for a finished one.
     pub fn count(&self, id: TaskGroupId) -> u32
         ensures value { result ≡ count_in self.now.live id.number }
         ensures finished { (result ≡ 0) ↔ (finite.get self.now.live id.number ≡ None) }
@@ -342,7 +345,7 @@ impl<H: TaskGroupHook> Groups<H> {
         self.counts.get(id.number)
     }
 
-    /// How many groups are live.
+    /// Returns how many groups are live.
     #[inline(always)]
     pub fn len(&self) -> u64
         ensures { result ≡ finite.len self.now.live }
@@ -350,7 +353,7 @@ impl<H: TaskGroupHook> Groups<H> {
         self.counts.len() as u64
     }
 
-    /// How many groups were made so far. No live group has a greater number.
+    /// Returns how many groups were made so far. No live group has a greater number.
     pub fn made(&self) -> u64
         ensures value { result ≡ self.now.made }
         ensures known { (number : ℕ) → IsSome (finite.get self.now.live number) → number ≤ result }
@@ -358,7 +361,7 @@ impl<H: TaskGroupHook> Groups<H> {
         self.made
     }
 
-    /// Before the first group: from now on each notice is also kept, with or without a hook, until `room` of them are.
+    /// Begins to keep notices, before the first group: each notice is also kept, with or without a hook, until `room` of them are.
     ///
     /// `NoMemory` where there is none for so many; then all is as before.
     pub fn keep_notices(&mut self, room: usize) -> Result<(), NoMemory>
@@ -369,14 +372,14 @@ impl<H: TaskGroupHook> Groups<H> {
         self.listeners.keep_notices(room)
     }
 
-    /// The notices that were kept, in the order in which they were told.
+    /// Returns the notices that were kept, in the order in which they were told.
     pub fn notices(&self) -> Notices<'_>
         ensures { result ≡ self.now.listeners.notices }
     {
         self.listeners.notices()
     }
 
-    /// The notices that were kept, in a list of their own that shares their memory, so that none is copied: they stay kept.
+    /// Returns the notices that were kept, in a list of their own that shares their memory, so that none is copied: they stay kept.
     /// `NoMemory` where there is none for the list.
     pub fn share_notices(&mut self, alloc: Global) -> Result<NoticeList, NoMemory>
         ensures list { IfOk result (λ list. list ≡ self.old.listeners.notices) }

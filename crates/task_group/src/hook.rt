@@ -13,23 +13,23 @@ pub trait TaskGroupHook: Drop {
     // Whether there is such a hook at all, which isn't so of `NoHook`.
     ghost listens: { Bool };
 
-    /// Whether there is such a hook at all: of a type of which there is none, nobody asks whether it is told.
+    /// Returns whether there is such a hook at all: of a type of which there is none, nobody asks whether it is told.
     fn listens() -> bool
         ensures { result ≡ listens };
 
-    /// The group is made.
+    /// Is told that the group is made.
     fn handle_start(&mut self, id: TaskGroupId) -> Result<(), HookError>
         ensures { Tells (start_of id) (heard self.old) (heard self.new) (is_ok result) };
 
-    /// A thread of the group begins to run, or goes on.
+    /// Is told that a thread of the group begins to run, or goes on.
     fn handle_enter(&mut self, id: TaskGroupId) -> Result<(), HookError>
         ensures { Tells (enter_of id) (heard self.old) (heard self.new) (is_ok result) };
 
-    /// The thread of the group that ran has stopped.
+    /// Is told that the thread of the group that ran has stopped.
     fn handle_exit(&mut self, id: TaskGroupId) -> Result<(), HookError>
         ensures { Tells (exit_of id) (heard self.old) (heard self.new) (is_ok result) };
 
-    /// The last task of the group has ended.
+    /// Is told that the last task of the group has ended.
     fn handle_finish(&mut self, id: TaskGroupId) -> Result<(), HookError>
         ensures { Tells (finish_of id) (heard self.old) (heard self.new) (is_ok result) };
 }
@@ -93,7 +93,7 @@ impl<H: TaskGroupHook> TaskGroupHook for Box<H> {
     }
 }
 
-/// One notice to a hook.
+/// Tells a hook one notice.
 pub fn tell<H: TaskGroupHook>(
     hook: &mut H,
     kind: NoticeKind,

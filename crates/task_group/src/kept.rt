@@ -36,7 +36,7 @@ impl Model for Kept {
 }
 
 impl Kept {
-    /// None is kept.
+    /// Makes it with no notice kept.
     pub fn new(alloc: Global) -> Self
         ensures { result ≡ nothing }
     {
@@ -50,8 +50,8 @@ impl Kept {
         }
     }
 
-    /// From now on so many are kept. `NoMemory` where there is none for them; then all is as before. What isn't used of
-    /// that memory isn't touched.
+    /// Begins to keep so many. `NoMemory` where there is none for them; then all is as before. What isn't used of that memory isn't
+    /// touched.
     pub fn keep(&mut self, room: usize) -> Result<(), NoMemory>
         ensures ok { OnOk result (self.new ≡ record self.old { room = room }) }
         ensures err { OnErr result (self.new ≡ self.old) }
@@ -68,7 +68,7 @@ impl Kept {
         Ok(())
     }
 
-    /// The notices, the first one first.
+    /// Returns the notices, the first one first.
     pub fn notices(&self) -> Notices<'_>
         ensures { result ≡ self.now.notices }
     {
@@ -106,7 +106,7 @@ impl Kept {
         true
     }
 
-    // Keeps one notice more, as a word or whole. It is out of line, as few groups have numbers that don't fit a word.
+    // Keeps one notice more, as a word or whole. It is a function of its own, as few groups have numbers that don't fit a word.
     #[cold]
     #[inline(never)]
     fn push_whole(&mut self, notice: Notice)
@@ -118,8 +118,8 @@ impl Kept {
         }
     }
 
-    /// A list of the notices, whose memory it shares with those. Where memory is wanting, there is none, and all is as before.
-    /// It takes time that doesn't depend on their number, but for one that is asked for after others were kept behind one.
+    /// Returns a list of the notices, whose memory it shares with those. If it is out of memory, there is none, and all is as
+    /// before. It takes time that doesn't depend on their number, but for one that is asked for after others were kept behind one.
     pub fn share(&mut self, alloc: Global) -> Result<NoticeList, NoMemory>
         ensures list { IfOk result (λ list. list ≡ self.old.notices) }
         ensures same { self.new ≡ self.old }

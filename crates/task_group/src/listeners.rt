@@ -37,7 +37,7 @@ impl<H: TaskGroupHook> Model for Listeners<H> {
 }
 
 impl<H: TaskGroupHook> Listeners<H> {
-    /// No hook, and no notice is kept.
+    /// Makes listeners without a hook, with no notice kept.
     pub fn new(alloc: Global) -> Self
         ensures { result ≡ nobody }
     {
@@ -47,7 +47,7 @@ impl<H: TaskGroupHook> Listeners<H> {
         }
     }
 
-    /// Whether there is a hook. Of a type of which there is none, that is known where this is compiled.
+    /// Returns whether there is a hook. Of a type of which there is none, that is known where this is compiled.
     #[inline(always)]
     pub fn is_hooked(&self) -> bool
         ensures hook { result ≡ is_some self.now.hook }
@@ -72,7 +72,7 @@ impl<H: TaskGroupHook> Listeners<H> {
         self.kept.keep(room)
     }
 
-    /// The notices that were kept, in the order in which they were told.
+    /// Returns the notices that were kept, in the order in which they were told.
     pub fn notices(&self) -> Notices<'_>
         ensures { result ≡ self.now.notices }
     {

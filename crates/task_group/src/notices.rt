@@ -30,7 +30,7 @@ impl<'a> Model for Notices<'a> {
 }
 
 impl<'a> Notices<'a> {
-    /// How many are left.
+    /// Returns how many are left.
     pub fn len(&self) -> usize
         ensures { result ≡ length self.now }
     {
@@ -103,7 +103,7 @@ impl NoticeList {
         NoticeList { written: None }
     }
 
-    // These notices. Where memory is wanting they are given back.
+    // These notices. If it is out of memory they are given back.
     pub(crate) fn of(alloc: Global, written: Written) -> Result<NoticeList, Written>
         ensures ok { IfOk result (λ list. list ≡ listed written.words.items written.whole.items) }
         ensures err { IfErr result (λ back. back ≡ written) }
@@ -164,7 +164,7 @@ impl NoticeList {
         }
     }
 
-    /// The notices, the first one first.
+    /// Returns the notices, the first one first.
     pub fn notices(&self) -> Notices<'_>
         ensures { result ≡ self.now }
     {

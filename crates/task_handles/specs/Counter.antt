@@ -14,6 +14,6 @@ raised c = record c { live = c.live + 1 }
 abbrev pub lowered : Counter → Counter
 lowered c = record c { live = c.live - 1 }
 
--- the live count is the sum of the live handles of these tables, each of which stands here by their number
+-- the live count is the sum of the live handles of these tables, each of which is here by their number
 abbrev pub IsSumOf : Counter → List ℕ → Type 0
 IsSumOf c tables = c.live ≡ sum tables

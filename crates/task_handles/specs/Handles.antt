@@ -4,7 +4,7 @@ use Rattle.std.specs.Coded.{Coded, code_by, coded×, coded_ℕ, coded_list}
 use Rattle.std.specs.Ordering.{nat_cmp}
 use Rattle.std.specs.FinMap as map
 
--- what each live handle stands for, the freed handles with the last freed first, and how many handles were ever made
+-- what each live handle represents, the freed handles with the last freed first, and how many handles were ever made
 pub record Handles (X : Type 0) : Type 0 where
   pub live : map.FinMap nat_cmp X
   pub freed : List ℕ
@@ -34,7 +34,7 @@ made_of [] made = made + 1
 made_of (_ ∷ _) made = made
 
 module _ {X : Type 0} where
-  -- what a handle stands for, if it is live
+  -- what a handle refers to, if it is live
   abbrev pub held_by : Handles X → ℕ → Option X
   held_by t handle = map.get t.live handle
 

@@ -1,4 +1,4 @@
--- What the handles of a `HandleTable` stand for.
+-- What the handles of a `HandleTable` represent.
 use Rattle.std.specs.Prelude.{Bool, true, false, Option, Some, None, Result, Ok, Err}
 use Rattle.task_handles.specs.declared.kinds.Rep.{Rep}
 use Rattle.task_handles.specs.declared.kinds.HeldItem.{HeldItem}
@@ -28,7 +28,7 @@ subtask_in (handle.Waitable waitable.Stream) rep = Err BadHandle
 subtask_in (handle.Waitable waitable.Future) rep = Err BadHandle
 subtask_in handle.Set rep = Err BadHandle
 
--- the subtask that a handle stands for, and whether it is a host's; anything else is a bad handle
+-- the subtask that a handle refers to, and whether it is a host's; anything else is a bad handle
 abbrev pub subtask_of : Option HeldItem → Result (Rep × Bool) HandleError
 subtask_of None = Err BadHandle
 subtask_of (Some held) = subtask_in held.kind held.rep
@@ -37,7 +37,7 @@ abbrev pub waitable_in : HandleKind → Rep → Result (Rep × WaitableKind) Han
 waitable_in (handle.Waitable kind) rep = Ok (rep, kind)
 waitable_in handle.Set rep = Err BadHandle
 
--- the waitable that a handle stands for, and its kind; anything else is a bad handle
+-- the waitable that a handle refers to, and its kind; anything else is a bad handle
 abbrev pub waitable_of : Option HeldItem → Result (Rep × WaitableKind) HandleError
 waitable_of None = Err BadHandle
 waitable_of (Some held) = waitable_in held.kind held.rep
@@ -46,12 +46,12 @@ abbrev pub set_in : HandleKind → Rep → Result Rep HandleError
 set_in (handle.Waitable _) rep = Err BadHandle
 set_in handle.Set rep = Ok rep
 
--- the waitable set that a handle stands for; anything else is a bad handle
+-- the waitable set that a handle refers to; anything else is a bad handle
 abbrev pub set_of : Option HeldItem → Result Rep HandleError
 set_of None = Err BadHandle
 set_of (Some held) = set_in held.kind held.rep
 
--- the thread that a handle stands for; a handle that isn't live is a bad one
+-- the thread that a handle refers to; a handle that isn't live is a bad one
 abbrev pub thread_of : Option Rep → Result Rep HandleError
 thread_of None = Err BadHandle
 thread_of (Some rep) = Ok rep

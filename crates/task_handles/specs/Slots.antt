@@ -24,7 +24,7 @@ module _ {X : Type 0} where
   slot_at slots zero = None
   slot_at slots (suc place) = slice_get slots place
 
-  -- what a handle stands for, if it is live
+  -- what a handle refers to, if it is live
   abbrev pub value_at : List (HandleSlot X) → ℕ → Option X
   value_at slots handle = option_and_then value_of (slot_at slots handle)
 

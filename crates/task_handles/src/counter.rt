@@ -26,7 +26,7 @@ impl Model for HandleCounter {
 }
 
 impl HandleCounter {
-    /// A counter of tables that have no live handle. The limit is at most `MAX_HANDLES`.
+    /// Makes a counter of tables that have no live handle. The limit is at most `MAX_HANDLES`.
     pub fn new(limit: u32) -> Self
         requires { limit ≤ MAX_HANDLES }
         ensures { result ≡ record { limit = limit; live = 0 } }
@@ -34,7 +34,7 @@ impl HandleCounter {
         HandleCounter { limit, live: 0 }
     }
 
-    /// How many handles may be live at once.
+    /// Returns how many handles may be live at once.
     pub fn limit(&self) -> u32
         ensures value { result ≡ self.now.limit }
         ensures bound { result ≤ MAX_HANDLES }
@@ -42,7 +42,7 @@ impl HandleCounter {
         self.limit
     }
 
-    /// How many handles are live, over all tables that this counter counts.
+    /// Returns how many handles are live, over all tables that this counter counts.
     pub fn live(&self) -> u32
         ensures value { result ≡ self.now.live }
         ensures bound { result ≤ MAX_HANDLES }

@@ -33,7 +33,7 @@ impl Model for HandleTable {
 }
 
 impl HandleTable {
-    /// A table with no handle, of which none was made.
+    /// Makes a table with no handle, of which none was made.
     pub fn new(alloc: Global) -> Self
         ensures { result ≡ no_handles }
     {
@@ -96,14 +96,14 @@ impl HandleTable {
         self.slots.insert_counted(counter, HeldItem { kind, rep })
     }
 
-    /// What a handle names, if it is live.
+    /// Returns what a handle names, if it is live.
     pub fn get(&self, handle: u32) -> Option<HeldItem>
         ensures { result ≡ held_by self.now handle }
     {
         self.slots.get(handle)
     }
 
-    /// The handle that the next insert gives.
+    /// Returns the handle that the next insert gives.
     pub fn next(&self) -> u32
         ensures handle { result ≡ next_handle self.now }
         ensures whole { IsWhole self.now }
@@ -111,7 +111,7 @@ impl HandleTable {
         self.slots.next()
     }
 
-    /// The subtask that a handle names, and whether it is a host's.
+    /// Returns the subtask that a handle names, and whether it is a host's.
     ///
     /// `BadHandle` exactly where no live handle of a subtask has this number: it was never given, was removed, or is that of a set.
     pub fn subtask_rep(&self, handle: u32) -> Result<(Rep, bool), HandleError>
@@ -134,7 +134,7 @@ impl HandleTable {
         }
     }
 
-    /// The waitable set that a handle names.
+    /// Returns the waitable set that a handle names.
     ///
     /// `BadHandle` exactly where no live handle of a set has this number.
     pub fn waitable_set_rep(&self, handle: u32) -> Result<Rep, HandleError>
@@ -151,7 +151,7 @@ impl HandleTable {
         }
     }
 
-    /// The waitable that a handle names, and its kind. A set is none.
+    /// Returns the waitable that a handle names, and its kind. A set is none.
     ///
     /// `BadHandle` exactly where no live handle of a waitable has this number.
     pub fn waitable_rep(&self, handle: u32) -> Result<(Rep, WaitableKind), HandleError>
@@ -204,7 +204,7 @@ impl HandleTable {
         Ok(rep)
     }
 
-    /// Whether no handle is live, of those that this table gave.
+    /// Returns whether no handle is live, of those that this table gave.
     pub fn is_empty(&self) -> bool
         ensures { IsTrue result ↔ (live_count self.now ≡ 0) }
     {

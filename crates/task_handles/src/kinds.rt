@@ -1,4 +1,4 @@
-/// What a handle stands for in the table of entries: the place of the entry, which is given again, and its serial, which isn't.
+/// What a handle refers to in the table of entries: the place of the entry, which is given again, and its serial, which isn't.
 #[derive(Clone, Copy, PartialEq, Eq)]
 pub struct Rep {
     pub id: u32,
@@ -14,14 +14,14 @@ pub enum WaitableKind {
     Future,
 }
 
-/// What kind of thing a handle of a `HandleTable` stands for.
+/// What kind of thing a handle of a `HandleTable` refers to.
 #[derive(Clone, Copy)]
 pub enum HandleKind {
     Waitable(WaitableKind),
     Set,
 }
 
-/// What a live handle of a `HandleTable` stands for.
+/// What a live handle of a `HandleTable` represents.
 #[derive(Clone, Copy)]
 pub struct HeldItem {
     pub kind: HandleKind,

@@ -9,7 +9,8 @@ use crate::kinds::HandleError;
 use std::alloc::{AllocError, Global};
 use std::marker::Model;
 
-/// A table of handles to values of one type. The slot of handle n stands at place n - 1, and each freed slot names the handle that was freed before it, so no call needs more memory than the list.
+/// A table of handles to values of one type. The slot of handle n is at place n - 1, and each freed slot names the handle that was
+/// freed before it, so no call needs more memory than the list.
 #[derive(Drop)]
 pub struct Slots<T> {
     slots: Vec<HandleSlot<T>>,

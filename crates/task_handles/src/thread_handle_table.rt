@@ -31,7 +31,7 @@ impl Model for ThreadHandleTable {
 }
 
 impl ThreadHandleTable {
-    /// A table with no handle, of which none was made.
+    /// Makes a table with no handle, of which none was made.
     pub fn new(alloc: Global) -> Self
         ensures { result ≡ no_handles }
     {
@@ -57,14 +57,14 @@ impl ThreadHandleTable {
         self.slots.insert_counted(counter, rep)
     }
 
-    /// What a handle names, if it is live.
+    /// Returns what a handle names, if it is live.
     pub fn get(&self, handle: u32) -> Option<Rep>
         ensures { result ≡ held_by self.now handle }
     {
         self.slots.get(handle)
     }
 
-    /// The handle that the next insert gives.
+    /// Returns the handle that the next insert gives.
     pub fn next(&self) -> u32
         ensures handle { result ≡ next_handle self.now }
         ensures whole { IsWhole self.now }
@@ -72,7 +72,7 @@ impl ThreadHandleTable {
         self.slots.next()
     }
 
-    /// The thread that a handle names.
+    /// Returns the thread that a handle names.
     ///
     /// `BadHandle` exactly where no live handle has this number.
     pub fn guest_thread_rep(&self, handle: u32) -> Result<Rep, HandleError>

@@ -1,4 +1,5 @@
--- Lists that have the numbers that pass a test, each once: two of them are permutations of one another, so the walk of a chain may stand for the machine's search.
+-- Lists that have the numbers that pass a test, each once: two of them are permutations of one another, so the walk of a chain may
+-- represent the machine's search.
 use Rattle.std.proofs.Common.{inl, inr, ◌≡◌, ◌==◌, ◌&&◌, ◌||◌, ℕ, Bool, true, false, cond, List, [], ◌∷◌, filter, map, option_map, refl, sym, ap, subst, ◌∙◌}
 use Rattle.std.specs.Prelude.{IsPermutation, None, Option, Some, T, is_some, option_and_then}
 use Rattle.std.specs.Cmp.{unsigned_tied}

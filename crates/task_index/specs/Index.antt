@@ -3,7 +3,7 @@
 --     Filing, IsIndex            what an entry says of the index, and that the chains say the same
 --     Refiles                    what a call makes of the links when one node is filed anew
 --     filings                    what the entries of a table say
---     Tests, PassesAt            the machine's test that a key stands for, and a record that passes it
+--     Tests, PassesAt            the machine's test that a key represents, and a record that passes it
 use Rattle.std.specs.Prelude.{◌≡◌, ℕ, Bool, true, List, None, Option, Some, IsSome, option_and_then, option_map}
 use Rattle.task_links.specs.Links.{Spot, is_made, link_of, list_of}
 use Rattle.task_machine.specs.Maps.{get}
@@ -42,7 +42,7 @@ module _ {K P : Type 0} (chain : K → Option ℕ) where
     pub has_link : (r : ℕ) (f : Filing K P) → filing r ≡ Some f → link_of links f.node ≡ link_for f
     pub owner : (n c : ℕ) (v : P) → link_of links n ≡ Some (c, v) → (r : ℕ) × ((f : Filing K P) × ((filing r ≡ Some f) × (f.node ≡ n)))
 
--- an entry with this key and this value stands at some place
+-- an entry with this key and this value is at some place
 abbrev pub IsFiled : {K P : Type 0} → (ℕ → Option (Filing K P)) → K → P → Type 0
 IsFiled {K} {P} filing k v = (r : ℕ) × ((f : Filing K P) × ((filing r ≡ Some f) × ((f.key ≡ Some k) × (f.value ≡ v))))
 

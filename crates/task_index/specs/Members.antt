@@ -1,5 +1,5 @@
--- What a release finds: a list that has each number that passes a test, once, so that it may stand for the machine's search through all its
--- records.
+-- What a release finds: a list that has each number that passes a test, once, so that it may represent the machine's search through
+-- all its records.
 use Rattle.std.specs.Prelude.{◌≡◌, ◌==◌, ◌&&◌, ℕ, Bool, false, List, [], ◌∷◌, is_some}
 use Rattle.std.specs.List.{list_any}
 use Rattle.task_machine.specs.Core.{Core}

@@ -1,6 +1,6 @@
 -- Lists that a machine keeps itself: high, low, the callers of a thread. The values of a chain, in order, are the list.
 --     values                     the list of a chain
---     IsRows                     each key's chain stands for the key's list
+--     IsRows                     each key's chain represents the key's list
 --     less_by                    what a removal leaves
 --     part                       of each list what belongs to one group, as the entries of an instance, in a chain of its own
 use Rattle.std.specs.Prelude.{◌≡◌, ℕ, Bool, if◌then◌else◌, List, [], ◌∷◌, Option, Some, IsSome, filter, map}

@@ -26,7 +26,7 @@ pub fn file<P: Copy>(links: &mut Links<P>, node: Node, chain: usize, value: P)
     links.push_back(chain, node, value);
 }
 
-/// The first node's link in a chain: the chain and the value. `None` exactly where the chain is empty.
+/// Returns the first node's link in a chain: the chain and the value. `None` exactly where the chain is empty.
 pub fn first<P: Copy>(links: &Links<P>, chain: usize) -> Option<(usize, P)>
     requires { IsSome (list_of links.now chain) }
     ensures some { IfSome result (λ link. Holds links.now chain link.1) }

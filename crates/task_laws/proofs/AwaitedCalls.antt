@@ -1,4 +1,4 @@
--- The call that an op is inside of is there: along the words of a step.
+-- The call that an op is inside of is there: along the primitives of a step.
 use Rattle.task_laws.proofs.Words.{after_primitive, Allowed, ap, arith, Bool, Call, call_came, CallAfter, CallEnd, CallsAwaited, cancelled_call, Core, end_of, false, get, goal_of, has_ended, HasCalled, op_progress_of, OpProgress, inl, inr, is_awaited, is_deletable, is_direct, is_none, is_returned, IsNamed, IsRunner, IsStarting, MayCome, MayTakeEvent, MayTell, next_thread, None, Numbered, OnlyCalled, op_came, Option, option_map_or, Place, place_of, refl, Scene, Some, StartsFirst, Status, subst, Subtask, sym, TakesCalled, TakesCancelled, TakesNamed, Thread, true, Turn, Primitive, ℕ, ⊎_elim, ◌&&◌, ◌||◌, ◌∙◌, ◌≡◌, ◌≤◌, ◌⊎◌}
 use Rattle.task_laws.proofs.{CallEnds.EndsNow, CallEnds.Gone, CallEnds.Made, CallEnds.Same, CallEnds.Telling, CallEnds.TellingCame, CallEnds.TellsNow, CallEnds.ending, CallEnds.is_for_guest, CallEnds.telling_came, CallEnds.telling_of, NamedCalls.NamesGo, NamedCalls.NamesHold, NamedCalls.WasInside, NamedCalls.called_call, NamedCalls.calls_call, NamedCalls.unnamed_inside}
 
@@ -93,7 +93,7 @@ module _ (a : Scene) (base : NamesHold a.base) (calls : CallsAwaited a.base) (st
     inside_after : (n k : ℕ) → op_progress_of n (after_primitive w s) ≡ OpProgress.Calls (Subtask.Guest k) → Inside a n k (after_primitive w s)
     inside_after n k far = by (after.were n k far)
       where
-        -- what was inside of it before the word, or comes so
+        -- what was inside of it before the primitive, or comes so
         goes : WasInside a n k → ((m : ℕ) → op_progress_of m a.base ≡ OpProgress.Calls (Subtask.Guest k) → m ≡ n) → Inside a n k (after_primitive w s)
         goes was one = go (op_came called_call k w s ok n refl (ap called_call far))
           where

@@ -1,4 +1,4 @@
--- What calls tell of their ends along the words of a step, and the results that are there for main.
+-- What calls tell of their ends along the primitives of a step, and the results that are there for main.
 use Rattle.task_laws.proofs.Words.{add_call, add_group, add_set, add_thread, add_work, after_change, after_insert, after_remove, after_primitive, Allowed, along, ap, arith, Bool, by_number, Call, call_made, CallEnd, Caller, calls_begin, CallsGo, CallsHold, change, codes_at, codes_in, CodesAt, Core, count_work, end_of, EndCall, ended_as, EndsToldAsRecorded, event_of, false, free_handle, free_thread_handle, fresh, get, get-change, get-empty, get-insert, get-remove, give_handle, give_result, give_thread_handle, GiveResult, Goal, goal_of, has_ended, if◌then◌else◌, inl, inr, is_direct, is_for_main, is_guest_call, is_some, Label, le_trans, made_threads_word, MakeCall, MayEnd, MayRemoveCall, MayTell, nat_tests, next_thread, None, not, of_base, on_call, on_instance, on_thread, on_work, Op, opening_holds, Option, option_map, poll_pends, push_high, Reached, reached_keeps, refl, remove_call, remove_group, remove_set, remove_thread, remove_work, RemoveCall, SaysEnd, Scene, scene_as, set_backpressure, set_cancel_delivered, set_cancelled, set_course, set_do_not_enter, set_do_not_suspend, set_end, set_event, set_exited, set_op_progress, set_join, set_task_event, set_phase, set_position, set_register, set_result, set_saved_callee, set_saved_own, set_script, set_stage, set_started, set_starting_published, set_subtask_handle, set_thread_handle, set_trapped, set_uninteresting, set_word, SetCallEvent, Setting, Some, some_none, State, Status, status_of_end, step_goes, step_walks, Subtask, sym, take_result, TakeResult, true, undelivered_end, WalkedAs, with_handle, with_thread_handle, Primitive, word_goes, work_queued, ℕ, ⊎_elim, ◌&&◌, ◌∙◌, ◌≡◌, ◌≤◌, ◌⊎◌}
 
 -- ---- What a call tells
@@ -39,7 +39,7 @@ ending x r = record r { ends = Some x; event = if is_for_guest r && not (is_with
 ending_is : (x : CallEnd) (c : Call) → telling (ended_as x c) ≡ ending x (telling c)
 ending_is x c = grind arith
 
--- What the word does to what the call k tells.
+-- What the primitive does to what the call k tells.
 pub data TellingCame (a : Scene) (s : Core) (k : ℕ) (o p : Option Telling) : Type 0 where
   Same : p ≡ o → TellingCame a s k o p
   Gone : p ≡ None → MayRemoveCall a k s → TellingCame a s k o p
@@ -120,9 +120,9 @@ pub tells_there : (k : ℕ) (e : Status) (s : Core) → undelivered_end (event_o
     (r : Telling) × ((telling_of k s ≡ Some r) × (undelivered_end r.event ≡ Some e))
 tells_there k e s tells = let r = telling_there k s (grind arith) in let i = event_is k s r.0 r.1 in (r.0, (r.1, cc))
 
--- ---- Each word
+-- ---- Each primitive
 
--- no end is told by a word beside the one that ends the call
+-- no end is told by a primitive beside the one that ends the call
 told_none : (a : Scene) (k : ℕ) (s : Core) (e : Status) (x : Option Status) → MayTell a k x s → undelivered_end x ≡ Some e → ⊥
 told_none a k s e x m h = grind arith
 

@@ -1,4 +1,4 @@
--- What one word does to the record of a call, and to that of a thread.
+-- What one primitive does to the record of a call, and to that of a thread.
 use Rattle.task_laws.proofs.Rules.{add_call, add_group, add_set, add_thread, add_work, Advance, after_primitive, Allowed, ap, Call, call_made, Callee, CallEnd, Caller, CanCome, change, change-change_same, Core, count_work, EndCall, ExportKind, false, free_handle, free_thread_handle, get, get-insert_same, give_handle, give_result, give_thread_handle, Goal, op_progress_of, OpProgress, inl, inr, is_deletable, is_some, Join, le_refl, MakeCall, MakeThread, MayAdvance, MayCome, MayDeliver, MayEnd, MayJoin, MayMake, MayMakeCall, MayOwe, MayRestart, MayStart, NameCall, new_call, next_thread, None, on_call, on_instance, on_thread, on_work, Option, option_map, TaskEvent, Place, Places, Placing, placing_shifted, poll_pends, push_high, refl, remove_call, remove_group, remove_set, remove_thread, remove_work, RemoveCall, RemoveThread, Restart, Scene, Script, set_backpressure, set_cancel_delivered, set_cancelled, set_course, set_do_not_enter, set_do_not_suspend, set_end, set_event, set_exited, set_op_progress, set_join, set_task_event, set_phase, set_position, set_register, set_result, set_saved_callee, set_saved_own, set_script, set_stage, set_started, set_starting_published, set_subtask_handle, set_thread_handle, set_trapped, set_uninteresting, set_word, SetCallJoin, SetOpProgress, Some, subst, Subtask, sym, take_result, TakeHost, TakePush, Thread, true, unplaced, with_handle, with_thread_handle, Withdraw, Primitive, work_queued, ℕ, ◌≡◌, ◌≤◌, ◌⊎◌}
 use Rattle.task_laws.proofs.{EachLemmas.after_change, EachLemmas.after_insert, EachLemmas.after_remove, SceneLemmas.popped_threads}
 
@@ -21,13 +21,13 @@ pub record Grew (starts delivers : Type 0) (ends : CallEnd → Type 0) (joins : 
   pub owed : (d.task_event ≡ c.task_event) ⊎ owes d.task_event
   pub handle : (d.handle ≡ c.handle) ⊎ ((d.handle ≡ None) ⊎ names)
 
--- how the call k goes on by the word, which is done after s in the scene
+-- how the call k goes on by the primitive, which is done after s in the scene
 abbrev pub Grows : Scene → Primitive → Core → ℕ → Call → Call → Type 0
 Grows a w s k c d =
     Grew (MayStart a k s) (MayDeliver a k) (λ e. MayEnd a k e s) (λ j. MayJoin a (Subtask.Guest k) j s × (w ≡ SetCallJoin k j))
     (λ e. MayOwe a k e s) ((i : ℕ) × (w ≡ NameCall i k)) c d
 
--- What the word from s to t does to the record of the call k, from o to p.
+-- What the primitive from s to t does to the record of the call k, from o to p.
 pub data CallCame (a : Scene) (w : Primitive) (s t : Core) (k : ℕ) (o p : Option Call) : Type 0 where
   Grown : (c d : Call) → o ≡ Some c → p ≡ Some d → Grows a w s k c d → CallCame a w s t k o p
   NoCall : p ≡ None → (o ≡ None) ⊎ (is_deletable k s ≡ true) → CallCame a w s t k o p
@@ -75,7 +75,7 @@ abbrev pub RunsOn : Scene → Core → ℕ → Thread → Thread → Type 0
 RunsOn a s n r u = ((u.script ≡ r.script) × ((u.position ≡ r.position) × ((u.op_progress ≡ r.op_progress) ⊎ CanCome a n u.op_progress s)))
     ⊎ ((u.op_progress ≡ OpProgress.Fresh) × Ends a n r u)
 
--- What the word from s to t does to the record of the thread n, from o to p.
+-- What the primitive from s to t does to the record of the thread n, from o to p.
 pub data ThreadCame (a : Scene) (w : Primitive) (s t : Core) (n : ℕ) (o p : Option Thread) : Type 0 where
   IsSame : (r u : Thread) → o ≡ Some r → p ≡ Some u → u.call ≡ r.call → u.explicit ≡ r.explicit → Goes a s n r.op_progress u.op_progress →
       (u.place ≡ r.place) ⊎ ((x : Placing) × (w ≡ Places x)) → RunsOn a s n r u → ThreadCame a w s t n o p

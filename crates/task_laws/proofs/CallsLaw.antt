@@ -1,4 +1,5 @@
--- Calls along the words of a step: a status only rises, an end stays, numbers name what they named, deliveries are for callbacks.
+-- Calls along the primitives of a step: a status only rises, an end stays, numbers name what they named, deliveries are for
+-- callbacks.
 use Rattle.task_laws.proofs.Rules.{arith, Bool, Call, Callee, CallEnd, CallKinds, CodesInCallbacks, Component, component_of, Core, DeliveredByCallback, ends_activation, EndsActivation, export_kind, false, get, goal_of, has_ended, is_async_lifted, is_callback, is_delivered, is_delivery, is_direct, is_exit, is_explicit, is_none, is_some, IsRunner, Join, kind_of, LaterBy, MayEnd, MayMove, None, Numbered, op_at_place, op_in, op_of, Option, option_map_or, TaskEvent, Place, place_of, Rises, SameThread, Scene, Script, script_in, script_of, Some, task_of, true, WasReady, Why, Primitive, ℕ, ⊎_elim, ◌≡◌, ◌≤◌, ◌⊎◌}
 use Rattle.task_laws.proofs.{CallsCame.Grew, CallsCame.Grows, CameLemmas.Came, CameLemmas.Comes, CameLemmas.MayStand, CameLemmas.Moved, CameLemmas.Shifts, CameLemmas.Turned, CameLemmas.Turns}
 
@@ -101,7 +102,7 @@ ExitEnds k s = (is_direct (goal_of k s) ≡ true) ⊎ (is_async_lifted (kind_of 
 
 -- ---- What is known as the step begins
 
--- Codes stand in callbacks, and the runner's op ends an activation only where the one at its place does.
+-- Codes are in callbacks, and the runner's op ends an activation only where the one at its place does.
 pub record Codes (a : Scene) : Type 0 where
   pub all : CodesInCallbacks (component_of a)
   pub here : (n : ℕ) → IsRunner a n → ends_activation (op_in a n) ≡ true → ends_activation (op_of (component_of a) n a.base) ≡ true
@@ -121,7 +122,7 @@ module _ (a : Scene) (codes : Codes a) (h : CallsHold (component_of a) a.base) w
   pub base_task : (n : ℕ) → task_of n a.base ≤ a.base.made.threads
   base_task n = grind (arith, h.numbered.threads n)
 
-  -- ---- What holds right before a word
+  -- ---- What holds right before a primitive
 
   module _ {s : Core} (q : CallsGo a s) where
     pub kept_callback : (k : ℕ) → k ≤ a.base.made.threads → is_callback (kind_of k a.base) ≡ true → is_callback (kind_of k s) ≡ true

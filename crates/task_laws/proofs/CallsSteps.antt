@@ -1,9 +1,9 @@
--- Calls along the words of a step, along steps and along runs.
+-- Calls along the primitives of a step, along steps and along runs.
 use Rattle.task_laws.proofs.Rules.{[], after_primitive, Allowed, along, arith, base_at, Call, CallEnd, CallsRise, CodesInCallbacks, Component, component_of, Core, DeliveredByCallback, ends_activation, ExplicitNamesNoCall, false, fresh, get, get-empty, is_async_lifted, is_callback, kind_of, Label, LastPrimitives, LaterBy, le_refl, le_trans, List, MayDeliver, MayEnd, never_fewer, Op, op_of, opening, ops_of, Option, place_of, Queues, Reached, refl, Rises, Run, runner_at, RunsRise, SameThread, Scene, scene_as, script_of, Setting, Some, State, Step, step_walks, StepsRise, subst, sym, SyncEndsLast, SyncNeverCancelled, task_of, Thread, ThreadNumbered, true, Turn, WalkedAs, Primitive, ℕ, ◌∙◌, ◌∷◌, ◌≡◌, ◌≤◌}
 use Rattle.task_laws.proofs.{Basics.some_none, Basics.too_high, CallsCame.CallAfter, CallsCame.Grown, CallsCame.NewCall, CallsCame.NoCall, CallsCame.ThreadAfter, CallsCame.call_came, CallsCame.thread_came, CallsLaw.CallsGo, CallsLaw.CallsHold, CallsLaw.Codes, CallsLaw.Goes, CallsLaw.GoneOr, CallsLaw.KindHolds, CallsLaw.base_task, CallsLaw.delivered_in, CallsLaw.goes_after, CallsLaw.goes_of, CallsLaw.goes_same, CallsLaw.kept_callback, CallsLaw.kind_kept, CallsLaw.later_after, CallsLaw.later_none, CallsLaw.later_same, CallsLaw.place_delivers, CallsLaw.ready_delivered, CallsLaw.rises_after, CallsLaw.rises_same, CameLemmas.came_word, CountLemmas.made_threads_word, SceneLemmas.base_is}
 
 module _ (a : Scene) (codes : Codes a) (h : CallsHold (component_of a) a.base) where
-  -- ---- One word
+  -- ---- One primitive
 
   module _ (w : Primitive) (s : Core) (ok : Allowed a w s) (q : CallsGo a s) where
     thread_since : (n : ℕ) → n ≤ a.base.made.threads → LaterBy SameThread (get a.base.threads n) (get (after_primitive w s).threads n)
@@ -96,7 +96,7 @@ pub plain : {ops : ℕ → Op} (x : Setting) (s : State) (l : Label) (next : Tur
     R (plain_as ops x s l next)
 plain {ops = ops} x s l next R r = base_out (λ b. R (record (scene_as ops x s l next) { base = b })) s.turn s.core r
 
--- Codes stand in callbacks, and the op that the runner has ends an activation only where the one at its place does.
+-- Codes are in callbacks, and the op that the runner has ends an activation only where the one at its place does.
 pub record CodesAt (ops : ℕ → Op) (x : Setting) (s : State) : Type 0 where
   pub all : CodesInCallbacks x.component
   pub here : (n : ℕ) → runner_at s.turn s.core ≡ Some n → ends_activation (ops n) ≡ true → ends_activation (op_of x.component n s.core) ≡ true

@@ -1,4 +1,4 @@
--- What one word does to the place of a thread.
+-- What one primitive does to the place of a thread.
 use Rattle.task_laws.proofs.Rules.{[], after_primitive, Allowed, allowed_put, ap, arith, AtOp, behind, behind_one, callers_of, change-field, Core, displaced, Enter, foot_of, GoBehind, inl, inr, insert, is_some, is_sync_call, IsRunner, List, Mark, MayMove, MayPut, MayYield, Move, nat_tests, newest, next_thread, None, older, on_thread, op_in, Option, option_map, passed_on, Place, place_of, Places, Placing, Pop, Promote, promoted, push_high, push_high_first, push_low, Put, put_at, put_high, put_low, put_switch, refl, resumed_all, Scene, set_callers, set_high, set_low, set_place, set_place_is, set_place_there, set_switch, Some, stand, Stop, stopped, sym, Thread, true, Turn, unqueued, Why, why_of, Primitive, ℕ, ◌∙◌, ◌∷◌, ◌≡◌, ◌≤◌, ◌⊎◌}
 use Rattle.task_laws.proofs.{CallsCame.IsBeside, CallsCame.IsFirst, CallsCame.IsGone, CallsCame.IsSame, CallsCame.ThreadAfter, CallsCame.thread_came, EachLemmas.after_change, SceneLemmas.popped_threads}
 
@@ -8,7 +8,8 @@ abbrev pub why_in : Option Place → Option Why
 why_in (Some (Place.Ready m w)) = Some w
 why_in _ = None
 
--- From o to p: an entry stands for such a reason, or for the one that it stood for, or the thread is behind another, or its place stays.
+-- From o to p: an entry represents such a reason, or for the one that it represented, or the thread is behind another, or its place
+-- stays.
 abbrev pub Moved : (Why → Type 0) → Option Place → Option Place → Type 0
 Moved may o (Some (Place.Ready m w)) = ((is_some o ≡ true) × may w) ⊎ (why_in o ≡ Some w)
 Moved may o (Some (Place.Behind f)) = is_some o ≡ true
@@ -95,7 +96,7 @@ module _ (may : ℕ → Why → Type 0) where
 
 -- ---- Words
 
--- Why a word lets an entry of the thread stand.
+-- Why a primitive leaves an entry of the thread.
 abbrev pub MayStand : Scene → Core → ℕ → Why → Type 0
 MayStand a s n w = (w ≡ Why.Resumption) ⊎ (MayPut n w s ⊎ MayYield a n w)
 
@@ -107,7 +108,7 @@ pub data Turned (a : Scene) (s t : Core) (k : ℕ) (o p : Option Place) : Type 0
   Leaves : p ≡ None → Turned a s t k o p
   IsMade : k ≡ next_thread s → k ≤ t.made.threads → p ≡ Some Place.New → Turned a s t k o p
 
--- What a word from s to t does to the place of the thread k, from o to p.
+-- What a primitive from s to t does to the place of the thread k, from o to p.
 pub data Came (a : Scene) (s t : Core) (k : ℕ) (o p : Option Place) : Type 0 where
   Shifts : Moved (MayStand a s k) o p → Came a s t k o p
   Comes : (q : Place) → MayMove a k q s → p ≡ Some q → is_some o ≡ true → Came a s t k o p

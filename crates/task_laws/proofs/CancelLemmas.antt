@@ -1,4 +1,4 @@
--- A subtask that an op cancels keeps its handle, along the words of a step.
+-- A subtask that an op cancels keeps its handle, along the primitives of a step.
 use Rattle.task_laws.proofs.Words.{add_call, add_group, add_set, add_thread, add_work, after_primitive, Allowed, ap, arith, by_number, call_made, cancelled_by, CancelsNamed, CancelsWatched, Core, count_work, free_handle, free_thread_handle, get-change, get-insert, get-remove, give_handle, give_result, give_thread_handle, op_progress_of, OpProgress, inl, inr, instance_of, is_joined, is_some, join_of, MakeCall, MayCome, NamesKnown, nat_tests, on_call, on_instance, on_thread, on_work, op_came, poll_pends, push_high, Queues, QueueWork, refl, remove_call, remove_group, remove_set, remove_thread, remove_work, RemoveCall, RemoveWork, Scene, set_backpressure, set_cancel_delivered, set_cancelled, set_course, set_do_not_enter, set_do_not_suspend, set_end, set_event, set_exited, set_op_progress, set_join, set_task_event, set_phase, set_position, set_register, set_result, set_saved_callee, set_saved_own, set_script, set_stage, set_started, set_starting_published, set_subtask_handle, set_thread_handle, set_trapped, set_uninteresting, set_word, Some, Subtask, subtask_at, subtask_handle, take_result, true, Turn, UnnameCall, UnnameWork, with_handle, with_thread_handle, Primitive, work_queued, WorksKnown, ℕ, ⊎_elim, ◌≡◌, ◌⊎◌}
 use Rattle.task_laws.proofs.{KnownWorks.WorksSaid, KnownWorks.unnamed_removed, MemberLemmas.handle_is, NamedCalls.NamesHold, NamedCalls.deletable_unnamed}
 use Rattle.task_rules.specs.Allowed.{Leaves}

@@ -1,4 +1,4 @@
--- Where the end of a subtask is its event: along the words of a step.
+-- Where the end of a subtask is its event: along the primitives of a step.
 use Rattle.task_laws.proofs.Words.{add_call, add_group, add_set, add_thread, add_work, after_primitive, Allowed, ap, arith, by_number, call_came, call_made, CallAfter, CallEnd, CallsTold, Core, count_work, Doing, doing, EndCall, event_of, free_handle, free_thread_handle, get, get-change, get-insert, get-remove, give_handle, give_result, give_thread_handle, host_label, host_taken, inl, inr, is_told, le_trans, made_threads_word, Mark, nat_tests, None, on_call, on_instance, on_thread, on_work, Option, option_map, poll_pends, push_high, refl, remove_call, remove_group, remove_set, remove_thread, remove_work, SaysEnd, Scene, set_backpressure, set_cancel_delivered, set_cancelled, set_course, set_do_not_enter, set_do_not_suspend, set_end, set_event, set_exited, set_op_progress, set_join, set_task_event, set_phase, set_position, set_register, set_result, set_saved_callee, set_saved_own, set_script, set_stage, set_started, set_starting_published, set_subtask_handle, set_thread_handle, set_trapped, set_uninteresting, set_word, SetCallEvent, Some, Status, status_of_end, subst, Subtask, take_result, TakeHost, true, undelivered_end, with_handle, with_thread_handle, Primitive, Work, work_queued, WorksStand, WorksTold, ℕ, ⊎_elim, ◌≡◌, ◌≤◌, ◌⊎◌}
 use Rattle.task_laws.proofs.Works.{WorkHolds, WorksHold}
 
@@ -52,7 +52,7 @@ unfolding add_call add_group add_set add_thread add_work count_work free_handle 
 host_event_word a (TakeHost m j) s ok i e h = by_number i j _ (λ is. inr (rw is (taken_label a m j ok.1.0 ok.1.1.0))) (λ other. inl (grind (arith, nat_tests, get-change, other)))
 host_event_word a w s ok i e h = inl (grind (arith, nat_tests, get-change, get-insert, get-remove))
 
--- what is so of works, in the words of the laws on them
+-- what is so of works, in the primitives of the laws on them
 pub works_hold : (s : Core) → WorksStand (Unit {0}) s → WorksTold s → WorksHold ⊥ s
 works_hold s stand told = record {
   stand = record { low = stand.low; number = stand.number; high = λ i why. stand.high i (inr (inl tt)) };

@@ -1,4 +1,4 @@
--- Calls name exports, and instances stay, along the words of a step.
+-- Calls name exports, and instances stay, along the primitives of a step.
 use Rattle.task_laws.proofs.Words.{after_primitive, Allowed, along, arith, call_came, CallAfter, Callee, callee_of_op, Caller, CallsExported, component_of, Core, ExportsExist, get, Grown, HandleTablesStay, InstancesStay, is_some, IsExported, MayCall, NewCall, NoCall, Op, op_in, op_of, ops_at, refl, Scene, scene_of, Some, some_none, step_walks, StepsKeepExports, subst, sym, Primitive, ℕ, ◌∙◌, ◌≡◌}
 use Rattle.task_laws.proofs.OneHolder.{instance_stays, op_callee, table_stays}
 use Rattle.task_rules.specs.Allowed as may

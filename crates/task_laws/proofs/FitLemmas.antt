@@ -1,4 +1,4 @@
--- What script each thread runs, and where in it, along the words of a step.
+-- What script each thread runs, and where in it, along the primitives of a step.
 use Rattle.task_laws.proofs.Words.{[], after_primitive, Allowed, ap, arith, AtOp, Bool, call_instance, Callee, callee_of, CallsGo, CallsHold, Came, came_word, can_come, code_callback, Codes, CodesInCallbacks, Comes, Component, component_of, Core, delivered_in, Ends, ends_activation, EndsActivation, Entered, Enters, false, FitsAs, get, has_one_on_top, OpProgress, inl, InOp, inr, is_delivered, is_delivery, is_explicit, is_some, is_sync_call, IsBeside, IsFirst, IsGone, IsMade, IsSame, Leaves, length, MayMove, MayStand, Moved, names_script, new_thread, next_thread, None, one_runner, Op, op_at_place, op_in, op_of, op_of_thread, Option, option_map, option_map_or, Place, place_of, refl, registers_for, RunnerHoused, RunsOn, Scene, Script, script_in, script_of, script_of_thread, shifted_delivers, Shifts, Some, some_none, sym, task_of, Thread, thread_came, ThreadAfter, true, Turn, turned_silent, Turns, WasReady, WasUnder, Why, Primitive, ℕ, ⊎_elim, ◌∙◌, ◌∷◌, ◌≡◌, ◌≤◌, ◌⊎◌}
 
 -- what brings a delivery for the thread: there was one, its activation ends, or it was taken with one

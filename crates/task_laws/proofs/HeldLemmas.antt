@@ -1,4 +1,4 @@
--- No held thread is admitted, along the words of a step.
+-- No held thread is admitted, along the primitives of a step.
 use Rattle.task_laws.proofs.Words.{add_call, add_group, add_set, add_thread, add_work, admits, after_primitive, Allowed, arith, at_test, backpressure_of, call_came, call_instance, call_made, CallAfter, CallsThere, Came, came_word, Comes, Core, count_work, false, free_handle, free_thread_handle, get-change, give_handle, give_result, give_thread_handle, inl, inr, instance_of, is_explicit, kind_of, may_not_enter, MayMove, MayStand, Moved, nat_tests, no_thread_left, NoneAdmitted, NoneHeldIn, Numbered, on_call, on_instance, on_thread, on_work, Option, Place, place_of, poll_pends, push_high, refl, remove_call, remove_group, remove_set, remove_thread, remove_work, Scene, set_backpressure, set_cancel_delivered, set_cancelled, set_course, set_do_not_enter, set_do_not_suspend, set_end, set_event, set_exited, set_op_progress, set_join, set_task_event, set_phase, set_position, set_register, set_result, set_saved_callee, set_saved_own, set_script, set_stage, set_started, set_starting_published, set_subtask_handle, set_thread_handle, set_trapped, set_uninteresting, set_word, SetBackpressure, SetDoNotEnter, SetDoNotSuspend, SetWord, Shifts, Some, suc, take_result, task_of, thread_came, ThreadAfter, true, Turned, Turns, Why, with_handle, with_thread_handle, Primitive, work_queued, zero, ℕ, ◌≡◌, ◌⊎◌}
 
 -- the flags of the instance let no more in than before, or no thread of it is held that is admitted

@@ -1,4 +1,4 @@
--- The call of each thread is there, along the words of a step.
+-- The call of each thread is there, along the primitives of a step.
 use Rattle.task_laws.proofs.Rules.{after_primitive, Allowed, arith, CallsThere, Core, get, is_some, IsRunner, nat_tests, no_thread_left, Scene, task_of, true, Primitive, ℕ, ◌≡◌}
 use Rattle.task_laws.proofs.CallsCame.{call_came, CallAfter, thread_came, ThreadAfter}
 

@@ -1,4 +1,4 @@
--- A subtask that is joined to a set is named in the set's instance: along the words of a step.
+-- A subtask that is joined to a set is named in the set's instance: along the primitives of a step.
 use Rattle.task_laws.proofs.Words.{[], add_call, add_group, add_set, add_thread, add_work, after_change, after_primitive, Allowed, arith, Bool, by_number, Call, call_made, change, CloseSet, Core, count_work, false, filled_with, free_handle, free_thread_handle, fresh, get, get-change, get-empty, get-insert, get-remove, give_handle, give_result, give_thread_handle, giving, giving_kept, has_member, home_in, inl, inr, instance_of, is_joined, is_member, is_some, Join, join_of, JoinNamed, JoinsNamed, List, list_any, list_any-append, map, MayJoin, NameCall, Named, named_by, NameWork, nat_cmp, nat_tests, next_dead, next_handle, no_handles, None, numbers, on_call, on_instance, on_thread, on_work, OpenSet, poll_pends, push_high, Records, refl, remove_call, remove_group, remove_set, remove_thread, remove_work, Scene, Set, set_backpressure, set_cancel_delivered, set_cancelled, set_course, set_do_not_enter, set_do_not_suspend, set_end, set_event, set_exited, set_op_progress, set_join, set_task_event, set_phase, set_position, set_register, set_result, set_saved_callee, set_saved_own, set_script, set_stage, set_started, set_starting_published, set_subtask_handle, set_thread_handle, set_trapped, set_uninteresting, set_word, SetCallJoin, SetsNamed, SetWorkJoin, Some, subst, Subtask, subtask_at, subtask_in, NameTable, TableKept, take_result, taking, taking_kept, true, UnnameCall, UnnameWork, unsigned_tied, with_handle, with_thread_handle, Primitive, Work, work_queued, ℕ, ⊎_elim, ◌∷◌, ◌≡◌, ◌≤◌, ◌⊎◌}
 use Rattle.std.specs.FinMap.Entries.{find}
 
@@ -30,7 +30,7 @@ member_of (Subtask.Host i) x s h =
 
 -- ---- Joins, word by word
 
--- the word joins the subtask to the set, and leaves handles and sets
+-- the primitive joins the subtask to the set, and leaves handles and sets
 abbrev pub Joins : Scene → Primitive → Core → Subtask → ℕ → Type 0
 Joins a w s sub x = MayJoin a sub (Join.Set x) s × (((after_primitive w s).handles ≡ s.handles) × ((after_primitive w s).sets ≡ s.sets))
 

@@ -1,5 +1,5 @@
--- Which calls handles and ops name: along the words of a step each handle of a call is the one in its record, and an op is inside a call
--- that its thread made and no handle names.
+-- Which calls handles and ops name: along the primitives of a step each handle of a call is the one in its record, and an op is
+-- inside a call that its thread made and no handle names.
 use Rattle.task_laws.proofs.Words.{add_call, add_group, add_set, add_thread, add_work, after_primitive, Allowed, ap, arith, as_subtask, at_most_returned, Call, call_came, call_made, CallAfter, CallEnd, Caller, cancel_was_delivered, change, Core, count_work, false, free_handle, free_thread_handle, fresh, get, get-change, get-empty, get-insert, get-remove, give_handle, give_result, give_thread_handle, given_names, giving, Grown, handle_of_table, op_progress_of, OpProgress, inl, inr, instance_of, is_cancelled, is_deletable, is_some, is_uncancelled, IsCalled, IsNamed, le_trans, made_threads_word, MakeCall, MayCome, MayDeliver, MayEnd, MayNameCall, MayOwe, NameCall, Named, NamesKnown, nat_tests, new_handle, NewCall, next_thread, NoCall, None, none_named, not, on_call, on_instance, on_thread, on_work, OnlyCalled, op_came, Option, option_and_then, option_map_or, task_event_of, TaskEvent, poll_pends, push_high, refl, remove_call, remove_group, remove_set, remove_thread, remove_work, RemoveCall, Scene, set_backpressure, set_cancel_delivered, set_cancelled, set_course, set_do_not_enter, set_do_not_suspend, set_end, set_event, set_exited, set_op_progress, set_join, set_task_event, set_phase, set_position, set_register, set_result, set_saved_callee, set_saved_own, set_script, set_stage, set_started, set_starting_published, set_subtask_handle, set_thread_handle, set_trapped, set_uninteresting, set_word, Some, some_none, subst, Subtask, subtask_at, subtask_handle, subtask_in, sym, take_result, taking, Thread, too_high, true, Turn, UnnameCall, with_handle, with_thread_handle, Primitive, work_queued, ℕ, ⊎_elim, ◌∙◌, ◌≡◌, ◌≤◌, ◌⊎◌}
 
 -- the call that the running thread's op is inside of before the step is there
@@ -29,7 +29,7 @@ abbrev pub WereInside : Scene → Core → Type 0
 WereInside a s = (n k : ℕ) → op_progress_of n s ≡ OpProgress.Calls (Subtask.Guest k) → WasInside a n k
 
 module _ (a : Scene) (w : Primitive) (s : Core) (ok : Allowed a w s) (q : NamesHold s) (were : WereInside a s) where
-  -- right before the word
+  -- right before the primitive
   pub inside : (n k : ℕ) → op_progress_of n (after_primitive w s) ≡ OpProgress.Calls (Subtask.Guest k) → WasInside a n k × ((k ≤ s.made.threads) × OnlyCalled n k s)
   inside n k far = go (op_came called_call k w s ok n refl (ap called_call far))
     where
@@ -53,7 +53,7 @@ module _ (a : Scene) (base : NamesHold a.base) (n k : ℕ) (was : WasInside a n 
   unasked_inside : task_event_of k a.base ≡ Some TaskEvent.Cancelled → ⊥
   unasked_inside e = let c = base_call (get a.base.calls k) refl (grind arith) in let at = c.1.0 in let un = c.1.1.1 in grind arith
 
--- what is so of a call that an op is inside of stays so by a word that gives it no handle
+-- what is so of a call that an op is inside of stays so by a primitive that gives it no handle
 module _ (a : Scene) (base : NamesHold a.base) (n k : ℕ) (was : WasInside a n k) where
   not_owed : (o : Option TaskEvent) (s : Core) → MayOwe a k o s → is_cancelled o ≡ false
   not_owed o s may = let named = unnamed_inside a base n k was in let asked = unasked_inside a base n k was in grind arith
@@ -72,7 +72,7 @@ module _ (a : Scene) (base : NamesHold a.base) (n k : ℕ) (was : WasInside a n 
   only_stays w s below not q (NoCall e r) x at = some_none (sym at ∙ e)
   only_stays w s below not q (NewCall f e x g group is l m new) y at = absurd (too_high is below)
 
--- ---- Each word
+-- ---- Each primitive
 
 -- the call that gets a handle is there, the thread's, and has none
 named_called : (a : Scene) (i k : ℕ) (s : Core) → NamesHold a.base → InsideThere a → (m : MayNameCall a i k s) → IsCalled m.0 k s
@@ -94,13 +94,13 @@ module _ (a : Scene) (base : NamesHold a.base) (there : InsideThere a) where
   numbers_word : (w : Primitive) (s : Core) → Allowed a w s → NamesHold s → (k : ℕ) (c : Call) → get (after_primitive w s).calls k ≡ Some c → k ≤ (after_primitive w s).made.threads
   numbers_word w s ok q k c at = let i : CallAfter a w s k = call_came w s ok k in let m = made_threads_word a w s in grind (arith, q.number k)
 
-  -- what an op is inside of, after a word that gives no call a handle
+  -- what an op is inside of, after a primitive that gives no call a handle
   called_stays : (w : Primitive) (s : Core) (ok : Allowed a w s) → NamesHold s → WereInside a s → ((i j : ℕ) → w ≡ NameCall i j → ⊥) → (n k : ℕ) → op_progress_of n (after_primitive w s) ≡ OpProgress.Calls (Subtask.Guest k) → (k ≤ (after_primitive w s).made.threads) × OnlyCalled n k (after_primitive w s)
   called_stays w s ok q were not n k far =
       let r = inside a w s ok q were n k far in
       (le_trans r.1.0 (made_threads_word a w s), only_stays a base n k r.0 w s r.1.0 (λ i. not i k) r.1.1 (call_came w s ok k))
 
-  -- what is known after a word that gives no call a handle: handles name no more than before
+  -- what is known after a primitive that gives no call a handle: handles name no more than before
   known_after : (w : Primitive) (s : Core) → Allowed a w s → NamesHold s → WereInside a s → ((i j : ℕ) → w ≡ NameCall i j → ⊥) →
       ((i h k : ℕ) → subtask_at i h (after_primitive w s) ≡ Some (Subtask.Guest k) → (subtask_at i h s ≡ Some (Subtask.Guest k)) × (subtask_handle (Subtask.Guest k) (after_primitive w s) ≡ Some h)) → NamesHold (after_primitive w s)
   known_after w s ok q were not old = record {

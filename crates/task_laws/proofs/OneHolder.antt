@@ -1,4 +1,4 @@
--- At most one holding entry of an instance runs at a time: each word, each step, and each run.
+-- At most one holding entry of an instance runs at a time: each primitive, each step, and each run.
 use Rattle.task_laws.proofs.Words.{[], add_call, add_group, add_set, add_thread, add_work, AddGroup, after_primitive, Allowed, along, arith, begun_holder, Bool, Call, call_came, call_instance, call_made, CallAfter, Callee, callee_of, callee_of_op, CalleesExist, Caller, Component, component_of, Core, count_work, false, filled, filter, free_handle, free_thread_handle, fresh, get, get-change, get-empty, get-insert, give_handle, give_result, give_thread_handle, Grown, history, holds_one, is_among, is_some, Label, LastPrimitives, less_holder, List, list_any, Main, may_not_enter, MayCall, nat_tests, NewCall, NoCall, None, not, on_call, on_instance, on_thread, on_work, Op, op_at_place, op_in, op_of, ops_plain, Option, option_map_or, plain, plain_scene, poll_pends, push_high, Queues, refl, remove_call, remove_group, remove_set, remove_thread, remove_work, returned_holder, Run, RunsHoldOne, SameMain, Scene, Script, script_in, script_of, script_of_thread, Scripted, set_backpressure, set_cancel_delivered, set_cancelled, set_course, set_do_not_enter, set_do_not_suspend, set_end, set_event, set_exited, set_op_progress, set_join, set_task_event, set_phase, set_position, set_register, set_result, set_saved_callee, set_saved_own, set_script, set_stage, set_started, set_starting_published, set_subtask_handle, set_thread_handle, set_trapped, set_uninteresting, set_word, SetDoNotEnter, Setting, slice_get, Some, State, Step, step_walks, subst, take_result, Thread, true, Unscripted, untouched, Walk, Walked, with_handle, with_holder, with_thread_handle, Primitive, work_queued, ℕ, ◌<◌, ◌==◌, ◌∙◌, ◌∷◌, ◌≡◌, ◌⊎◌}
 use Rattle.task_rules.specs.Allowed as may
 
@@ -80,7 +80,7 @@ module _ (a : Scene) (instances : ℕ) (exist : CalleesExist a.setting instances
       home k c at (NewCall f e x g group is l m new) =
           let k = instance_stays w s e.instance ∙ q.kept e.instance (b.there e.instance (callee_there f e group s m.0)) in grind arith
 
--- ---- Who begins to run, whatever stands at the marks
+-- ---- Who begins to run, whatever is at the marks
 
 begun_same : (q : Queues) (s : Core) (l : Label) → begun_holder (record s { queues = q }) l ≡ begun_holder s l
 begun_same q s l = grind arith

@@ -1,4 +1,4 @@
--- What each word of a step keeps holds in each reached state.
+-- What each primitive of a step keeps holds in each reached state.
 use Rattle.task_laws.proofs.Rules.{[], after_primitive, Allowed, along, arith, Core, filled, fresh, get, get-empty, get-insert, Label, List, nat_tests, opening, Reached, Run, run_goes_on, Scene, scene_of, Setting, Some, State, Step, step_walks, sym, Primitive, ℕ, ◌++◌, ◌∙◌, ◌∷◌, ◌≡◌}
 use Rattle.task_laws.proofs.Basics.{some_none}
 
@@ -23,7 +23,7 @@ reached_step {x = x} s l t r step = record {
   run = run_goes_on x (opening r.instances r.handle_limit r.capacity r.main) r.labels s l t r.run step;
 }
 
--- so does what each word keeps
+-- so does what each primitive keeps
 pub reached_kept : (R : Core → Type 0) → ((instances handle_limit capacity : ℕ) → R (fresh instances handle_limit capacity)) →
     ((a : Scene) (w : Primitive) (s : Core) → Allowed a w s → R s → R (after_primitive w s)) → {x : Setting} {s : State} → Reached x s → R s.core
 reached_kept R first kept {x = x} r = reached_keeps r (λ s. R s.core)

@@ -1,4 +1,4 @@
--- Which members of sets have an event: along the words of a step.
+-- Which members of sets have an event: along the primitives of a step.
 use Rattle.task_laws.proofs.Words.{add_call, add_group, add_set, add_thread, add_work, after_primitive, Allowed, and_parts, arith, by_number, call_made, CallEnd, Core, count_work, EndCall, event_of, Exits, false, free_handle, free_thread_handle, get-change, get-insert, get-remove, give_handle, give_result, give_thread_handle, GivesUp, host_taken, inl, inr, is_explicit, is_in_set, is_join, is_ready_member, is_some, is_told, IsRunner, IsStarting, IsWithdrawn, Join, join_of, MayEnd, nat_tests, None, on_call, on_instance, on_thread, on_work, op_in, poll_pends, push_high, remove_call, remove_group, remove_set, remove_thread, remove_work, ReturnsNow, SaysEnd, Scene, set_backpressure, set_cancel_delivered, set_cancelled, set_course, set_do_not_enter, set_do_not_suspend, set_end, set_event, set_exited, set_op_progress, set_join, set_task_event, set_phase, set_position, set_register, set_result, set_saved_callee, set_saved_own, set_script, set_stage, set_started, set_starting_published, set_subtask_handle, set_thread_handle, set_trapped, set_uninteresting, set_word, SetCallEvent, Some, status_of_end, subst, Subtask, sym, take_result, TakeHost, task_of, true, Turn, WasReady, Why, with_handle, with_thread_handle, Primitive, work_queued, ℕ, ⊎_elim, ◌≡◌, ◌≤◌, ◌⊎◌}
 use Rattle.task_laws.proofs.{EventLemmas.TellingGoes, EventLemmas.taken_label, EventLemmas.telling_word, Joins.now_joined}
 

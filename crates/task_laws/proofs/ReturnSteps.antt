@@ -1,4 +1,4 @@
--- A thread has what its direct call returned from that call's exit to its answer: along the words of a step.
+-- A thread has what its direct call returned from that call's exit to its answer: along the primitives of a step.
 use Rattle.task_laws.proofs.Words.{after_primitive, Allowed, along, ap, arith, base_at, Core, direct_return, EndPrimitives, op_progress_of, OpProgress, inl, inr, is_answered, Label, MayCome, None, op_came, ops_of, Option, plain, plain_scene, Queues, refl, Scene, Setting, Some, State, task_of, TaskLabel, true, under_of, Walk, Walked, Primitive, ℕ, ⊎_elim, ◌≡◌, ◌⊎◌}
 use Rattle.task_laws.proofs.OnceLemmas.{HasValue, ReturnStep}
 

@@ -16,7 +16,7 @@ pub base_is : (u : Turn) (s : Core) → base_at u s ≡ record s { queues = (bas
 base_is (Turn.Take ended) s = without_is (next_entry s) s
 base_is u s = refl
 
--- whose entry stands anywhere is there
+-- whose entry is anywhere is there
 entry_there : (n : ℕ) (s : Core) → HasPlace n s →
     (1 ≤ switch_entries n s.queues.switch) ⊎ ((1 ≤ entries n s.queues.high) ⊎ (1 ≤ entries n s.queues.low)) → is_there n s ≡ true
 entry_there n s h stands = grind arith

@@ -1,4 +1,4 @@
--- What handles name along the words of a step: those of sets name a set of their own instance, and no two name one set.
+-- What handles name along the primitives of a step: those of sets name a set of their own instance, and no two name one set.
 use Rattle.task_laws.proofs.Rules.{add_call, add_group, add_set, add_thread, add_work, after_primitive, Allowed, arith, as_set, as_subtask, call_made, change, CloseSet, Core, count_work, filled, free_handle, free_thread_handle, fresh, get, get-change, get-empty, get-insert, get-remove, give_handle, give_result, give_thread_handle, giving, handle_of_table, NameCall, Named, named_by, NameWork, nat_tests, no_handles, None, on_call, on_instance, on_thread, on_work, OpenSet, Option, option_and_then, option_map, poll_pends, push_high, Reached, Records, refl, remove_call, remove_group, remove_set, remove_thread, remove_work, Scene, Set, set_at, set_backpressure, set_cancel_delivered, set_cancelled, set_course, set_do_not_enter, set_do_not_suspend, set_end, set_event, set_exited, set_op_progress, set_join, set_task_event, set_phase, set_position, set_register, set_result, set_saved_callee, set_saved_own, set_script, set_stage, set_started, set_starting_published, set_subtask_handle, set_thread_handle, set_trapped, set_uninteresting, set_word, SetsNamed, SetsNamedAtHome, SetsNamedOnce, Setting, Some, State, Subtask, NameTable, take_result, taking, UnnameCall, UnnameWork, with_handle, with_thread_handle, Primitive, work_queued, ℕ, ◌+◌, ◌≡◌, ◌⊎◌}
 use Rattle.task_laws.proofs.ReachLemmas.{filled_with, reached_kept}
 

@@ -8,7 +8,7 @@ no_truth false never = refl
 
 -- ---- Words
 
--- the course after a word is that before, or an end, or that of a work that the word makes or lets pend
+-- the course after a word is that before, or an end, or that of a work that the primitive makes or lets pend
 module _ (a : Scene) (settled : IsSettled (component_of a) a.main) where
   none_may : (b : Bool) → (b ≡ true → HasOpen (component_of a) ⊎ (a.main ≡ Unscripted)) → b ≡ false
   none_may b may = no_truth b (λ e. ⊎_elim settled.hosts settled.main (may e))

@@ -1,4 +1,4 @@
--- The first thread of a call that waits for its start is there, along the words of a step that doesn't end the turns.
+-- The first thread of a call that waits for its start is there, along the primitives of a step that doesn't end the turns.
 use Rattle.task_laws.proofs.Words.{add_call, add_group, add_set, add_thread, add_work, after_primitive, Allowed, along, arith, by_number, Call, call_came, call_made, CallAfter, CallsTold, Core, count_work, Departs, EndsOver, Unwinds, free_handle, free_thread_handle, get, get-change, get-insert, get-remove, give_handle, give_result, give_thread_handle, inl, inr, is_over, is_some, is_there, is_unbegun, IsNamed, MakeCall, MayGo, nat_tests, next_thread, None, on_call, on_instance, on_thread, on_work, Option, Place, place_of, Places, placing_shifted, poll_pends, popped_threads, push_high, refl, remove_call, remove_group, remove_set, remove_thread, remove_work, RemoveThread, SaysEnd, Scene, set_backpressure, set_cancel_delivered, set_cancelled, set_course, set_do_not_enter, set_do_not_suspend, set_end, set_event, set_exited, set_op_progress, set_join, set_task_event, set_phase, set_position, set_register, set_result, set_saved_callee, set_saved_own, set_script, set_stage, set_started, set_starting_published, set_subtask_handle, set_thread_handle, set_trapped, set_uninteresting, set_word, Some, StartsAwaited, Status, Subtask, take_result, TakeHost, TakePush, too_high, true, Turn, with_handle, with_thread_handle, Withdraw, Primitive, work_queued, Writes, WritesAtOnce, WritesCall, WritesNever, WritesPolled, ℕ, ⊎_elim, ◌≡◌, ◌≤◌, ◌⊎◌}
 use Rattle.task_laws.proofs.StepEnds.{over_word}
 

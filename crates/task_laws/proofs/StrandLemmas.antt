@@ -1,4 +1,4 @@
--- Who is under whom, along the words of a step.
+-- Who is under whom, along the primitives of a step.
 use Rattle.task_laws.proofs.Words.{after_primitive, Allowed, arith, Came, came_word, Comes, Core, inl, inr, is_some, is_there, IsRunner, made_threads_word, MayMove, Moved, next_thread, Option, Place, place_of, Scene, Shifts, Some, true, Turned, Turns, Why, Primitive, ℕ, ◌+◌, ◌≡◌, ◌≤◌, ◌⊎◌}
 
 -- On the way of a step: who is under a thread that was made now is the running one.

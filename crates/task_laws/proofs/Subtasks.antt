@@ -1,4 +1,4 @@
--- Each call that a handle names, or that an op under way is about, was made as a call: along the words of a step.
+-- Each call that a handle names, or that an op under way is about, was made as a call: along the primitives of a step.
 use Rattle.task_laws.proofs.Words.{add_call, add_group, add_set, add_thread, add_work, after_primitive, Allowed, ap, arith, as_subtask, ByHandle, ByOp, call_made, CallsNamed, cancels_own, change, CloseSet, Core, count_work, free_handle, free_thread_handle, fresh, get-change, get-empty, get-remove, give_handle, give_result, give_thread_handle, given_names, giving, HasSubtask, OpProgress, IfSome, inl, inr, IsNew, le_trans, made_threads_word, made_works_word, MayCome, NameCall, Named, named_by, NameWork, nat_tests, none_named, on_call, on_instance, on_thread, on_work, op_came, OpenSet, option_and_then, poll_pends, push_high, refl, remove_call, remove_group, remove_set, remove_thread, remove_work, Scene, set_backpressure, set_cancel_delivered, set_cancelled, set_course, set_do_not_enter, set_do_not_suspend, set_end, set_event, set_exited, set_op_progress, set_join, set_task_event, set_phase, set_position, set_register, set_result, set_saved_callee, set_saved_own, set_script, set_stage, set_started, set_starting_published, set_subtask_handle, set_thread_handle, set_trapped, set_uninteresting, set_word, Some, Subtask, subtask_at, subtask_under_way, take_result, Thread, thread_came, ThreadAfter, UnnameCall, UnnameWork, WasCall, with_handle, with_thread_handle, Primitive, work_queued, WorksNamed, ℕ, ⊎_elim, ◌+◌, ◌≡◌, ◌≤◌, ◌⊎◌}
 
 -- a subtask of the thread, or a new one

@@ -1,4 +1,4 @@
--- Where the first thread of a call waits for its start: along the words of a step.
+-- Where the first thread of a call waits for its start: along the primitives of a step.
 use Rattle.task_laws.proofs.Words.{after_primitive, Allowed, arith, Bool, call_came, CallAfter, CallEnd, CallsGo, CallsHold, came_word, Comes, component_of, Core, end_of, Exits, false, get, GivesUp, Grown, HasNotRun, inl, inr, is_explicit, is_fresh, is_some, IsBeside, IsFirst, IsGone, IsSame, IsWithdrawn, MayEnd, MayMove, MayStand, Moved, NewCall, next_thread, NoCall, None, not, Option, option_map_or, Place, place_of, PlaceAfter, refl, ReturnsNow, Scene, Shifts, Some, StartsFirst, task_of, Thread, thread_came, ThreadAfter, true, Turn, Turns, WasReady, Why, Primitive, ℕ, ⊎_elim, ◌&&◌, ◌≡◌, ◌⊎◌}
 
 abbrev is_new_start : Option Place → Bool

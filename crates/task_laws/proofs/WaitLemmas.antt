@@ -1,4 +1,4 @@
--- Of which instance the sets are that threads wait on, along the words of a step.
+-- Of which instance the sets are that threads wait on, along the primitives of a step.
 use Rattle.task_laws.proofs.Words.{add_call, add_group, add_set, add_thread, add_work, after_primitive, Allowed, any_found, ap, arith, AwaitsEvent, Blocks, by_number, ByDelivery, BySetHandle, ByWait, call_made, Came, came_word, CloseSet, Comes, ComesAgain, Core, count_work, false, FindsEvent, free_handle, free_thread_handle, get, get-insert, get-remove, give_handle, give_result, give_thread_handle, has_waiters, HasSet, Holds, op_progress_of, OpProgress, IfSome, inl, inr, instance_of, is_at_wait, is_some, is_there, is_wait, IsLaid, IsOf, IsRunner, JoinsNamed, keeps_set, Mark, MayClose, MayCome, MayMove, MayPut, MayStand, MayYield, Moved, nat_tests, None, on_call, on_instance, on_thread, on_work, op_came, op_in, OpenSet, Option, option_and_then, option_map, option_map_or, Place, place_of, poll_pends, push_high, refl, remove_call, remove_group, remove_set, remove_thread, remove_work, Runs, Scene, set_backpressure, set_cancel_delivered, set_cancelled, set_course, set_do_not_enter, set_do_not_suspend, set_end, set_event, set_exited, set_op_progress, set_join, set_of_op, set_of_place, set_of_why, set_task_event, set_phase, set_position, set_register, set_result, set_saved_callee, set_saved_own, set_script, set_stage, set_started, set_starting_published, set_subtask_handle, set_thread_handle, set_trapped, set_uninteresting, set_word, SetsNamed, Shifts, Some, Suspends, take_result, Thread, true, Turn, Turned, Turns, Uncovers, Waits, WaitsAgain, WaitsAtHome, WaitsPlaced, Why, with_handle, with_thread_handle, Primitive, work_queued, Yields, ℕ, ⊎_elim, ◌≡◌, ◌≤◌, ◌⊎◌}
 
 abbrev pub set_at_place : Option Place → Option ℕ

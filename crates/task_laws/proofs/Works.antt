@@ -1,4 +1,4 @@
--- What host works come to along the words of a step: their ends, and what they have to hand out.
+-- What host works come to along the primitives of a step: their ends, and what they have to hand out.
 use Rattle.task_laws.proofs.Words.{after_primitive, Allowed, along, ap, arith, base_at, Bool, Core, course_value, Doing, doing_of, false, fresh, get, get-empty, has_end, host_status, if◌then◌else◌, inl, inr, is_aborted, is_async_work, is_finishing, is_late, is_some, is_stage_ended, is_sync_work, Label, later_after, later_same, LaterBy, le_refl, le_trans, LoopLabel, made_works_word, MayAbort, MayBeAborted, None, of_base, Op, Option, option_and_then, refl, Scene, scene_as, Setting, Some, Stage, stand_word, State, Status, true, Turn, undelivered_end, WalkedAs, Primitive, Work, work_came, WorkAfter, WorkCame, WorksStand, ℕ, ⊎_elim, ◌&&◌, ◌||◌, ◌≡◌, ◌≤◌, ◌⊎◌}
 
 -- What holds of a work: an end where its stage says so; an event of its own end, once it has ended; and, where S says that none is

@@ -1,4 +1,4 @@
--- What each word of a step does to a host work, and that works have their entries.
+-- What each primitive of a step does to a host work, and that works have their entries.
 use Rattle.task_laws.proofs.Rules.{[], add_call, add_group, add_set, add_thread, add_work, after_placing, after_primitive, Allowed, ap, arith, Bool, call_made, change, change-change_same, Core, count_work, Course, course_of, course_value, EndWork, Entry, false, FinishWork, free_handle, free_thread_handle, get, get-change, give_handle, give_result, give_thread_handle, has_end, host_status, HostDef, inl, inr, is_aborted, is_async_work, is_finishing, is_host_of, is_late, is_push_of, is_queued, is_some, is_stage_ended, is_stage_live, Label, List, LoopLabel, Mark, MayAbort, MayFinish, MayRemoveWork, nat_tests, new_work, next_entry, next_work, None, on_call, on_instance, on_thread, on_work, one_if, Option, option_map, or_high, Pend, Phase, Places, placing_works, poll_pends, popped, push_high, QueueWork, refl, remove_call, remove_group, remove_set, remove_thread, remove_work, RemoveWork, rest_of, Scene, set_backpressure, set_cancel_delivered, set_cancelled, set_course, set_do_not_enter, set_do_not_suspend, set_end, set_event, set_exited, set_high, set_op_progress, set_join, set_task_event, set_phase, set_position, set_register, set_result, set_saved_callee, set_saved_own, set_script, set_stage, set_started, set_starting_published, set_subtask_handle, set_thread_handle, set_trapped, set_uninteresting, set_word, SetPhase, Some, Stage, stage_of, stands, Status, sym, take_result, TakeHost, TakePush, TakeWorkEvent, true, unqueued, unqueued_works, with_handle, with_thread_handle, Withdraw, Primitive, Work, work_caller_of, work_entries, work_queued, WorkCaller, ℕ, ⊎_elim, ◌++◌, ◌+◌, ◌∙◌, ◌∷◌, ◌≡◌, ◌≤◌, ◌⊎◌}
 use Rattle.task_laws.proofs.{Basics.no_way, CountLemmas.made_works_word, EachLemmas.after_remove, EachLemmas.at_change, EachLemmas.at_insert, PolledWorks.polled_is_live}
 
@@ -20,7 +20,7 @@ doing_of i s = option_map doing (get s.works i)
 
 -- ---- Entries
 
--- how many pushes and how many host entries of the work stand in the list
+-- how many pushes and how many host entries of the work are in the list
 abbrev pub Standing : ℕ → List Entry → ℕ × ℕ
 Standing i es = (stands (is_push_of i) es, stands (is_host_of i) es)
 
@@ -61,7 +61,7 @@ taken : (m : Mark) (e : Entry) (s : Core) → next_entry s ≡ Some (m, e) → i
 unfolding next_entry popped set_high
 taken m e s is h none = let f = taken_first m s.queues.switch s.queues.high s.queues.low e is h none in grind arith
 
--- ---- What a word does
+-- ---- What a primitive does
 
 -- Works have their entries, and none is at low; one that is gone has none where S holds, or where no such work was made.
 pub record WorksStand (S : Type 0) (s : Core) : Type 0 where
@@ -69,7 +69,7 @@ pub record WorksStand (S : Type 0) (s : Core) : Type 0 where
   pub number : (i : ℕ) → is_some (doing_of i s) ≡ true → i ≤ s.made.works
   pub high : (i : ℕ) → (is_some (doing_of i s) ≡ true) ⊎ (S ⊎ (s.made.works + 1 ≤ i)) → High s i ≡ entries_for (doing_of i s)
 
--- What the word does to the work i, from o to p, where b works are made after it; its entries stood h times, and stand g times.
+-- What the primitive does to the work i, from o to p, where b works are made after it; its entries were h times, and are g times.
 pub data WorkCame (S M : Type 0) (a : Scene) (s : Core) (b i : ℕ) (h g : ℕ × ℕ) (o p : Option Doing) : Type 0 where
   Same : p ≡ o → g ≡ h → WorkCame S M a s b i h g o p
   Gone : p ≡ None → (S ⊎ (b + 1 ≤ i) → g ≡ (0, 0)) → WorkCame S M a s b i h g o p
@@ -92,7 +92,7 @@ pub data WorkCame (S M : Type 0) (a : Scene) (s : Core) (b i : ℕ) (h g : ℕ �
 
 module _ {S : Type 0} (a : Scene) (s : Core) (q : WorksStand S s)
     (ends : (i : ℕ) → S → MayRemoveWork a i s → is_stage_ended (stage_of i s) ≡ true) where
-  -- what the work i comes to, with the entries g, where b works are made
+  -- what the work i results in, with the entries g, where b works are made
   abbrev pub CameTo : ℕ → ℕ → ℕ × ℕ → Option Work → Option Work → Type 0
   CameTo b i g o p = WorkCame S (MayAbort a i) a s b i (High s i) g (option_map doing o) (option_map doing p)
 

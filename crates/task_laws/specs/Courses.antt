@@ -1,5 +1,5 @@
--- Which steps make host works, and which change what a work is still to do. They are seen as chains of words, in which each thread has an
--- op: as steps of a run are, and what a host has the running thread do.
+-- Which steps make host works, and which change what a work is still to do. They are seen as chains of primitives, in which each
+-- thread has an op: as steps of a run are, and what a host has the running thread do.
 use Rattle.std.specs.Prelude.{is_some, true, ℕ, ◌+◌, ◌≡◌, ◌≤◌, ◌⊎◌}
 use Rattle.task_machine.specs.Core.{State}
 use Rattle.task_machine.specs.Maps.{get}

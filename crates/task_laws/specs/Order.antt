@@ -198,7 +198,7 @@ abbrev pub set_of_why : Why → Option ℕ
 set_of_why (why.Delivery (delivery.Set x)) = Some x
 set_of_why _ = None
 
--- the set on which the thread waits, or for which a delivery stands or is held
+-- the set on which the thread waits, or of a delivery or is held
 abbrev pub set_of_place : Place → Option ℕ
 set_of_place (place.Waiting x by_callback) = Some x
 set_of_place (place.Ready m w) = set_of_why w
@@ -244,7 +244,7 @@ abbrev pub is_delivery : Why → Bool
 is_delivery (why.Delivery d) = true
 is_delivery _ = false
 
--- the thread waits by callback, or a delivery for it stands at a mark or is held
+-- the thread waits by callback, or a delivery for it is at a mark or is held
 abbrev pub is_delivered : Place → Bool
 is_delivered (place.Ready m w) = is_delivery w
 is_delivered (place.Held w) = is_delivery w
@@ -315,7 +315,7 @@ DirectsOnTop s = (m : ℕ) → is_some (place_of m s) ≡ true → is_explicit m
 
 -- ---- Host works
 
--- how many such entries stand in the list
+-- how many such entries are in the list
 abbrev pub stands : (Entry → Bool) → List Entry → ℕ
 stands test [] = 0
 stands test (e ∷ es) = one_if (test e) + stands test es
@@ -397,7 +397,7 @@ is_open _ = true
 abbrev pub RunsAlone : Turn → Core → Type 0
 RunsAlone p s = (n : ℕ) → place_of n s ≡ Some place.Running → p ≡ turn.Run n
 
--- A thread that waits for its start has no thread under it, and has one behind it only where its entry stands at switch and no thread
+-- A thread that waits for its start has no thread under it, and has one behind it only where its entry is at switch and no thread
 -- runs.
 pub record StartsFree (p : Turn) (s : Core) : Type 0 where
   pub under : (n m : ℕ) → place_of n s ≡ Some (place.Under m) → (place_of m s ≡ None) ⊎ (is_fresh (place_of m s) ≡ false)
@@ -416,7 +416,7 @@ pub record Awake (p : Turn) (s : Core) : Type 0 where
 
 -- ---- All of it
 
--- What every step keeps of a state, of a component whose codes stand in callbacks; and what else is so where the turns go on.
+-- What every step keeps of a state, of a component whose codes are in callbacks; and what else is so where the turns go on.
 pub record InOrderFor (goes_on : Bool) (ops : ℕ → Op) (c : Component) (s : State) : Type 0 where
   pub codes : CodesInCallbacks c
   pub in_place : InPlace s

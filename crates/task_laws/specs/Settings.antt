@@ -1,5 +1,5 @@
--- What is asked of settings: as the grammar of scenarios has it, the ops that end an activation stand in the scripts of callback exports
--- alone.
+-- What is asked of settings: as the grammar of scenarios has it, the ops that end an activation are in the scripts of callback
+-- exports alone.
 use Rattle.std.specs.Prelude.{List, Some, false, slice_get, ℕ, ◌≡◌}
 use Rattle.task_machine.specs.declared.component.Callee.{Callee}
 use Rattle.task_machine.specs.declared.component.Component.{Component}

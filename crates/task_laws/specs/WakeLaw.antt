@@ -36,7 +36,7 @@ abbrev pub goes_on_within : ℕ → Core → ℕ → Bool
 goes_on_within zero s n = false
 goes_on_within (suc k) s n = goes_on_at (goes_on_within k s) (place_of n s)
 
--- no caller stands behind a stopped strand
+-- no caller is behind a stopped strand
 abbrev pub CallersGoOn : Core → Type 0
 CallersGoOn s = (n f : ℕ) → place_of n s ≡ Some (place.Behind f) → (k : ℕ) × (goes_on_within k s n ≡ true)
 

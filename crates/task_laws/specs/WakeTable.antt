@@ -56,7 +56,7 @@ is_woken x n s = option_map_or (λ (t : Thread). is_woken_for x t t.place) (get 
 abbrev pub RunsInWait : ℕ → ℕ → Core → Type 0
 RunsInWait x n s = (place_of n s ≡ Some place.Running) × (is_inside_wait x (op_progress_of n s) ≡ true)
 
--- a delivery for the set stands for the thread
+-- a delivery for the set represents the thread
 abbrev pub HasDelivery : ℕ → ℕ → Core → Type 0
 HasDelivery x n s = (m : Mark) × (place_of n s ≡ Some (place.Ready m (why.Delivery (delivery.Set x))))
 
@@ -109,7 +109,7 @@ WokenTakes =
     ((x n : ℕ) (sub : Subtask) (v : Given) (s : Core) → is_ready_member x sub s ≡ true → HasDelivery x n s →
     WakeRow x Fewer Fewer Same s (activated n (PickedMember sub) v s))
 
--- a woken thread takes its task's own event while a member is ready and a waiter is there
+-- a woken thread takes its task event while a member is ready and a waiter is there
 unfoldable pub WokenHandsOn : Type 0
 WokenHandsOn =
     ((x n m r : ℕ) (e : TaskEvent) (v : Given) (s : Core) → InsideOps s → has_ready_member x s ≡ true → is_waiter x m s ≡ true →
@@ -117,7 +117,7 @@ WokenHandsOn =
     ((x n m : ℕ) (e : TaskEvent) (v : Given) (s : Core) → InsideOps s → has_ready_member x s ≡ true → is_waiter x m s ≡ true →
     HasDelivery x n s → WakeRow x Same Same Fewer s (activated_woken n x (Some m) (PickedTaskEvent e) v s))
 
--- a woken thread takes its task's own event, and no member is ready or no waiter is there
+-- a woken thread takes its task event, and no member is ready or no waiter is there
 unfoldable pub WokenTakesOwn : Type 0
 WokenTakesOwn =
     ((x n r : ℕ) (e : TaskEvent) (v : Given) (s : Core) → RunsInWait x n s →

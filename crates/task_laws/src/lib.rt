@@ -1,7 +1,6 @@
-//! Laws of the component machine that hold of each state that a run comes to, where the scripts
-//! keep to the grammar: the ops that end an activation stand in callback exports alone, and what
-//! is called exists. Each function here is the statement of a law, about the rules that
-//! `task_rules` defines.
+//! Laws of the component machine that hold of each state that a run reach, where the scripts keep to the grammar: the ops that end
+//! an activation are in callback exports alone, and what is called exists. Each function here is the statement of a law, about the
+//! rules that `task_rules` defines.
 #![tactic(auto)]
 
 mod courses;

@@ -14,15 +14,15 @@ use Rattle.task_words.specs.StateView.{StateView}
 abbrev pub holds_borrows : ℕ → Core → Bool
 holds_borrows k s = option_map_or (λ c. nat_lt 0 c.borrows) (get s.calls k) false
 
--- the task of the thread n ends by its return, of its own type or not: neither trap 1 nor trap 3 stands before that
+-- the task of the thread n ends by its return, of its own type or not: neither trap 1 nor trap 3 comes before that
 abbrev pub ends_by_return : ℕ → (own_type : Bool) → Core → Bool
 ends_by_return n own s = own && (not (has_ended (task_of n s) s) && is_async_lifted (kind_of (task_of n s) s))
 
--- it ends by the answer to a cancel: neither trap 2 nor trap 1 stands before that
+-- it ends by the answer to a cancel: neither trap 2 nor trap 1 comes before that
 abbrev pub ends_by_cancel : ℕ → Core → Bool
 ends_by_cancel n s = cancel_was_delivered (task_of n s) s && not (has_ended (task_of n s) s)
 
--- that of a direct call ends by its exit: trap 9 doesn't stand before that
+-- that of a direct call ends by its exit: trap 9 isn't before that
 abbrev pub ends_by_exit : ℕ → Core → Bool
 ends_by_exit n s = is_sync (kind_of (task_of n s) s) || passes_check (instance_of n s) s
 

@@ -17,8 +17,8 @@ fn holds_borrows(core: &TaskCore, call: CallId) -> bool
     }
 }
 
-/// Whether the thread's task still lends something and would end by a return, of its own type or not: neither trap 1
-/// nor trap 3 stands before that.
+/// Returns whether the thread's task still lends something and would end by a return, of its own type or not: neither trap 1 nor
+/// trap 3 comes before that.
 pub fn return_holds_borrows(core: &TaskCore, thread: ThreadId, own_type: bool) -> bool
     ensures { result ≡ return_holds_borrows (thread_of core.now thread) own_type core.now.core }
 {
@@ -30,7 +30,7 @@ pub fn return_holds_borrows(core: &TaskCore, thread: ThreadId, own_type: bool) -
     lifted && holds_borrows(core, call)
 }
 
-/// Whether it still lends something and would end by its answer to a cancel: neither trap 2 nor trap 1 stands before.
+/// Returns whether it still lends something and would end by its answer to a cancel: neither trap 2 nor trap 1 comes before.
 pub fn cancel_holds_borrows(core: &TaskCore, thread: ThreadId) -> bool
     ensures { result ≡ cancel_holds_borrows (thread_of core.now thread) core.now.core }
 {
@@ -41,8 +41,8 @@ pub fn cancel_holds_borrows(core: &TaskCore, thread: ThreadId) -> bool
     holds_borrows(core, call)
 }
 
-/// Whether the direct call whose first thread it is still lends something and would end by its exit: trap 9 doesn't
-/// stand before that.
+/// Returns whether the direct call whose first thread it is still lends something and would end by its exit: trap 9 isn't before
+/// that.
 pub fn exit_holds_borrows(core: &TaskCore, thread: ThreadId) -> bool
     ensures { result ≡ exit_holds_borrows (thread_of core.now thread) core.now.core }
 {

@@ -9,7 +9,7 @@ use Rattle.task_links.proofs.Paths.{Path-role, Path-frame}
 use Rattle.task_links.proofs.Spots.{spot_at-shown}
 use Rattle.task_links.proofs.Changes.{ring_list-is, ring_from}
 
--- a name that stands for no node in a chain and for no chain with nodes, and what it stands for then
+-- a name that represents no node in a chain and for no chain with nodes, and what it represents then
 pub record Renamed {P : Type 0} (nx pv nx' pv' : List ℕ) (rs rs' : List (Role P)) (i : ℕ) (r : Role P) : Type 0 where
   pub was_not_linked : (c : ℕ) (v : P) → role_at rs i ≡ Linked c v → ⊥
   pub was_empty : role_at rs i ≡ Chain → ring_list nx rs i ≡ []

@@ -36,7 +36,7 @@ module _ {P : Type 0} where
   pub link_seen : (nx : List ℕ) (rs : List (Role P)) (links : List (Spot P)) (n : ℕ) → shown nx rs ≡ links → (r : Role P) → role_at rs n ≡ r → link_of links n ≡ spot_link (spot_of nx rs n r)
   link_seen nx rs links n view r is = ap (λ l. link_of l n) (sym view) ∙ (ap spot_link (spot_at-shown nx rs n) ∙ ap (λ k. spot_link (spot_of nx rs n k)) is)
 
-  -- what a name stands for decides whether it is a live chain, a node or a free one
+  -- what a name represents decides whether it is a live chain, a node or a free one
   pub live_shown : (nx : List ℕ) (rs : List (Role P)) (links : List (Spot P)) (n : ℕ) → shown nx rs ≡ links → role_is_chain (role_at rs n) ≡ is_some (list_of links n)
   live_shown nx rs links n view = by_each (role_at rs n) ∙ (ap (λ s. is_some (spot_list s)) (sym (spot_at-shown nx rs n)) ∙ ap (λ l. is_some (list_of l n)) view)
     where

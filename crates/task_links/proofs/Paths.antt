@@ -70,7 +70,7 @@ module _ {P : Type 0} where
   Apart-once x (e ∷ es) b apart (inl same) = apart.0 (subst (λ n. In n (es ++ x ∷ b)) same (In-here x es b))
   Apart-once x (e ∷ es) b apart (inr i) = Apart-once x es b apart.1 i
 
-  -- where a node stands in a list
+  -- where a node is in a list
   pub split : (n : ℕ) (list : List (ℕ × P)) → In n list → (a : List (ℕ × P)) × ((b : List (ℕ × P)) × ((v : P) × (list ≡ a ++ (n, v) ∷ b)))
   split n [] i = absurd i
   split n (e ∷ es) (inl same) = ([], (es, (e.1, ap (λ m. (m, e.1) ∷ es) (sym same))))

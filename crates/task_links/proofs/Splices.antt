@@ -50,7 +50,7 @@ module _ {P : Type 0} where
     role_other = λ q not_x. get_or-set_other rs x q Free Unused not_x;
   }
 
-  -- the first name of the rest is not one that stands before it
+  -- the first name of the rest is not one that is before it
   start_not : (z : ℕ) (a b : List (ℕ × P)) (to : ℕ) → (z ≡ to → ⊥) → (In z (a ++ b) → ⊥) → z ≡ start b to → ⊥
   start_not z a b to not_to not_in same =
       elim (In-start b to) [

@@ -51,7 +51,7 @@ module _ {P : Type 0} where
       by_test false = omega arith
 
   module _ (nx pv : List ℕ) (rs : List (Role P)) (unused : ℕ) (sound : IsSound nx pv rs unused) where
-    -- each of them stands for nothing
+    -- each of them represents nothing
     unused_slot : (n : ℕ) → InNames n sound.names → slice_get rs n ≡ Some Unused
     unused_slot n i = by_slot (slice_get rs n) (let some = counted_in n sound.names i in let once = sound.unused_once n in let few = at_most_one (slice_get rs n) in omega arith)
 

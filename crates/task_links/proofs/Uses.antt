@@ -84,7 +84,7 @@ module _ {P : Type 0} where
         long_previous = length-set pv unused unused ∙ (sound.rings.as_many_previous ∙ sym (length-set rs unused r));
       }
 
-      -- a free node keeps what stood after and before its name
+      -- a free node keeps what was after and before its name
       renamed_free : r ≡ Free → Renamed nx pv nx pv rs (set rs unused r) unused r
       renamed_free free = record {
         was_not_linked = λ c v is. absurd (let e = sym was_role ∙ is in cc);
@@ -207,7 +207,7 @@ module _ {P : Type 0} where
       pub Renames-dropped : Renames (shown nx rs) (shown (set nx i unused) (set rs i Unused)) i (spot_at (shown nx rs) i) Unmade
       Renames-dropped = Renames-renamed nx pv _ pv rs _ i Unused renamed_unused sound.rings (spot_at (shown nx rs) i) refl
 
-  -- what stands behind an empty chain or a free node that contracts see
+  -- what is behind an empty chain or a free node that contracts see
   module _ (nx : List ℕ) (rs : List (Role P)) (i : ℕ) where
     abbrev Droppable : Type 0
     Droppable = (i < length rs) × ((role_is_unused (role_at rs i) ≡ false) × (((c : ℕ) (v : P) → role_at rs i ≡ Linked c v → ⊥) × (role_at rs i ≡ Chain → ring_list nx rs i ≡ [])))

@@ -138,7 +138,7 @@ module _ {P : Type 0} where
   inserted_by at node value None links = links
   inserted_by at node value (Some link) links = linked link.0 node value (put_before at (node, value) (entries links link.0)) links
 
-  -- the node stands with this value before another, in the other's chain
+  -- the node is with this value before another, in the other's chain
   abbrev pub inserted : ℕ → ℕ → P → List (Spot P) → List (Spot P)
   inserted at node value links = inserted_by at node value (link_of links at) links
 

@@ -12,13 +12,13 @@ use Rattle.task_links.specs.declared.links.Use.TheVariants as use_of
 abbrev pub at : List ℕ → ℕ → ℕ
 at xs n = slice_index_or xs n 0
 
--- the unused names, from the one that is given next, each before the next one; past the last stands a number that none is named by
+-- the unused names, from the one that is given next, each before the next one; past the last is a number that none is named by
 abbrev pub UnusedFrom : List ℕ → ℕ → List ℕ → Type 0
 UnusedFrom next first [] = first ≡ 18446744073709551615
 UnusedFrom next first (n ∷ ns) = (first ≡ n) × UnusedFrom next (at next n) ns
 
 module _ {P : Type 0} where
-  -- the name after each one, the name before it, and what it stands for
+  -- the name after each one, the name before it, and what it represents
   abbrev pub next_names : List (LinkCell P) → List ℕ
   next_names cs = map (λ c. c.next) cs
 
@@ -80,7 +80,7 @@ module _ {P : Type 0} where
   Path next previous rs chain from (e ∷ es) to =
       (at next from ≡ e.0) × ((at previous e.0 ≡ from) × ((role_at rs e.0 ≡ Linked chain e.1) × Path next previous rs chain e.0 es to))
 
-  -- what a name newly stands for
+  -- what a name newly represents
   abbrev pub new_spot : Role P → Spot P
   new_spot Unused = Unmade
   new_spot Chain = ChainOf []
@@ -138,7 +138,7 @@ pub record AreRings {P : Type 0} (next previous : List ℕ) (rs : List (Role P))
   pub owned : (node chain : ℕ) (value : P) → role_at rs node ≡ Linked chain value →
       (role_at rs chain ≡ Chain) × In node (ring_list next rs chain)
 
--- The rings stand, and each unused name is one of those that are given next, once.
+-- The rings are, and each unused name is one of those that are given next, once.
 pub record IsSound {P : Type 0} (next previous : List ℕ) (rs : List (Role P)) (unused : ℕ) : Type 0 where
   pub rings : AreRings next previous rs
   pub names : List ℕ

@@ -15,7 +15,7 @@ pub struct Node {
     pub index: usize,
 }
 
-/// What a name stands for.
+/// What a name represents.
 #[derive(Clone, Copy)]
 pub(crate) enum Role<P> {
     /// Nothing; the name may be given again.
@@ -37,11 +37,11 @@ pub(crate) enum Use {
     LinkedNode,
 }
 
-// Stands where no name is unused.
+// Is where no name is unused.
 const NONE: usize = usize::MAX;
 
-/// A name's neighbours in its ring, and what it stands for. Its chain and value say something of a linked node alone, so
-/// that they are written where a node is linked, and nowhere else.
+/// A name's neighbours in its ring, and what it represents. Its chain and value say something of a linked node alone, so that they
+/// are written where a node is linked, and nowhere else.
 #[derive(Clone, Copy)]
 pub(crate) struct LinkCell<P> {
     /// The name after it, the chain's own after the last.
@@ -61,7 +61,7 @@ pub struct Links<P> {
     cells: Vec<LinkCell<P>>,
     // The unused name that is given next, if there is one. After each unused name comes the one that is given after it.
     unused: usize,
-    // What stands in a new cell, in the place of a value.
+    // What is in a new cell, in the place of a value.
     blank: P,
 }
 
@@ -111,7 +111,7 @@ fn cell_role<P: Copy>(cell: &LinkCell<P>) -> Role<P>
     }
 }
 
-// What a name in use stands for.
+// What a name in use represents.
 #[inline(always)]
 fn role_in<P: Copy>(cells: &Vec<LinkCell<P>>, index: usize) -> Role<P>
     requires { index < length cells.now.items }
@@ -120,7 +120,7 @@ fn role_in<P: Copy>(cells: &Vec<LinkCell<P>>, index: usize) -> Role<P>
     cell_role(&cells[index])
 }
 
-// What a name stands for.
+// What a name represents.
 fn role_of<P: Copy>(cells: &Vec<LinkCell<P>>, index: usize) -> Role<P>
     ensures { result ≡ role_at (roles_in cells.now.items) index }
 {
@@ -154,7 +154,7 @@ fn set_previous<P: Copy>(cells: &mut [LinkCell<P>], index: usize, previous: usiz
     cells[index].previous = previous;
 }
 
-// A name stands for a free node.
+// A name is of a free node.
 #[inline(always)]
 fn set_free<P: Copy>(cells: &mut [LinkCell<P>], index: usize)
     requires { index < length cells.old }
@@ -165,7 +165,7 @@ fn set_free<P: Copy>(cells: &mut [LinkCell<P>], index: usize)
     cells[index].used = Use::FreeNode;
 }
 
-// A name stands for nothing; this one is given after it.
+// A name is of nothing; this one is given after it.
 #[inline(always)]
 fn set_unused<P: Copy>(cells: &mut Vec<LinkCell<P>>, index: usize, next: usize)
     requires { index < length cells.old.items }
@@ -178,7 +178,7 @@ fn set_unused<P: Copy>(cells: &mut Vec<LinkCell<P>>, index: usize, next: usize)
     cell.used = Use::Nothing;
 }
 
-// A name stands for a chain, whose ring is itself.
+// A name is of a chain, whose ring is itself.
 #[inline(always)]
 fn set_chain<P: Copy>(cells: &mut Vec<LinkCell<P>>, index: usize)
     requires { index < length cells.old.items }
@@ -192,7 +192,7 @@ fn set_chain<P: Copy>(cells: &mut Vec<LinkCell<P>>, index: usize)
     cell.used = Use::Chain;
 }
 
-// A name stands for a node of this chain, with this value, between these neighbours.
+// A name is of a node of this chain, with this value, between these neighbours.
 #[inline(always)]
 fn set_linked<P: Copy>(
     cells: &mut [LinkCell<P>],
@@ -292,7 +292,7 @@ fn is_node<P: Copy>(role: Role<P>) -> bool
     }
 }
 
-// A name that is given again stands for a free node.
+// A name that is given again represents a free node.
 #[inline(always)]
 fn name_free<P: Copy>(cells: &mut Vec<LinkCell<P>>, index: usize)
     requires { index < length cells.old.items }
@@ -326,7 +326,7 @@ fn new_name<P: Copy>(cells: &mut Vec<LinkCell<P>>, used: Use, blank: P) -> Resul
 }
 
 impl<P: Copy> Links<P> {
-    /// No chain and no node. The value stands where no node has one; nothing is said of it, and nothing gives it.
+    /// Makes lists without a chain and a node. The value is where no node has one; nothing is said of it, and nothing gives it.
     pub fn new(alloc: Global, blank: P) -> Links<P>
         ensures { result ≡ [] }
     {
@@ -346,7 +346,7 @@ impl<P: Copy> Links<P> {
         self.unused = index;
     }
 
-    /// A new empty chain. Where there is no memory for it, all is as before.
+    /// Returns a new empty chain. Where there is no memory for it, all is as before.
     #[inline(always)]
     pub fn make_chain(&mut self) -> Result<usize, NoMemory>
         ensures made { IfOk result (λ chain. Renames self.old self.new chain Unmade (ChainOf [])) }
@@ -369,7 +369,7 @@ impl<P: Copy> Links<P> {
         self.drop_name(chain);
     }
 
-    /// A new node, which is free. Where there is no memory for it, all is as before.
+    /// Returns a new node, which is free. Where there is no memory for it, all is as before.
     #[inline(always)]
     pub fn make_node(&mut self) -> Result<Node, NoMemory>
         ensures made { IfOk result (λ node. Renames self.old self.new node.index Unmade FreeNode) }
@@ -462,35 +462,35 @@ impl<P: Copy> Links<P> {
         let _chain = (self.cells.len(), chain);
     }
 
-    /// Whether this names a live chain. It may be asked of any number.
+    /// Returns whether this names a live chain. It may be asked of any number.
     pub fn is_live(&self, chain: usize) -> bool
         ensures { result ≡ is_some (list_of self.now chain) }
     {
         is_chain(role_of(&self.cells, chain))
     }
 
-    /// Whether this names a live chain with no node, so that it may be dropped. It may be asked of any number.
+    /// Returns whether this names a live chain with no node, so that it may be dropped. It may be asked of any number.
     pub fn is_empty(&self, chain: usize) -> bool
         ensures { (result ≡ true) ↔ (list_of self.now chain ≡ Some []) }
     {
         self.is_live(chain) && self.first(chain).is_none()
     }
 
-    /// Whether this names a node that was made and not dropped. It may be asked of any name.
+    /// Returns whether this names a node that was made and not dropped. It may be asked of any name.
     pub fn is_made(&self, node: Node) -> bool
         ensures { result ≡ is_made self.now node.index }
     {
         is_node(role_of(&self.cells, node.index))
     }
 
-    /// Whether this names a node that is made and in no chain. It may be asked of any name.
+    /// Returns whether this names a node that is made and in no chain. It may be asked of any name.
     pub fn is_free(&self, node: Node) -> bool
         ensures { result ≡ is_free self.now node.index }
     {
         is_free(role_of(&self.cells, node.index))
     }
 
-    /// The chain of a made node and its value. `None` where it is in no chain.
+    /// Returns the chain of a made node and its value. `None` where it is in no chain.
     pub fn get(&self, node: Node) -> Option<(usize, P)>
         requires { is_made self.now node.index ≡ true }
         ensures { result ≡ link_of self.now node.index }
@@ -501,7 +501,7 @@ impl<P: Copy> Links<P> {
         }
     }
 
-    /// The first node of a live chain and its value. `None` where the chain is empty.
+    /// Returns the first node of a live chain and its value. `None` where the chain is empty.
     pub fn first(&self, chain: usize) -> Option<(Node, P)>
         requires { IsSome (list_of self.now chain) }
         ensures entry { option_map (λ e. (e.0.index, e.1)) result ≡ head_of (entries self.now chain) }
@@ -510,7 +510,7 @@ impl<P: Copy> Links<P> {
         entry(&self.cells, next_of(&self.cells, chain))
     }
 
-    /// The last node of a live chain and its value. `None` where the chain is empty.
+    /// Returns the last node of a live chain and its value. `None` where the chain is empty.
     pub fn last(&self, chain: usize) -> Option<(Node, P)>
         requires { IsSome (list_of self.now chain) }
         ensures entry { option_map (λ e. (e.0.index, e.1)) result ≡ last_of (entries self.now chain) }
@@ -519,7 +519,7 @@ impl<P: Copy> Links<P> {
         entry(&self.cells, previous_of(&self.cells, chain))
     }
 
-    /// The node after one that is in a chain, and its value. `None` where that one is the last.
+    /// Returns the node after one that is in a chain, and its value. `None` where that one is the last.
     pub fn next(&self, node: Node) -> Option<(Node, P)>
         requires { IsSome (link_of self.now node.index) }
         ensures entry { option_map (λ e. (e.0.index, e.1)) result ≡ following node.index self.now }
@@ -528,7 +528,7 @@ impl<P: Copy> Links<P> {
         entry(&self.cells, next_of(&self.cells, node.index))
     }
 
-    /// The node before one that is in a chain, and its value. `None` where that one is the first.
+    /// Returns the node before one that is in a chain, and its value. `None` where that one is the first.
     pub fn previous(&self, node: Node) -> Option<(Node, P)>
         requires { IsSome (link_of self.now node.index) }
         ensures entry { option_map (λ e. (e.0.index, e.1)) result ≡ preceding node.index self.now }

@@ -215,7 +215,7 @@ apart_suspension false target.None = refl
 apart_suspension false (target.Resume x) = refl
 apart_suspension false (target.Promote x) = refl
 
--- ---- The calls that stand for no one op
+-- ---- The calls that represent no one op
 
 module _ (left : ℕ → Option HeldWork) (s t : StateView) (h : HoldsWorks left s.core) where
   by_works : (u : Core) → t.core ≡ u → u.works ≡ s.core.works → HoldsWorks left t.core

@@ -1,4 +1,4 @@
--- What the start of a call comes to, of what was told and made; what stays of the store; and what is so of it then.
+-- What the start of a call results in, of what was told and made; what stays of the store; and what is so of it then.
 use Rattle.group_notices.proofs.MoveLemmas.{with_hook_ok}
 use Rattle.group_notices.specs.Moves.{finishes}
 use Rattle.state_calls.specs.declared.error.TaskError.{TaskError}
@@ -105,7 +105,7 @@ pub reason_hook : (listens : Bool) (o : Option Trap) (why : TaskError) (a b : Li
     why ≡ task_error.Trap trap.HookFailed → IsReason listens o why a b
 reason_hook listens o why a b is hears err hook = subst (λ (x : Option Trap). IsReason listens x why a b) (sym is) (inr (hook, (hears, err)))
 
--- memory was wanting after the new group was told of, and the hook answered an error to its finish, or none
+-- it was out of memory after the new group was told of, and the hook answered an error to its finish, or none
 pub reason_back : (listens : Bool) (o : Option Trap) (why r : TaskError) (a b d : Listeners) {ns : List Notice} → o ≡ None → listens ≡ true →
     why ≡ task_error.NoMemory → errors_of a ≤ errors_of b → ToldListeners ns b d → Unheard listens b d (r ≡ why) →
     (AnsweredErr b d → r ≡ task_error.Trap trap.HookFailed) → IsReason listens o r a d
@@ -162,7 +162,7 @@ started_core : (c : Component) (e : Callee) (words : List ℕ) (s t : StateView)
 started_core c e words s t (Some w) n k = absurd (let refused = k.0 in cc)
 started_core c e words s t None n k = k.1.core
 
--- the next group is known, too
+-- the next group is tracked, too
 started_asked : (c : Component) (e : Callee) (words : List ℕ) (s t : StateView) (o : Option Trap) (n : ℕ) → StartsUntrapped c e words s o (Ok n) t → IsAsked s → IsAsked t
 started_asked c e words s t (Some w) n k is = absurd (let refused = k.0 in cc)
 started_asked c e words s t None n k is =

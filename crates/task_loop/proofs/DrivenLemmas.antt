@@ -30,7 +30,7 @@ unless_idle outcome.OutOfSteps other k = refl
 unless_idle outcome.Idle other k = absurd (other refl)
 
 module _ (before after added : List Label) (trace : after ≡ before ++ added) (o : Outcome) (yield_budget yield_budget' : YieldBudget) where
-  -- it is idle: the labels of the drive are counted, which stand from the end of those before on
+  -- it is idle: the labels of the drive are counted, which are from the end of those before on
   pub leaves_counted : o ≡ outcome.Idle → yield_budget'.since ≡ since_driven yield_budget.passes yield_budget.since (drop (length before) after) → yield_budget'.passes ≡ false → LeavesYieldBudget yield_budget added o yield_budget'
   leaves_counted idle since passes =
       let counted = since ∙ ap (λ (ls : List Label). since_driven yield_budget.passes yield_budget.since ls) (ap (λ (ls : List Label). drop (length before) ls) trace ∙ drop-append_seam before added) in

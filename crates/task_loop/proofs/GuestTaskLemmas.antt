@@ -99,7 +99,7 @@ runs_group s q =
     let k = thread_of s q.thread in
     ap (if_tracked s.tags.tracked) (entered_group (Some k) k (left_for (runner s) (Some k) s.core) ∙ left_for_group (runner s) (Some k) k s.core)
 
--- a call that fitted wasn't made, since memory was wanting
+-- a call that fitted wasn't made, since it was out of memory
 pub begins_wants : (x : ExportKind) (i : ℕ) (f : Option QualifiedThreadId) (s t : StateView) (room : Bool) (why : TaskError) → room ≡ true → Begins x i f s room (Err why) t → why ≡ task_error.NoMemory
 begins_wants x i f s t true why fits begins = begins.0
 begins_wants x i f s t false why fits begins = absurd (cc)

@@ -88,7 +88,7 @@ module _ {M T H G : Type 0} (says : Says M) (course : H → HostDef) (c : Compon
   halted_by halt.NoMemory u v lost failed = lost refl
   halted_by halt.HookFailed u v lost failed = failed refl
 
-  -- how the store stands at the turn
+  -- how the store is at the turn
   pub at_turn : (r : ℕ) (why : Halt) (u : At M T H G) → MayTurn says course c r why u → IsAtTurn c u.turn u.store.state
   at_turn r why u may = record { order = may.stands.order; running = may.stands.running; settled = may.stands.settled; unfinished = may.unfinished }
 
@@ -228,7 +228,7 @@ module _ {M T H G : Type 0} (says : Says M) (course : H → HostDef) (c : Compon
     come_out steps all moves =
         gone steps outcome.OutOfSteps u (on_out_at x s a.trace (numbers says course c a) u.turn (says.part u.main) u.store.state u.trace n steps come.on all moves) come.ran come.suits come.knows come.works come.asked
 
-    -- ops on registers and words were done
+    -- ops on registers and memory cells were done
     module _ (w : StateView) (after : List Label) (k : ℕ) (on : KeepsOn c u.turn u.store.state u.trace n w after k) (computes : Computes c u.turn u.store.state u.trace n w after k)
         (still : runs_in u.turn ≡ None → k ≡ n) (same : SameWorks u.store.state w) (stays : WorksLast u.store.state w → says.knows u.main u.store.state → says.knows u.main w) where
       abbrev computed : At M T H G
@@ -245,7 +245,7 @@ module _ {M T H G : Type 0} (says : Says M) (course : H → HostDef) (c : Compon
         asked = asked_computed c u.store.state u.trace n w after k x refl (ap (λ (ts : Tags). ts.tracked) same.tags) u.turn computes still come.asked;
       }
 
-    -- memory was wanting
+    -- it was out of memory
     lost : (steps : ℕ) (after : List Label) → n ≤ steps → after ≡ u.trace → WasGoing x s a.trace after steps
     lost steps after few same = was_on x s a.trace (numbers says course c a) u.turn (says.part u.main) u.store.state u.trace after n steps come.on few same
 
@@ -309,7 +309,7 @@ module _ {M T H G : Type 0} (says : Says M) (course : H → HostDef) (c : Compon
 
 -- ---- What a call gives
 
--- an outcome is no want of memory
+-- an outcome is no lack of memory
 stop_there : (q : Stop) → stop_answer q ≡ Err task_error.NoMemory → ⊥
 stop_there (stop.Ends o) is = outcome_there o is
 stop_there stop.Rests is = absurd (cc)

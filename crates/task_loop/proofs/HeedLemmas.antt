@@ -39,7 +39,7 @@ fewer_same_by s t same =
     subst (λ (gs : List ℕ). length (finish_notices s.groups gs) + length gs ≤ length s.groups) (sym same)
     (let none = ap length (finish_none s.groups) in omega (arith, none))
 
--- ops on registers and words tell nothing
+-- ops on registers and memory cells tell nothing
 pub answers_ok_data : (x : Setting) (s : State) (ls : List Label) (t : State) (n : ℕ) (l : Listeners) (run : Run x s ls t) → s.turn ≡ turn.Run n → list_all is_data ls ≡ true → AnswersOkAll (history x s ls t run) l l
 answers_ok_data x s [] t n l run at all = answers_ok_nothing l
 answers_ok_data x s (k ∷ ls) t n l run at all =

@@ -1,4 +1,4 @@
--- What a method of an instance does, of what its op came to and what was told; and what is so of its answer then.
+-- What a method of an instance does, of what its op resulted in and what was told; and what is so of its answer then.
 use Rattle.group_notices.specs.declared.tells.GroupsBefore.{GroupsBefore}
 use Rattle.host_works.specs.KeptWorks.{HeldWork}
 use Rattle.state_calls.specs.declared.error.TaskError.{TaskError}
@@ -60,11 +60,11 @@ module _ {A T H G : Type 0} (listens : Bool) (comes : ComesOf A) (s t : Store T 
   pub hook_caused : HookCaused s t r
   hook_caused is = ⊎_elim (λ h. absurd (told.unfailed (sym h.answers ∙ is))) (λ h. h.failed) told.heard
 
-  -- what it came to is answered, or that the hook failed
+  -- what it resulted in is answered, or that the hook failed
   pub answers_or_fails : (r ≡ told.answer) ⊎ (r ≡ refused_by_hook)
   answers_or_fails = ⊎_elim (λ h. inl h.answers) (λ h. inr h.answers) told.heard
 
--- ---- An op that is done apart from its place
+-- ---- An op that is done elsewhere than at its thread's place
 
 -- The thread did this op, which is the one that the call names.
 module _ {A R T H G : Type 0} (listens : Bool) (c : Component) (o p : Op) (same : o ≡ p) (to : Result R TaskError → Result (Step A) TaskError)

@@ -39,7 +39,7 @@ use Rattle.task_words.specs.StateView.{StateView}
 module _ {M T H G : Type 0} (says : Says M) (course : H → HostDef) (c : Component) where
   -- ---- What a main shows of its own step
 
-  -- it is no start, and the listeners and the known groups are as before
+  -- it is no start, and the listeners and the tracked groups are as before
   pub stepped_quietly : (q : MainStep) (m : M) (s : Store T H G) (n : M) (t : Store T H G) → t.listeners ≡ s.listeners → t.state.tags.tracked ≡ s.state.tags.tracked →
       Steps c (says.script m) (says.part m) s.state.core q (says.part n) t.state.core → is_start (label_of_step q) ≡ false → IsAsked s.state → running_of t.state ≡ running_of s.state → says.does m s.state.core q n t.state.core → says.suits n c → says.knows n t.state → HoldsHosts course t → HasStepResult says course c q m s n t
   stepped_quietly q m s n t same known steps quiet is idle does suits knows works = record {

@@ -25,7 +25,7 @@ pub err_is : {A : Type 0} (e f : TaskError) → ◌≡◌ {A = Result A TaskErro
 err_is e f is = cc
 
 module _ (x : ExportKind) (i : ℕ) (f : Option QualifiedThreadId) (s t : StateView) where
-  -- ---- Of what the state's call came to
+  -- ---- Of what the state's call resulted in
 
   pub begins_reason : (listens : Bool) (room : Bool) (why : TaskError) (a b : Listeners) → Begins x i f s room (Err why) t → IsReason listens (table_refusal room) why a b
   begins_reason listens false why a b begins = err_is why (task_error.Trap trap.TableFull) begins.0

@@ -31,7 +31,7 @@ open_of_rules true b o e = let is : outcome.Idle ≡ o = cc in subst (λ (k : Ou
 open_of_rules false true o e = let is : outcome.OutOfSteps ≡ o = cc in subst (λ (k : Outcome). is_of_rules k ≡ true) is refl
 open_of_rules false false o e = absurd (cc)
 
--- ---- What a drive comes to
+-- ---- What a drive results in
 
 module _ (x : Setting) (s : State) (ls : List Label) (t : State) (run : Run x s ls t) where
   or_of_rules : (q : Option Outcome) → last_outcome ls ≡ q → (steps : ℕ) (o : Outcome) → or_open q x t ls steps ≡ Some o → is_of_rules o ≡ true

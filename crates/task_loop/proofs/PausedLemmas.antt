@@ -1,4 +1,4 @@
--- What a poll has come to, where it stops.
+-- What a poll has resulted in, where it stops.
 use Rattle.label_laws.specs.Own.{is_data}
 use Rattle.label_laws.proofs.GoingLemmas.{ends_take_none, goings_show_next}
 use Rattle.label_laws.specs.Own.{is_rest, mark_taken, next_mark, rests_by}
@@ -38,7 +38,7 @@ use Rattle.task_turns.specs.declared.made.MadeStep.{MadeStep}
 use Rattle.task_turns.specs.declared.made.StepResult.TheVariants as stepped
 use Rattle.task_words.specs.StateView.{StateView}
 
--- ---- What the turns of a poll come to
+-- ---- What the turns of a poll result in
 
 -- What a poll of at most so many steps has added and answered, where so many entries were taken before, since the run yielded, and it
 -- passes on or not: a run that stopped at the first place at which there was an answer; and what is so then.
@@ -55,7 +55,7 @@ pub record Polls (x : Setting) (s : State) (before : List Label) (yield_budget :
   -- it passes on next where it has yielded before an entry
   pub passes_on : yield_budget'.passes ≡ (is_yielded r && not (length added == steps))
 
--- What the turns of a poll came to, and how the store stands then.
+-- What the turns of a poll resulted in, and the state of the store then.
 pub record Paused (x : Setting) (s : State) (before : List Label) (numbers : ℕ) (yield_budget : YieldBudget) (steps : ℕ) (r : Result RunPoll TaskError)
     (p : Turn) (m : Main) (t : StateView) (after : List Label) (yield_budget' : YieldBudget) : Type 0 where
   pub polls : Polls x s before yield_budget steps r (state_at t.core m p) after yield_budget'
@@ -166,7 +166,7 @@ module _ (b : Bool) (k : ℕ) (before mid : List Label) (b' : Bool) (k' : ℕ) (
       passes = none ∙ sym (passes_one b ls l);
     }
 
-  -- labels of registers and words are added
+  -- labels of registers and memory cells are added
   pub paced_data : (ks after : List Label) → list_all is_data ks ≡ true → after ≡ mid ++ ks → b' ≡ false → Paced b k before after b' k'
   paced_data ks after all more none = record {
     added = ls ++ ks;

@@ -118,7 +118,7 @@ module _ {M : Type 0} (does : M → Core → MainStep → M → Core → Type 0)
         subst (λ (w : State). Ran does x s m before old w n after l) (sym e.0)
         (subst (λ (ls : List Label). Ran does x s m before old (state_at u.core (part n) p) n ls l) (sym e.1) r)
 
-    -- and by ops on registers and words
+    -- and by ops on registers and memory cells
     pub ran_computed : (p : Turn) (n : M) (u : StateView) (mid : List Label) (l : Listeners) (v : StateView) (added : ℕ) (after : List Label) (k : ℕ) →
         Ran does x s m before old (state_at u.core (part n) p) n mid l → Computes x.component p u mid added v after k → (runs_in p ≡ None → k ≡ added) →
         Ran does x s m before old (state_at v.core (part n) p) n after l

@@ -72,7 +72,7 @@ never_failed (Err e) never failed = never
 own_by : (p : Progress) → Shows IsDone p → Shows IsOwn p
 own_by p shows = wider IsDone IsOwn (λ l done. (and_parts (is_own l) (not (is_data l)) done).0) p shows
 
--- ---- An op that did its row
+-- ---- An op that did its rule
 
 met_trap : (p : Progress) → Shows IsOwn p → (s : Core) (r : OpResult) (t : Core) → Implements p s r t → (w : Trap) → r ≡ op_result.Traps w → is_rule_trap w ≡ true
 met_trap (Continues l new m) h s r t is w e = let a = is.0 in absurd (cc)

@@ -66,7 +66,7 @@ passes_more b [] [] h = h
 passes_more b [] (k ∷ ks) h = refl
 passes_more b (l ∷ ls) ks h = refl
 
--- labels of registers and words
+-- labels of registers and memory cells
 
 pub data_kept : (l : Label) → is_data l ≡ true → (mark_taken l ≡ None) × (is_rest l ≡ false)
 data_kept (label.Data l) h = (refl, refl)
@@ -140,7 +140,7 @@ rest_answer (label.Loop loop_label.Rest) h = refl
 rest_answer (label.Loop _) h = absurd (cc)
 rest_answer _ h = absurd (cc)
 
--- no outcome is want of memory
+-- no outcome is lack of memory
 pub outcome_there : (o : Outcome) → run_answer o ≡ Err task_error.NoMemory → ⊥
 outcome_there (outcome.Done v) is = absurd (cc)
 outcome_there (outcome.Trap t) is = absurd (cc)

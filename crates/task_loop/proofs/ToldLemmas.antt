@@ -174,7 +174,7 @@ sits_told listens a answer r c t u old new told sits =
     subst (λ (o : Option ℕ). CoreInOrder c (turn_for o) u.core) (sym (running_told listens a answer r t u old new told))
     (subst (λ (d : Core). CoreInOrder c (turn_in t) d) (sym (told_core listens a answer r t u old new told)) sits)
 
--- ---- What was asked in a turn
+-- ---- The groups before the step of a turn
 
 -- the groups that a step tells of are those that were live
 pub turn_notices : (x : Setting) (p : Turn) (main : is_main_turn p ≡ false) (m : Main) (s t : StateView) (a : GroupsBefore) (made : MadeStep) (n : Main) → AreGroupsBefore s.core p a → is_in s.core.groups 0 ≡ false →
@@ -281,7 +281,7 @@ module _ (c : Component) (n : ℕ) (s t : StateView) (q : StepResult) (before af
 pub turns_runs : (x : Setting) (p : Turn) (m : Main) (s : StateView) (n : Main) (t : StateView) (q : StepResult) (before after : List Label) → Added (λ made. Turns x p m s made n t) q before after → running_of t ≡ runs_in (turn_of q)
 turns_runs x p m s n t q before after made = (made.1.1).running ∙ ap (λ (k : Turn). runs_in k) (stands_turn q before made.0 after made.1.0)
 
--- ---- Ops on registers and words
+-- ---- Ops on registers and memory cells
 
 none_left : (ls : List Label) → length ls ≡ 0 → ls ≡ []
 none_left [] e = refl

@@ -1,4 +1,4 @@
--- A call knows the groups that were known before it.
+-- A call tracks the groups that were tracked before it.
 use Rattle.state_calls.specs.declared.error.TaskError.{TaskError}
 use Rattle.state_calls.specs.declared.error.TaskError.TheVariants as task_error
 use Rattle.state_calls.specs.declared.name_calls.QualifiedThreadId.{QualifiedThreadId}
@@ -22,7 +22,7 @@ use Rattle.task_rules.specs.Task.{ret_bad_rule, ret_rule}
 use Rattle.task_turns.specs.Turn.{running_of}
 use Rattle.task_words.specs.StateView.{StateView, with_core, with_current}
 
--- the same groups are known
+-- the same groups are tracked
 abbrev pub TracksSame : StateView → StateView → Type 0
 TracksSame s t = t.tags.tracked ≡ s.tags.tracked
 

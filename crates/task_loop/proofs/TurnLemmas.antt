@@ -68,7 +68,7 @@ module _ {M T H G : Type 0} (says : Says M) (course : H → HostDef) (c : Compon
   knows : (o : Option StepResult) → Taken o → KeepsWorks s.state t.state → says.knows m t.state
   knows o turned kept = by_take (says.knows m) s.state t.state (λ last. stays t.state last may.stands.knows) {E = Halted} x b ended part (Ok o) before after refl pends turned kept
 
-  -- nothing was told where nothing stands
+  -- nothing was told where nothing is there
   beside_told : (o : Option StepResult) → IfSome o (λ k. ToldBeside s.state s.listeners p running t.state t.listeners) → (◌≡◌ {A = Result (Option StepResult) Halted} (Ok o) (Ok None) → t.listeners ≡ s.listeners) →
       IfSome o (λ k. TellsTurn s.state p t.state s.listeners t.listeners) × ((errors_of t.listeners ≡ errors_of s.listeners) × IfSome o (λ k. running ≡ current_group t.state))
   beside_told None told none = (tt, (ap errors_of (none refl), tt))

@@ -20,7 +20,7 @@ use Rattle.task_turns.specs.declared.made.MadeStep.{MadeStep}
 use Rattle.task_words.specs.Groups.{IsAsked, asked, some_if_tracked, CountsEnded}
 use Rattle.task_words.specs.StateView.{StateView, work_number}
 
--- ---- What was asked in the turn
+-- ---- The groups before the step of the turn
 
 module _ (s : StateView) (p : Turn) (is : IsAsked s) (zero : is_in s.tags.tracked 0 ≡ false) (a : GroupsBefore) (running : a.running ≡ group_running s p) (worked : a.worked ≡ tracked_worked_group s p) where
   pub are_groups_before : AreGroupsBefore s.core p a

@@ -45,7 +45,7 @@ module _ (s : Core) (n : ℕ) (number : n ≡ s.made.groups + 1) (old between : 
     refused = λ other memory. absurd (other refl);
   }
 
-  -- memory was wanting then, and it finished again
+  -- it was out of memory then, and it finished again
   pub unmade_back : (AnsweredErr old between → ⊥) → (why r : TaskError) (new : Listeners) → why ≡ task_error.NoMemory → ToldListeners (finish_notice n ∷ []) between new → (listens : Bool) →
       Unheard listens between new (r ≡ why) → (AnsweredErr between new → r ≡ task_error.Trap trap.HookFailed) → TellsUnmade r s old new
   unmade_back none why r new memory last listens answer failed = by (heard_or_not between new last.errors)

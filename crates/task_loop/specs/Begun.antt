@@ -18,8 +18,8 @@ use Rattle.task_words.specs.StateView.{StateView}
 abbrev pub start_and_finish : Core → List Notice
 start_and_finish s = start_of_group s ∷ finish_of_group s ∷ []
 
--- The next group isn't made, for this reason. It was to start, and to finish again where memory was wanting then; the hook refused it by an
--- error to one of both. Where memory was wanting without a hook, or the call was refused by another trap, nothing was told.
+-- The next group isn't made, for this reason. It was to start, and to finish again if it was out of memory then; the hook refused
+-- it by an error to one of both. If it was out of memory without a hook, or the call was refused by another trap, nothing was told.
 pub record TellsUnmade (why : TaskError) (s : Core) (old new : Listeners) : Type 0 where
   pub hooked : why ≡ task_error.Trap trap.HookFailed → StopsAt (start_and_finish s) old new
   pub out_of_memory : why ≡ task_error.NoMemory → (new ≡ old) ⊎ ToldWithHookOk (start_and_finish s) old new
@@ -29,7 +29,7 @@ pub record TellsUnmade (why : TaskError) (s : Core) (old new : Listeners) : Type
 abbrev pub HookIsReason : Type 0
 HookIsReason = (why : TaskError) (s : Core) (old new : Listeners) → TellsUnmade why s old new → AnsweredErr old new → why ≡ task_error.Trap trap.HookFailed
 
--- After a start that was refused, or for which memory was wanting, all known groups finish, and errors to that are passed over.
+-- After a start that was refused, or for which it was out of memory, all tracked groups finish, and errors to that are passed over.
 pub record TellsStopped (why : TaskError) (s : StateView) (old new : Listeners) : Type 0 where
   pub between : Listeners
   pub told : TellsUnmade why s.core old between
@@ -37,7 +37,7 @@ pub record TellsStopped (why : TaskError) (s : StateView) (old new : Listeners) 
 
 -- ---- A new task
 
--- a task with a caller makes no group, and tells nothing where it isn't made
+-- a task with a caller makes no group, and tells nothing if it isn't made
 abbrev pub LeavesTask : Option QualifiedThreadId → TaskError → Core → Listeners → Listeners → Type 0
 LeavesTask (Some id) why s old new = new ≡ old
 LeavesTask None why s old new = TellsUnmade why s old new

@@ -1,4 +1,4 @@
--- What the start of a call by the host comes to, on a store whose groups are told of it.
+-- What the start of a call by the host results in, on a store whose groups are told of it.
 use Rattle.state_calls.specs.declared.error.TaskError.{TaskError}
 use Rattle.state_calls.specs.declared.error.TaskError.TheVariants as task_error
 use Rattle.state_calls.specs.declared.name_calls.QualifiedThreadId.{QualifiedThreadId}
@@ -40,8 +40,8 @@ pub record KeepsStore {T H G : Type 0} (c : Component) (s t : Store T H G) : Typ
 
 -- ---- A call that isn't made
 
--- It is refused by the trap by which the machine refuses it, if there is one. Else memory is wanting, or the hook, which listens, answered
--- an error.
+-- It is refused by the trap by which the machine refuses it, if there is one. Else it is out of memory, or the hook, which listens,
+-- answered an error.
 abbrev pub IsReason : (listens : Bool) → (refusal : Option Trap) → (why : TaskError) → (old new : Listeners) → Type 0
 IsReason listens (Some refusal) why old new = why ≡ task_error.Trap refusal
 IsReason listens None why old new =

@@ -14,7 +14,7 @@ use Rattle.task_turns.specs.Turn.{running_of}
 use Rattle.task_words.specs.Groups.{asked, ended_groups, tracked_group}
 use Rattle.task_words.specs.StateView.{StateView}
 
--- the group of the thread that runs once this one has ended, as long as it is known; default: 0
+-- the group of the thread that runs once this one has ended, as long as it is tracked; default: 0
 abbrev pub group_left : ℕ → StateView → ℕ
 group_left n s = option_map_or (λ m. if m == n then 0 else tracked_group m s) (running_of s) 0
 

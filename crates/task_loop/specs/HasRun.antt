@@ -134,14 +134,15 @@ module _ {M T H G : Type 0} (says : Says M) (course : H → HostDef) (c : Compon
     pub works : HoldsHosts course t
     pub asked : IsAsked t.state
 
-  -- Memory is wanting, or the hook failed, where it isn't done.
+  -- It is out of memory, or the hook failed, where it isn't done.
   abbrev pub StepsTo : Result MainStep TaskError → (m : M) (s : Store T H G) (n : M) (t : Store T H G) → Type 0
   StepsTo (Ok step) m s n t = HasStepResult step m s n t
   StepsTo (Err e) m s n t = FailsMain course e m n s t
 
   -- ---- A turn
 
-  -- What a turn asks. The thread that runs is of this group, if one runs, and so far nothing has stopped the turns but want of memory.
+  -- What a turn asks. The thread that runs is of this group, if one runs, and so far nothing has stopped the turns but lack of
+  -- memory.
   pub record MayTurn (running : ℕ) (why : Halt) (a : At M T H G) : Type 0 where
     pub covered : IsWellFormed c
     pub stands : Stands (setting a) a
@@ -177,7 +178,7 @@ module _ {M T H G : Type 0} (says : Says M) (course : H → HostDef) (c : Compon
     pub knows : says.knows b.main b.store.state
     pub works : HoldsHosts course b.store
 
-  -- Why it isn't made: if memory is wanting, no label was added.
+  -- Why it isn't made: if it is out of memory, no label was added.
   abbrev pub HasHalted : Halt → (a b : At M T H G) → Type 0
   HasHalted halt.NoMemory a b = b.trace ≡ a.trace
   HasHalted halt.HookFailed a b = FailsTurn a b
@@ -227,9 +228,9 @@ module _ {M T H G : Type 0} (says : Says M) (course : H → HostDef) (c : Compon
     -- it passes on next if it has yielded before an entry
     pub passes_on : yield_budget'.passes ≡ (is_yielded r && not (length has.ran.added == steps))
 
-  -- ---- Memory is wanting
+  -- ---- It is out of memory
 
-  -- The store is trapped. The labels that were added are those of a run to a state that is lost.
+  -- Traps the store. The labels that were added are those of a run to a state that is lost.
   pub record HasLost (steps : ℕ) (a b : At M T H G) : Type 0 where
     pub added : List Label
     pub trace : b.trace ≡ a.trace ++ added
@@ -275,7 +276,7 @@ module _ {M T H G : Type 0} (says : Says M) (course : H → HostDef) (c : Compon
     pub hook : is_some listeners.hook ≡ is_some a.store.listeners.hook
     pub suits : says.suits n c
 
-  -- So it stopped. Then the store was trapped, the groups that were known were told that they finish, and the run is over.
+  -- So it stopped. Then the store was trapped, the groups that were tracked were told that they finish, and the run is over.
   pub record HasFailed (steps : ℕ) (a b : At M T H G) : Type 0 where
     pub left : StateView
     pub listeners : Listeners
@@ -294,7 +295,7 @@ module _ {M T H G : Type 0} (says : Says M) (course : H → HostDef) (c : Compon
   GoesTo false steps _ yield_budget a b yield_budget' = ⊥
   GoesTo true steps stopped yield_budget a b yield_budget' = HasPolled steps (stop_answer stopped) yield_budget a b yield_budget'
 
-  -- memory is wanting in the turns
+  -- it is out of memory in the turns
   abbrev pub IsLost : ℕ → (a b : At M T H G) → Type 0
   IsLost steps a b = WasGoing (setting a) (state a) a.trace b.trace steps
 
@@ -303,7 +304,7 @@ module _ {M T H G : Type 0} (says : Says M) (course : H → HostDef) (c : Compon
   IsStopped steps a b =
       HasStopped steps a b.main b.trace b.store.state b.store.listeners × (says.knows b.main b.store.state × HoldsHosts course b.store)
 
-  -- ---- What the calls come to. The hook fails only if its type is one that listens.
+  -- ---- What the calls result in. The hook fails only if its type is one that listens.
 
   abbrev pub DrivesTo : (listens : Bool) → ℕ → Result Outcome NoMemory → (yield_budget : YieldBudget) → (a b : At M T H G) → (yield_budget' : YieldBudget) → Type 0
   DrivesTo false steps (Ok o) yield_budget a b yield_budget' = HasDriven steps o yield_budget a b yield_budget'

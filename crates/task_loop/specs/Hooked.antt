@@ -1,4 +1,4 @@
--- What a run comes to where the hook that is told of groups answers an error.
+-- What a run results in where the hook that is told of groups answers an error.
 use Rattle.group_notices.specs.Runs.{AreGroupsBefore}
 use Rattle.group_notices.specs.declared.tells.GroupsBefore.{GroupsBefore}
 use Rattle.state_calls.specs.declared.error.TaskError.{TaskError}
@@ -31,7 +31,7 @@ pub record MainFails {M T H G : Type 0} (course : H → HostDef) (m n : M) (s t 
   pub hosts : HoldsHosts course t
   pub fails : StartFails s.state.core s.listeners t.listeners
 
--- main's op answers no other error than want of memory, and that
+-- main's op answers no other error than lack of memory, and that
 abbrev pub FailsMain : {M T H G : Type 0} → (H → HostDef) → TaskError → (m n : M) → (s t : Store T H G) → Type 0
 FailsMain course e m n s t = (e ≡ task_error.NoMemory) ⊎ ((e ≡ task_error.Trap trap.HookFailed) × MainFails course m n s t)
 

@@ -58,7 +58,7 @@ ComesOf A = Result A TaskError → StateView → Type 0
 abbrev pub DoesOn : (A T H G : Type 0) → Type 1
 DoesOn A T H G = Store T H G → Result A TaskError → Store T H G → Type 0
 
--- The call came to this answer, which is none of the hook's, and left this; and that was told.
+-- The call resulted in this answer, which is none of the hook's, and left this; and that was told.
 pub record IsTold {A T H G : Type 0} (listens : Bool) (comes : ComesOf A) (s : Store T H G) (r : Result A TaskError) (t : Store T H G) :
     Type 0 where
   pub answer : Result A TaskError
@@ -69,14 +69,14 @@ pub record IsTold {A T H G : Type 0} (listens : Bool) (comes : ComesOf A) (s : S
   -- it is answered, unless the hook refuses it
   pub heard : TellsCall listens (groups_before_call s.state) answer r left t.state s.listeners t.listeners
 
--- The same of a call that holds the works of hosts, and changes nothing but the state and the listeners.
+-- A call that holds the works of hosts, and changes nothing but the state and the listeners.
 pub record DoesCall {A T H G : Type 0} (listens : Bool) (comes : ComesOf A) (s : Store T H G) (r : Result A TaskError) (t : Store T H G) :
     Type 0 where
   pub told : IsTold listens comes s r t
   pub works : (course : H → HostDef) → HoldsHosts course s → HoldsHosts course t
   pub rest : t ≡ record s { state = t.state; listeners = t.listeners }
 
--- The same of one that leaves the state in order.
+-- A call that leaves the state in order.
 pub record DoesInOrder {A T H G : Type 0} (listens : Bool) (c : Component) (comes : ComesOf A) (s : Store T H G) (r : Result A TaskError)
     (t : Store T H G) : Type 0 where
   pub call : DoesCall listens comes s r t
@@ -88,8 +88,8 @@ pub record DoesInOrder {A T H G : Type 0} (listens : Bool) (c : Component) (come
 abbrev pub may_pause : {A : Type 0} → Result (Step A) TaskError → Result (Step A) TaskError
 may_pause a = a
 
--- The running thread did the op in place of the one at its place, and what that came to is answered as its label is read: at once, or
--- maybe by a pause.
+-- The running thread did the op in place of the one at its place, and what that resulted in is answered as its label is read: at
+-- once, or maybe by a pause.
 abbrev pub DoesHostOp : {A R T H G : Type 0} → Bool → Component → Op → (to : Result R TaskError → Result (Step A) TaskError) →
     (read : OpAnswer → A) → DoesOn R T H G
 DoesHostOp listens c o to read s r t =
@@ -176,7 +176,7 @@ StartsCall listens id s r t =
     (λ a u.
     (a ≡ Ok step.Pause) × IfSome (running_of s.state) (λ n. u ≡ with_current None (with_core (starts_in n id s.state) s.state))) s r t
 
--- the call that was prepared stands then as one whose start was queued at once
+-- the call that was prepared is then as one whose start was queued at once
 abbrev pub BeginsWhole : QualifiedThreadId → StateView → StateView → Type 0
 BeginsWhole id s t =
     (c : Component) (n : ℕ) (e : Callee) (words : List ℕ) (g : Goal) (u : StateView) → running_of s ≡ Some n →
@@ -196,8 +196,8 @@ GoesOn listens c s r t =
 
 -- ---- Methods that call a host
 
--- The running thread called a host whose work the store holds until it ends, by this row, and what that came to is answered as its label is
--- read. Nothing but the host's value, the state, the listeners and the works is changed.
+-- The running thread called a host whose work the store holds until it ends, by this row, and what that resulted in is answered as
+-- its label is read. Nothing but the host's value, the state, the listeners and the works is changed.
 pub record CallsHost {A R T H G : Type 0} (listens : Bool) (course : H → HostDef) (c : Component) (row : ℕ → Choice → Progress)
     (to : Result R TaskError → Result (Step A) TaskError) (read : OpAnswer → A) (s : Store T H G) (r : Result R TaskError) (t : Store T H G) :
     Type 0 where

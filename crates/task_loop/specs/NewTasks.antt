@@ -1,4 +1,4 @@
--- What a call whose thread is New comes to before the groups that have ended are told of.
+-- What a call whose thread is New results in before the groups that have ended are told of.
 use Rattle.state_calls.specs.declared.name_calls.QualifiedThreadId.{QualifiedThreadId}
 use Rattle.std.specs.Prelude.{Bool, Err, Ok, Option, ℕ}
 use Rattle.task_calls.specs.Tasks.{Begins}

@@ -55,7 +55,7 @@ abbrev pub yields_at : State → (passes : Bool) → (since : ℕ) → List Labe
 yields_at t passes since ls steps =
     (length ls == steps) || yields_before (passes_after passes ls) (since_after since ls) (next_mark t.turn t.core)
 
--- what a poll answers that has come to this state with these labels; nothing where it goes on
+-- what a poll answers that has resulted in this state with these labels; nothing if it goes on
 abbrev pub poll_answer : Setting → State → (passes : Bool) → (since : ℕ) → List Label → (steps : ℕ) → Option (Result RunPoll TaskError)
 poll_answer x t passes since ls steps = or_paused (last_answer ls) (is_at_rest x t) (yields_at t passes since ls steps)
 
@@ -75,7 +75,7 @@ abbrev pub since_left : Result RunPoll TaskError → ℕ → ℕ
 since_left (Ok poll.Yielded) since = 0
 since_left _ since = since
 
--- The same of a drive that came to this: where the steps were used up it has yielded last, and one that is over is polled no more.
+-- A drive that ended so: where the steps were used up it has yielded last, and one that is over is polled no more.
 abbrev pub since_left_by : Outcome → ℕ → ℕ
 since_left_by outcome.Idle since = since
 since_left_by _ since = 0

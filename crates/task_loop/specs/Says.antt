@@ -15,7 +15,7 @@ pub record Says (M : Type 0) : Type 1 where
   pub suits : M → Component → Type 0
   -- what it knows of the store, as that the works that it spawned were made there
   pub knows : M → StateView → Type 0
-  -- what it says of a step that came to this: of itself and of the core, before the step and after it
+  -- what it says of a step that resulted in this: of itself and of the core, before the step and after it
   pub does : M → Core → MainStep → M → Core → Type 0
 
 -- what a main says that is no script

@@ -57,7 +57,7 @@ abbrev pub TurnsAnyhow : Turn → (s t : StateView) → StepResult → (before a
 TurnsAnyhow p s t q before after =
     Added (λ made. (x : Setting) → (m : Main) → PendsIn x s.core m p → Turns x p m s made m t) q before after
 
--- an entry was taken in this turn, or it was seen that nothing stands
+-- an entry was taken in this turn, or it was seen that nothing is there
 abbrev pub Takes : Component → (trap_on_idle ended : Bool) → StateView → Option StepResult → StateView → (before after : List Label) → Type 0
 Takes c b ended s q t before after = AddedOrNone (λ made. TurnedBeside c b (turn.Take ended) s made t) q before after × KeepsWorks s t
 

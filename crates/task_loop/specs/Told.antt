@@ -42,7 +42,7 @@ abbrev pub turn_of : StepResult → Turn
 turn_of (stepped.Continues p computed) = p
 turn_of (stepped.Over o) = turn.Over
 
--- the group of the thread that runs at this turn, as long as it is known; default: 0
+-- the group of the thread that runs at this turn, as long as it is tracked; default: 0
 abbrev pub group_running : StateView → Turn → ℕ
 group_running s p = running_in s.tags.tracked s.core p
 
@@ -82,7 +82,7 @@ groups_before_run running = record { running = running; worked = None }
 abbrev pub groups_before_call : StateView → GroupsBefore
 groups_before_call s = groups_before_run (current_group s)
 
--- ---- What a step or a call tells before which this was asked, and which has left the state t; then the core was asked which groups have
+-- ---- What a step or a call tells before which these were the groups, and which has left the state t; then the core was asked which groups have
 -- ---- ended, and u is the state
 
 -- the old group is left and the new one entered, and those that have ended finish
@@ -133,7 +133,7 @@ pub record TellsOut {A E : Type 0} (a : GroupsBefore) (answer : Result A E) (t u
 abbrev pub refused_by_hook : {A : Type 0} → Result A TaskError
 refused_by_hook = Err (task_error.Trap trap.HookFailed)
 
--- The hook answered no error: what the call came to is answered.
+-- The hook answered no error: what the call resulted in is answered.
 pub record HookAnswersOk {A : Type 0} (a : GroupsBefore) (answer r : Result A TaskError) (t u : StateView) (old new : Listeners) : Type 0 where
   pub hook_is_ok : AnsweredErr old new → ⊥
   pub answers : r ≡ answer
@@ -161,8 +161,8 @@ start_of_group s = told_of notice.Start (s.made.groups + 1)
 abbrev pub finish_of_group : Core → Notice
 finish_of_group s = told_of notice.Finish (s.made.groups + 1)
 
--- The hook answered an error to a start: as the next group started, or as it finished again, since memory was wanting for the call. Then
--- all groups finished.
+-- The hook answered an error to a start: as the next group started, or as it finished again, since it was out of memory for the
+-- call. Then all groups finished.
 pub record StartFails (s : Core) (old new : Listeners) : Type 0 where
   pub between : Listeners
   pub stops : StopsAt (start_of_group s ∷ finish_of_group s ∷ []) old between

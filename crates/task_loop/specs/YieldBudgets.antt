@@ -14,7 +14,7 @@ use Rattle.task_machine.specs.declared.label.Label.{Label}
 use Rattle.task_machine.specs.declared.outcome.Outcome.{Outcome}
 use Rattle.task_turns.specs.Turn.{goes_on}
 
--- What a drive leaves that came to this with these labels: it yielded wherever a poll does, and was polled on.
+-- What a drive leaves that resulted in this with these labels: it yielded wherever a poll does, and was polled on.
 pub record LeavesYieldBudget (yield_budget : YieldBudget) (added : List Label) (o : Outcome) (yield_budget' : YieldBudget) : Type 0 where
   pub since : yield_budget'.since ≡ since_left_by o (since_driven yield_budget.passes yield_budget.since added)
   pub passes_on : yield_budget'.passes ≡ false

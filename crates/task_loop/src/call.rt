@@ -33,14 +33,14 @@ pub struct FuncCallConcurrent {
 }
 
 impl FuncCallConcurrent {
-    /// The number of the call's thread, by which labels name it.
+    /// Returns the number of the call's thread, by which labels name it.
     pub fn thread(&self) -> u64
         ensures { result ≡ self.now.thread }
     {
         self.thread
     }
 
-    /// The group of the call, which hooks on groups are told.
+    /// Returns the group of the call, which hooks on groups are told.
     pub fn group(&self) -> TaskGroupId
         ensures { result.number ≡ self.now.group }
     {
@@ -58,7 +58,7 @@ impl Func {
         }
     }
 
-    /// How many words the export takes, 0 to 16.
+    /// Returns how many words the export takes, 0 to 16.
     pub fn param_count(self, component: &Component) -> u32
         requires { IsSome (export_at component.now (callee_of self)) }
         ensures { IfSome (export_at component.now (callee_of self)) (λ e. result ≡ e.params) }
@@ -69,11 +69,10 @@ impl Func {
         }
     }
 
-    /// Starts a call by the host with as many words as the export takes. The call is queued, and
-    /// runs when a run on the store takes it. Refused with trap 20 exactly where the store is
-    /// trapped, else with trap 18 exactly where its four entries don't fit into the table, and else with
-    /// trap 22 exactly where the hook answered an error. Where it is refused, or memory is wanting, nothing
-    /// is made, and the store is trapped.
+    /// Starts a call by the host with as many words as the export takes. The call is queued, and runs when a run on the store takes
+    /// it. Refused with trap 20 exactly where the store is trapped, else with trap 18 exactly where its four entries don't fit into
+    /// the table, and else with trap 22 exactly where the hook answered an error. Where it is refused, or it is out of memory,
+    /// nothing is made, and the store is trapped.
     pub fn start_call_concurrent<T, H, G: TaskGroupHook>(
         self,
         component: &Component,
@@ -97,10 +96,10 @@ impl Func {
         }
     }
 
-    /// Starts a call by the host as `start_call_concurrent` does, but traps nothing: refused with trap 20
-    /// exactly where the store is trapped, else with trap 18 exactly where its four entries don't fit into
-    /// the table, and else with trap 22 exactly where the hook answered an error. Where it is refused, or
-    /// memory is wanting, all is as before, but for what a hook was told: the start of the group, and its finish.
+    /// Starts a call by the host as `start_call_concurrent` does, but traps nothing: refused with trap 20 exactly where the store
+    /// is trapped, else with trap 18 exactly where its four entries don't fit into the table, and else with trap 22 exactly where
+    /// the hook answered an error. Where it is refused, or it is out of memory, all is as before, but for what a hook was told: the
+    /// start of the group, and its finish.
     pub fn start_untrapped<T, H, G: TaskGroupHook>(
         self,
         component: &Component,
@@ -121,7 +120,7 @@ impl Func {
         }
     }
 
-    // The same where it isn't refused.
+    // Starts a call that isn't refused.
     fn start_fitting<T, H, G: TaskGroupHook>(
         self,
         component: &Component,
@@ -149,8 +148,8 @@ impl Func {
         })
     }
 
-    // The same where a hook is told. It is told of the group before the call is made, as it may refuse it. Where memory is
-    // wanting then, the group finishes at once.
+    // Makes the call if there is a hook. The hook is told of the group before the call is made, as it may refuse it. If it is out
+    // of memory then, the group finishes at once.
     fn start_hooked<T, H, G: TaskGroupHook>(
         self,
         component: &Component,
@@ -181,8 +180,8 @@ impl Func {
         }
     }
 
-    /// The result of a call that has returned; pending where it hasn't, and then nothing is
-    /// changed. A call is finished once.
+    /// Returns the result of a call that has returned; pending where it hasn't, and then nothing is changed. A call is finished
+    /// once.
     pub fn finish_call_concurrent<T, H, G: TaskGroupHook>(
         self,
         store: &mut Store<T, H, G>,

@@ -27,7 +27,7 @@ pub struct CallConcurrent {
 }
 
 impl Func {
-    /// A call of the export with as many words as it takes. Nothing is started before the first poll.
+    /// Returns a call of the export with as many words as it takes. Nothing is started before the first poll.
     pub fn call_concurrent(
         self,
         alloc: Global,

@@ -12,7 +12,7 @@ use task_calls::TaskError;
 use task_group::{Listeners, TaskGroupHook, TaskGroupId};
 use task_machine::{NoticeKind, Trap};
 
-/// What is asked before a call.
+/// Returns what is asked before a call.
 pub(crate) fn asked(core: &TaskCore) -> GroupsBefore
     ensures { result ≡ groups_before_call core.now }
 {
@@ -22,9 +22,9 @@ pub(crate) fn asked(core: &TaskCore) -> GroupsBefore
     }
 }
 
-/// Tells what a call gives, before which this was asked, as the loop tells what a step gives. It hands on what the call answers, or
-/// refusal 22 where the hook answered an error. It takes time that doesn't depend on the number of groups, but for those that
-/// have ended.
+/// Tells what a call gives, before which these were the groups, as the loop tells what a step gives. It hands on what the call
+/// answers, or refusal 22 if the hook answered an error. It takes time that doesn't depend on the number of groups, but for those
+/// that have ended.
 pub(crate) fn tell_call<G: TaskGroupHook, A: Drop>(
     core: &mut TaskCore,
     listeners: &mut Listeners<G>,
@@ -40,7 +40,7 @@ pub(crate) fn tell_call<G: TaskGroupHook, A: Drop>(
     answer
 }
 
-/// The same of a call that is refused.
+/// Returns the same of a call that is refused.
 pub(crate) fn tell_refused<G: TaskGroupHook, A: Drop>(
     core: &mut TaskCore,
     listeners: &mut Listeners<G>,

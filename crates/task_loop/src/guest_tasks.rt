@@ -52,8 +52,8 @@ fn make_with_group<T, H, G: TaskGroupHook>(
     Ok(id)
 }
 
-// The same where a hook is told. It is told of the group before the call is made, as it may refuse it. Where memory is wanting then,
-// the group finishes at once.
+// Makes the call if there is a hook. The hook is told of the group before the call is made, as it may refuse it. If it is out of
+// memory then, the group finishes at once.
 fn make_hooked<T, H, G: TaskGroupHook>(
     store: &mut Store<T, H, G>,
     kind: ExportKind,
@@ -115,7 +115,7 @@ fn make<T, H, G: TaskGroupHook>(
     }
 }
 
-// What was made is answered. In a trapped store all groups have ended, which is told then; it is refusal 22 where the hook answered an
+// What was made is answered. In a trapped store all groups have ended, which is told then; it is refusal 22 if the hook answered an
 // error to that.
 fn settle<G: TaskGroupHook>(
     core: &mut TaskCore,
@@ -136,13 +136,13 @@ fn settle<G: TaskGroupHook>(
     Ok(id)
 }
 
-/// Makes a call of this kind, of the first export of an instance, and answers its first thread, as `new_guest_task` of the
-/// store's state does. It is of the group of the caller's call, or of a new one where it has no caller, whose start is
-/// told; in a trapped store all groups are finished at once. Refused with trap 18 exactly where its entries, 3 or 4 with the group,
-/// don't fit into the table, and else with trap 22 exactly where the hook answered an error. Where it is refused, and where memory is
-/// wanting, nothing is made and as many groups are left, though a hook was told the start of the new one, and its finish where
-/// memory was wanting then; unless the hook answered its error to a finish in a trapped store. Without a hook nothing is told.
-/// However it ends, order is kept at whatever turn, for a component in which that export has this kind.
+/// Makes a call of this kind, of the first export of an instance, and answers its first thread, as `new_guest_task` of the store's
+/// state does. It is of the group of the caller's call, or of a new one where it has no caller, whose start is told; in a trapped
+/// store all groups are finished at once. Refused with trap 18 exactly where its entries, 3 or 4 with the group, don't fit into the
+/// table, and else with trap 22 exactly where the hook answered an error. Where it is refused, and if it is out of memory, nothing
+/// is made and as many groups are left, though a hook was told the start of the new one, and its finish if it was out of memory
+/// then; unless the hook answered its error to a finish in a trapped store. Without a hook nothing is told. However it ends, order
+/// is kept at whatever turn, for a component in which that export has this kind.
 pub fn new_guest_task<T, H, G: TaskGroupHook>(
     store: &mut Store<T, H, G>,
     kind: ExportKind,
@@ -160,7 +160,7 @@ pub fn new_guest_task<T, H, G: TaskGroupHook>(
     }
 }
 
-// The group of the thread that is to run, as long as it is known; 0 where none is.
+// The group of the thread that is to run, as long as it is tracked; 0 if none is.
 fn group_to_run(core: &TaskCore, thread: CurrentThread) -> u64
     ensures { result ≡ current_group (now_runs thread core.now) }
 {
@@ -170,10 +170,10 @@ fn group_to_run(core: &TaskCore, thread: CurrentThread) -> u64
     }
 }
 
-/// Another thread runs from now on, or none, and the thread that ran is answered, as `set_thread` of the store's state does. The
-/// exit from the one's group and the enter into the other's are told before that. Refused with trap 22 exactly
-/// where the hook answered an error, and then the store's state is as before. Order goes over from a turn of the one to a turn of
-/// the other, where that one may be resumed.
+/// Changes the thread that runs, or lets none run, and returns the thread that ran, as `set_thread` of the store's state does. The
+/// exit from the one's group and the enter into the other's are told before that. Refused with trap 22 exactly where the hook
+/// answered an error, and then the store's state is as before. Order goes over from a turn of the one to a turn of the other, where
+/// that one may be resumed.
 pub fn set_thread<T, H, G: TaskGroupHook>(
     store: &mut Store<T, H, G>,
     thread: CurrentThread,
@@ -191,7 +191,7 @@ pub fn set_thread<T, H, G: TaskGroupHook>(
     state_calls::set_thread(&mut store.state, thread)
 }
 
-// The group of the thread that runs once this one has ended, 0 where none does.
+// The group of the thread that runs once this one has ended, 0 if none does.
 fn group_left(core: &TaskCore, thread: ThreadId) -> u64
     ensures { result ≡ group_left (thread_of core.now thread) core.now }
 {

@@ -28,11 +28,11 @@ fn settle<T, H: AccessorTask<T>, G: TaskGroupHook, A>(
 }
 
 impl Instance {
-    /// Calls a host, whose work is polled once: the packed status is answered. It is Returned where the work has
-    /// ended, and its value goes to the register, from 0 to 15; else Started, with the handle of the subtask, and the
-    /// store holds the work and polls it until it ends. Refused, after the poll, by the work's failure; with trap 18
-    /// where an entry more doesn't fit into the table; and with trap 17 where no handle may be given. Where memory is
-    /// wanting, the call isn't made, and the work, which may have been polled, is let go.
+    /// Calls a host, whose work is polled once: the packed status is answered. It is Returned where the work has ended, and its
+    /// value goes to the register, from 0 to 15; else Started, with the handle of the subtask, and the store holds the work and
+    /// polls it until it ends. Refused, after the poll, by the work's failure; with trap 18 if an entry more doesn't fit into the
+    /// table; and with trap 17 if no handle may be given. If it is out of memory, the call isn't made, and the work, which may have
+    /// been polled, is let go.
     pub fn first_poll<T, H: AccessorTask<T>, G: TaskGroupHook>(
         self,
         component: &Component,
@@ -59,11 +59,10 @@ impl Instance {
         tell_call(&mut store.state, &mut store.listeners, &before, answer)
     }
 
-    /// Calls a host and waits for its value: the work is polled once, and the value is answered where it has ended.
-    /// Else the strand stops, and the store holds the work and polls it until it ends; then `go_on` answers the value.
-    /// Refused, after the poll, by the work's failure; with trap 18 where an entry more doesn't fit into the table;
-    /// and with trap 9 where the thread may not block. Where memory is wanting, the call isn't made, and the work, which
-    /// may have been polled, is let go.
+    /// Calls a host and waits for its value: the work is polled once, and the value is answered where it has ended. Else the strand
+    /// stops, and the store holds the work and polls it until it ends; then `go_on` answers the value. Refused, after the poll, by
+    /// the work's failure; with trap 18 if an entry more doesn't fit into the table; and with trap 9 if the thread may not block.
+    /// If it is out of memory, the call isn't made, and the work, which may have been polled, is let go.
     pub fn poll_and_block<T, H: AccessorTask<T>, G: TaskGroupHook>(
         self,
         component: &Component,

@@ -23,11 +23,11 @@ pub struct Instance {
 }
 
 impl Instance {
-    /// `task.return`: the task of the current thread, which is of this instance, ends as returned
-    /// with the value, and the thread goes on after its op. The type, the encoding and the memory
-    /// are those of the lifted function where all three are 0. Refused with trap 1 exactly where the
-    /// task has ended, and else with trap 3 where they aren't 0 or the function isn't async-lifted, and else with
-    /// trap 19 where the task still lends something (`call_context` of the state). Nothing is changed then.
+    /// Does `task.return`: the task of the current thread, which is of this instance, ends as returned with the value, and the
+    /// thread goes on after its op. The type, the encoding and the memory are those of the lifted function where all three are 0.
+    /// Refused with trap 1 exactly where the task has ended, and else with trap 3 where they aren't 0 or the function isn't
+    /// async-lifted, and else with trap 19 if the task still lends something (`call_context` of the state). Nothing is changed
+    /// then.
     pub fn task_return<T, H, G: TaskGroupHook>(
         self,
         component: &Component,
@@ -65,8 +65,8 @@ impl Instance {
         tell_call(&mut store.state, &mut store.listeners, &before, answer)
     }
 
-    /// The task ends as cancelled, once a cancel request was delivered to it. Refused with trap 2 where none was, else
-    /// with trap 1 where the task has ended, and else with trap 19 where it still lends something. Nothing is changed then.
+    /// Ends the task as cancelled, once a cancel request was delivered to it. Refused with trap 2 if none was, else with trap 1 if
+    /// the task has ended, and else with trap 19 if it still lends something. Nothing is changed then.
     pub fn task_cancel<T, H, G: TaskGroupHook>(
         self,
         component: &Component,
@@ -88,8 +88,8 @@ impl Instance {
         tell_call(&mut store.state, &mut store.listeners, &before, answer)
     }
 
-    /// The count of the instance's backpressure is raised or lowered; falling to 0 it releases the held threads
-    /// that are admitted then. Refused with trap 10 where it would leave 0 to 65535.
+    /// Raises or lowers the count of the instance's backpressure; falling to 0 it releases the held threads that are admitted then.
+    /// Refused with trap 10 if it would leave 0 to 65535.
     pub fn backpressure_modify<T, H, G: TaskGroupHook>(
         self,
         component: &Component,

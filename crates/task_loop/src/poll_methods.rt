@@ -12,7 +12,7 @@ use task_group::TaskGroupHook;
 use task_machine::{Component, Outcome, Trap, Turn};
 use task_store::{AccessorTask, FromHost, Store};
 
-/// What a poll of a run has come to, where the run has neither trapped nor failed.
+/// What a poll of a run has resulted in, where the run has neither trapped nor failed.
 #[derive(Clone, Copy)]
 pub enum RunPoll {
     /// Main has answered this.
@@ -48,9 +48,9 @@ impl RunConcurrent {
     /// yielded, and where it has added `steps` labels. After the first two of these the next poll begins with the entry that is next
     /// then. Entries that `drive` took count too.
     ///
-    /// What is asked of the store and of main is as for `drive`; and so is what is said where memory is wanting, and what is
-    /// told of groups. Where the hook that is told of them answers an error, the poll answers trap 22, as `drive` does, and leaves
-    /// the same.
+    /// What is asked of the store and of main is as for `drive`; and so is what is said if it is out of memory, and what is told of
+    /// groups. Where the hook that is told of them answers an error, the poll answers trap 22, as `drive` does, and leaves the
+    /// same.
     pub fn poll<T, H: AccessorTask<T> + FromHost, G: TaskGroupHook, M: MainTask<T, H, G>>(
         &mut self,
         component: &Component,

@@ -37,9 +37,8 @@ pub struct RunConcurrent {
     pub(crate) yield_budget: YieldBudget,
 }
 
-/// Begins a run on a store, with main. `trap_on_idle` says that the run ends as a deadlock where
-/// nothing can go on and main waits. Refused with trap 21 exactly where a run stands on the store,
-/// which isn't trapped by that, nor changed.
+/// Begins a run on a store, with main. `trap_on_idle` says that the run ends as a deadlock where nothing can go on and main waits.
+/// Refused with trap 21 exactly where a run is active on the store, which isn't trapped by that, nor changed.
 pub fn run_concurrent<T, H, G: TaskGroupHook>(
     store: &mut Store<T, H, G>,
     trap_on_idle: bool,
@@ -74,7 +73,7 @@ pub(crate) enum Halt {
 /// At what the turns stop, if nothing is wrong.
 #[derive(Clone, Copy)]
 pub(crate) enum Stop {
-    /// The run has come to this.
+    /// The run has ended so.
     Ends(Outcome),
     /// A turn has ended in which live works were polled, and nothing was queued.
     Rests,
@@ -144,8 +143,8 @@ fn step_main<T, H: HostWork, G: TaskGroupHook, M: MainTask<T, H, G>>(
     Ok(stepped)
 }
 
-// The running thread, which has this number, does its op, which calls a host: that is polled, and its work is held. It is out
-// of line, as few ops do so.
+// Has the running thread, which has this number, do its op, which calls a host: that is polled, and its work is held. It is a
+// function of its own, as few ops do so.
 #[inline(never)]
 fn call_host_outlined<T, H: AccessorTask<T> + FromHost, G: TaskGroupHook>(
     component: &Component,
@@ -168,7 +167,7 @@ fn call_host_outlined<T, H: AccessorTask<T> + FromHost, G: TaskGroupHook>(
     put(trace, ran.made)
 }
 
-// The same, in line: what comes of it is made room for only where a host is called.
+// Does the step in line: room for its answer is made only if a host is called.
 #[inline(always)]
 fn call_host<T, H: AccessorTask<T> + FromHost, G: TaskGroupHook>(
     component: &Component,
@@ -210,8 +209,8 @@ fn step_thread<T, H: AccessorTask<T> + FromHost, G: TaskGroupHook>(
     }
 }
 
-// The running thread, which has this number, takes a step. A host that it calls is polled, and its
-// work is held. It is told what the step gave of groups. `running` is the group of the thread that runs, as long as that is known.
+// The running thread, which has this number, takes a step. A host that it calls is polled, and its work is held. It is told what
+// the step gave of groups. `running` is the group of the thread that runs, as long as that is tracked.
 #[inline(always)]
 fn run_thread<T, H: AccessorTask<T> + FromHost, G: TaskGroupHook>(
     component: &Component,
@@ -293,7 +292,7 @@ fn poll_work<T, H: AccessorTask<T> + FromHost, G: TaskGroupHook>(
     Ok(stepped)
 }
 
-// The next entry is taken, or it is seen that nothing stands. It is told what that gave of groups.
+// The next entry is taken, or it is seen that nothing is there. It is told what that gave of groups.
 #[inline(always)]
 fn take_entry<T, H: AccessorTask<T> + FromHost, G: TaskGroupHook>(
     component: &Component,
@@ -362,13 +361,12 @@ fn next_mark<P: Policy, T, H, G: TaskGroupHook>(store: &Store<T, H, G>, turn: Tu
 }
 
 impl RunConcurrent {
-    /// Goes on with the run until it is over, until it has added `steps` labels to the trace, or
-    /// until nothing can go on and that is no deadlock. The labels that it adds are those of a run
-    /// of the component machine from the store before to the store after, and the outcome is what
-    /// that run has come to. The labels of main among them are those of the steps that main did, in their order. Where
-    /// memory is wanting, the store is trapped, and the labels that were added are those of such a run to a state that is
-    /// lost. Whether a run stands on the store, whether it is concurrent and its number stay. The notices of that run are told,
-    /// in their order.
+    /// Goes on with the run until it is over, until it has added `steps` labels to the trace, or until nothing can go on and that
+    /// is no deadlock. The labels that it adds are those of a run of the component machine from the store before to the store
+    /// after, and the outcome is what that run has resulted in. The labels of main among them are those of the steps that main did,
+    /// in their order. If it is out of memory, the store is trapped, and the labels that were added are those of such a run to a
+    /// state that is lost. Whether a run is active on the store, whether it is concurrent and its number stay. The notices of that
+    /// run are told, in their order.
     ///
     /// Where the hook that is told of the groups answers an error, the outcome is trap 22, which adds no label of its own and
     /// comes by nothing else: the store is trapped, its groups are finished, and the run is over. The labels that were added are
@@ -378,15 +376,14 @@ impl RunConcurrent {
     /// or all of them where it was the error to a finish, and then that all groups finish of which no finish was told. Each error
     /// comes to that but those to the notices of a start of main which is refused by another trap: they are passed over.
     ///
-    /// It yields wherever `poll` does, and goes on. So entries that it took count for the next poll where it has come to
-    /// idleness, since the last of these yields. None counts where its steps were used up, since it has yielded then, nor
-    /// where the run is over. Where memory is wanting, the count is as before.
+    /// It yields wherever `poll` does, and goes on. So entries that it took count for the next poll where it has come to idleness,
+    /// since the last of these yields. None counts where its steps were used up, since it has yielded then, nor where the run is
+    /// over. If it is out of memory, the count is as before.
     ///
-    /// At most 2^60 numbers were given in the store, which is in order, as the component suits
-    /// main. The thread that runs in the store is the one that the last call on this run
-    /// left; at the first call none runs. The run isn't over. Where main pended in the last call,
-    /// its op pends still, which is so of each main that is no script. Where live works were polled,
-    /// one is left to be polled, and where one ended, an entry stands.
+    /// At most 2^60 numbers were given in the store, which is in order, as the component suits main. The thread that runs in the
+    /// store is the one that the last call on this run left; at the first call none runs. The run isn't over. Where main pended in
+    /// the last call, its op pends still, which is so of each main that is no script. Where live works were polled, one is left to
+    /// be polled, and where one ended, an entry is.
     pub fn drive<T, H: AccessorTask<T> + FromHost, G: TaskGroupHook, M: MainTask<T, H, G>>(
         &mut self,
         component: &Component,
@@ -496,7 +493,7 @@ impl RunConcurrent {
         Ok(self.ends::<P>(Outcome::OutOfSteps, true))
     }
 
-    // The turns end, as the run has come to this. No entry was taken by that.
+    // The turns end, as the run has ended so. No entry was taken by that.
     #[inline(always)]
     fn ends<P: Policy>(&mut self, outcome: Outcome, used_up: bool) -> Stop
         ensures stop { result ≡ Stop.Ends outcome }
@@ -509,8 +506,8 @@ impl RunConcurrent {
         Stop::Ends(outcome)
     }
 
-    // Makes a step, adds its label to the trace, and tells what it gave of groups; none where nothing can go on
-    // and that is no deadlock. `running` is the group of the thread that runs, 0 where none does. Where the turns stop, `why` says why.
+    // Makes a step, adds its label to the trace, and tells what it gave of groups; none where nothing can go on and that is no
+    // deadlock. `running` is the group of the thread that runs, 0 if none does. Where the turns stop, `why` says why.
     #[inline(always)]
     pub(crate) fn turn<T, H: AccessorTask<T> + FromHost, G: TaskGroupHook, M: MainTask<T, H, G>>(
         &self,
@@ -553,7 +550,7 @@ impl RunConcurrent {
         }
     }
 
-    /// Ends the run: it no longer stands on the store.
+    /// Ends the run: it no longer rests on the store.
     pub fn end<T, H, G: TaskGroupHook>(self, store: &mut Store<T, H, G>)
         ensures { store.new ≡ record store.old { running = false } }
     {

@@ -25,9 +25,9 @@ use task_store::Store;
 use task_words::View;
 
 impl Instance {
-    /// Asks a subtask to end, and answers its end: 2 or 4, 3 for a call whose start was withdrawn, or 4294967295
-    /// where it hasn't ended and `async_` is set; else the strand stops until the end comes. Where the callee is
-    /// to go on first, the strand stops, too. Refused with trap 16, 7, 5 and 9 as `cancel` and `cancel_sync` are.
+    /// Asks a subtask to end, and answers its end: 2 or 4, 3 for a call whose start was withdrawn, or 4294967295 if it hasn't ended
+    /// and `async_` is set; else the strand stops until the end comes. Where the callee is to go on first, the strand stops, too.
+    /// Refused with trap 16, 7, 5 and 9 as `cancel` and `cancel_sync` are.
     pub fn subtask_cancel<T, H, G: TaskGroupHook>(
         self,
         component: &Component,
@@ -47,9 +47,8 @@ impl Instance {
         tell_call(&mut store.state, &mut store.listeners, &before, answer)
     }
 
-    /// The subtask leaves its set, and its handle is gone. Refused with trap 16 where the handle names no
-    /// subtask, with trap 7 where it stands in the set of a sync call, and with trap 6 where it hasn't ended or
-    /// its end wasn't taken, in this order.
+    /// Takes the subtask out of its set, and frees its handle. Refused with trap 16 if the handle names no subtask, with trap 7 if
+    /// it is in the set of a sync call, and with trap 6 if it hasn't ended or its end wasn't taken, in this order.
     pub fn subtask_drop<T, H, G: TaskGroupHook>(
         self,
         component: &Component,
@@ -71,9 +70,9 @@ impl Instance {
         tell_call(&mut store.state, &mut store.listeners, &before, answer)
     }
 
-    /// A direct call's first half: the callee, of a sync or blocking export of an earlier instance, is made with as many
-    /// words as it takes, and its thread, which is answered, runs on top of the current one. Refused with trap 18 where
-    /// its three entries don't fit into the table, and else with trap 17 where no handle may be given.
+    /// Returns a direct call's first half: the callee, of a sync or blocking export of an earlier instance, is made with as many
+    /// words as it takes, and its thread, which is answered, runs on top of the current one. Refused with trap 18 where its three
+    /// entries don't fit into the table, and else with trap 17 if no handle may be given.
     pub fn enter_guest_sync_call<T, H, G: TaskGroupHook>(
         self,
         component: &Component,
@@ -94,10 +93,10 @@ impl Instance {
         tell_call(&mut store.state, &mut store.listeners, &before, answer)
     }
 
-    /// A direct call's second half, by its first thread: its task ends as returned with the value, the thread ends, and
-    /// the one under it runs; the caller's op is under way, and `go_on` takes it to its answer. Refused with trap 9
-    /// where the export is blocking and a check of its instance fails, and else with trap 19 where the task still lends
-    /// something (`call_context` of the state). Nothing is changed then.
+    /// Does a direct call's second half, by its first thread: its task ends as returned with the value, the thread ends, and the
+    /// one under it runs; the caller's op is under way, and `go_on` takes it to its answer. Refused with trap 9 if the export is
+    /// blocking and a check of its instance fails, and else with trap 19 if the task still lends something (`call_context` of the
+    /// state). Nothing is changed then.
     pub fn exit_guest_sync_call<T, H, G: TaskGroupHook>(
         self,
         component: &Component,
@@ -121,10 +120,10 @@ impl Instance {
         tell_call(&mut store.state, &mut store.listeners, &before, answer)
     }
 
-    /// A call's first half, of an export of an earlier instance: it is made with as many words as the callee takes, and
-    /// its first thread, which is New, is answered. The result of an async caller's call goes to the register, 0 to 15.
-    /// Refused with trap 18 exactly where its three entries don't fit into the table. Where it is refused, or memory is
-    /// wanting, nothing is changed.
+    /// Returns a call's first half, of an export of an earlier instance: it is made with as many words as the callee takes, and its
+    /// first thread, which is New, is answered. The result of an async caller's call goes to the register, 0 to 15. Refused with
+    /// trap 18 exactly where its three entries don't fit into the table. Where it is refused, or it is out of memory, nothing is
+    /// changed.
     pub fn prepare_call<T, H, G: TaskGroupHook>(
         self,
         component: &Component,
@@ -155,9 +154,9 @@ impl Instance {
         tell_call(&mut store.state, &mut store.listeners, &before, answer)
     }
 
-    /// A call's second half, of a call that the current thread has prepared: its start becomes the switch entry, and the
-    /// current thread goes behind the callee's, as `call` does where it begins. The strand has stopped, which is
-    /// answered; `go_on` takes the call further once the current thread is resumed.
+    /// Returns a call's second half, of a call that the current thread has prepared: its start becomes the switch entry, and the
+    /// current thread goes behind the callee's, as `call` does where it begins. The strand has stopped, which is answered; `go_on`
+    /// takes the call further once the current thread is resumed.
     pub fn start_call<T, H, G: TaskGroupHook>(
         self,
         component: &Component,

@@ -13,7 +13,7 @@ use task_store::finish_ended;
 use task_turns::StepResult;
 use task_words::{ThreadPrimitives, View};
 
-/// The group of the thread that runs, as long as it is known; 0 where none runs.
+/// Returns the group of the thread that runs, as long as it is tracked; 0 if none runs.
 #[inline(always)]
 pub(crate) fn group_now(core: &TaskCore) -> u64
     ensures { result ≡ current_group core.now }
@@ -24,7 +24,7 @@ pub(crate) fn group_now(core: &TaskCore) -> u64
     }
 }
 
-// The same of a thread that is known to be there: nothing is tested.
+// Tells the groups of a thread that is there by contract: nothing is tested.
 #[inline(always)]
 fn runner_group(core: &TaskCore) -> u64
     requires { RunnerThere core.now }
@@ -51,8 +51,8 @@ fn goes_on(thread: u64, stepped: &StepResult) -> bool
     }
 }
 
-/// Tells what a step or a call gave before which this was asked, and answers the group of the thread that runs after it, 0 where
-/// none does. An error is the hook's: after one to an exit or an enter the rest isn't told, and no group is forgotten.
+/// Tells what a step or a call gave before which these were the groups, and answers the group of the thread that runs after it, 0
+/// if none does. An error is the hook's: after one to an exit or an enter the rest isn't told, and no group is forgotten.
 #[inline(never)]
 pub(crate) fn tell_all<G: TaskGroupHook>(
     core: &mut TaskCore,
@@ -68,7 +68,7 @@ pub(crate) fn tell_all<G: TaskGroupHook>(
     Ok(group_now(core))
 }
 
-// The same where there is no hook. It is out of line, as few steps give more than a notice.
+// The same where there is no hook. It is a function of its own, as few steps give more than a notice.
 #[cold]
 #[inline(never)]
 fn tell_unhooked<G: TaskGroupHook>(
@@ -108,8 +108,8 @@ fn tell_step<G: TaskGroupHook>(
     tell_unhooked(core, listeners, asked)
 }
 
-/// Tells what a step gave before which no thread ran, and answers the group of the thread that runs after it, 0 where none
-/// does. `worked` is the group of the work that was worked on. An error is the hook's; after it the rest isn't told.
+/// Tells what a step gave before which no thread ran, and answers the group of the thread that runs after it, 0 if none does.
+/// `worked` is the group of the work that was worked on. An error is the hook's; after it the rest isn't told.
 #[inline(always)]
 pub(crate) fn tell_work<G: TaskGroupHook>(
     core: &mut TaskCore,
@@ -128,7 +128,7 @@ pub(crate) fn tell_work<G: TaskGroupHook>(
     Ok(tell_step(core, listeners, asked, after))
 }
 
-/// The same of a poll of a work, after which no thread runs.
+/// Returns the same of a poll of a work, after which no thread runs.
 #[inline(always)]
 pub(crate) fn tell_poll<G: TaskGroupHook>(
     core: &mut TaskCore,
@@ -159,8 +159,8 @@ fn group_after(core: &TaskCore, thread: u64, stepped: &StepResult, running: u64)
     runner_group(core)
 }
 
-/// Tells what a step of this thread gave, which is of the group `running`, and answers the group of the thread that runs after
-/// it, 0 where none does. An error is the hook's; after it the rest isn't told.
+/// Tells what a step of this thread gave, which is of the group `running`, and answers the group of the thread that runs after it,
+/// 0 if none does. An error is the hook's; after it the rest isn't told.
 #[inline(always)]
 pub(crate) fn tell_run<G: TaskGroupHook>(
     core: &mut TaskCore,

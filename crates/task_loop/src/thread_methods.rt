@@ -17,7 +17,7 @@ use task_machine::{Component, Op, Operand, ThreadOp};
 use task_store::Store;
 
 impl Instance {
-    /// The handle of the running thread.
+    /// Returns the handle of the running thread.
     pub fn thread_index<T, H, G: TaskGroupHook>(
         self,
         component: &Component,
@@ -36,9 +36,9 @@ impl Instance {
         tell_call(&mut store.state, &mut store.listeners, &before, answer)
     }
 
-    /// A thread more of the task, which isn't started, with the context in r0; answers its handle. Refused with
-    /// trap 13 where the slot has no line, with trap 14 where it is a bad one, with trap 18 where its two entries
-    /// don't fit into the table, and with trap 17 where no handle may be given, in this order. A slot above 255 is as 255.
+    /// Returns a thread more of the task, which isn't started, with the context in r0; answers its handle. Refused with trap 13 if
+    /// the slot has no line, with trap 14 if it is a bad one, with trap 18 where its two entries don't fit into the table, and with
+    /// trap 17 if no handle may be given, in this order. A slot above 255 is as 255.
     pub fn thread_new_indirect<T, H, G: TaskGroupHook>(
         self,
         component: &Component,
@@ -67,10 +67,10 @@ impl Instance {
         tell_call(&mut store.state, &mut store.listeners, &before, answer)
     }
 
-    /// The strand stops: its thread is suspended, or where it yields it has a low entry. A target that is to be
-    /// resumed becomes the switch entry; one to be promoted moves there, if it has yielded. Else a check comes
-    /// first, and where it fails a suspension is refused with trap 9 and a yield is done at once. Refused with
-    /// trap 16 where the target names no thread, and with trap 11 where it can't be resumed.
+    /// Stops the strand: its thread is suspended, or where it yields it has a low entry. A target that is to be resumed becomes the
+    /// switch entry; one to be promoted moves there, if it has yielded. Else a check comes first, and where it fails a suspension
+    /// is refused with trap 9 and a yield is done at once. Refused with trap 16 if the target names no thread, and with trap 11 if
+    /// it can't be resumed.
     pub fn suspension_intrinsic<T, H, G: TaskGroupHook>(
         self,
         component: &Component,
@@ -90,11 +90,11 @@ impl Instance {
         tell_call(&mut store.state, &mut store.listeners, &before, answer)
     }
 
-    /// The thread of this instance that the handle names goes on: next, where it has yielded and is to be promoted, or where it is
-    /// suspended or wasn't started; or later, as `resume_later` has it, and then that op is done. Else the current thread
-    /// goes on where it is, and may suspend or yield next. Answers false exactly where a thread that is to be promoted hasn't
-    /// yielded, and nothing is changed then. Refused with trap 16 where the handle names no thread, and with trap 11 where that
-    /// is the current one, or one that isn't to be promoted and is neither suspended nor unstarted; nothing is changed then.
+    /// Lets the thread of this instance that the handle names go on: next, where it has yielded and is to be promoted, or where it
+    /// is suspended or wasn't started; or later, as `resume_later` has it, and then that op is done. Else the current thread goes
+    /// on where it is, and may suspend or yield next. Answers false exactly where a thread that is to be promoted hasn't yielded,
+    /// and nothing is changed then. Refused with trap 16 if the handle names no thread, and with trap 11 if that is the current
+    /// one, or one that isn't to be promoted and is neither suspended nor unstarted; nothing is changed then.
     pub fn resume_thread<T, H, G: TaskGroupHook>(
         self,
         component: &Component,

@@ -22,7 +22,7 @@ impl Model for Trace {
 }
 
 impl Trace {
-    /// A trace with no label.
+    /// Makes a trace with no label.
     #[inline(always)]
     pub fn new(alloc: Global) -> Self
         ensures { result ≡ [] }
@@ -32,7 +32,7 @@ impl Trace {
         }
     }
 
-    /// The labels, the first one first.
+    /// Returns the labels, the first one first.
     #[inline(always)]
     pub fn labels(&self) -> Labels<'_>
         ensures { result ≡ self.now }

@@ -30,7 +30,7 @@ pub trait Words: Drop {
 
     ghost count: { (params : Self) → length (words params) ≡ COUNT };
 
-    /// The word at a place, from 0.
+    /// Returns the word at a place, from 0.
     fn word(&self, i: u32) -> u64
         requires { i < COUNT }
         ensures { Some result ≡ slice_get (words self.now) i };
@@ -40,7 +40,7 @@ pub trait Words: Drop {
 pub trait FromWord: Drop {
     ghost from: { ℕ → Self };
 
-    /// The result that the word stands for.
+    /// Makes the result that the word represents.
     fn from_word(w: u64) -> Self
         ensures { result ≡ from w };
 }
@@ -62,7 +62,7 @@ pub struct TypedFuncCallConcurrent<P, R> {
 }
 
 impl<P, R> TypedFuncCallConcurrent<P, R> {
-    /// The group of the call.
+    /// Returns the group of the call.
     pub fn group(&self) -> TaskGroupId
         ensures { result.number ≡ self.now.call.group }
     {
@@ -83,7 +83,7 @@ fn words_of<P: Words>(params: &P) -> [u64; 16]
 }
 
 impl<P: Words, R: FromWord> TypedFunc<P, R> {
-    /// The function as one with typed parameters and a typed result.
+    /// Makes the function as one with typed parameters and a typed result.
     pub fn new(func: Func) -> Self
         ensures { result.func ≡ func }
     {
@@ -122,11 +122,10 @@ impl<P: Words, R: FromWord> TypedFunc<P, R> {
         }
     }
 
-    /// Starts a call by the host, as that of `Func` does, with the words of the parameters. Refused with
-    /// trap 20 exactly where the store is trapped, and else with trap 18 exactly where its four entries
-    /// don't fit into the table, and else with trap 22 exactly where the hook that is told of the group answers an error.
-    /// Where it is refused, or memory is wanting, all is as before but for what was told of the group, as of `Func`'s: the store
-    /// isn't trapped by that.
+    /// Starts a call by the host, as that of `Func` does, with the words of the parameters. Refused with trap 20 exactly where the
+    /// store is trapped, and else with trap 18 exactly where its four entries don't fit into the table, and else with trap 22
+    /// exactly where the hook that is told of the group answers an error. Where it is refused, or it is out of memory, all is as
+    /// before but for what was told of the group, as of `Func`'s: the store isn't trapped by that.
     pub fn start_call_concurrent<T, H, G: TaskGroupHook>(
         &self,
         component: &Component,
@@ -145,8 +144,8 @@ impl<P: Words, R: FromWord> TypedFunc<P, R> {
         self.start_with(component, store, &params)
     }
 
-    /// The result of a call that has returned; pending where it hasn't, and then nothing is changed. A
-    /// call is finished once.
+    /// Returns the result of a call that has returned; pending where it hasn't, and then nothing is changed. A call is finished
+    /// once.
     pub fn finish_call_concurrent<T, H, G: TaskGroupHook>(
         &self,
         store: &mut Store<T, H, G>,
@@ -163,7 +162,7 @@ impl<P: Words, R: FromWord> TypedFunc<P, R> {
         }
     }
 
-    /// A call with these parameters. Nothing is started before the first poll.
+    /// Returns a call with these parameters. Nothing is started before the first poll.
     pub fn call_concurrent(self, params: P) -> TypedCallConcurrent<P, R>
         ensures func { result.func ≡ self }
         ensures params { result.params ≡ params }

@@ -13,8 +13,8 @@ use task_machine::{Component, Op, Operand, SetOp};
 use task_store::Store;
 
 impl Instance {
-    /// A new set of the instance; answers its handle. Refused with trap 18 where its entry doesn't fit into
-    /// the table, and else with trap 17 where no handle may be given.
+    /// Returns a new set of the instance; answers its handle. Refused with trap 18 where its entry doesn't fit into the table, and
+    /// else with trap 17 if no handle may be given.
     pub fn waitable_set_new<T, H, G: TaskGroupHook>(
         self,
         component: &Component,
@@ -33,8 +33,8 @@ impl Instance {
         tell_call(&mut store.state, &mut store.listeners, &before, answer)
     }
 
-    /// The set and its handle are gone. Refused with trap 16 where the handle names no set, with trap 8 where
-    /// a thread waits on it or has an entry for it, and with trap 25 where a member is left, in this order.
+    /// Removes the set and its handle. Refused with trap 16 if the handle names no set, with trap 8 if a thread waits on it or has
+    /// an entry for it, and with trap 25 if a member is left, in this order.
     pub fn waitable_set_drop<T, H, G: TaskGroupHook>(
         self,
         component: &Component,
@@ -59,9 +59,8 @@ impl Instance {
         tell_call(&mut store.state, &mut store.listeners, &before, answer)
     }
 
-    /// The task's own event, else that of a ready member of the set (the least one, as `first_ready` of `place_words`
-    /// picks it), is taken: its code, handle and result; 0, 0, 0 where nothing is there. Refused with trap 16 where the
-    /// handle names no set.
+    /// Returns the task event, else that of a ready member of the set (the least one, as `first_ready` of `place_words` picks it),
+    /// is taken: its code, handle and result; 0, 0, 0 where nothing is there. Refused with trap 16 if the handle names no set.
     pub fn waitable_set_poll<T, H, G: TaskGroupHook>(
         self,
         component: &Component,
@@ -87,7 +86,7 @@ impl Instance {
         tell_call(&mut store.state, &mut store.listeners, &before, answer)
     }
 
-    /// As `waitable_set_poll`, but where nothing is there the strand stops until an event comes; `go_on` takes
+    /// Takes an event of the set as `waitable_set_poll` does, but if there is none the strand stops until one comes; `go_on` takes
     /// it further then. Refused with trap 16, and where the strand would have to stop and may not, with trap 9.
     pub fn waitable_set_wait<T, H, G: TaskGroupHook>(
         self,
@@ -114,9 +113,9 @@ impl Instance {
         tell_call(&mut store.state, &mut store.listeners, &before, answer)
     }
 
-    /// The waitable leaves its set and joins the other one, or none where that is 0; if it has an event, a
-    /// waiter of the new set is woken. Refused with trap 16 where one of the two names nothing, and with trap 7
-    /// where the waitable stands in the set of a sync call.
+    /// Takes the waitable out of its set and joins it to the other one, or to none if that is 0; if it has an event, a waiter of
+    /// the new set is woken. Refused with trap 16 where one of the two names nothing, and with trap 7 if the waitable is in the set
+    /// of a sync call.
     pub fn waitable_join<T, H, G: TaskGroupHook>(
         self,
         component: &Component,

@@ -17,7 +17,7 @@ pub record NameTable (X : Type 0) : Type 0 where
   pub live : Records X
   pub freed : List ℕ
 
--- What is to be taken. At switch only a thread stands; at low only threads stand.
+-- What is to be taken. At switch only a thread is; at low only threads are.
 pub record Queues : Type 0 where
   pub switch : Option ℕ
   pub high : List Entry

@@ -32,7 +32,7 @@ abbrev pub join_label : ℕ → Option ℕ → Label
 join_label n None = label.Set (set.Join n)
 join_label n (Some w) = label.Set (set.JoinWakes n w)
 
--- Only a thread that takes its task's own event hands a wake on.
+-- Only a thread that takes its task event hands a wake on.
 abbrev pub own_given : Given → TaskEvent
 own_given given.Cancelled = own.Cancelled
 own_given _ = own.None

@@ -70,7 +70,7 @@ has_entry n es = list_any (is_entry_of n) es
 unfoldable pub unqueued : ℕ → Core → Core
 unqueued n s = if has_entry n s.queues.high then set_high (less n s.queues.high) s else set_low (less n s.queues.low) s
 
--- the thread's entry moves to switch, where none stands; all others keep their order
+-- the thread's entry moves to switch, where none is there; all others keep their order
 unfoldable pub promoted : ℕ → Core → Core
 promoted n s = set_switch (Some n) (stand n mark.Switch (why_of n s) (unqueued n s))
 
@@ -127,7 +127,7 @@ abbrev pub resumed_callers : List ℕ → Core → Core
 resumed_callers [] s = s
 resumed_callers (n ∷ ns) s = resumed_all (older n ns) (put_switch (newest n ns) why.Resumption s)
 
--- these callers go behind the foot of the entry at switch, if one stands there; else they are resumed
+-- these callers go behind the foot of the entry at switch, if one is there; else they are resumed
 abbrev pub passed_on : Option ℕ → List ℕ → Core → Core
 passed_on (Some m) ns s = behind (foot_of m s) ns s
 passed_on None ns s = resumed_callers ns s
@@ -181,13 +181,13 @@ may_publish sub w s = may_wake_joined (join_of sub s) w s
 
 -- ---- Give
 
--- What a task is given: its own event, that of a member, or nothing.
+-- What a task is given: its task event, that of a member, or nothing.
 pub data PickedEvent : Type 0 where
   PickedTaskEvent : (event : TaskEvent) → PickedEvent
   PickedMember : (subtask : Subtask) → PickedEvent
   NothingPicked : PickedEvent
 
--- the task's own event, Cancelled only by callback
+-- the task event, Cancelled only by callback
 abbrev pub picked_task_event : Bool → Option TaskEvent → Option TaskEvent
 picked_task_event by_callback None = None
 picked_task_event by_callback (Some own.None) = Some own.None
@@ -206,11 +206,11 @@ abbrev pub picked_event_after_own : Option TaskEvent → ℕ → Option Subtask 
 picked_event_after_own (Some e) x chosen s = Some (PickedTaskEvent e)
 picked_event_after_own None x chosen s = if has_ready_member x s then picked_member x chosen s else Some NothingPicked
 
--- the own event, else the event of the chosen ready member of the set, else nothing; None where the choice isn't lawful
+-- the task event, else the event of the chosen ready member of the set, else nothing; None if the choice isn't lawful
 unfoldable pub picked_event : Bool → ℕ → ℕ → Option Subtask → Core → Option PickedEvent
 picked_event by_callback k x chosen s = picked_event_after_own (picked_task_event_of by_callback k s) x chosen s
 
--- the own event alone, by callback
+-- the task event alone, by callback
 abbrev pub own_or_nothing : Option TaskEvent → PickedEvent
 own_or_nothing None = NothingPicked
 own_or_nothing (Some e) = PickedTaskEvent e
@@ -238,7 +238,7 @@ given_for (PickedTaskEvent e) h s = given_own e
 given_for (PickedMember sub) h s = given.Subtask (unwrap_or (event_of sub s) status.Starting) h
 given_for NothingPicked h s = given.Nothing
 
--- a woken thread that takes the own event while a member is ready hands its wake on
+-- a woken thread that takes the task event while a member is ready hands its wake on
 abbrev pub hands_on : ℕ → PickedEvent → Core → Bool
 hands_on x (PickedTaskEvent e) s = has_ready_member x s
 hands_on x _ s = false
@@ -315,7 +315,7 @@ abbrev pub less_switch : ℕ → Option ℕ → Option ℕ
 less_switch n None = None
 less_switch n (Some m) = if n == m then None else Some m
 
--- the start of the call's first thread is withdrawn, wherever it stands
+-- the start of the call's first thread is withdrawn, wherever it is
 unfoldable pub withdrawn : ℕ → Core → Core
 withdrawn k s =
     let gone = remove_thread k (set_switch (less_switch k s.queues.switch) (unqueued k s)) in

@@ -1,4 +1,5 @@
--- The words that change a core: each one field of one record, one record made or taken away, or one handle given or taken back.
+-- The primitives that change a core: each one field of one record, one record made or taken away, or one handle given or taken
+-- back.
 use Rattle.std.specs.Prelude.{ℕ, ◌+◌, Bool, true, false, List, [], ◌∷◌, ◌++◌, Option, Some, filter, not, ◌==◌, slice_set}
 use Rattle.task_machine.specs.declared.words.TaskEvent.{TaskEvent}
 use Rattle.task_machine.specs.declared.words.Phase.{Phase}

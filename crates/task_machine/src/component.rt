@@ -31,7 +31,7 @@ pub struct ExportDef {
     pub react: Seq<Op>,
 }
 
-/// What stands in one of an instance's 16 places for thread scripts.
+/// What is in one of an instance's 16 places for thread scripts.
 #[derive(Drop)]
 pub enum Slot {
     /// Nothing.

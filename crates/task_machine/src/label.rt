@@ -1,7 +1,6 @@
-//! The labels of which a trace is made: one for each row of what a step may be. Each has what its
-//! printed form shows, which stands above it: threads N, M and W and works I by their numbers,
-//! starts and spawns K by their lines, from 1. Of these parts the small ones stand first, so that
-//! a label has 32 bytes; the others stand in the order in which they are printed.
+//! The labels of which a trace is made: one for each row of what a step may be. Each has what its printed form shows, which is
+//! above it: threads N, M and W and works I by their numbers, starts and spawns K by their lines, from 1. Of these parts the small
+//! ones are first, so that a label has 32 bytes; the others are in the order in which they are printed.
 
 use crate::trap::Trap;
 use crate::words::{Given, Mark, TaskEvent, Phase};
@@ -84,7 +83,7 @@ pub enum TakeLabel {
     Again(Mark, u64),
     /// `take M thread N event C H V`
     Event(Mark, Given, u64),
-    /// `take M thread N event C 0 0 wakes W`: the task's own event was taken, and the wake handed on.
+    /// `take M thread N event C 0 0 wakes W`: the task event was taken, and the wake handed on.
     EventWakes(Mark, TaskEvent, u64, u64),
     /// `take M push I`
     Push(Mark, u64),
@@ -145,7 +144,7 @@ pub enum SetLabel {
     Drop(u64),
     /// `thread N wait C H V`
     Wait(Given, u64),
-    /// `thread N wait C 0 0 wakes W`: the task's own event was taken, and the wake handed on.
+    /// `thread N wait C 0 0 wakes W`: the task event was taken, and the wake handed on.
     WaitWakes(TaskEvent, u64, u64),
     /// `thread N poll C H V`
     Poll(Given, u64),

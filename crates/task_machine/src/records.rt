@@ -151,7 +151,7 @@ pub enum CallEnd {
     ReturnCancelled,
 }
 
-/// In which set a subtask is.
+/// Returns in which set a subtask is.
 #[derive(Clone, Copy)]
 pub enum Join {
     Nowhere,
@@ -281,11 +281,11 @@ pub enum Turn {
 pub enum NoticeKind {
     /// The group is made, with its first task.
     Start,
-    /// A thread of the group begins to run, or goes on.
+    /// Is told that a thread of the group begins to run, or goes on.
     Enter,
-    /// The thread of the group that ran has stopped.
+    /// Is told that the thread of the group that ran has stopped.
     Exit,
-    /// The last task of the group has ended.
+    /// Is told that the last task of the group has ended.
     Finish,
 }
 

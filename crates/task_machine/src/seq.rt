@@ -16,35 +16,35 @@ impl<T> Model for Seq<T> {
 impl<T> Seq<T> {
     ghost use Rattle.std.specs.Prelude.{◌≡◌, [], length};
 
-    /// The empty list.
+    /// Makes the empty list.
     pub fn new(alloc: Global) -> Self
         ensures { result ≡ [] }
     {
         Seq(Vec::new(alloc))
     }
 
-    /// The list of a vector's items; takes no memory.
+    /// Makes the list of a vector's items; takes no memory.
     pub fn from_vec(items: Vec<T>) -> Self
         ensures { result ≡ items.items }
     {
         Seq(items)
     }
 
-    /// The vector of the list's items; takes no memory.
+    /// Returns the vector of the list's items; takes no memory.
     pub fn into_vec(self) -> Vec<T>
         ensures { result.items ≡ self }
     {
         self.0
     }
 
-    /// How many items there are.
+    /// Returns how many items there are.
     pub fn len(&self) -> usize
         ensures { result ≡ length self.now }
     {
         self.0.len()
     }
 
-    /// The items, in order.
+    /// Returns the items, in order.
     pub fn as_slice(&self) -> &[T]
         ensures { result.now ≡ self.now }
     {
@@ -55,7 +55,7 @@ impl<T> Seq<T> {
 impl<T: Drop> Seq<T> {
     ghost use Rattle.std.specs.Prelude.{◌≡◌, [], ◌∷◌, ◌++◌, OnOk, OnErr};
 
-    /// Adds an item at the end; where memory is wanting, the list is as before.
+    /// Adds an item at the end; if it is out of memory, the list is as before.
     pub fn push(&mut self, item: T) -> Result<(), AllocError>
         ensures ok { OnOk result (self.new ≡ self.old ++ item ∷ []) }
         ensures err { OnErr result (self.new ≡ self.old) }

@@ -17,7 +17,7 @@ pub enum Trap {
     SubtaskCancelAfterTerminal,
     /// A drop of a subtask that hasn't ended, or whose end wasn't handed out.
     SubtaskDropNotResolved,
-    /// A waitable would stand in a set and in a sync call at once.
+    /// A waitable would be in a set and in a sync call at once.
     WaitableSyncAndAsync,
     /// A set was dropped on which a thread waits.
     WaitableSetDropHasWaiters,
@@ -58,7 +58,7 @@ pub enum Trap {
 }
 
 impl Trap {
-    /// The number by which reports name a trap, 1 to 25, in the order of the variants.
+    /// Returns the number by which reports name a trap, 1 to 25, in the order of the variants.
     pub fn number(self) -> u8
         ensures { result ≡ number_of self }
     {

@@ -1,5 +1,4 @@
-/// Where an entry stands that is to be taken: it is taken from switch first, then from high, then
-/// from low.
+/// Where an entry is that is to be taken: it is taken from switch first, then from high, then from low.
 #[derive(Clone, Copy, PartialEq, Eq)]
 pub enum Mark {
     Switch,
@@ -21,7 +20,7 @@ impl Status {
     ghost use Rattle.std.specs.Prelude.{◌≡◌, ◌↔◌, ◌<◌, ◌≤◌, None, IfSome};
     ghost use Rattle.task_machine.specs.Statuses.{status_code, packed_status};
 
-    /// The status as a number, from 0 to 4 in the order of the variants, as the component model's public standard gives it.
+    /// Returns the status as a number, from 0 to 4 in the order of the variants, as the component model's public standard gives it.
     pub fn number(self) -> u32
         ensures number { result ≡ status_code self }
         ensures bound { result ≤ 4 }
@@ -35,7 +34,8 @@ impl Status {
         }
     }
 
-    /// The number that a guest's call answers for a subtask with this status: the waitable's handle times 16, plus the status.
+    /// Returns the number that a guest's call answers for a subtask with this status: the waitable's handle times 16, plus the
+    /// status.
     ///
     /// A subtask that has returned has no waitable, and every other has one, whose handle is below 2^28. The form is that of the component model's public standard. It takes no memory.
     pub fn pack(self, waitable: Option<u32>) -> u32

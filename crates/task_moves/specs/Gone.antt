@@ -13,8 +13,8 @@ use Rattle.task_words.specs.StateView.{Lost, StateView, Tags, call_number, nothi
 abbrev pub lost_both : ℕ → ℕ → Lost
 lost_both n k = record nothing_lost { thread = n; call = k }
 
--- Each id that named something names it still, unless that is lost; what named the thread that is lost, or no thread, names none. The same
--- groups are known.
+-- Each id that named something names it still, unless that is lost; what named the thread that is lost, or no thread, names none.
+-- The same groups are tracked.
 pub record KeepsLive (lost : Lost) (old new : Tags) : Type 0 where
   pub threads : (id : TableId ThreadKey) → 0 < thread_number old id → thread_number old id ≢ lost.thread →
       thread_number new id ≡ thread_number old id

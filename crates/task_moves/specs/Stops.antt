@@ -28,7 +28,7 @@ pub record MayPass (f g : ℕ) (s : Core) : Type 0 where
   pub once : (k : ℕ) → times k (callers_of f s) ≤ 1
   pub alone : AreCallersAlone f s
 
--- A strand with foot f may stop: what stands at switch is of another strand.
+-- A strand with foot f may stop: what is at switch is of another strand.
 pub record MayStop (f : ℕ) (s : Core) : Type 0 where
   pub unqueued : AreCallersUnqueued f s
   pub alone : AreCallersAlone f s

@@ -19,7 +19,7 @@ fn exit_there<W: Primitives>(w: &mut W, explicit: bool, call: CallId)
     }
 }
 
-/// The thread of this call gives back its handle and is gone, and what that settles is done.
+/// Removes the thread of this call, frees its handle, and does what that settles.
 #[inline(always)]
 pub fn end_thread_in<W: Primitives>(w: &mut W, thread: ThreadId, call: CallId)
     requires live { 0 < thread_of (W.view w.old) thread }
@@ -48,7 +48,7 @@ pub fn end_known_in<W: Primitives>(w: &mut W, thread: ThreadId, call: CallId, ex
     settle_call(w, call);
 }
 
-/// The thread gives back its handle and is gone, and what that settles is done.
+/// Removes the thread, frees its handle, and does what that settles.
 #[inline(always)]
 pub fn end_thread<W: Primitives>(w: &mut W, thread: ThreadId)
     requires live { 0 < thread_of (W.view w.old) thread }

@@ -5,7 +5,7 @@ ghost use Rattle.task_words.specs.StateView.{thread_of};
 
 use task_words::{ThreadId, Primitives};
 
-// The way down a strand, out of line, since most threads are their strand's foot.
+// Walks down a strand, in a function of its own, since most threads are their strand's foot.
 #[tactic(auto, using(crate::proofs::FootLemmas::foot_at), unfolding(task_machine::specs::Read::foot_of))]
 #[inline(never)]
 fn way_down<W: Primitives>(w: &W, thread: ThreadId) -> ThreadId
@@ -24,7 +24,7 @@ fn way_down<W: Primitives>(w: &W, thread: ThreadId) -> ThreadId
     foot
 }
 
-/// The foot of a thread's strand.
+/// Returns the foot of a thread's strand.
 #[tactic(auto, using(crate::proofs::FootLemmas::foot_at), unfolding(task_machine::specs::Read::foot_of))]
 #[inline(always)]
 pub fn foot_of<W: Primitives>(w: &W, thread: ThreadId) -> ThreadId
@@ -38,7 +38,7 @@ pub fn foot_of<W: Primitives>(w: &W, thread: ThreadId) -> ThreadId
     }
 }
 
-/// The foot of the strand of a thread that nobody is under: the thread itself, with no look at its record.
+/// Returns the foot of the strand of a thread that nobody is under: the thread itself, with no look at its record.
 #[inline(always)]
 pub fn own_foot<W: Primitives>(w: &W, thread: ThreadId) -> ThreadId
     requires live { 0 < thread_of (W.view w.now) thread }

@@ -1,5 +1,5 @@
-//! The machine's moves over the words of a core: each has the name, the steps and the order of its
-//! definition, and its contract is that definition.
+//! The machine's moves over the primitives of a core: each has the name, the steps and the order of its definition, and its
+//! contract is that definition.
 #![tactic(auto)]
 
 mod ends;

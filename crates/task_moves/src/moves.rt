@@ -9,7 +9,7 @@ ghost use Rattle.task_words.specs.StateView.{on_core, thread_of};
 use task_machine::Mark;
 use task_words::{OpProgressId, PlaceId, ThreadId, WhyId, Primitives};
 
-/// A thread without an entry gets one at high.
+/// Queues an entry at high for a thread without one.
 #[tactic(auto, unfolding(task_machine::specs::Moves::put_high))]
 pub fn put_high<W: Primitives>(w: &mut W, thread: ThreadId, why: WhyId)
     requires live { 0 < thread_of (W.view w.old) thread }
@@ -21,7 +21,7 @@ pub fn put_high<W: Primitives>(w: &mut W, thread: ThreadId, why: WhyId)
     w.push_high(thread);
 }
 
-/// A thread without an entry gets one at low.
+/// Queues an entry at low for a thread without one.
 #[tactic(auto, unfolding(task_machine::specs::Moves::put_low))]
 #[inline(always)]
 pub fn put_low<W: Primitives>(w: &mut W, thread: ThreadId, why: WhyId)
@@ -57,7 +57,7 @@ fn displace<W: Primitives>(w: &mut W)
     }
 }
 
-/// A thread without an entry gets the one at switch.
+/// Gives a thread without an entry the one at switch.
 #[tactic(auto, unfolding(task_machine::specs::Moves::put_switch))]
 #[inline(always)]
 pub fn put_switch<W: Primitives>(w: &mut W, thread: ThreadId, why: WhyId)
@@ -71,7 +71,7 @@ pub fn put_switch<W: Primitives>(w: &mut W, thread: ThreadId, why: WhyId)
     w.set_switch(Some(thread));
 }
 
-/// The entry of a thread moves to switch, where none stands.
+/// Moves the entry of a thread to switch, which is empty.
 #[tactic(auto, using(crate::proofs::MoveLemmas::promoted_is))]
 #[inline(always)]
 pub fn promote<W: Primitives>(w: &mut W, thread: ThreadId)
@@ -94,7 +94,7 @@ pub fn promote_unless<W: Primitives>(w: &mut W, thread: ThreadId)
     }
 }
 
-/// Whether a check of the instance passes.
+/// Returns whether a check of the instance passes.
 #[tactic(auto, unfolding(task_machine::specs::Moves::passes_check))]
 pub fn passes_check<W: Primitives>(w: &W, instance: u32) -> bool
     ensures { result ≡ passes_check instance (W.view w.now).core }
@@ -102,7 +102,7 @@ pub fn passes_check<W: Primitives>(w: &W, instance: u32) -> bool
     !w.may_not_suspend(instance) || w.switch().is_some() || w.first_entry(instance).is_some()
 }
 
-/// A check that passes: where the instance may not block, its first entry moves to switch.
+/// Passes a check: if the instance may not block, its first entry moves to switch.
 #[tactic(auto, unfolding(task_machine::specs::Moves::checked))]
 #[inline(always)]
 pub fn check<W: Primitives>(w: &mut W, instance: u32)

@@ -36,7 +36,7 @@ fn wake_joined<W: Primitives>(w: &mut W, join: JoinId, waiter: Option<ThreadId>)
     }
 }
 
-/// The waiter that is woken where a status of the subtask is published now.
+/// Returns the waiter that is woken where a status of the subtask is published now.
 #[tactic(auto, unfolding(task_machine::specs::Moves::may_publish))]
 pub fn publish_waiter<W: Primitives>(w: &W, subtask: SubtaskId) -> Option<ThreadId>
     requires { IsJoinThere (subtask_in (W.view w.now).tags subtask) (W.view w.now).core }
@@ -49,8 +49,7 @@ pub fn publish_waiter<W: Primitives>(w: &W, subtask: SubtaskId) -> Option<Thread
     waiter_of(w, join)
 }
 
-/// The subtask's event is replaced by the status. Who is blocked on it goes to high, and the chosen
-/// waiter of its set is woken.
+/// Replaces the subtask's event by the status. Who is blocked on it goes to high, and the chosen waiter of its set is woken.
 pub fn publish<W: Primitives>(w: &mut W, subtask: SubtaskId, status: Status, waiter: Option<ThreadId>)
     requires { CanPublish (subtask_in (W.view w.old).tags subtask) waiter (W.view w.old) }
     ensures { W.view w.new ≡ on_core (published (subtask_in (W.view w.old).tags subtask) status (option_map (λ id. thread_of (W.view w.old) id) waiter)) (W.view w.old) }

@@ -6,7 +6,7 @@ ghost use Rattle.task_words.specs.StateView.{call_of, lost_call, on_core};
 
 use task_words::{CallId, Primitives};
 
-/// A task that has exited and ended isn't interesting any more.
+/// Takes a task that has exited and ended out of those that the host waits for.
 #[tactic(auto, unfolding(task_machine::specs::Moves::interest_settled))]
 pub fn settle_interest<W: Primitives>(w: &mut W, call: CallId)
     ensures { W.view w.new ≡ on_core (interest_settled (call_of (W.view w.old) call)) (W.view w.old) }
@@ -16,7 +16,7 @@ pub fn settle_interest<W: Primitives>(w: &mut W, call: CallId)
     }
 }
 
-/// The call is deleted, if nothing keeps it.
+/// Deletes the call if nothing keeps it.
 #[tactic(auto, using(crate::proofs::MoveLemmas::no_thread_left, crate::proofs::MoveLemmas::keeps_all), unfolding(task_machine::specs::Moves::call_settled))]
 #[inline(always)]
 pub fn settle_call<W: Primitives>(w: &mut W, call: CallId)

@@ -34,7 +34,7 @@ fn pass_callers<W: Primitives>(w: &mut W, foot: ThreadId, other: ThreadId)
     }
 }
 
-// The newest caller of a foot goes to switch. It is out of line, as most strands have no callers.
+// The newest caller of a foot goes to switch. It is a function of its own, as most strands have no callers.
 #[cold]
 #[inline(never)]
 fn resume_newest<W: Primitives>(w: &mut W, newest: ThreadId)
@@ -45,7 +45,7 @@ fn resume_newest<W: Primitives>(w: &mut W, newest: ThreadId)
     put_switch(w, newest, WhyId::Resumption);
 }
 
-/// The strand with this foot stops.
+/// Stops the strand with this foot.
 #[inline(always)]
 pub fn stop<W: Primitives>(w: &mut W, foot: ThreadId)
     requires live { 0 < thread_of (W.view w.old) foot }

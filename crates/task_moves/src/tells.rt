@@ -12,7 +12,7 @@ use crate::publishes::{publish, publish_waiter};
 use task_machine::{CallEnd, Goal, Status};
 use task_words::{CallId, CallerId, SubtaskId, ThreadId, Primitives};
 
-/// Whether the call's statuses are told to its caller.
+/// Returns whether the call's statuses are told to its caller.
 pub fn is_told<W: Primitives>(w: &W, call: CallId) -> bool
     ensures { result ≡ is_told (call_of (W.view w.now) call) (W.view w.now).core }
 {
@@ -22,7 +22,7 @@ pub fn is_told<W: Primitives>(w: &W, call: CallId) -> bool
     }
 }
 
-/// The waiter that is woken where a status of the call is told now.
+/// Returns the waiter that is woken where a status of the call is told now.
 #[tactic(auto, unfolding(task_rules::specs::Ends::may_tell))]
 #[inline(always)]
 pub fn tell_waiter<W: Primitives>(w: &W, call: CallId) -> Option<ThreadId>
@@ -38,7 +38,7 @@ pub fn tell_waiter<W: Primitives>(w: &W, call: CallId) -> Option<ThreadId>
     }
 }
 
-/// A status of the call is told to its caller, unless main or a thread under it made the call.
+/// Tells the call's caller a status of the call, unless main or a thread under it made the call.
 #[tactic(auto, unfolding(task_rules::specs::Ends::told))]
 pub fn tell<W: Primitives>(w: &mut W, call: CallId, status: Status, waiter: Option<ThreadId>)
     requires { CanPublish (subtasks.Guest (call_of (W.view w.old) call)) waiter (W.view w.old) }
@@ -64,7 +64,7 @@ fn give_result<W: Primitives>(w: &mut W, goal: Goal, caller: CallerId, call: Cal
     }
 }
 
-/// The task ends as Returned with the value.
+/// Ends the task as Returned with the value.
 #[tactic(auto, unfolding(task_rules::specs::Ends::returned))]
 #[inline(always)]
 pub fn return_value<W: Primitives>(w: &mut W, call: CallId, value: u64, waiter: Option<ThreadId>)
@@ -79,7 +79,7 @@ pub fn return_value<W: Primitives>(w: &mut W, call: CallId, value: u64, waiter: 
     tell(w, call, Status::Returned, waiter);
 }
 
-/// The task ends as ReturnCancelled.
+/// Ends the task as ReturnCancelled.
 #[tactic(auto, unfolding(task_rules::specs::Ends::cancelled))]
 pub fn cancel_task<W: Primitives>(w: &mut W, call: CallId, waiter: Option<ThreadId>)
     requires { CanPublish (subtasks.Guest (call_of (W.view w.old) call)) waiter (W.view w.old) }

@@ -39,7 +39,7 @@ fn is_callback_waiter<W: Primitives>(w: &W, thread: ThreadId) -> bool
     }
 }
 
-/// The chosen waiter of the set is woken.
+/// Wakes the chosen waiter of the set.
 #[tactic(auto, unfolding(task_machine::specs::Moves::wake))]
 #[inline(always)]
 pub fn wake_chosen<W: Primitives>(w: &mut W, set: SetId, waiter: Option<ThreadId>)
@@ -53,7 +53,7 @@ pub fn wake_chosen<W: Primitives>(w: &mut W, set: SetId, waiter: Option<ThreadId
     }
 }
 
-/// A waiter of the set is woken, if there is one, and is answered.
+/// Wakes a waiter of the set, if there is one, and returns it.
 #[tactic(auto, unfolding(task_machine::specs::Moves::may_wake))]
 pub fn wake<W: Primitives>(w: &mut W, set: SetId) -> Option<ThreadId>
     requires named { 0 < set_of (W.view w.old) set }
@@ -66,8 +66,8 @@ pub fn wake<W: Primitives>(w: &mut W, set: SetId) -> Option<ThreadId>
     waiter
 }
 
-/// Who was woken for the set takes its task's own event: where a member is ready its wake goes on to
-/// another waiter, which is answered.
+/// Lets the thread that was woken for the set take its task event: where a member is ready its wake goes on to another waiter,
+/// which is answered.
 #[tactic(auto, unfolding(task_machine::specs::Moves::may_hand_on, task_machine::specs::Moves::handed_on))]
 pub fn hand_wake_on<W: Primitives>(w: &mut W, set: SetId) -> Option<ThreadId>
     requires named { 0 < set_of (W.view w.old) set }
@@ -82,7 +82,7 @@ pub fn hand_wake_on<W: Primitives>(w: &mut W, set: SetId) -> Option<ThreadId>
     }
 }
 
-/// Who is blocked on the subtask goes to high.
+/// Queues the thread that is blocked on the subtask at high.
 pub fn unblock<W: Primitives>(w: &mut W, subtask: SubtaskId)
     requires named { 0 < number_in (W.view w.old).tags subtask }
     requires unqueued { IsBlockedUnqueued (subtask_in (W.view w.old).tags subtask) (W.view w.old).core }
@@ -93,7 +93,7 @@ pub fn unblock<W: Primitives>(w: &mut W, subtask: SubtaskId)
     }
 }
 
-/// A thread that is behind nobody goes behind the foot of a strand.
+/// Puts a thread that is behind nobody behind the foot of a strand.
 #[tactic(auto, using(crate::proofs::MoveLemmas::behind_is, crate::proofs::MoveLemmas::behind_nobody_standing))]
 pub fn put_behind<W: Primitives>(w: &mut W, foot: ThreadId, thread: ThreadId)
     requires foot { 0 < thread_of (W.view w.old) foot }

@@ -186,6 +186,6 @@ pub first_found : {A : Type 0} (f : A → Bool) (at : ℕ → Option A) (ns : Li
 first_found f at ns i within is =
     ap (λ (ks : List ℕ). first_among f at ks) (drop-cons ns i 0 within) ∙ (hit_one f at (get_or ns i 0) (drop (suc i) ns) is ∙ sym (slice_get-get_or ns i 0 within))
 
--- the element that stands at the place before has this number
+-- the element that is at the place before has this number
 pub numbered_is : {A : Type 0} (xs : List A) (k : ℕ) (x : A) → 0 < k → k ≤ length xs → x ≡ get_or xs (k - 1) x → numbered xs k ≡ Some x
 numbered_is xs k x some few is = numbered_get xs k x some few ∙ ap (λ y. Some y) (sym is)

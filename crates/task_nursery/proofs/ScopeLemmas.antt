@@ -1,4 +1,4 @@
--- What a start in a scope comes to.
+-- What a start in a scope results in.
 use Rattle.std.proofs.Common.{ap, arith, inl, inr, refl, ⊎_elim, ◌∙◌}
 use Rattle.std.specs.Option.{option_and_then}
 use Rattle.std.specs.Prelude.{Bool, Err, List, Option, Result, Some, [], false, length, suc, true, zero, ℕ, ◌++◌, ◌<◌, ◌∷◌, ◌≡◌, ◌≤◌, ◌⊎◌}
@@ -36,7 +36,7 @@ module _ {T H G : Type 0} (c : Component) (f : Func) (words : List ℕ) (n : Sco
   pub left_alone : (ScopeBegins c f words n s r m t → ⊥) → t ≡ s
   left_alone none = ⊎_elim (λ b. absurd (none b)) (λ turned. turned.1) (op_result n.closed refl)
 
--- a start that is neither refused by the store nor in want of memory begins nothing
+-- a start that is neither refused by the store nor in lack of memory begins nothing
 pub begins_none : {T H G : Type 0} (c : Component) (f : Func) (words : List ℕ) (n : Scope) (s : Store T H G) (e : NurseryError) (m : Scope) (t : Store T H G) → ((why : Trap) → e ≡ errors.Trap why → ⊥) → (e ≡ errors.NoMemory → ⊥) →
     ScopeBegins c f words n s (Err e) m t → ⊥
 begins_none c f words n s errors.NoMemory m t trap memory begins = memory refl

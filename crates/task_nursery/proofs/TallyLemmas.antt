@@ -14,7 +14,7 @@ use Rattle.task_nursery.specs.Scope.{Tallies}
 use Rattle.task_nursery.specs.declared.children.Kept.{Kept}
 use Rattle.task_nursery.specs.declared.children.Kept.TheVariants as kept
 
--- the element of a number stands at the place before
+-- the element of a number is at the place before
 pub at_place : {A : Type 0} (xs : List A) (k : ℕ) (x : A) → numbered xs k ≡ Some x → slice_get xs (k - 1) ≡ Some x
 at_place xs zero x at = absurd (cc)
 at_place xs (suc i) x at = let place : i ≡ suc i - 1 = omega arith in subst (λ (j : ℕ). slice_get xs j ≡ Some x) place at

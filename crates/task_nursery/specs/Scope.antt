@@ -1,4 +1,4 @@
--- A nursery as its callers see it, and what its calls come to.
+-- A nursery as its callers see it, and what its calls result in.
 use Rattle.std.specs.Prelude.{Bool, Err, IfSome, IsSome, List, None, Ok, OnErr, Option, Result, Some, [], false, length, slice_get, slice_set, true, ℕ, ◌++◌, ◌+◌, ◌-◌, ◌<◌, ◌^◌, ◌∷◌, ◌≡◌, ◌≤◌, ◌⊎◌}
 use Rattle.state_calls.specs.declared.error.TaskError.{TaskError}
 use Rattle.state_calls.specs.declared.error.TaskError.TheVariants as faults
@@ -88,7 +88,7 @@ StopsCall c f words s why t =
     Starts c (callee_of f) words s.state (start_refusal s.state.core) (Err why) (on_core set_trapped s.state) ×
     (t.state ≡ asked (on_core set_trapped s.state))
 
--- Else the store starts the call, which is a child more, or refuses it; or memory is wanting.
+-- Else the store starts the call, which is a child more, or refuses it; or it is out of memory.
 abbrev pub ScopeBegins : {T H G : Type 0} → Component → Func → List ℕ → Scope → Store T H G → Result Child NurseryError → Scope → Store T H G →
     Type 0
 ScopeBegins c f words n s (Ok child) m t =
@@ -110,7 +110,7 @@ TellsStart (Err _) s t = Unit {0}
 abbrev pub TakesWords : Component → Func → ℕ → Type 0
 TakesWords c f words = IsSome (export_at c (callee_of f)) × IfSome (export_at c (callee_of f)) (λ e. words ≡ e.params)
 
--- What a start comes to: the scope or the store has refused it, or there is a child more; and what was told of it.
+-- What a start results in: the scope or the store has refused it, or there is a child more; and what was told of it.
 pub record BeginsChild {T H G : Type 0} (c : Component) (f : Func) (words : List ℕ) (n : Scope) (s : Store T H G)
     (result : Result Child NurseryError) (m : Scope) (t : Store T H G) : Type 0 where
   pub refuses : Refuses n s result m t
@@ -120,7 +120,7 @@ pub record BeginsChild {T H G : Type 0} (c : Component) (f : Func) (words : List
 
 -- ---- A spawn
 
--- The store spawns the work, which is a child more; or memory is wanting, and the scope is as before.
+-- The store spawns the work, which is a child more; or it is out of memory, and the scope is as before.
 abbrev pub SpawnsChild : {T H G : Type 0} → (H → HostDef) → H → Scope → Store T H G → Result Child NurseryError → Scope → Store T H G →
     Type 0
 SpawnsChild course work n s (Ok child) m t =

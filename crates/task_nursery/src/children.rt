@@ -35,14 +35,14 @@ pub enum Kept {
 }
 
 impl Kept {
-    /// Whether it is a call that is open.
+    /// Returns whether it is a call that is open.
     pub(crate) fn is_open_call(&self) -> bool
         ensures { result ≡ is_open_call self.now }
     {
         matches!(self, Kept::Call(..))
     }
 
-    /// The value of a call that has ended.
+    /// Returns the value of a call that has ended.
     pub(crate) fn value(&self) -> Option<u64>
         ensures { result ≡ value_in self.now }
     {
@@ -52,7 +52,7 @@ impl Kept {
         }
     }
 
-    /// The number of the thread of a call that is open.
+    /// Returns the number of the thread of a call that is open.
     pub(crate) fn thread(&self) -> Option<u64>
         ensures { result ≡ thread_in self.now }
     {
@@ -62,7 +62,7 @@ impl Kept {
         }
     }
 
-    /// Whether it is open and has ended in the store.
+    /// Returns whether it is open and has ended in the store.
     pub(crate) fn has_ended<T, H: HostWork>(&self, store: &mut Store<T, H>) -> bool
         requires spawned { WasSpawned self.now store.old.state }
         requires hosts { HoldsHosts H.course store.old }
@@ -77,7 +77,7 @@ impl Kept {
         }
     }
 
-    /// The child, which has ended in the store, is ended from now on. The value of a call is taken from the store.
+    /// Ends a child that has ended in the store. The value of a call is taken from the store.
     pub(crate) fn end<T, H: HostWork>(&mut self, store: &mut Store<T, H>)
         requires ended { has_ended store.old.state.core self.old ≡ true }
         ensures kept { self.new ≡ ended store.old.state.core self.old }

@@ -205,7 +205,7 @@ fn fewer(calls: u32, kept: &Kept) -> u32
 }
 
 impl Nursery {
-    /// A scope without a child, in which at most so many calls, 1 to 1,024, are open at once.
+    /// Makes a scope without a child, in which at most so many calls, 1 to 1,024, are open at once.
     pub fn new(alloc: Global, limit: u32) -> Self
         requires some { 1 ≤ limit }
         requires few { limit ≤ 1024 }
@@ -222,8 +222,8 @@ impl Nursery {
 
     /// Starts a call of the export with as many words as it takes: a child more, which is open. Refused as `Closed` exactly where
     /// the scope is closed, else as `Full` exactly where as many calls as it may have are open, else with the trap with which the
-    /// store refuses the call (`Func::start_call_concurrent`), which is trapped then. After a refusal, and where memory is
-    /// wanting, the scope is as before. Fewer than 4,294,967,295 children were made.
+    /// store refuses the call (`Func::start_call_concurrent`), which is trapped then. After a refusal, and if it is out of memory,
+    /// the scope is as before. Fewer than 4,294,967,295 children were made.
     pub fn start<T, H>(
         &mut self,
         component: &Component,
@@ -259,8 +259,8 @@ impl Nursery {
         }
     }
 
-    /// Spawns a work: a child more, which is open. Refused as `Closed` exactly where the scope is closed. After a refusal, and where
-    /// memory is wanting, the scope is as before. Fewer than 4,294,967,295 children were made.
+    /// Spawns a work: a child more, which is open. Refused as `Closed` exactly where the scope is closed. After a refusal, and if
+    /// it is out of memory, the scope is as before. Fewer than 4,294,967,295 children were made.
     pub fn spawn<T, H: AccessorTask<T>>(
         &mut self,
         store: &mut Store<T, H>,
@@ -302,9 +302,9 @@ impl Nursery {
         abort_all(&self.children, &self.running, store);
     }
 
-    /// The least open child that has ended is ended from now on: a call with its value, which is taken from the store. None
-    /// exactly where no open child has ended. It looks at no child where no work is open and main has no result to take, else at
-    /// the open ones in their order.
+    /// Ends the least open child that has ended in the store: a call with its value, which is taken from the store. None exactly
+    /// where no open child has ended. It looks at no child where no work is open and main has no result to take, else at the open
+    /// ones in their order.
     pub fn turn<T, H: HostWork>(&mut self, store: &mut Store<T, H>) -> Option<Child>
         requires of { IsOf self.old store.old.state }
         requires hosts { HoldsHosts H.course store.old }
@@ -327,7 +327,7 @@ impl Nursery {
         }
     }
 
-    /// Ready exactly where the scope is closed and no child is open.
+    /// Returns `Ready` exactly if the scope is closed and no child is open.
     pub fn poll(&self) -> Poll<()>
         ensures ready { (result ≡ polls.Ready tt) ↔ ((self.now.closed ≡ true) × (numbers_where is_open 1 self.now.children ≡ [])) }
     {
@@ -338,14 +338,14 @@ impl Nursery {
         }
     }
 
-    /// The value of a call that has ended; none exactly for each other child.
+    /// Returns the value of a call that has ended; none exactly for each other child.
     pub fn value(&self, child: Child) -> Option<u64>
         ensures { result ≡ option_and_then value_in (numbered self.now.children child.number) }
     {
         kept_at(&self.children, child.number)?.value()
     }
 
-    /// The number of the thread of a call that is open, by which labels name it; none exactly for each other child.
+    /// Returns the number of the thread of a call that is open, by which labels name it; none exactly for each other child.
     pub fn thread(&self, child: Child) -> Option<u64>
         ensures { result ≡ option_and_then thread_in (numbered self.now.children child.number) }
     {

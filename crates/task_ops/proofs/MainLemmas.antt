@@ -1,4 +1,4 @@
--- A number that wasn't given stands nowhere.
+-- A number that wasn't given is nowhere.
 use Rattle.std.proofs.Common.{ap, arith, refl, subst, sym, ◌∙◌}
 use Rattle.std.specs.Prelude.{List, None, Option, Some, is_some, ℕ, ◌+◌, ◌≡◌, ◌≤◌}
 use Rattle.task_table.specs.declared.id.TableId.{TableId}

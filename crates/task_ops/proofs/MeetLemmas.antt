@@ -1,4 +1,4 @@
--- An op that meets its row is a step.
+-- An op that meets its rule is a step.
 use Rattle.std.proofs.Common.{refl, subst, sym}
 use Rattle.std.specs.Prelude.{Option, ℕ, ◌≡◌}
 use Rattle.task_ops.specs.OpResult.{Implements}

@@ -1,4 +1,4 @@
--- What a poll comes to.
+-- What a poll results in.
 use Rattle.std.proofs.Common.{ap, subst, sym, ◌∙◌}
 use Rattle.std.specs.Prelude.{Some, false, option_and_then, unwrap_or, ℕ, ◌≡◌}
 use Rattle.task_table.specs.declared.id.TableId.{TableId}

@@ -136,7 +136,7 @@ module _ (n : ℕ) (q : Place) (s : Core) (st : Stand n q [] s) where
   loose_alone : (f g k : ℕ) → Loose k s → times k (callers_of f s) + times k (callers_of g s) ≤ 1
   loose_alone f g k l = let x = l.callers f in let y = l.callers g in omega (arith, x, y)
 
-  -- what stands at switch is not the thread itself, and has its place
+  -- what is at switch is not the thread itself, and has its place
   switched : (m : ℕ) → s.queues.switch ≡ Some m → (m == n) ≡ false
   switched m at = by_number m n ((m == n) ≡ false) (λ e. absurd (none (sym own_loose.switch ∙ (ap (switch_entries n) at ∙ (ap (λ (k : ℕ). switch_entries n (Some k)) e ∙ ap one_if (eq_refl n)))))) (λ e. e)
     where

@@ -170,7 +170,7 @@ removed_one a b s t top at live keeps e =
         both : false ≡ true → ⊥
         both e = cc
 
--- ids of works name the same ones, and the same groups are known
+-- ids of works name the same ones, and the same groups are tracked
 pub named_after : (r s t : StateView) (n : ℕ) → KeepsTold r s → KeepsBut (lost_thread n) s.tags t.tags → KeepsTold r t
 named_after r s t n before keeps = (
   λ id live.

@@ -73,7 +73,7 @@ goes_on_is n x r h w tags (picked_events.Own e) v s given is hands =
 goes_on_is n x r h w tags (picked_events.Member sub k) v s given is hands = absurd (subst T (sym hands) tt)
 goes_on_is n x r h w tags picked_events.Nothing v s given is hands = absurd (subst T (sym hands) tt)
 
--- who hands a wake on was given the own event, which the label shows
+-- who hands a wake on was given the task event, which the label shows
 own_shown : (x w : ℕ) (tags : Tags) (g : PickedEvent) (v : Given) (s : Core) → v ≡ moves.given_for (picked_event_in tags g) (unwrap_or (handle_in g) 0) s → may_hand_on x (picked_event_in tags g) (Some w) s ≡ true → moves.given_own (own_given v) ≡ v
 unfolding may_hand_on moves.given_for
 own_shown x w tags (picked_events.Own own.None) v s is hands = ap (λ (y : Given). moves.given_own (own_given y)) is ∙ sym is

@@ -1,4 +1,4 @@
--- What an op of main came to, against its row.
+-- What an op of main resulted in, against its rule.
 use Rattle.std.specs.Prelude.{Ok, Result, ◌+◌, ◌≡◌}
 use Rattle.task_machine.specs.Core.{Core}
 use Rattle.task_machine.specs.declared.label.MainLabel.TheVariants as main_label
@@ -14,7 +14,7 @@ MainImplements (Does l new) s r t = (r ≡ acted.Does l) × (t ≡ new)
 MainImplements Pends s r t = (r ≡ acted.Pends) × (t ≡ s)
 MainImplements (Answers v) s r t = (r ≡ acted.Answers v) × (t ≡ s)
 
--- Each id names what it named; a start that was made has made a group, which is known.
+-- Each id names what it named; a start that was made has made a group, which is tracked.
 abbrev pub KeepsStarted : Result Acted NoMemory → StateView → StateView → Type 0
 KeepsStarted (Ok (acted.Does (main_label.Start k n))) s t = KeepsWith (s.core.made.groups + 1) s.tags t.tags
 KeepsStarted r s t = Keeps s.tags t.tags

@@ -1,4 +1,4 @@
--- What an op came to, by an answer apart from its label.
+-- What an op resulted in, by an answer apart from its label.
 use Rattle.std.specs.Prelude.{Err, Ok, Result, ℕ}
 use Rattle.task_machine.specs.declared.label.Label.{Label}
 use Rattle.task_machine.specs.declared.trap.Trap.{Trap}

@@ -41,6 +41,6 @@ KeepsTags s t = Keeps s.tags t.tags
 abbrev pub KeepsNames : StateView → StateView → Type 0
 KeepsNames s t = KeepsTags s t × (t.current ≡ s.current)
 
--- each id of a work names it still, the same groups are known, and the same thread is current
+-- each id of a work names it still, the same groups are tracked, and the same thread is current
 abbrev pub KeepsRest : StateView → StateView → Type 0
 KeepsRest s t = KeepsTold s t × (t.current ≡ s.current)

@@ -1,4 +1,4 @@
--- What an op came to, against its row.
+-- What an op resulted in, against its rule.
 use Rattle.std.specs.Prelude.{IsPermutation, List, Some, ℕ, ◌≡◌}
 use Rattle.task_machine.specs.Core.{Core}
 use Rattle.task_machine.specs.declared.words.HostPoll.{HostPoll}

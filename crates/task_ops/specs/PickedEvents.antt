@@ -33,6 +33,6 @@ abbrev pub IsNamedIn : ℕ → Tags → PickedEvent → Core → Type 0
 IsNamedIn i tags (picked_events.Member sub h) s = subtask_at i h s ≡ Some (subtask_in tags sub)
 IsNamedIn i tags _ s = Unit {0}
 
--- The same of each set that the instance names.
+-- As before, of each set that the instance names.
 abbrev pub AllMembersNamed : ℕ → Core → Type 0
 AllMembersNamed i s = (h x : ℕ) → set_at i h s ≡ Some x → MembersNamed i x s

@@ -1,4 +1,4 @@
--- What a poll of a live work came to, against what the machine finds.
+-- What a poll of a live work resulted in, against what the machine finds.
 use Rattle.std.specs.Prelude.{None, Some, is_some, ℕ, ◌≡◌}
 use Rattle.task_machine.specs.Core.{Core}
 use Rattle.task_machine.specs.Write.{set_trapped}

@@ -10,6 +10,6 @@ use Rattle.task_rules.specs.Threads.{thread_new_rule}
 abbrev pub waits_from : OpProgress → (handle : ℕ) → Rule
 waits_from f h d n ch s = wait_rule d n h ch s f
 
--- a new thread of the slot x, in which this stands, with the value in its first register
+-- a new thread of the slot x, in which this is, with the value in its first register
 abbrev pub makes_thread : (slot value : ℕ) → Slot → Rule
 makes_thread x v o d n ch s = thread_new_rule d n x v s o

@@ -34,6 +34,6 @@ pub record IsTopmost (n : ℕ) (s : Core) : Type 0 where
 abbrev pub IsStartTaken : ℕ → Core → Type 0
 IsStartTaken n s = (m : Mark) × Stand n (places.Ready m why.Start) [] s
 
--- The thread's entry was taken, which stood for this, and each other thread has its place.
+-- The thread's entry was taken, which represented this, and each other thread has its place.
 abbrev pub IsTaken : ℕ → Why → Core → Type 0
 IsTaken n w s = (m : Mark) × Stand n (places.Ready m w) [] s

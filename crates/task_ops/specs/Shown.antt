@@ -45,8 +45,8 @@ shown_thread (thread_label.New h n m) = op_answer.Number h
 shown_thread (thread_label.Index h n) = op_answer.Number h
 shown_thread _ = op_answer.Nothing
 
--- What an op that is done answers, and shows by this label; a direct call that begins answers whom it enters. No answer is due of an op on
--- registers and words, of an end of a thread or of an activation, nor of what the loop and main do.
+-- What an op that is done answers, and shows by this label; a direct call that begins answers whom it enters. No answer is due of
+-- an op on registers and memory cells, of an end of a thread or of an activation, nor of what the loop and main do.
 abbrev pub shown : Label → OpAnswer
 shown (label.Task l) = shown_task l
 shown (label.Set l) = shown_set l

@@ -55,7 +55,7 @@ fn code_yields<W: Primitives>(w: &mut W, thread: ThreadId)
     put_low(w, thread, WhyId::Delivery(DeliveryId::Yield));
 }
 
-// The task's own event, or a ready member of the set, is there.
+// The task event, or a ready member of the set, is there.
 #[tactic(auto, unfolding(task_rules::specs::Ends::has_event_for))]
 fn has_event_for<W: Primitives>(w: &W, call: CallId, set: SetId) -> bool
     requires { 0 < set_of (W.view w.now) set }
@@ -94,7 +94,7 @@ fn code_waits<W: Primitives>(w: &mut W, thread: ThreadId, label: Label, handle: 
     OpResult::Stops(label)
 }
 
-/// An activation ends with the code.
+/// Ends an activation with the code.
 #[inline(always)]
 pub fn end_activation<W: Primitives>(w: &mut W, thread: ThreadId, label: Label, code: u64) -> OpResult
     requires live { 0 < thread_of (W.view w.old) thread }

@@ -1,4 +1,4 @@
-//! The ops on registers and words.
+//! The ops on registers and memory cells.
 ghost use Rattle.std.specs.Prelude.{◌≡◌, ◌+◌, ◌<◌, length, min};
 ghost use Rattle.task_machine.specs.Read.{position_of};
 ghost use Rattle.task_machine.specs.declared.component.Component.{Component};
@@ -12,7 +12,7 @@ use crate::op_result::{OpResult, OpAnswer};
 use task_machine::{DataLabel, DataOp, Label, Operand};
 use task_words::{ThreadId, Primitives};
 
-/// An operand's value for the thread.
+/// Returns an operand's value for the thread.
 pub fn value_of<W: Primitives>(w: &W, thread: ThreadId, operand: Operand) -> u64
     ensures { result ≡ value_of (thread_of (W.view w.now) thread) (W.view w.now).core operand }
 {
@@ -70,7 +70,7 @@ fn store<W: Primitives>(w: &mut W, thread: ThreadId, word: u8, value: Operand, e
     )
 }
 
-/// An op on registers and words, of a script that ends at `end`.
+/// Returns an op on registers and memory cells, of a script that ends at `end`.
 #[tactic(auto, using(crate::proofs::PositionLemmas::position_word))]
 pub fn compute<W: Primitives>(w: &mut W, thread: ThreadId, op: DataOp, end: u32) -> OpResult
     requires { position_of (thread_of (W.view w.old) thread) (W.view w.old).core < end }

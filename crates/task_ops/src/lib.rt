@@ -1,5 +1,5 @@
-//! The ops of guests over the words of a core: each is its row of the machine. It tests in the row's
-//! order, then makes the moves in the order of the row's new core.
+//! The ops of guests over the primitives of a core: each is its rule of the machine. It tests in the row's order, then makes the
+//! moves in the order of the row's new core.
 #![tactic(auto)]
 
 mod op_result;
@@ -46,7 +46,7 @@ pub use thread_ops::{halt, resume_later};
 pub use wait_ops::{begin_wait, go_on_waiting};
 pub use work_ops::{Polled, PollNews, poll_work, take_push};
 
-/// An op that meets its row is a step of the machine; so is a taking, and an op of main's script.
+/// Says that an op which implements its rule is a step of the machine; so is a taking, and an op of main's script.
 #[tactic(auto, using(crate::proofs::MeetLemmas::meeting_is_step, crate::proofs::MeetLemmas::taking_is_step, crate::proofs::MeetLemmas::acting_is_step))]
 pub fn ops_are_steps()
     ensures meeting { MeetingIsStep }

@@ -17,7 +17,7 @@ use task_machine::{Callee, ExportKind, Goal, HostDef, LoopLabel, MainLabel, Phas
 use task_moves::put_high;
 use task_words::{NoMemory, WhyId, Primitives, WorkId};
 
-/// What an op of main came to.
+/// What an op of main resulted in.
 #[derive(Clone, Copy)]
 pub enum Acted {
     Does(MainLabel),
@@ -39,7 +39,7 @@ fn start_refusal<W: Primitives>(w: &W) -> Option<Trap>
     Some(Trap::TableFull)
 }
 
-/// `start F X*`, the start of this line. Where memory is wanting, all is as before.
+/// Does `start F X*`, the start of this line. If it is out of memory, all is as before.
 #[tactic(auto, unfolding(task_rules::specs::MainOps::main_started, task_rules::specs::MainOps::start_refusal))]
 pub fn start<W: Primitives>(
     w: &mut W,
@@ -68,7 +68,7 @@ pub fn start<W: Primitives>(
     Ok(Acted::Does(MainLabel::Start(line, w.number(thread))))
 }
 
-/// `finish K R`, of the start that made this call, or was refused.
+/// Does `finish K R`, of the start that made this call, or was refused.
 pub fn finish<W: Primitives>(w: &mut W, line: u32, call: u64) -> Acted
     ensures meets { (c : Component) → MainImplements (main_rule c line (W.view w.old).core (Finish (Began call))) (W.view w.old).core result (W.view w.new).core }
     ensures tags { (W.view w.new).tags ≡ (W.view w.old).tags }
@@ -83,7 +83,7 @@ pub fn finish<W: Primitives>(w: &mut W, line: u32, call: u64) -> Acted
     }
 }
 
-/// `spawn H`. Where memory is wanting, all is as before.
+/// Does `spawn H`. If it is out of memory, all is as before.
 #[tactic(auto, unfolding(task_rules::specs::MainOps::main_spawned))]
 pub fn spawn<W: Primitives>(w: &mut W, line: u32, host: HostDef) -> Result<Acted, NoMemory>
     requires few { (W.view w.old).core.made.works + 1 < 2 ^ 64 }
@@ -106,7 +106,7 @@ fn aborted(phase: Phase) -> Phase
     }
 }
 
-/// `abort K`, of the spawn that made this work.
+/// Does `abort K`, of the spawn that made this work.
 #[tactic(auto, unfolding(task_rules::specs::MainOps::main_aborted))]
 pub fn abort<W: Primitives>(w: &mut W, line: u32, work: WorkId) -> Acted
     ensures meets { (c : Component) → MainImplements (main_rule c line (W.view w.old).core (Abort (work_of (W.view w.old) work))) (W.view w.old).core result (W.view w.new).core }
@@ -118,7 +118,7 @@ pub fn abort<W: Primitives>(w: &mut W, line: u32, work: WorkId) -> Acted
     Acted::Does(MainLabel::Abort(phase, line))
 }
 
-/// `await K`, of the spawn that made this work.
+/// Does `await K`, of the spawn that made this work.
 pub fn await_spawn<W: Primitives>(w: &W, line: u32, work: WorkId) -> Acted
     ensures { (c : Component) → MainImplements (main_rule c line (W.view w.now).core (Await (work_of (W.view w.now) work))) (W.view w.now).core result (W.view w.now).core }
 {
@@ -140,7 +140,7 @@ pub fn quiet<W: Primitives>(w: &W) -> Acted
     }
 }
 
-/// `ready F`, of an export of this instance.
+/// Does `ready F`, of an export of this instance.
 #[tactic(auto, unfolding(task_rules::specs::MainOps::is_ready_for_call))]
 pub fn ready<W: Primitives>(w: &W, instance: u32) -> Acted
     ensures { (c : Component) → (k : ℕ) → MainImplements (main_rule c k (W.view w.now).core (Ready instance)) (W.view w.now).core result (W.view w.now).core }
@@ -160,7 +160,7 @@ pub fn answer<W: Primitives>(w: &W, value: u64) -> Acted
     Acted::Answers(value)
 }
 
-/// Nothing can go on, and main waits: the store is trapped, and all groups are finished.
+/// Ends a run in a deadlock: nothing can go on, and main waits: the store is trapped, and all groups are finished.
 pub fn deadlock<W: Primitives>(w: &mut W) -> LoopLabel
     ensures label { result ≡ loop_labels.Deadlock (deadlock_trap (W.view w.old).core) }
     ensures new { W.view w.new ≡ on_core set_trapped (W.view w.old) }

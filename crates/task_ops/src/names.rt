@@ -6,7 +6,7 @@ ghost use Rattle.task_words.specs.StateView.{set_of};
 
 use task_words::{SetId, Primitives};
 
-/// The set that a handle names, where each such set is there.
+/// Returns the set that a handle names, where each such set is there.
 pub fn set_named<W: Primitives>(w: &W, instance: u32, handle: u64) -> Option<SetId>
     requires { SetsThere (W.view w.now).core }
     ensures is { option_map (λ id. set_of (W.view w.now) id) result ≡ set_at instance handle (W.view w.now).core }

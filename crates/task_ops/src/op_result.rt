@@ -17,7 +17,7 @@ pub enum OpAnswer {
     NoneDue,
 }
 
-/// What an op came to.
+/// What an op results in.
 #[derive(Clone, Copy)]
 pub enum OpResult {
     /// The thread of this number goes on, and the op has answered this.

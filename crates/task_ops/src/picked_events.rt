@@ -1,4 +1,4 @@
-//! What a task is given: its own event, that of a ready member of a set, or nothing.
+//! What a task is given: its task event, that of a ready member of a set, or nothing.
 ghost use Rattle.std.specs.Prelude.{◌≡◌, ◌<◌, None, Some, unwrap_or};
 ghost use Rattle.task_machine.specs.Labels.{handle_given};
 ghost use Rattle.task_machine.specs.Moves.{picked_event, given_for, picked_task_event_of, picked_task_event_only, taken};
@@ -8,7 +8,7 @@ ghost use Rattle.task_words.specs.StateView.{call_of, on_core, set_of};
 use task_machine::{Given, TaskEvent, Status};
 use task_words::{CallId, SetId, SubtaskId, Primitives};
 
-/// What a task is given: its own event, that of a member with its handle, or nothing.
+/// What a task is given: its task event, that of a member with its handle, or nothing.
 #[derive(Clone, Copy)]
 pub enum PickedEvent {
     Own(TaskEvent),
@@ -16,7 +16,7 @@ pub enum PickedEvent {
     Nothing,
 }
 
-// The own event, Cancelled only by callback.
+// The task event, Cancelled only by callback.
 pub(crate) fn picked_task_event<W: Primitives>(w: &W, by_callback: bool, call: CallId) -> Option<TaskEvent>
     ensures { result ≡ picked_task_event_of by_callback (call_of (W.view w.now) call) (W.view w.now).core }
 {
@@ -27,7 +27,7 @@ pub(crate) fn picked_task_event<W: Primitives>(w: &W, by_callback: bool, call: C
     }
 }
 
-/// The own event, else that of the first ready member of the set, which the handle names in the instance, else nothing.
+/// Returns the task event, else that of the first ready member of the set, which the handle names in the instance, else nothing.
 #[tactic(auto, unfolding(task_machine::specs::Moves::picked_event))]
 #[inline(always)]
 pub(crate) fn picked_event_for<W: Primitives>(
@@ -52,7 +52,7 @@ pub(crate) fn picked_event_for<W: Primitives>(
     }
 }
 
-/// The own event alone, by callback.
+/// Returns the task event alone, by callback.
 #[tactic(auto, unfolding(task_machine::specs::Moves::picked_task_event_only))]
 pub(crate) fn picked_task_event_only<W: Primitives>(w: &W, call: CallId) -> PickedEvent
     ensures is { picked_event_in (W.view w.now).tags result ≡ picked_task_event_only (call_of (W.view w.now) call) (W.view w.now).core }
@@ -64,7 +64,7 @@ pub(crate) fn picked_task_event_only<W: Primitives>(w: &W, call: CallId) -> Pick
     }
 }
 
-/// What is handed out for the gift.
+/// Returns what is handed out for the gift.
 #[tactic(auto, unfolding(task_machine::specs::Moves::given_for))]
 pub(crate) fn given<W: Primitives>(w: &W, picked_event: PickedEvent) -> Given
     ensures is { result ≡ given_for (picked_event_in (W.view w.now).tags picked_event) (unwrap_or (handle_in picked_event) 0) (W.view w.now).core }
@@ -81,7 +81,7 @@ pub(crate) fn given<W: Primitives>(w: &W, picked_event: PickedEvent) -> Given
     }
 }
 
-/// The gift is taken.
+/// Takes the event that was picked.
 #[tactic(auto, unfolding(task_machine::specs::Moves::taken))]
 pub(crate) fn take<W: Primitives>(w: &mut W, picked_event: PickedEvent, call: CallId)
     ensures { W.view w.new ≡ on_core (taken (picked_event_in (W.view w.old).tags picked_event) (call_of (W.view w.old) call)) (W.view w.old) }

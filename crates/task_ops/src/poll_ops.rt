@@ -12,7 +12,7 @@ use crate::names::set_named;
 use task_machine::{Label, SetLabel, Trap};
 use task_words::{ThreadId, Primitives};
 
-/// `poll R X`
+/// Does `poll R X`
 pub fn poll<W: Primitives>(w: &mut W, thread: ThreadId, handle: u64) -> OpResult
     requires sets { SetsThere (W.view w.old).core }
     requires members { AllMembersNamed (instance_of (thread_of (W.view w.old) thread) (W.view w.old).core) (W.view w.old).core }

@@ -9,7 +9,7 @@ use crate::op_result::{OpResult, OpAnswer};
 use task_machine::{Label, TaskLabel, Trap};
 use task_words::{ThreadId, Primitives};
 
-/// `bp_inc`
+/// Does `bp_inc`
 #[tactic(auto, unfolding(task_rules::specs::Task::pressure_raised))]
 pub fn raise<W: Primitives>(w: &mut W, thread: ThreadId) -> OpResult
     ensures does { DoesRule SameNames (λ d n ch s. inc_rule d n s) thread (W.view w.old) result (W.view w.new) }
@@ -28,7 +28,7 @@ pub fn raise<W: Primitives>(w: &mut W, thread: ThreadId) -> OpResult
     )
 }
 
-/// `bp_dec`. Where the instance keeps entries out, none of its held threads is admitted, and these aren't looked at.
+/// Does `bp_dec`. Where the instance keeps entries out, none of its held threads is admitted, and these aren't looked at.
 pub fn lower<W: Primitives>(w: &mut W, thread: ThreadId) -> OpResult
     requires running { IsRunning (thread_of (W.view w.old) thread) (W.view w.old).core }
     requires held { NoneAdmitted (W.view w.old).core }

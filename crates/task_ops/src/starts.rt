@@ -35,7 +35,7 @@ fn goes_on(mark: Mark, thread: u64, woken: Option<u64>) -> OpResult
     }
 }
 
-// The same, of an entry that isn't admitted.
+// Takes an entry that isn't admitted.
 fn held_label(mark: Mark, thread: u64, woken: Option<u64>) -> Label
     ensures { result ≡ held_label mark thread woken }
 {
@@ -149,7 +149,7 @@ fn hold_start<W: Primitives>(
     w.set_place(thread, PlaceId::Held(WhyId::Start));
 }
 
-/// A start that was taken from the mark, of a thread that nobody is under. Where memory is wanting, all is as before.
+/// Does a start that was taken from the mark, of a thread that nobody is under. If it is out of memory, all is as before.
 #[tactic(auto, unfolding(task_rules::specs::Takes::running))]
 pub fn take_start<W: Primitives>(w: &mut W, mark: Mark, thread: ThreadId) -> Result<OpResult, NoMemory>
     requires live { 0 < thread_of (W.view w.old) thread }

@@ -16,9 +16,9 @@ use task_machine::{Label, Place, Slot, ThreadLabel, Trap, Why};
 use task_moves::{promote_unless, put_switch};
 use task_words::{OpProgressId, NoMemory, ThreadId, Primitives};
 
-/// The thread that the handle names gets the switch entry: what `suspend_then_resume X` does before its strand stops.
-/// Answers true. Refused with trap 16 where the handle names no thread of the instance, and with trap 11 where that is
-/// this thread, or neither one that wasn't started nor suspended; nothing is changed then.
+/// Gives the switch entry to the thread that the handle names: what `suspend_then_resume X` does before its strand stops. Answers
+/// true. Refused with trap 16 if the handle names no thread of the instance, and with trap 11 if that is this thread, or neither
+/// one that wasn't started nor suspended; nothing is changed then.
 #[inline(always)]
 pub fn resume_first<W: Primitives>(w: &mut W, thread: ThreadId, handle: u64) -> Result<bool, Trap>
     requires { IsRunning (thread_of (W.view w.old) thread) (W.view w.old).core }
@@ -40,7 +40,7 @@ pub fn resume_first<W: Primitives>(w: &mut W, thread: ThreadId, handle: u64) -> 
     Ok(true)
 }
 
-/// `suspend_then_resume X` and `yield_then_resume X`, as they begin
+/// Does `suspend_then_resume X` and `yield_then_resume X`, as they begin
 pub fn halt_then_resume<W: Primitives>(w: &mut W, thread: ThreadId, handle: u64, yielding: bool) -> OpResult
     requires live { 0 < thread_of (W.view w.old) thread }
     requires running { IsRunning (thread_of (W.view w.old) thread) (W.view w.old).core }
@@ -54,7 +54,7 @@ pub fn halt_then_resume<W: Primitives>(w: &mut W, thread: ThreadId, handle: u64,
     OpResult::Stops(Label::Thread(ThreadLabel::Pauses(number)))
 }
 
-/// The thread has yielded, and its entry is queued.
+/// Queues the entry of a thread that has yielded.
 #[tactic(auto, unfolding(task_rules::specs::Threads::has_yielded))]
 pub fn has_yielded<W: Primitives>(w: &W, thread: ThreadId) -> bool
     ensures { result ≡ has_yielded (thread_of (W.view w.now) thread) (W.view w.now).core }
@@ -70,9 +70,9 @@ pub fn has_yielded<W: Primitives>(w: &W, thread: ThreadId) -> bool
     }
 }
 
-/// The thread that the handle names goes on first where it has yielded: its entry moves to switch, unless one stands
-/// there. Whether it has yielded, and its entry is queued. Refused with trap 16 where the handle names no thread of the
-/// instance, and with trap 11 where that is this thread; nothing is changed then, nor where it hasn't yielded.
+/// Lets the thread that the handle names go on first, if it has yielded: its entry moves to switch, unless one is there. Whether it
+/// has yielded, and its entry is queued. Refused with trap 16 if the handle names no thread of the instance, and with trap 11 if
+/// that is this thread; nothing is changed then, nor where it hasn't yielded.
 #[inline(always)]
 pub fn promote_first<W: Primitives>(w: &mut W, thread: ThreadId, handle: u64) -> Result<bool, Trap>
     requires { IsRunning (thread_of (W.view w.old) thread) (W.view w.old).core }
@@ -94,7 +94,7 @@ pub fn promote_first<W: Primitives>(w: &mut W, thread: ThreadId, handle: u64) ->
     Ok(true)
 }
 
-/// `suspend_then_promote X` and `yield_then_promote X`, as they begin
+/// Does `suspend_then_promote X` and `yield_then_promote X`, as they begin
 pub fn halt_then_promote<W: Primitives>(
     w: &mut W,
     thread: ThreadId,
@@ -118,7 +118,7 @@ pub fn halt_then_promote<W: Primitives>(
     }
 }
 
-/// `thread_index R`
+/// Does `thread_index R`
 pub fn thread_index<W: Primitives>(w: &W, thread: ThreadId) -> OpResult
     ensures does { DoesRule SameNames (λ d n ch s. thread_index_rule d n s) thread (W.view w.now) result (W.view w.now) }
 {
@@ -131,7 +131,7 @@ pub fn thread_index<W: Primitives>(w: &W, thread: ThreadId) -> OpResult
     )
 }
 
-/// `thread_new R S X`, where the slot has a script. Where memory is wanting, all is as before.
+/// Does `thread_new R S X`, where the slot has a script. If it is out of memory, all is as before.
 #[tactic(auto, unfolding(task_rules::specs::Threads::thread_added))]
 pub fn thread_new<W: Primitives>(
     w: &mut W,

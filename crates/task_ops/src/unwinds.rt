@@ -28,7 +28,7 @@ fn remove_strand<W: Primitives>(w: &mut W, thread: ThreadId)
     }
 }
 
-/// The thread's strand is gone, the store is trapped and all groups are finished.
+/// Unwinds the thread's strand, traps the store and finishes all groups.
 #[tactic(auto, unfolding(task_rules::specs::Step::unwound))]
 pub fn strike<W: Primitives>(w: &mut W, thread: ThreadId)
     requires live { 0 < thread_of (W.view w.old) thread }

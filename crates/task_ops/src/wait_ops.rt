@@ -20,7 +20,7 @@ use task_machine::{Given, Label, TaskEvent, SetLabel, ThreadLabel, Trap};
 use task_moves::{check, foot_of, hand_wake_on, passes_check, stop};
 use task_words::{OpProgressId, PlaceId, SetId, ThreadId, Primitives};
 
-// A thread that takes the own event while a member is ready wakes another waiter.
+// A thread that takes the task event while a member is ready wakes another waiter.
 #[tactic(auto, unfolding(task_machine::specs::Moves::may_hand_on, task_machine::specs::Moves::handed_on))]
 #[inline(always)]
 pub(crate) fn hand_on<W: Primitives>(w: &mut W, set: SetId, picked_event: PickedEvent) -> Option<ThreadId>
@@ -35,7 +35,7 @@ pub(crate) fn hand_on<W: Primitives>(w: &mut W, set: SetId, picked_event: Picked
     }
 }
 
-// Neither the own event, as far as the thread may take it, nor a ready member is there.
+// Neither the task event, as far as the thread may take it, nor a ready member is there.
 #[tactic(auto, unfolding(task_rules::specs::Sets::finds_nothing))]
 fn finds_nothing<W: Primitives>(w: &W, thread: ThreadId, set: SetId) -> bool
     requires { 0 < set_of (W.view w.now) set }
@@ -61,7 +61,7 @@ fn stop_waiting<W: Primitives>(w: &mut W, thread: ThreadId, set: SetId)
     );
 }
 
-/// `wait R X`, as it begins
+/// Does `wait R X`, as it begins
 #[tactic(auto, unfolding(task_rules::specs::Sets::wait_stops_checked))]
 pub fn begin_wait<W: Primitives>(w: &mut W, thread: ThreadId, handle: u64) -> OpResult
     requires live { 0 < thread_of (W.view w.old) thread }
@@ -94,7 +94,7 @@ pub fn begin_wait<W: Primitives>(w: &mut W, thread: ThreadId, handle: u64) -> Op
     )
 }
 
-// The own event that was given.
+// The task event that was given.
 pub(crate) fn own_given(given: Given) -> TaskEvent
     ensures { result ≡ own_given given }
 {
@@ -104,7 +104,7 @@ pub(crate) fn own_given(given: Given) -> TaskEvent
     }
 }
 
-// A wait that is done: it was given this, and only one that was given the own event has woken another waiter.
+// A wait that is done: it was given this, and only one that was given the task event has woken another waiter.
 fn waited(thread: u64, given: Given, woken: Option<u64>) -> OpResult
     ensures { result ≡ goes_as (wait_label thread given woken) thread }
 {
@@ -137,7 +137,7 @@ fn waited(thread: u64, given: Given, woken: Option<u64>) -> OpResult
     }
 }
 
-/// `wait R X`, resumed inside it, whatever its handle names by then
+/// Does `wait R X`, resumed inside it, whatever its handle names by then
 pub fn go_on_waiting<W: Primitives>(w: &mut W, thread: ThreadId, set: SetId) -> OpResult
     requires live { 0 < thread_of (W.view w.old) thread }
     requires set { 0 < set_of (W.view w.old) set }

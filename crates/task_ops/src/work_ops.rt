@@ -27,7 +27,7 @@ pub enum PollNews {
     Fails,
 }
 
-/// What a poll by the loop came to.
+/// What a poll by the loop resulted in.
 #[derive(Clone, Copy)]
 pub enum Polled {
     /// The work is still pending; whether a live work comes after it.
@@ -36,7 +36,7 @@ pub enum Polled {
     Fails,
 }
 
-/// The push of a work: it is live.
+/// Returns the push of a work: it is live.
 #[tactic(auto, unfolding(task_rules::specs::Takes::pushed))]
 pub fn take_push<W: Primitives>(w: &mut W, mark: Mark, work: WorkId) -> OpResult
     ensures label { result ≡ OpResult.Stops (labels.Take (take_labels.Push mark (work_of (W.view w.old) work))) }
@@ -88,7 +88,7 @@ fn end_work<W: Primitives>(w: &mut W, work: WorkId, value: Option<u64>)
     follow(w, caller, work);
 }
 
-/// A live work was polled, and told this. Where it fails the store is trapped.
+/// Does what the answer of a live work's poll asks. Where it fails the store is trapped.
 #[tactic(auto, unfolding(task_rules::specs::Works::poll_pends))]
 pub fn poll_work<W: Primitives>(w: &mut W, work: WorkId, told: PollNews) -> Polled
     requires live { 0 < work_of (W.view w.old) work }

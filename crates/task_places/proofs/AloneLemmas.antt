@@ -1,4 +1,4 @@
--- Nobody runs but the thread whose turn it is, along the words of a step.
+-- Nobody runs but the thread whose turn it is, along the primitives of a step.
 use Rattle.task_places.proofs.Laws.{after_placing, after_primitive, along, ap, arith, behind_one, by_number, Collapses, Core, Enter, false, get, get-change, get-remove, GoBehind, GoesBack, inl, InPlace, inr, is_none, IsBeside, IsFirst, IsGone, IsRunner, IsSame, Label, Lands, LandsAt, Mark, MayLand, MayMove, Move, Moved, nat_tests, on_thread, Op, Option, option_map, Place, place_of, Places, Placing, placing_shifted, Promote, promoted_shifted, push_high, push_low, Put, put_high, put_low, put_shifted, Quits, Remains, remove_thread, RemoveThread, runner_at, RunsAlone, Scene, scene_as, set_callers, set_op_progress, set_place, Setting, settle_threads, settled_turn, Settles, Some, State, Stay, Stays, stays_allowed, Stop, stopped_shifted, sym, Thread, thread_came, ThreadAfter, Trip, true, Turn, WalkedAs, Primitive, ℕ, ⊎_elim, ◌==◌, ◌∙◌, ◌≡◌, ◌⊎◌}
 use Rattle.task_places.proofs.{PlaceLaw.Frame, PlaceLaw.yield_leaves, PlaceSteps.Withdrawable, PlaceSteps.step_by}
 

@@ -1,4 +1,4 @@
--- No thread is blocked on a subtask that has an end as its event: along the words of a step.
+-- No thread is blocked on a subtask that has an end as its event: along the primitives of a step.
 use Rattle.task_places.proofs.Laws.{along, ap, arith, at_place, AwaitsEvent, base_at, Blocks, Bool, Call, CallsTold, cancelled_by, cancelled_call, Coming, coming_word, Component, Core, course_of, course_value, EndTells, EndPrimitives, event_of, false, get, HasCome, Holds, host_status, host_taken, op_progress_of, OpProgress, inl, InOrderFor, inr, is_async_work, is_ended_work, is_inside, is_stage_ended, is_told, IsRunner, Label, LoopLabel, MayMove, nat_tests, no_way, None, NoneBlockedOnEnd, Op, Option, option_map, option_map_or, Place, plain, plain_as, refl, Runs, said_plain, Scene, scene_as, Setting, Some, Stage, stage_of, State, Status, status_of_end, Steady, subst, Subtask, subtask_ended, subtask_handle, subtask_under_way, Suspends, sym, TellingGoes, TellsEnd, TellsLater, TellsNever, TellsNone, TellsNow, Thread, true, Turn, Unblocking, Uncovers, undelivered_end, Waits, WaitsAgain, Walk, WalkedAs, Work, work_caller_of, WorksTold, Writes, WritesAtOnce, WritesCall, WritesNever, WritesPolled, written_as, written_at, ℕ, ⊎_elim, ◌∙◌, ◌≡◌, ◌≤◌, ◌⊎◌}
 use Rattle.task_places.proofs.{HostsAwaited.Asked, PlaceSteps.Withdrawable, PlaceSteps.step_by, RestLemmas.Rests, RestLemmas.rests_stay, RestLemmas.rests_walk, RestLemmas.runs_free, RestLemmas.trip_rests}
 

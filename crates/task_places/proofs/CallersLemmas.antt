@@ -1,4 +1,4 @@
--- Callers go on: along the words of a step.
+-- Callers go on: along the primitives of a step.
 use Rattle.task_places.proofs.Laws.{[], after_primitive, along, ap, arith, Bool, by_number, Core, false, foot_from, foot_of, get, Halted, inl, inr, is_fresh, is_some, is_there, made_threads_word, Mark, nat_tests, None, Option, option_map, option_map_or, Place, place_of, Places, placing_shifted, refl, Scene, Some, Stand, Stay, Stop, stopped, subst, suc, sym, Thread, true, Turn, under_of, under_place, Why, why_of, zero, ℕ, ⊎_elim, ◌+◌, ◌==◌, ◌∙◌, ◌≡◌, ◌≤◌, ◌⊎◌}
 use Rattle.task_places.proofs.{PlaceLaw.Follows, PlaceLaw.covered_still, PlaceLaw.stay_word, PlaceLaw.watch, StayMoves.Born, StayMoves.Early, StayMoves.Gone, StayMoves.Kept, StayMoves.Marked, StayMoves.Moves, StayMoves.Passed, StayMoves.Resumed, StayMoves.Woken, StayMoves.behind_called, StayMoves.called_behind, StayMoves.stay_moves, StayMoves.stops, StayMoves.switch_ready, StrandFeet.Below, StrandFeet.Down, StrandFeet.Here, StrandFeet.Rising, StrandFeet.down_further, StrandFeet.foot_bottom, StrandFeet.last_under, StrandFeet.lowest}
 
@@ -15,7 +15,7 @@ goes_there n (AtWork _ at o) = grind arith
 goes_there n (Up _ m at g) = grind arith
 goes_there n (Back _ f at g) = grind arith
 
--- What is so of callers along the words of a step from b on.
+-- What is so of callers along the primitives of a step from b on.
 pub record Calling (a : Scene) (b : Core) (out : ℕ → Bool) (s : Core) : Type 0 where
   pub goes : (j f : ℕ) → place_of j s ≡ Some (Place.Behind f) → Goes out s j
   pub feet : (j k f : ℕ) → place_of j s ≡ Some (Place.Behind f) → place_of k s ≡ Some (Place.Under f) → ⊥
@@ -27,7 +27,7 @@ pub record Calling (a : Scene) (b : Core) (out : ℕ → Bool) (s : Core) : Type
   pub made : b.made.threads ≤ s.made.threads
   pub new : (m : ℕ) → place_of m b ≡ None → is_there m s ≡ true → b.made.threads + 1 ≤ m
 
--- What is known of the core from which the words begin.
+-- What is known of the core from which the primitives begin.
 pub record Begins (a : Scene) (b : Core) : Type 0 where
   pub home : (k : ℕ) → place_of k b ≡ place_of k a.base
   pub covers : (j m : ℕ) → place_of j b ≡ Some (Place.Under m) → (place_of m b ≡ None) ⊎ (is_fresh (place_of m b) ≡ false)
@@ -37,7 +37,7 @@ pub record Begins (a : Scene) (b : Core) : Type 0 where
   pub given : (j m : ℕ) → place_of j b ≡ Some (Place.Under m) → m ≤ b.made.threads
   pub alone : (j k m : ℕ) → place_of j b ≡ Some (Place.Under m) → place_of k b ≡ Some (Place.Under m) → j ≡ k
 
--- ---- One word
+-- ---- One primitive
 
 module _ {a : Scene} {out : ℕ → Bool} (s t : Core) (moves : (j : ℕ) → Moves a s t j) (apart : (m : ℕ) → s.queues.switch ≡ Some m → out m ≡ false) where
   -- who is under another was so before, and stays so

@@ -49,7 +49,7 @@ next_runs (Quits s t k c leave d halts) m to = inr (k, leave.0)
 next_runs (GoesBack s t k i v c is runs to under back d ok) m next = inr (k, is)
 next_runs (Collapses t over c) m to = absurd (cc)
 
--- who stands at switch is taken
+-- who is at switch is taken
 taken_at_switch : (s : Core) (k : ℕ) (e : Bool) → HasPlace k s → place_of k s ≡ Some (Place.Ready Mark.Switch Why.Start) → runner_at (Turn.Take e) s ≡ Some k
 unfolding next_entry
 taken_at_switch s k e h at = let w = h.switch in grind (arith, nat_tests)
@@ -114,7 +114,7 @@ module _ {ops : ℕ → Op} (x : Setting) (s : State) (l : Label) (t : State) (w
   pub feet_kept : BehindFeet t.core
   feet_kept = called.0.feet
 
-  -- one that stood at switch was taken
+  -- one that was at switch was taken
   not_left : (k m : ℕ) → w.next ≡ Turn.Run m → ((i : ℕ) → s.turn ≡ Turn.Run i → ⊥) → place_of k s.core ≡ Some (Place.Ready Mark.Switch Why.Start) →
       place_of k t.core ≡ Some (Place.Ready Mark.Switch Why.Start) → ⊥
   not_left k m next idle was now = by s.turn refl (called.1 m next)

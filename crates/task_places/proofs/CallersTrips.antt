@@ -2,7 +2,7 @@
 use Rattle.task_places.proofs.Laws.{[], after_placing, after_primitive, along, ap, arith, AwaitsEvent, behind_one, Blocks, Bool, by_number, Collapses, Core, Enter, eq_refl, false, foot_from, foot_of, get, get-change, get-remove, GoBehind, GoesBack, Halted, Halts, Holds, OpProgress, if◌then◌else◌, inl, inr, is_for_start, is_fresh, is_none, is_some, IsFoot, IsRunner, Lands, LandsAt, Leaves, leaving, Mark, MayLand, MayMove, MayYield, Move, nat_tests, None, on_thread, Option, option_map, option_map_or, Place, place_kept, place_of, place_written, Places, Placing, placing_shifted, push_high, push_low, Put, put_high, put_low, Quits, refl, Remains, remove_thread, RemoveThread, Runs, Scene, set_callers, set_op_progress, set_place, set_place_is, SetOpProgress, settle_threads, Settles, Some, Stand, Stay, subst, suc, Suspends, sym, Thread, Trip, true, Turn, Uncovers, under_of, under_place, Waits, WaitsAgain, Why, why_of, zero, ℕ, ⊎_elim, ◌==◌, ◌∙◌, ◌≡◌, ◌≤◌, ◌⊎◌}
 use Rattle.task_places.proofs.{CallersLemmas.AtMark, CallersLemmas.AtWork, CallersLemmas.Back, CallersLemmas.Begins, CallersLemmas.Both, CallersLemmas.Calling, CallersLemmas.Goes, CallersLemmas.Up, CallersLemmas.halted_both, CallersLemmas.walk_calling, PlaceLaw.Frame, PlaceLaw.beside, PlaceLaw.covered_still, PlaceLaw.move_runner, PlaceLaw.runner_there, PlaceLaw.stands, PlaceLaw.watch, StayMoves.switch_ready, StrandFeet.foot_bottom, StrandFeet.foot_place}
 
--- What is so of callers after the words from b on.
+-- What is so of callers after the primitives from b on.
 pub record Called (a : Scene) (b t : Core) : Type 0 where
   pub goes : (j f : ℕ) → place_of j t ≡ Some (Place.Behind f) → Goes (λ i. false) t j
   pub feet : (j k f : ℕ) → place_of j t ≡ Some (Place.Behind f) → place_of k t ≡ Some (Place.Under f) → ⊥
@@ -62,7 +62,7 @@ none_behind {out = out} {s = s} n j is free at (Back _ f e g) = let same : f ≡
     ends f same (Up _ m e g) = absurd (let no = free (Place.Under m) (ap (λ (i : ℕ). place_of i s) (sym same) ∙ e) in grind arith)
     ends f same (Back _ h e g) = absurd (let no = free (Place.Behind h) (ap (λ (i : ℕ). place_of i s) (sym same) ∙ e) in grind arith)
 
--- The thread n has come elsewhere from s to t, after the words from b on.
+-- The thread n has come elsewhere from s to t, after the primitives from b on.
 module _ {a : Scene} {b : Core} (base : Begins a b) {out : ℕ → Bool} (n : ℕ) (s t : Core) (q : Calling a b out s)
     (others : (k : ℕ) → (k == n) ≡ false → place_of k t ≡ place_of k s) (there : is_fresh (place_of n b) ≡ true → place_of n b ≡ None → ⊥)
     (free : (p : Place) → place_of n s ≡ Some p → is_held_on p ≡ false) where

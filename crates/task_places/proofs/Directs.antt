@@ -1,4 +1,4 @@
--- Under the first thread of a direct call there is another one, along the words of a step.
+-- Under the first thread of a direct call there is another one, along the primitives of a step.
 use Rattle.task_places.proofs.Laws.{arith, at_place, Core, DirectsOnTop, DirectsRun, false, get, goal_of, inl, inr, is_direct, None, Numbered, Option, Place, place_of, refl, Scene, Some, Steady, task_of, Thread, true, Turn, ℕ, ◌∙◌, ◌≡◌, ◌≤◌, ◌⊎◌}
 use Rattle.task_places.proofs.PlaceLaw.{Arrives}
 

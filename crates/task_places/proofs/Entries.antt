@@ -39,7 +39,7 @@ cleared m s q h none left = record {
       grind arith;
 }
 
--- its entry is taken out, wherever it stands
+-- its entry is taken out, wherever it is
 pub unqueued_cleared : (m : ℕ) (s : Core) → HasPlace m s → Cleared m s (set_switch (less_switch m s.queues.switch) (unqueued m s))
 unfolding unqueued set_switch set_high set_low
 unqueued_cleared m s h = go (has_entry m s.queues.high) refl
@@ -56,7 +56,7 @@ unqueued_cleared m s h = go (has_entry m s.queues.high) refl
         cleared m s _ h (grind (arith, nat_tests, one, none_stands m s.queues.high, less_own m))
         (λ k o. grind (arith, nat_tests, less_other k m))
 
--- as an entry of a thread that stands ready
+-- as an entry of a thread that is ready
 ready_drops : (m : ℕ) (x : Mark) (w : Why) (s : Core) → HasPlace m s → place_of m s ≡ Some (Place.Ready x w) → s.queues.switch ≡ None →
     Drops m (Place.Ready x w) s (unqueued m s)
 unfolding unqueued set_high set_low
@@ -68,7 +68,7 @@ unqueued_switch m s = grind arith
 
 -- ---- The first entry of a mark
 
--- where the entry stands first
+-- where the entry is first
 abbrev pub First : Mark → Entry → Core → Type 0
 First Mark.Switch e s = (n : ℕ) × ((s.queues.switch ≡ Some n) × (e ≡ Entry.Thread n))
 First Mark.High e s = s.queues.high ≡ e ∷ rest_of s.queues.high

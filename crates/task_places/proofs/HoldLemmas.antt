@@ -43,7 +43,7 @@ none_word a none main here w s ok q k = by (call_came w s ok k)
 
 -- ---- No entry begins
 
--- What is so of each state that a run comes to.
+-- What is so of each state that a run reach.
 record IsEmpty (x : Setting) (s : State) : Type 0 where
   order : InOrder x.component s
   calls : NoCalls s.core

@@ -1,4 +1,5 @@
--- A thread inside a sync call of a host waits for its work, or that is done; and host works have their entries: along the words of a step.
+-- A thread inside a sync call of a host waits for its work, or that is done; and host works have their entries: along the
+-- primitives of a step.
 use Rattle.task_places.proofs.Laws.{[], after_placing, after_primitive, Allowed, along, ap, arith, behind_one, blocked_place, by_number, Collapses, Core, Departs, EndsOver, Enter, fall_allowed, false, get, GoBehind, GoesBack, HostsAwaited, op_progress_of, OpProgress, inl, InPlace, inr, is_stage_ended, IsBeside, IsFirst, IsGone, IsRunner, IsSame, Label, land_allowed, Lands, LandsAt, MadeCounts, made_works_word, Mark, MayCome, MayLand, MayRemoveWork, Move, Op, Option, option_map_or, Place, place_kept, place_of, Places, Placing, placing_shifted, push_high, push_low, Put, put_high, put_low, Quits, refl, Remains, RemoveThread, SameWorks, Scene, scene_as, set_callers, set_place, SetOpProgress, Setting, settle_stays, Settles, Some, Stage, stage_of, Stand, State, Stay, stays_allowed, subst, Subtask, sym, Thread, thread_came, ThreadAfter, Trip, true, WalkedAs, WasUnder, Primitive, Work, WorksQueued, ℕ, ⊎_elim, ◌==◌, ◌∙◌, ◌≡◌, ◌≤◌, ◌⊎◌}
 use Rattle.task_places.proofs.{PlaceLaw.Frame, PlaceLaw.beside, PlaceLaw.exits, PlaceLaw.move_runner, PlaceLaw.runner_there, PlaceLaw.stands, PlaceLaw.stay_word, PlaceLaw.stuck_word, PlaceLaw.watch, PlaceLaw.yield_leaves, PlaceSteps.Reads, PlaceSteps.Withdrawable, PlaceSteps.step_by, WorksQueued.ended_word, WorksQueued.others_move, WorksQueued.works_word}
 
@@ -36,7 +37,7 @@ awaited_word a w s ok ends q stuck h n i far = go (thread_came w s ok n)
 
 -- ---- A step
 
--- What is so along the words: works have their entries, and what had ended still has.
+-- What is so along the primitives: works have their entries, and what had ended still has.
 pub record Working (a : Scene) (s : Core) : Type 0 where
   pub works : WorksQueued s
   pub awaited : HostsAwaited s

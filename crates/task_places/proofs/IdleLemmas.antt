@@ -89,7 +89,7 @@ blocked_line s none h =
     blocked_of n (Place.Blocked sub) at h = let e = none.events n sub at in let live = none.works n sub at in absurd (grind arith)
     blocked_of n p at h = absurd (grind arith)
 
--- a work that hasn't ended, or whose entry stands
+-- a work that hasn't ended, or whose entry is
 blocked_by_works : (s : Core) → WorksQueued s → WorksTold s → NoneBlockedOnEnd s → BlockedByWorks s
 blocked_by_works s queued told none n i at = by (get s.works i) refl (none.works n (Subtask.Host i) at)
   where

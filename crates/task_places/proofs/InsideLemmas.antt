@@ -1,4 +1,4 @@
--- Who waits or is blocked is inside the op that says so, along the words of a step.
+-- Who waits or is blocked is inside the op that says so, along the primitives of a step.
 use Rattle.task_places.proofs.Laws.{[], after_placing, after_primitive, Allowed, along, ap, arith, behind_shifted, Bool, by_number, Collapses, Core, Enter, false, get, get-change, get-remove, GoBehind, GoesBack, op_progress_of, OpProgress, inl, InPlace, inr, InsideOps, is_inside, IsBeside, IsUnwind, IsFirst, IsGone, IsRunner, IsSame, Label, land_allowed, Lands, lands_alone, lands_inside, LandsAt, Mark, MayCome, MayLand, MayMove, Move, Moved, nat_tests, on_thread, Op, Option, Place, place_of, Places, Placing, placing_shifted, Pop, popped, Promote, promoted_shifted, Put, put_shifted, Quits, refl, Remains, remove_thread, RemoveThread, Scene, scene_as, set_high, set_op_progress, set_low, set_place, set_switch, set_trapped, SetOpProgress, Setting, settle_threads, Settles, SetTrapped, shifted_far, Some, Stand, State, Stay, Stays, stays_allowed, Stop, stopped_shifted, sym, Thread, thread_came, ThreadAfter, Trip, true, WalkedAs, Primitive, ℕ, ⊎_elim, ◌==◌, ◌∙◌, ◌≡◌, ◌⊎◌}
 use Rattle.task_places.proofs.{PlaceLaw.Frame, PlaceLaw.covered_still, PlaceLaw.stay_stand, PlaceLaw.stay_word, PlaceLaw.watch, PlaceSteps.Withdrawable, PlaceSteps.step_by}
 
@@ -37,7 +37,7 @@ placing_came (Enter n m) s k p at =
     by_number k n _ (λ e. grind (arith, nat_tests, get-change))
     (λ other. by_number k m _ (λ e. grind (arith, nat_tests, get-change)) (λ apart. inr (inl (grind (arith, nat_tests, get-change)))))
 
--- ---- One word
+-- ---- One primitive
 
 abbrev Inside : ℕ → Core → Type 0
 Inside k s = (p : Place) → place_of k s ≡ Some p → is_inside p (op_progress_of k s) ≡ true

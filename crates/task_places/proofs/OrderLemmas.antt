@@ -41,7 +41,7 @@ steps_make_few x s l t step =
     let q : MakesFew a.base t.core = along (MakesFew a.base) (few_word a) (grind arith) c in
     grind arith
 
--- ---- What the words of a step keep
+-- ---- What the primitives of a step keep
 
 pub held_of : {g : Bool} {ops : ℕ → Op} {c : Component} {s : State} → InOrderFor g ops c s → CallsHold c s.core
 held_of h = record { numbered = h.numbered; kinds = h.kinds; deliveries = h.deliveries }

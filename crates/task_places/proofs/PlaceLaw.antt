@@ -1,4 +1,5 @@
--- Where each thread is along the words of a step: each has its place, and one that waits for its start still does, or its call has begun.
+-- Where each thread is along the primitives of a step: each has its place, and one that waits for its start still does, or its call
+-- has begun.
 use Rattle.task_places.proofs.Laws.{[], add_call, add_group, add_set, add_work, Adds, adds_all, after_placing, after_primitive, all_of, along, ap, arith, at_place, Awaits, AwaitsEvent, behind_adds, blocked_place, Blocks, Bool, by_number, ByHandle, call_made, Collapses, Core, count_work, Covered, Departs, EndsOver, Enter, entries, entries-append, Entry, Unwinds, false, foot_there, free_handle, free_thread_handle, get, get-change, give_handle, give_result, give_thread_handle, given_unchecked, GoBehind, GoesBack, gone_place, has_entry, HasPlace, HasSubtask, Holds, OpProgress, idle_loose, if◌then◌else◌, inl, inr, is_at_high, is_at_low, is_at_switch, is_begun, is_busy, is_done_host, is_explicit, is_for_start, is_free, is_fresh, is_idle, is_none, is_parked, is_so, is_some, is_there, is_under, is_watched, IsUnwind, IsFoot, IsRunner, IsSettling, Lands, LandsAt, LastPrimitives, Leaves, Loose, loose_idle, MakeCall, MakeThread, Mark, MayGo, MayLand, MayMove, MayPut, MayWithdraw, MayYield, Move, nat_tests, new_thread, next_thread, no_time, nobody, None, not_main, Nothing, on_call, on_instance, on_thread, on_work, one_runner, one_time, Option, option_map_or, Place, place_kept, place_of, place_written, Placed, Places, Placing, placing_shifted, poll_pends, Promote, push_high, Put, put_high_adds, put_low_adds, put_stand, quiet_placed, quiet_stand, Quits, refl, registers_for, Remains, remove_call, remove_group, remove_set, remove_thread, remove_work, removed_all, removed_gone, removed_is, removed_loose, removed_placed, RemoveThread, Runs, says, Scene, Script, set_backpressure, set_cancel_delivered, set_cancelled, set_course, set_do_not_enter, set_do_not_suspend, set_end, set_event, set_exited, set_op_progress, set_join, set_task_event, set_phase, set_place, set_place_adds, set_place_is, set_position, set_register, set_result, set_saved_callee, set_saved_own, set_script, set_stage, set_started, set_starting_published, set_subtask_handle, set_thread_handle, set_trapped, set_uninteresting, set_word, Settles, SetTrapped, SetUninteresting, Some, Stand, stand_of, Stay, Stays, stays_put, Stop, stopped_stand, Stuck, subst, Subtask, Suspends, switch_entries, switch_there, sym, T, take_result, TakeHost, TakePush, task_of, Thread, Trip, true, Turn, Uncovers, Untouched, Waits, WaitsAgain, was_started, Watch, watching, Why, with_handle, with_thread_handle, Withdraw, withdraws, Primitive, work_queued, ℕ, ⊎_elim, ◌+◌, ◌==◌, ◌||◌, ◌∙◌, ◌≡◌, ◌≤◌, ◌⊎◌}
 use Rattle.task_places.proofs.Entries.{added_stand, flipped, has_stands, next_first, popped_quiet, promoted_stand, removed_fresh, withdrawn_stand}
 use Rattle.task_rules.proofs.StandLemmas.{Given}
@@ -144,7 +145,7 @@ module _ {a : Scene} {b : Core} {n : ℕ} {q : Option Place} (f : Follows a b n 
       waiting : (k : ℕ) → Stays a (Withdraw k) s → is_fresh (place_of k s) ≡ true
       waiting k may = fresh_still a st k (withdraws_waits k s may.0)
 
-  -- what is so of a thread's place stays so by a word that, where it puts the thread, puts it so
+  -- what is so of a thread's place stays so by a primitive that, where it puts the thread, puts it so
   pub watched_word : (v : Watch) (m : ℕ) (w : Primitive) (s : Core) → Stays a w s → Stand (watch a) n q [] s →
       ((x : Mark) (u : Why) → MayPut m u s → is_so v (Some (Place.Ready x u)) ≡ true) → is_watched v ≡ true →
       is_so v (place_of m s) ≡ true → is_so v (place_of m (after_primitive w s)) ≡ true
@@ -229,7 +230,7 @@ abbrev pub is_under_place : Option Place → Bool
 is_under_place (Some (Place.Under m)) = true
 is_under_place _ = false
 
--- How the words begin beside the thread n, which runs or was taken at the place p.
+-- How the primitives begin beside the thread n, which runs or was taken at the place p.
 pub record Beside (a : Scene) (b : Core) (n : ℕ) (p : Place) : Type 0 where
   pub follows : Follows a b n (Some p)
   pub runner : IsRunner a n
@@ -313,7 +314,7 @@ record Falling (a : Scene) (n : ℕ) (s : Core) : Type 0 where
   pub covered : (k m : ℕ) → place_of k a.base ≡ Some (Place.Under m) →
       (place_of k s ≡ Some (Place.Under m)) ⊎ ((place_of m s ≡ None) × (place_of k s ≡ None))
 
--- How the words begin and end beside the thread n, which runs or was taken; or there is no such thread.
+-- How the primitives begin and end beside the thread n, which runs or was taken; or there is no such thread.
 pub record Frame (a : Scene) (b : Core) (n : ℕ) (q : Option Place) : Type 0 where
   pub follows : Follows a b n q
   pub home : (k : ℕ) → place_of k b ≡ place_of k a.base

@@ -1,4 +1,4 @@
--- Who waits or is blocked was so before, or comes to it: along the words of a step.
+-- Who waits or is blocked was so before, or comes to it: along the primitives of a step.
 use Rattle.task_places.proofs.Laws.{after_placing, after_primitive, Allowed, along, ap, arith, Bool, by_number, Came, came_word, Collapses, Comes, Core, false, get, get-change, get-remove, GoesBack, OpProgress, inl, inr, IsBeside, IsFirst, IsGone, IsRunner, IsSame, land_allowed, Lands, LandsAt, MayMove, MayStand, Moved, nat_tests, on_thread, Option, option_map, Place, place_of, Places, Placing, placing_shifted, Promote, promoted_shifted, Put, put_shifted, Quits, refl, Remains, remove_thread, RemoveThread, Scene, set_op_progress, set_place, SetOpProgress, settle_threads, Settles, Shifts, Some, Stay, Stays, stays_allowed, Stop, stopped_shifted, sym, Thread, thread_came, ThreadAfter, Trip, true, Turn, Turned, Turns, Walk, Why, Primitive, ℕ, ⊎_elim, ◌∙◌, ◌≡◌, ◌⊎◌}
 use Rattle.task_places.proofs.PlaceLaw.{beside, Frame}
 

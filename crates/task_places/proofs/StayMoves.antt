@@ -1,4 +1,4 @@
--- Where the words of a step bring threads while the running thread stays.
+-- Where the primitives of a step bring threads while the running thread stays.
 use Rattle.task_places.proofs.Laws.{[], add_call, add_group, add_set, add_thread, add_work, after_placing, after_primitive, ap, arith, at_place, behind, behind_one, by_number, call_made, callers_of, callers_say, Core, count_work, displaced, false, foot_of, free_handle, free_thread_handle, get, get-change, get-insert, get-remove, give_handle, give_result, give_thread_handle, given_unchecked, inl, inr, insert, is_for_start, is_fresh, is_parked, is_some, is_there, List, MakeCall, MakeThread, Mark, MayPut, moved_there, nat_tests, newest, no_time, None, NoneCame, older, on_call, on_instance, on_thread, on_work, one_time, Option, option_map, passed_on, Place, place_kept, place_of, place_written, Places, Placing, placing_shifted, poll_pends, popped_threads, Promote, promoted, push_high, push_high_first, push_low, Put, put_at, put_high, put_low, put_switch, refl, remove_call, remove_group, remove_set, remove_thread, remove_work, RemoveThread, resumed_all, resumed_callers, Scene, set_backpressure, set_callers, set_cancel_delivered, set_cancelled, set_course, set_do_not_enter, set_do_not_suspend, set_end, set_event, set_exited, set_high, set_op_progress, set_join, set_low, set_task_event, set_phase, set_place, set_place_is, set_place_there, set_position, set_register, set_result, set_saved_callee, set_saved_own, set_script, set_stage, set_started, set_starting_published, set_subtask_handle, set_switch, set_thread_handle, set_trapped, set_uninteresting, set_word, Some, Stand, stand, Stays, stays_put, Stop, stopped, stopped_shifted, subst, sym, take_result, TakeHost, TakePush, Thread, times, times-newest, true, Turn, unqueued, Why, why_of, with_handle, with_thread_handle, Withdraw, Primitive, work_queued, ℕ, ⊎_elim, ◌+◌, ◌==◌, ◌∙◌, ◌∷◌, ◌≡◌, ◌≤◌, ◌⊎◌}
 use Rattle.task_places.proofs.PlaceLaw.{entry_ready, Follows, fresh_still, listed, parked_at, ReadyAt, watch, withdraws_waits}
 
@@ -65,7 +65,7 @@ unqueued_place k s j = grind arith
 -- ---- Words
 
 module _ (a : Scene) {n : ℕ} {q : Option Place} {s : Core} (st : Stand (watch a) n q [] s) where
-  -- what stands at switch is ready
+  -- what is at switch is ready
   pub switch_ready : (m : ℕ) → s.queues.switch ≡ Some m → (place_of m s ≡ Some (Place.Ready Mark.Switch (why_of m s))) × ((m == n) ≡ false)
   switch_ready m is = by_number m n _ (λ e. absurd (let l = st.loose n (one_time n) in grind (arith, nat_tests)))
       (λ other. (let h = st.placed m (no_time m n other) in grind (arith, nat_tests), other))

@@ -1,8 +1,8 @@
--- Where threads are that are inside waits, along the words of a step.
+-- Where threads are that are inside waits, along the primitives of a step.
 use Rattle.task_places.proofs.Laws.{[], admits, after_placing, after_primitive, Allowed, along, ap, arith, AwaitsEvent, behind_one, Blocks, by_number, Collapses, Component, Core, Enter, false, FitsAs, get, get-change, get-remove, GoBehind, GoesBack, Holds, op_progress_of, OpProgress, inl, InPlace, inr, is_at_wait, is_resumption, is_wait, IsUnwind, IsRunner, Label, Lands, lands_alone, LandsAt, Leaves, Mark, MayCome, MayLand, MayMove, MayPut, MayYield, Move, moved_passes, nat_tests, None, on_thread, Op, op_came, op_in, Option, option_map, option_map_or, Pauses, Place, place_of, Places, Placing, placing_shifted, push_high, push_low, Put, put_high, put_low, Quits, read_same, refl, Remains, remove_thread, RemoveThread, Runs, Scene, scene_as, set_callers, set_op_progress, set_of_op, set_place, set_trapped, SetOpProgress, Setting, settle_threads, Settles, SetTrapped, shifted_far, Some, Stand, State, Stay, stays_allowed, Suspends, sym, Thread, Trip, true, Turn, Uncovers, Waits, WaitsAgain, WaitsPlaced, WalkedAs, Why, Primitive, ℕ, ⊎_elim, ◌==◌, ◌∙◌, ◌≡◌, ◌⊎◌}
 use Rattle.task_places.proofs.{HostsAwaited.land_kept, PlaceLaw.Frame, PlaceLaw.move_runner, PlaceLaw.no_way, PlaceLaw.runner_there, PlaceLaw.stay_word, PlaceLaw.watch, PlaceLaw.watched_word, PlaceLaw.yield_leaves, PlaceSteps.Withdrawable, PlaceSteps.step_by}
 
--- ---- One word
+-- ---- One primitive
 
 -- the thread is where one inside a wait on the set is, or gone
 abbrev At : ℕ → ℕ → Core → Type 0

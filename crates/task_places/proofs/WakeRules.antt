@@ -59,7 +59,7 @@ woken_is_past x false = refl
 woke_by_place : (x m : ℕ) (s t u : Core) → is_waiter x m s ≡ true → place_of m u ≡ Some (Place.Ready Mark.High (wake_why x (is_callback_waiter m s))) → place_of m t ≡ place_of m u → WokeOne x s t
 woke_by_place x m s t u waits at same = WokeThis m waits (ap is_past (same ∙ at) ∙ woken_is_past x (is_callback_waiter m s))
 
--- the own event is taken, and the wake is handed on, if it is to be
+-- the task event is taken, and the wake is handed on, if it is to be
 hands : (x n : ℕ) (e : TaskEvent) (w : Option ℕ) (s t : Core) → may_hand_on x (PickedTaskEvent e) w s ≡ true →
     ((m : ℕ) → (m == n) ≡ false → place_of m t ≡ place_of m (handed_on x (PickedTaskEvent e) w s)) → is_waiter x n s ≡ false → Spends x n s t
 unfolding may_hand_on handed_on may_wake

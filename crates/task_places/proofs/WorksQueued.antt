@@ -1,4 +1,4 @@
--- Host works have their entries, along the words of a step.
+-- Host works have their entries, along the primitives of a step.
 use Rattle.task_places.proofs.Laws.{after_primitive, Allowed, arith, Bool, Core, Doing, doing_of, entries_for, get, High, inl, inr, is_stage_ended, MayAbort, MayRemoveWork, None, Option, option_map_or, refl, same_standing, SameWorks, Scene, Some, stage_of, stand_word, true, Primitive, Work, work_came, WorkCame, WorksQueued, WorksStand, ℕ, ◌∙◌, ◌≡◌, ◌≤◌}
 
 pub stands_of : {s : Core} → WorksQueued s → WorksStand (Unit {0}) s

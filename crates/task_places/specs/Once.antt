@@ -13,7 +13,7 @@ abbrev pub IsUnbegun : Main → Type 0
 IsUnbegun (Scripted p) = p ≡ main_opening
 IsUnbegun Unscripted = Unit {0}
 
--- each run from an opening state, of a component whose codes stand in callbacks, writes and hands out each end once
+-- each run from an opening state, of a component whose codes are in callbacks, writes and hands out each end once
 unfoldable pub RunsAreOnce : Type 0
 RunsAreOnce = (x : Setting) → CodesInCallbacks x.component →
     (instances handle_limit capacity : ℕ) (main : Main) → IsUnbegun main → (ls : List Label) (t : State) →

@@ -25,7 +25,7 @@ unfoldable pub ReachedUnblocked : Type 0
 ReachedUnblocked = (x : Setting) (s : State) → Reached x s → is_open s.turn ≡ true →
     NoneBlockedOnEnd s.core × ((none_blocked_on_end s.core ≡ true) × BlockedByWorks s.core)
 
--- in each reached state whose turns aren't over no caller stands behind a stopped strand
+-- in each reached state whose turns aren't over no caller is behind a stopped strand
 unfoldable pub ReachedGoOn : Type 0
 ReachedGoOn = (x : Setting) (s : State) → Reached x s → is_open s.turn ≡ true → CallersGoOn s.core
 

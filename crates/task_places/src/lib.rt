@@ -1,5 +1,5 @@
-//! Laws of the component machine that say where each thread is, in each state that a run comes
-//! to. Each function here is the statement of a law, about the rules that `task_rules` defines.
+//! Laws of the component machine that say where each thread is, in each state that a run reach. Each function here is the statement
+//! of a law, about the rules that `task_rules` defines.
 #![tactic(auto)]
 
 mod once;

@@ -13,7 +13,7 @@ pub fn step_in_order()
     ensures { StepInOrder }
 {}
 
-/// So each state that a run comes to is in order.
+/// So each state that a run reach is in order.
 #[tactic(auto, using(crate::proofs::OrderLemmas::reached_in_order))]
 pub fn reached_in_order()
     ensures { ReachedInOrder }

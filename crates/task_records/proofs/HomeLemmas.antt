@@ -1,4 +1,4 @@
--- Where the call of a thread stands, and its instance.
+-- Where the call of a thread is, and its instance.
 use Rattle.task_records.proofs.Core.{[], ap, arith, AtPlace, bare, bare_call, bare_thread, bare_work, Call, call_instance, call_key, call_of, CallOf, core_of, get, get-records, GuestTaskKey, HasHome, HasNumber, HostTaskKey, instance_of, IsCallNamed, IsSome, IsSoundCore, IsWorkNamed, item_at, item_of, length, List, loose_call, loose_thread, loose_work, map, no_callee, None, Nothing, number_of-le, Ok, on_item, Option, option_map, option_map_or, parts_of, place_at-mapped, placed_as, refl, seen, set_key, set_of, SetKey, SetOf, slice_get, Some, StandsAt, subst, sym, TableId, Target, task_of, Thread, thread_key, thread_of, ThreadKey, ThreadOf, uninterested, unmoved, work_key, work_of, WorkOf, ℕ, ◌<◌, ◌∙◌, ◌∷◌, ◌≡◌, ◌≤◌}
 use Rattle.task_machine.specs.declared.component.ExportKind.{ExportKind}
 use Rattle.task_machine.specs.Read.{kind_of}
@@ -75,7 +75,7 @@ module _ (a : CoreParts) where
         ∙ (ap (bars_start g.thread.explicit) (bare_kind g.thread.call)
         ∙ ap (λ (o : Option Thread). bars_start (option_map_or (λ (t : Thread). t.explicit) o false) (kind_of (option_map_or (λ (t : Thread). t.call) o 0) (seen a).core)) (thread_read a sound id g is))
 
-    -- the number of the thread's call stands at the place that the thread keeps
+    -- the number of the thread's call is at the place that the thread keeps
     pub task_live : 0 < task_of (thread_of (seen a) id) (seen a).core
     task_live = subst (λ (k : ℕ). 0 < k) (sym thread_task) thread_home.there
 

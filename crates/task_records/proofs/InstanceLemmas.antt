@@ -5,7 +5,7 @@ none_before : (k : ℕ) → 0 + k ≡ k
 none_before k = omega arith
 
 module _ {X : Type 0} where
-  -- nothing stands before the first place
+  -- nothing is before the first place
   pub get-by_place_before : (i q : ℕ) (xs : List X) → q < i → get (by_place_from i xs) q ≡ None
   unfolding by_place_from
   get-by_place_before i q [] before = get-empty q
@@ -65,7 +65,7 @@ module _ {X : Type 0} where
   pub by_place-set : (k : ℕ) (xs : List X) (x y : X) → slice_get xs k ≡ Some x → by_place (set xs k y) ≡ insert (by_place xs) k y
   by_place-set k xs x y at = by_place_from-set 0 k xs x y at ∙ ap (λ n. insert (by_place xs) n y) (none_before k)
 
-  -- nothing stands past the last place
+  -- nothing is past the last place
   pub get-by_place_past : (n : ℕ) (xs : List X) → length xs ≡ n → get (by_place xs) n ≡ None
   get-by_place_past n xs long = get-by_place n xs ∙ slice_get_past xs n (omega arith)
 

@@ -57,7 +57,7 @@ module _ {T X : Type 0} (number : T → ℕ) (rec : T → X) where
         by_found None is live = absurd (omega arith)
         by_found (Some p) is live = (p, is)
 
-    -- what an id names that has a number stands at its place
+    -- what an id names that has a number is at its place
     pub live_there : 0 < number_of key t rep serial → IsSome (option_and_then (λ p. item_of p.entry) (place_at t rep))
     live_there live =
         let one = live_found live in

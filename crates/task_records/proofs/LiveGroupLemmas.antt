@@ -1,4 +1,4 @@
--- Which groups of a core are live and known, by the records of its groups.
+-- Which groups of a core are live and tracked, by the records of its groups.
 use Rattle.std.proofs.Common.{[], ap, arith, Bool, false, filter, inl, inr, List, map, nat_lt, refl, subst, suc, sym, true, zero, ℕ, ◌<◌, ◌∙◌, ◌∷◌, ◌≡◌, ◌&&◌, ◌||◌}
 use Rattle.std.proofs.lemmas.Bool.{cases_lt}
 use Rattle.std.specs.Prelude.{is_some, None, Option, Some, vec_capacity, ◌≤◌, ◌⊎◌}
@@ -52,7 +52,7 @@ module _ (a : CoreParts) (sound : IsSoundCore a) where
       by true there is = ended_are.within n there
       by false out is = live_within n is
 
-  -- it is known where it is live or has ended
+  -- it is tracked if it is live or has ended
   pub known_is : (n : ℕ) → has n (tracked_of a.ended.items live a.made.groups) ≡ is_tracked a.ended.items live n
   known_is n = known_has a.ended.items live a.made.groups n (known_within n)
 

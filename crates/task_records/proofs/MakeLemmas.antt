@@ -40,7 +40,7 @@ module _ {T X : Type 0} (number : T → ℕ) (rec : T → X) (t : Table (Single 
     pub number_new : (r s : ℕ) → r ≡ next_place t → s ≡ t.given → number_of key more r s ≡ number g
     number_new r s at serial = number_of-pushed_new key t (entry_of g) r s sound.table at serial
 
-    -- what was made before stands where it stood
+    -- what was made before is where it was
     pub stands_more : (rep n : ℕ) → n ≤ made → StandsAt key t rep n → StandsAt key more rep n
     stands_more rep n early stands some = by_place (cases_eq rep (next_place t))
       where
@@ -90,7 +90,7 @@ module _ {T X : Type 0} (number : T → ℕ) (rec : T → X) (t : Table (Single 
       later = λ n later. found_less n (sound.later n later);
     }
 
-    -- what is left stands where it stood
+    -- what is left is where it was
     pub stands_less : (r n : ℕ) → StandsAt key t r n → StandsAt key less r n
     stands_less r n stands some = by_number (cases_eq n (number g))
       where
@@ -122,7 +122,7 @@ module _ {T X : Type 0} (number : T → ℕ) (rec : T → X) (t : Table (Single 
         by ℕ.zero e = absent (rec g) (sym (item_read number rec t made sound rep serial g is ∙ (ap (get (records key t.places)) e ∙ (get-records key t.places 0 ∙ sound.above_zero))))
         by (ℕ.suc n) e = omega arith
 
-    -- what has its number stands at its place
+    -- what has its number is at its place
     same_place : (r s : ℕ) → number_of key t r s ≡ number g → r ≡ rep
     same_place r s same =
         let this = number_names key t rep serial live in

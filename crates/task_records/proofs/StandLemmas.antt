@@ -12,7 +12,7 @@ module _ {T X : Type 0} (number : T → ℕ) (rec : T → X) where
     unfolding number_of
     by_found o serial at is = ap (λ q. number_in (key_in key q)) (is ∙ sym at)
 
-    -- the id of what stands at the place has its number
+    -- the id of what is at the place has its number
     pub number_here : (serial : ℕ) → Some serial ≡ option_map (λ (p : Placed (Single T)). p.serial) (place_at t rep) → number_of key t rep serial ≡ number_in (record_at key t.places rep)
     number_here serial is = by_place (place_at t rep) refl is
       where
@@ -20,7 +20,7 @@ module _ {T X : Type 0} (number : T → ℕ) (rec : T → X) where
         by_place None at is = absurd (cc)
         by_place (Some p) at is = by_found (Some p) serial at (ap (found t rep) (same_Some serial p.serial is) ∙ found_here t rep p at)
 
-    -- where a number stands an entry does
+    -- where a number is an entry does
     pub number_placed : 0 < number_in (record_at key t.places rep) → IsSome (place_at t rep)
     number_placed some = by_place (place_at t rep) some
       where
@@ -28,7 +28,7 @@ module _ {T X : Type 0} (number : T → ℕ) (rec : T → X) where
         by_place None some = absurd (omega (arith, some))
         by_place (Some p) some = refl
 
-    -- where nothing stands every id of the place has none
+    -- where nothing is every id of the place has none
     pub number_nowhere : (serial : ℕ) → None ≡ option_map (λ (p : Placed (Single T)). p.serial) (place_at t rep) → number_of key t rep serial ≡ number_in (record_at key t.places rep)
     unfolding found
     number_nowhere serial is = by_place (place_at t rep) refl is
@@ -37,7 +37,7 @@ module _ {T X : Type 0} (number : T → ℕ) (rec : T → X) where
         by_place None at is = by_found None serial at (ap (of_serial serial) at)
         by_place (Some p) at is = absurd (cc)
 
-  -- a number that stands at a place is that of the entry there
+  -- a number that is at a place is that of the entry there
   module _ (t : Table (Single T)) (place n : ℕ) (has : number_in (record_at key t.places place) ≡ n) (some : 0 < n) where
     pub stands_here : (p : Placed (Single T)) × ((place_at t place ≡ Some p) × (number p.entry.item ≡ n))
     stands_here = by_place (place_at t place) refl has
@@ -78,7 +78,7 @@ module _ {T X : Type 0} (number : T → ℕ) (rec : T → X) where
     live_or_not : (n : ℕ) (o : Option X) → found_record key n t.places ≡ o → kept_in (records key t.places) n ≡ cond (is_some o) n 0
     live_or_not n o is = ap (λ q. cond (is_some q) n 0) (get-records key t.places n ∙ is)
 
-    -- a number that stands at a place is live
+    -- a number that is at a place is live
     pub kept_here : (rep n : ℕ) (g : T) → Some g ≡ option_and_then (λ (p : Placed (Single T)). item_of p.entry) (place_at t rep) → number g ≡ n → (number_in (record_at key t.places rep) ≡ n) × (kept_in (records key t.places) n ≡ n)
     kept_here rep n g is same = by_place (place_at t rep) refl is
       where
@@ -89,7 +89,7 @@ module _ {T X : Type 0} (number : T → ℕ) (rec : T → X) where
             let there : record_at key t.places rep ≡ Some (n, rec g) = ap (key_in key) at ∙ (ap (λ h. Some (number h, rec h)) (sym one) ∙ ap (λ m. Some (m, rec g)) same) in
             (ap number_in there, live_or_not n (Some (rec g)) (found_record_at key t.places rep n (rec g) sound.apart there))
 
-    -- a number that was kept with a place where another one stands, or none, is gone
+    -- a number that was kept with a place where another one is there, or none, is gone
     pub kept_gone : (rep n : ℕ) → StandsAt key t rep n → (number_in (record_at key t.places rep) ≡ n → n ≡ 0) → kept_in (records key t.places) n ≡ 0
     kept_gone rep n stands other = by_found_record (found_record key n t.places) refl
       where
@@ -112,14 +112,14 @@ module _ {T X : Type 0} (number : T → ℕ) (rec : T → X) where
     shown_beyond made sound beyond = number_shown number rec t rep serial ∙ number_beyond t made sound rep serial beyond
 
     module _ (made : ℕ) (sound : SoundTable key t made) (place n : ℕ) where
-      -- the number that was kept stands there still
+      -- the number that was kept is there still
       pub shown_kept : (g : T) → Some g ≡ option_and_then (λ (p : Placed (Single T)). item_of p.entry) (place_at t place) → number g ≡ n → (m : ℕ) → m ≡ number_in (record_at key t.places place) → m ≡ kept_in (records key t.places) n
       shown_kept g is same m at = let one = kept_here t made sound place n g is same in at ∙ (one.0 ∙ sym one.1)
 
       gone : StandsAt key t place n → rep ≡ 4294967295 → (number_in (record_at key t.places place) ≡ n → n ≡ 0) → named serial (slice_get (tags_in key t) rep) ≡ kept_in (records key t.places) n
       gone stands beyond other = number_shown number rec t rep serial ∙ (number_beyond t made sound rep serial beyond ∙ sym (kept_gone t made sound place n stands other))
 
-      -- another one stands there
+      -- another one is there
       pub shown_other : StandsAt key t place n → rep ≡ 4294967295 → (g : T) → Some g ≡ option_and_then (λ (p : Placed (Single T)). item_of p.entry) (place_at t place) → (number g ≡ n → ⊥) → named serial (slice_get (tags_in key t) rep) ≡ kept_in (records key t.places) n
       shown_other stands beyond g is other = gone stands beyond (λ same. absurd (other (by_place (place_at t place) is same)))
         where
@@ -136,7 +136,7 @@ module _ {T X : Type 0} (number : T → ℕ) (rec : T → X) where
           by_place (Some p) is same = absurd (cc)
 
 module _ {T X : Type 0} (number : T → ℕ) (rec : T → X) (t : Table (Single T)) (made : ℕ) (sound : SoundTable (λ (e : Single T). Some (number e.item, rec e.item)) t made) (rep serial : ℕ) where
-  -- what an id names stands at its place
+  -- what an id names is at its place
   pub stands_by_id : StandsAt (λ (e : Single T). Some (number e.item, rec e.item)) t rep (number_of (λ (e : Single T). Some (number e.item, rec e.item)) t rep serial)
   stands_by_id some = by_number (number_of (λ (e : Single T). Some (number e.item, rec e.item)) t rep serial) refl some
     where

@@ -60,7 +60,7 @@ module _ {E F X Y : Type 0} (key : E → Option (ℕ × X)) (name : F → Option
       by_key None = refl
       by_key (Some e) = refl
 
-  -- what stands at a place has the number that it has there
+  -- what is at a place has the number that it has there
   pub number_at_mapped : (t : Table E) (rep : ℕ) → number_in (record_at name (mapped f t).places rep) ≡ number_in (record_at key t.places rep)
   number_at_mapped t rep = ap (λ o. number_in (key_in name o)) (place_at-mapped f t rep) ∙ number_mapped (place_at t rep)
 
@@ -72,7 +72,7 @@ module _ {E F X Y : Type 0} (key : E → Option (ℕ × X)) (name : F → Option
   some_mapped None some = absurd (cc)
   some_mapped (Some x) some = refl
 
-  -- where a number stands it stands
+  -- where a number is it is
   pub stands_mapped : (t : Table E) (rep n : ℕ) → StandsAt name (mapped f t) rep n → StandsAt key t rep n
   unfolding mapped
   stands_mapped t rep n at some = sym (number_at_mapped t rep) ∙ at (subst IsSome (sym (found_mapped n t.places)) (some_mapped (found_record key n t.places) some))

@@ -1,4 +1,4 @@
--- Which groups are known: as a list, each law is one of its members.
+-- Which groups are tracked: as a list, each law is one of its members.
 use Rattle.std.proofs.Common.{[], ap, append-nil, arith, Bool, cond, false, filter, get_or, inl, inr, length, List, not, refl, subst, suc, sym, true, zero, ℕ, ◌+◌, ◌<◌, ◌==◌, ◌∙◌, ◌∷◌, ◌≡◌, ◌&&◌, ◌||◌}
 use Rattle.std.proofs.lemmas.Bool.{cases_eq, eq-eqb, eqb-true, ne_eqb}
 use Rattle.std.proofs.lemmas.Bool.Decides.{nat_tests}

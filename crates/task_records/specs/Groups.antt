@@ -1,4 +1,4 @@
--- Which groups a core knows: those that are live, and those that have ended since it was last asked which.
+-- Which groups a core tracks: those that are live, and those that have ended since it was last asked which.
 use Rattle.std.specs.Prelude.{Bool, List, [], false, filter, length, suc, true, zero, ℕ, ◌+◌, ◌<◌, ◌||◌, ◌∷◌, ◌≡◌, ◌≤◌}
 use Rattle.task_index.specs.Members.{Once, has}
 
@@ -14,7 +14,7 @@ is_tracked ended live n = has n ended || has n live
 abbrev pub tracked_of : (ended live : List ℕ) → (made : ℕ) → List ℕ
 tracked_of ended live made = filter (is_tracked ended live) (after 0 made)
 
--- Of the groups that have ended each stands there once. None is live, and each was made. There is room for the live ones, too.
+-- Of the groups that have ended each is there once. None is live, and each was made. There is room for the live ones, too.
 pub record AreEnded (ended : List ℕ) (space : ℕ) (live : List ℕ) (made : ℕ) : Type 0 where
   pub once : Once ended
   pub apart : (n : ℕ) → has n ended ≡ true → has n live ≡ false

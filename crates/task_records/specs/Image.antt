@@ -1,4 +1,4 @@
--- The machine's core that the parts of a core stand for, and what ids name.
+-- The machine's core that the parts of a core represent, and what ids name.
 use Rattle.std.specs.BTreeMap.{is_at}
 use Rattle.std.specs.Map.{lookup}
 use Rattle.std.specs.Option.{option_map_or}
@@ -125,7 +125,7 @@ trimmed (o ∷ os) = with_first o (trimmed os)
 abbrev pub tags_in : {E X : Type 0} → (E → Option (ℕ × X)) → Table E → List (Option Tag)
 tags_in key t = trimmed (map (tag_of key) t.places)
 
--- the groups that are known
+-- the groups that are tracked
 abbrev pub tracked_in : CoreImage → List ℕ
 tracked_in p = tracked_of p.ended (core_of p).groups p.made.groups
 

@@ -36,7 +36,7 @@ module _ {X Y : Type 0} (f : X → Y) where
   is_sorted-mapped [] = refl
   is_sorted-mapped (e ∷ es) = rw (below_all-mapped e.0 es, is_sorted-mapped es) refl
 
-  -- the map of a table's handles, with f of what they stand for
+  -- the map of a table's handles, with f of what they represent
   unfoldable pub records_by : fin.FinMap nat_cmp X → Records Y
   records_by m =
       record { list = mapped f (fin.entries m); sorted = subst T (sym (is_sorted-mapped (fin.entries m))) (fin.entries_sorted m) }
@@ -50,7 +50,7 @@ named_as (handle.Waitable waitable.GuestSubtask) n = named.Subtask (subtask.Gues
 named_as (handle.Waitable waitable.HostSubtask) n = named.Subtask (subtask.Host n)
 named_as _ n = named.Set n
 
--- what a handle names: the serial of what stands for a call, a work or a set is its number
+-- what a handle names: the serial of what represents a call, a work or a set is its number
 abbrev pub named_of : HeldItem → Named
 named_of h = named_as h.kind h.rep.serial
 

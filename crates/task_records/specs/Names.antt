@@ -1,4 +1,4 @@
--- What the numbers in records name, and where it stands.
+-- What the numbers in records name, and where it is.
 use Rattle.std.specs.Prelude.{◌≡◌, ◌<◌, ◌≤◌, ℕ, Option, Some, IsSome, slice_get}
 use Rattle.task_handles.specs.Handles.{held_by}
 use Rattle.task_handles.specs.declared.kinds.HandleKind.{HandleKind}
@@ -82,15 +82,15 @@ work_caller_target work_caller.Spawn = Nothing
 work_caller_target (work_caller.Async n r) = ThreadOf n
 work_caller_target (work_caller.Sync n) = ThreadOf n
 
--- What stands at the place has the number.
+-- What is at the place has the number.
 abbrev pub HasNumber : {E X : Type 0} → (E → Option (ℕ × X)) → Table E → ℕ → ℕ → Type 0
 HasNumber key t rep n = number_in (record_at key t.places rep) ≡ n
 
--- The record of the number, if there is one, stands at the place.
+-- The record of the number, if there is one, is at the place.
 abbrev pub StandsAt : {E X : Type 0} → (E → Option (ℕ × X)) → Table E → ℕ → ℕ → Type 0
 StandsAt key t rep n = IsSome (found_record key n t.places) → HasNumber key t rep n
 
--- The tables in which what is named stands, and how many were made.
+-- The tables in which what is named is, and how many were made.
 pub record Kinds : Type 0 where
   pub threads : Table (Single GuestThread)
   pub calls : Table (Single GuestTask)
@@ -101,7 +101,7 @@ pub record Kinds : Type 0 where
 abbrev pub kinds : CoreImage → Kinds
 kinds p = record { threads = p.threads; calls = p.calls; works = p.works; sets = p.sets; made = p.made }
 
--- What is named was made and, if it is there, stands at the place.
+-- What is named was made and, if it is there, is at the place.
 abbrev pub IsNamedAt : Kinds → ℕ → Target → Type 0
 IsNamedAt p rep Nothing = Unit {0}
 IsNamedAt p rep (ThreadOf n) = (n ≤ p.made.threads) × StandsAt thread_key p.threads rep n

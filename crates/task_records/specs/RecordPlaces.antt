@@ -34,7 +34,7 @@ pub data Where : Type 0 where
   UnderOf : (thread : ℕ) → Where
   BlockedOn : (subtask : Subtask) → Where
 
--- the list of a thread of the instance that is held with this entry: barred starts stand apart, as backpressure keeps them alone out
+-- the list of a thread of the instance that is held with this entry: barred starts are apart, as backpressure keeps them alone out
 abbrev pub held_list : ℕ → Bool → Why → Where
 held_list i barred w = if barred && is_for_start w then StartsIn i else HeldIn i
 
@@ -46,7 +46,7 @@ where_at i barred (place.Under n) = Some (UnderOf n)
 where_at i barred (place.Blocked sub) = Some (BlockedOn sub)
 where_at i barred _ = None
 
--- the seats of a thread, and of a call or a host work, by their places in the resource table and in the table of their kind
+-- the order keys of a thread, and of a call or a host work, by their places in the resource table and in the table of their kind
 abbrev pub thread_order_key : ℕ → GuestThread → OrderKey
 thread_order_key rep g = record { task = g.task_entry; thread = g.entry; place = rep }
 

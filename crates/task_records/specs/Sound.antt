@@ -1,4 +1,4 @@
--- What holds of the parts of every core: how they stand for the machine's records, and no more.
+-- What holds of the parts of every core: how they represent the machine's records, and no more.
 --     SoundTable         the records of one kind
 --     bare               the parts without the fields of records on which nothing hangs
 --     IsWhole            names, indexes, rows and kept numbers
@@ -108,7 +108,7 @@ bare p = record p {
 abbrev pub EachEntry : {E : Type 0} → (E → Type 0) → Table (Single E) → Type 0
 EachEntry {E} P t = (rep : ℕ) (q : Placed (Single E)) → place_at t rep ≡ Some q → P q.entry.item
 
--- Names: what a record names stands where the record says.
+-- Names: what a record names is where the record says.
 pub record AreNamed (p : CoreImage) : Type 0 where
   pub threads : EachEntry (HasHome p) p.threads
   pub calls : EachEntry (IsCallNamed p) p.calls
@@ -127,7 +127,7 @@ pub record AreChained (p : CoreImage) : Type 0 where
   pub low : Each IsOfThread (row p Low)
   pub behind : IsRows (callers_chain p) (λ f. f.node.index) (IsFollower p) p.behind (callers_row p)
 
--- Nodes: each entry has those by which it may stand in a row.
+-- Nodes: each entry has those by which it may be in a row.
 pub record HaveRowNodes (p : CoreImage) : Type 0 where
   pub marks : HaveNodes (λ (g : GuestThread). g.mark.index) p.threads p.marks
   pub instance_queues : HaveNodes (λ (g : GuestThread). g.instance_queue.index) p.threads p.instance_queues

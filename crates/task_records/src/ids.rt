@@ -21,7 +21,7 @@ fn nowhere<K>() -> TableId<K>
     TableId::new(u32::MAX, 0)
 }
 
-/// The id of the thread that stands at a place; it names nothing where none stands there.
+/// Returns the id of the thread that is at a place; it names nothing if none is there.
 pub fn thread_at(parts: &CoreParts, place: u32) -> ThreadId
     ensures { thread_of (seen parts.now) result ≡ number_in (record_at thread_key parts.now.threads.places place) }
 {
@@ -31,7 +31,7 @@ pub fn thread_at(parts: &CoreParts, place: u32) -> ThreadId
     }
 }
 
-/// The id of the thread that is known to stand at a place: nothing is tested.
+/// Returns the id of the thread that is known to be at a place: nothing is tested.
 pub fn standing_thread(parts: &CoreParts, place: u32) -> ThreadId
     requires { 0 < number_in (record_at thread_key parts.now.threads.places place) }
     ensures { thread_of (seen parts.now) result ≡ number_in (record_at thread_key parts.now.threads.places place) }
@@ -39,7 +39,7 @@ pub fn standing_thread(parts: &CoreParts, place: u32) -> ThreadId
     TableId::new(place, parts.threads.serial_unchecked(place))
 }
 
-/// The id of the thread of a number that was kept with a place; it names nothing where it is gone.
+/// Returns the id of the thread of a number that was kept with a place; it names nothing if it is gone.
 pub fn thread_id_at(parts: &CoreParts, place: u32, number: u64) -> ThreadId
     requires sound { IsSoundCore parts.now }
     requires stands { StandsAt thread_key parts.now.threads place number }
@@ -57,7 +57,7 @@ pub fn thread_id_at(parts: &CoreParts, place: u32, number: u64) -> ThreadId
     }
 }
 
-/// The id of the call that stands at a place; it names nothing where none stands there.
+/// Returns the id of the call that is at a place; it names nothing if none is there.
 pub fn call_at(parts: &CoreParts, place: u32) -> CallId
     ensures { call_of (seen parts.now) result ≡ number_in (record_at call_key parts.now.calls.places place) }
 {
@@ -67,7 +67,7 @@ pub fn call_at(parts: &CoreParts, place: u32) -> CallId
     }
 }
 
-/// The id of the call that is known to stand at a place: nothing is tested.
+/// Returns the id of the call that is known to be at a place: nothing is tested.
 pub fn standing_call(parts: &CoreParts, place: u32) -> CallId
     requires { 0 < number_in (record_at call_key parts.now.calls.places place) }
     ensures { call_of (seen parts.now) result ≡ number_in (record_at call_key parts.now.calls.places place) }
@@ -75,7 +75,7 @@ pub fn standing_call(parts: &CoreParts, place: u32) -> CallId
     TableId::new(place, parts.calls.serial_unchecked(place))
 }
 
-/// The id of the call of a number that was kept with a place; it names nothing where it is gone.
+/// Returns the id of the call of a number that was kept with a place; it names nothing if it is gone.
 pub fn call_id_at(parts: &CoreParts, place: u32, number: u64) -> CallId
     requires sound { IsSoundCore parts.now }
     requires stands { StandsAt call_key parts.now.calls place number }
@@ -93,7 +93,7 @@ pub fn call_id_at(parts: &CoreParts, place: u32, number: u64) -> CallId
     }
 }
 
-/// The id of the host work that stands at a place; it names nothing where none stands there.
+/// Returns the id of the host work that is at a place; it names nothing if none is there.
 pub fn work_at(parts: &CoreParts, place: u32) -> WorkId
     ensures { work_of (seen parts.now) result ≡ number_in (record_at work_key parts.now.works.places place) }
 {
@@ -103,7 +103,7 @@ pub fn work_at(parts: &CoreParts, place: u32) -> WorkId
     }
 }
 
-/// The id of the host work of a number that was kept with a place; it names nothing where it is gone.
+/// Returns the id of the host work of a number that was kept with a place; it names nothing if it is gone.
 pub fn work_id_at(parts: &CoreParts, place: u32, number: u64) -> WorkId
     requires sound { IsSoundCore parts.now }
     requires stands { StandsAt work_key parts.now.works place number }
@@ -121,7 +121,7 @@ pub fn work_id_at(parts: &CoreParts, place: u32, number: u64) -> WorkId
     }
 }
 
-/// The id of the set that stands at a place; it names nothing where none stands there.
+/// Returns the id of the set that is at a place; it names nothing if none is there.
 pub fn set_at(parts: &CoreParts, place: u32) -> SetId
     ensures { set_of (seen parts.now) result ≡ number_in (record_at set_key parts.now.sets.places place) }
 {
@@ -131,7 +131,7 @@ pub fn set_at(parts: &CoreParts, place: u32) -> SetId
     }
 }
 
-/// The id of the set of a number that was kept with a place; it names nothing where it is gone.
+/// Returns the id of the set of a number that was kept with a place; it names nothing if it is gone.
 pub fn set_id_at(parts: &CoreParts, place: u32, number: u64) -> SetId
     requires sound { IsSoundCore parts.now }
     requires stands { StandsAt set_key parts.now.sets place number }
@@ -149,7 +149,7 @@ pub fn set_id_at(parts: &CoreParts, place: u32, number: u64) -> SetId
     }
 }
 
-/// The call of a thread, which is there as long as the thread.
+/// Returns the call of a thread, which is there as long as the thread.
 pub fn task_of(parts: &CoreParts, thread: ThreadId) -> CallId
     requires { IsSoundCore parts.now }
     ensures is { call_of (seen parts.now) result ≡ task_of (thread_of (seen parts.now) thread) (seen parts.now).core }
@@ -161,7 +161,7 @@ pub fn task_of(parts: &CoreParts, thread: ThreadId) -> CallId
     }
 }
 
-/// The first thread of a call, which has the call's number; it names nothing where that is gone.
+/// Returns the first thread of a call, which has the call's number; it names nothing if that is gone.
 pub fn first_thread(parts: &CoreParts, call: CallId) -> ThreadId
     requires { IsSoundCore parts.now }
     ensures { thread_of (seen parts.now) result ≡ live_thread (call_of (seen parts.now) call) (seen parts.now).core }
@@ -172,7 +172,7 @@ pub fn first_thread(parts: &CoreParts, call: CallId) -> ThreadId
     }
 }
 
-/// Nothing has the number 0, which is that of an id that names nothing.
+/// Says that nothing has the number 0, which is that of an id that names nothing. It does nothing.
 pub fn none_is_zero(parts: &CoreParts)
     requires { IsSoundCore parts.now }
     ensures threads { get (seen parts.now).core.threads 0 ≡ None }

@@ -1,8 +1,8 @@
-//! The records of a core: threads, calls, host works, sets and groups, each kind in a table of its
-//! own, with the instances, the chains that they stand in, and the numbers that are kept.
+//! The records of a core: threads, calls, host works, sets and groups, each kind in a table of its own, with the instances, the
+//! chains that they are in, and the numbers that are kept.
 //!
-//! `CoreParts` has its fields open, so that words on it stand in crates of their own. What contracts
-//! see of it is `seen`, and `IsSound` is what each word keeps.
+//! `CoreParts` has its fields open, so that words on it are in crates of their own. What contracts see of it is `seen`, and
+//! `IsSound` is what each primitive keeps.
 #![tactic(auto)]
 
 mod call_records;

@@ -95,7 +95,7 @@ const NOTHING_KEPT: CachedCounts = CachedCounts {
     moving: 0,
 };
 
-// What stands in the chains' cells before they have a value.
+// What is in the chains' cells before they have a value.
 const NO_NODE: Node = Node { index: 0 };
 
 const NO_WORK: LiveWork = LiveWork {
@@ -118,8 +118,7 @@ const NO_ENTRY: Queued = Queued {
 };
 
 impl CoreParts {
-    /// A core in which nothing was made: no instance, a limit of 100,000 handles, and room for
-    /// 1,000,000 entries.
+    /// Makes a core in which nothing was made: no instance, a limit of 100,000 handles, and room for 1,000,000 entries.
     pub fn new(alloc: Global) -> CoreParts
         ensures sound { IsSoundCore result }
         ensures seen { seen result ≡ nothing }

@@ -19,7 +19,7 @@ use task_handles::{HeldItem, Rep};
 use task_wait::{GuestTaskKey, HostTaskKey, SetKey, ThreadKey};
 use task_words::{CallId, SetId, ThreadId, WorkId};
 
-/// The record of a thread, if the id names one.
+/// Returns the record of a thread, if the id names one.
 pub fn thread(parts: &CoreParts, id: ThreadId) -> Option<&GuestThread>
     requires { IsSoundCore parts.now }
     ensures is { option_map (λ g. g.now.thread) result ≡ get (seen parts.now).core.threads (thread_of (seen parts.now) id) }
@@ -35,7 +35,7 @@ pub fn thread(parts: &CoreParts, id: ThreadId) -> Option<&GuestThread>
     }
 }
 
-/// The record of a thread that is there: nothing is tested.
+/// Returns the record of a thread that is there: nothing is tested.
 pub fn thread_there(parts: &CoreParts, id: ThreadId) -> &GuestThread
     requires sound { IsSoundCore parts.now }
     requires live { 0 < thread_of (seen parts.now) id }
@@ -47,7 +47,7 @@ pub fn thread_there(parts: &CoreParts, id: ThreadId) -> &GuestThread
     parts.threads.there::<ThreadKey>(id.rep)
 }
 
-/// The record of a call, if the id names one.
+/// Returns the record of a call, if the id names one.
 pub fn call(parts: &CoreParts, id: CallId) -> Option<&GuestTask>
     requires { IsSoundCore parts.now }
     ensures is { option_map (λ g. g.now.call) result ≡ get (seen parts.now).core.calls (call_of (seen parts.now) id) }
@@ -61,7 +61,7 @@ pub fn call(parts: &CoreParts, id: CallId) -> Option<&GuestTask>
     }
 }
 
-/// The record of a call that is there: nothing is tested.
+/// Returns the record of a call that is there: nothing is tested.
 pub fn call_there(parts: &CoreParts, id: CallId) -> &GuestTask
     requires sound { IsSoundCore parts.now }
     requires live { 0 < call_of (seen parts.now) id }
@@ -72,7 +72,7 @@ pub fn call_there(parts: &CoreParts, id: CallId) -> &GuestTask
     parts.calls.there::<GuestTaskKey>(id.rep)
 }
 
-/// The record of a host work, if the id names one.
+/// Returns the record of a host work, if the id names one.
 pub fn work(parts: &CoreParts, id: WorkId) -> Option<&WorkRecord>
     requires { IsSoundCore parts.now }
     ensures is { option_map (λ g. g.now.work) result ≡ get (seen parts.now).core.works (work_of (seen parts.now) id) }
@@ -86,7 +86,7 @@ pub fn work(parts: &CoreParts, id: WorkId) -> Option<&WorkRecord>
     }
 }
 
-/// The record of a host work that is there: nothing is tested.
+/// Returns the record of a host work that is there: nothing is tested.
 pub fn work_there(parts: &CoreParts, id: WorkId) -> &WorkRecord
     requires sound { IsSoundCore parts.now }
     requires live { 0 < work_of (seen parts.now) id }
@@ -97,7 +97,7 @@ pub fn work_there(parts: &CoreParts, id: WorkId) -> &WorkRecord
     parts.works.there::<HostTaskKey>(id.rep)
 }
 
-/// The record of a set, if the id names one.
+/// Returns the record of a set, if the id names one.
 pub fn set(parts: &CoreParts, id: SetId) -> Option<&WaitSet>
     requires { IsSoundCore parts.now }
     ensures is { option_map (λ g. g.now.set) result ≡ get (seen parts.now).core.sets (set_of (seen parts.now) id) }
@@ -111,7 +111,7 @@ pub fn set(parts: &CoreParts, id: SetId) -> Option<&WaitSet>
     }
 }
 
-/// The record of a set that is there: nothing is tested.
+/// Returns the record of a set that is there: nothing is tested.
 pub fn set_there(parts: &CoreParts, id: SetId) -> &WaitSet
     requires sound { IsSoundCore parts.now }
     requires live { 0 < set_of (seen parts.now) id }
@@ -122,7 +122,7 @@ pub fn set_there(parts: &CoreParts, id: SetId) -> &WaitSet
     parts.sets.there::<SetKey>(id.rep)
 }
 
-/// An instance, if there is one of this number.
+/// Returns an instance, if there is one of this number.
 pub fn instance(parts: &CoreParts, index: u32) -> Option<&InstanceRecord>
     ensures is { option_map (λ r. r.now.instance) result ≡ get (seen parts.now).core.instances index }
     ensures handles { option_map (λ r. handle_table named_of r.now.handles) result ≡ get (seen parts.now).core.handles index }
@@ -136,7 +136,7 @@ pub fn instance(parts: &CoreParts, index: u32) -> Option<&InstanceRecord>
     }
 }
 
-/// What a handle of an instance names; the numbers past those of handles name nothing.
+/// Returns what a handle of an instance names; the numbers past those of handles name nothing.
 pub fn held(parts: &CoreParts, index: u32, handle: u64) -> Option<HeldItem>
     requires { IsSoundCore parts.now }
     ensures is { option_map named_of result ≡ named_by (seen parts.now).core.handles index handle }
@@ -155,7 +155,7 @@ pub fn held(parts: &CoreParts, index: u32, handle: u64) -> Option<HeldItem>
     }
 }
 
-/// What a thread handle of an instance names; the numbers past those of handles name nothing.
+/// Returns what a thread handle of an instance names; the numbers past those of handles name nothing.
 pub fn held_thread(parts: &CoreParts, index: u32, handle: u64) -> Option<Rep>
     requires { IsSoundCore parts.now }
     ensures is { option_map thread_named result ≡ thread_at index handle (seen parts.now).core }

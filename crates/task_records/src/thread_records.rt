@@ -4,8 +4,8 @@ use task_machine::{Entry, Thread};
 use task_table::Kind;
 use task_wait::ThreadKey;
 
-/// A thread: the machine's record under its number, with where it and what it names stand. What is read with its place
-/// stands together, so that it is in few lines of a processor's cache.
+/// A thread: the machine's record under its number, with where it and what it names are. What is read with its place is together,
+/// so that it is in few lines of a processor's cache.
 #[derive(Clone, Copy)]
 pub struct GuestThread {
     pub number: u64,

@@ -1,4 +1,4 @@
--- What holds along a chain of words.
+-- What holds along a chain of primitives.
 use Rattle.task_rules.proofs.Machine.{Advance, after_primitive, Allowed, Bool, Chain, Collapses, Core, Departs, EndsOver, false, GoesBack, OpProgress, if◌then◌else◌, inl, inr, IsUnwind, IsSettling, IsShift, Lands, LandsAt, Mark, MayGo, MayLand, MayPut, MayYield, Move, NoPrimitive, Place, Places, Placing, Pop, Promote, Put, Quits, refl, Remains, RemoveCall, RemoveGroup, RemoveThread, Scene, SetOpProgress, Settles, SetTrapped, SetUninteresting, Stay, Stays, Stop, Then, Trip, true, Turn, Walk, WasUnder, Why, Primitive, ℕ, ◌≡◌, ◌⊎◌}
 
 module _ {may : Primitive → Core → Type 0} where
@@ -15,12 +15,12 @@ module _ {may : Primitive → Core → Type 0} where
   chain_if true t u p q = p refl
   chain_if false t u p q = q refl
 
--- a chain of words that may be done for one reason is one of words that may be done for another
+-- a chain of primitives that may be done for one reason is one of words that may be done for another
 pub weaken : {may can : Primitive → Core → Type 0} → ((w : Primitive) (s : Core) → may w s → can w s) → {b t : Core} → Chain may b t → Chain can b t
 weaken f NoPrimitive = NoPrimitive
 weaken f (Then s w c ok) = Then s w (weaken f c) (f w s ok)
 
--- the words before the running thread's op is done
+-- the primitives before the running thread's op is done
 abbrev pub Keeps : Scene → Primitive → Core → Type 0
 Keeps a (Advance n p) s = ⊥
 Keeps a w s = Stays a w s
@@ -45,7 +45,7 @@ settle_keeps a (RemoveCall k) s ok = (ok.0, inl ok.1)
 settle_keeps a (RemoveGroup g) s ok = ok
 settle_keeps a _ s ok = absurd ok
 
--- the words of a step after which the thread runs on
+-- the primitives of a step after which the thread runs on
 abbrev pub Going : Scene → Core → ℕ → Core → Type 0
 Going a b n t = a.next ≡ Turn.Run n → Stay a b t
 

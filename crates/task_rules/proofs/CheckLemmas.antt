@@ -152,7 +152,7 @@ no_first x s none (Some m) e =
     let met = find_passes (λ n. is_at n s (is_waiting_on x)) (numbers s.threads) m e in
     let unmet = unmet (λ (t : Thread). t.place) (is_waiting_on x) m s.threads.list (not-true (has_waiter x s) none) in absurd (cc)
 
--- it's all the same which waiter stands for the one that a lawful choice shows
+-- it's all the same which waiter represents the one that a lawful choice shows
 told_first : (k : ℕ) (e : Status) (w : Option ℕ) (s t : Core) → may_tell k w s ≡ true → is_told k t ≡ is_told k s →
     told k e (waiter_told k w s) t ≡ told k e w t
 unfolding told may_tell may_publish may_wake

@@ -73,7 +73,7 @@ pub evented_join : (sub : Subtask) (e : Option Status) (s : Core) → join_of su
 unfolding set_event on_call on_work
 evented_join sub e s = grind (arith, nat_tests, get-change)
 
--- in the words of a step
+-- in the primitives of a step
 pub published_frees : {a : Scene} {b t : Core} (sub : Subtask) (e : Status) (w : Option ℕ) (s : Core) → b.threads ≡ a.base.threads →
     is_done_host sub s ≡ true → ChosenIn (join_of sub s) w s → Spares (join_of sub s) w s → Keep a b (set_event sub (Some e) s) → Walk a (published sub e w s) t → Frees a t sub
 unfolding published

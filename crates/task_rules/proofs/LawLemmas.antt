@@ -20,7 +20,7 @@ runs_join x s [] m ks t r q = subst (λ (y : State). Run x y ks t) r q
 runs_join x s (l ∷ ls) m ks t r q = (r.0, (r.1.0, runs_join x r.0 ls m ks t r.1.1 q))
 
 module _ (R : Core → Core → Type 0) (same : (s : Core) → R s s) where
-  -- what each word keeps of the first core, each step keeps
+  -- what each primitive keeps of the first core, each step keeps
   step_kept : ((b : Core) (w : Primitive) (s : Core) → R b s → R b (after_primitive w s)) → EachStep R
   step_kept kept x s l t step = along (R s.core) (λ w u ok h. kept s.core w u h) (same s.core) (step_walks x s l t step).walk
 
@@ -70,7 +70,7 @@ call_after x y z p q = grind arith
 work_after : (x y z : Option Work) → LaterBy LaterWork x y → LaterBy LaterWork y z → LaterBy LaterWork x z
 work_after x y z p q = grind arith
 
--- so it is of each record of b along a word, whose number was given
+-- so it is of each record of b along a primitive, whose number was given
 module _ (b : Core) where
   threads_word : (w : Primitive) (s : Core) (n : ℕ) → n ≤ s.made.threads → LaterBy SameThread (get b.threads n) (get s.threads n) →
       LaterBy SameThread (get b.threads n) (get (after_primitive w s).threads n)

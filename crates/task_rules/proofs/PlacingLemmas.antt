@@ -99,7 +99,7 @@ word_shifted {b = b} _ s ok h = absurd ok
 pub shifts_shifted : {b t : Core} → Shifts b t → Shifted b t
 shifts_shifted {b = b} c = along (λ t. Shifted b t) word_shifted (shifted_same b) c
 
--- the words that put and move, as they stand in the rows
+-- the primitives that put and move, as they are in the rows
 pub placed : {may : Primitive → Core → Type 0} {b s : Core} (p : Placing) → may (Places p) s → Chain may b s → Chain may b (after_placing p s)
 placed {may = may} {b = b} {s = s} p ok c = subst (λ (t : Core). Chain may b t) (placing_shifted p s).only (Then s (Places p) c ok)
 

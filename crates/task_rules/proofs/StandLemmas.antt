@@ -1,4 +1,4 @@
--- Threads and their entries, counted; what the words that put a thread do to them.
+-- Threads and their entries, counted; what the primitives that put a thread do to them.
 use Rattle.task_rules.proofs.Machine.{[], ap, arith, Bool, callers_of, cond, Core, entries, Entry, eq-eqb, eqb-false, eqb-true, false, get-change, has_entry, HasPlace, if◌then◌else◌, is_at_high, is_at_low, is_at_switch, is_at_wait, is_behind_of, is_blocked_on, is_entry_of, is_free, is_fresh, is_there, is_under, le_trans, less, List, Mark, nat_tests, newest, older, on_thread, one_if, Option, option_map, option_map_or, Place, place_of, push_high, push_low, put_high, put_low, refl, says, set_place, Some, subst, Subtask, switch_entries, sym, times, true, Why, ℕ, ◌++◌, ◌+◌, ◌==◌, ◌∙◌, ◌∷◌, ◌≡◌, ◌≢◌, ◌≤◌, ◌⊎◌}
 
 -- ---- Numbers and lists
@@ -261,7 +261,7 @@ moves_stand {P = P} n q xs m p r s u t drops adds is none so st = record {
 pub free_drops : (m : ℕ) (p : Place) (s : Core) → is_free p ≡ true → Drops m p s s
 free_drops m p s free = grind arith
 
--- ---- The words that put a thread
+-- ---- The primitives that put a thread
 
 pub put_high_adds : (m : ℕ) (w : Why) (r : Place) (s : Core) → place_of m s ≡ Some r → Adds m (Place.Ready Mark.High w) s (put_high m w s)
 unfolding put_high push_high set_place on_thread

@@ -82,7 +82,7 @@ module _ {P : ℕ → Watch} (n : ℕ) (q : Option Place) where
   comes_stand m xs p s t adds st =
       let r = st.there m (own_times m xs (omega (arith, st.once m))) in adds_stand m p s t (adds r.0 r.1) n q xs st
 
-  -- where a thread stands at switch, it is put at the front of high
+  -- where a thread is at switch, it is put at the front of high
   pub displaced_stand : (xs : List ℕ) (s : Core) (o : Option ℕ) → s.queues.switch ≡ o → Stand P n q xs s →
       Stand P n q xs (set_switch None (displaced o s))
   unfolding set_switch push_high_first set_place on_thread
@@ -98,7 +98,7 @@ module _ {P : ℕ → Watch} (n : ℕ) (q : Option Place) where
       j_none : times j (n ∷ xs) ≡ 0
       j_none = omega (arith, st.once j, λ (e : times j (n ∷ xs) ≡ 1). zero_one {A = ⊥} (st.loose j e).switch stands)
 
-      -- what stood at switch is ready there
+      -- what was at switch is ready there
       ready : place_of j s ≡ Some (Place.Ready Mark.Switch (why_of j s))
       ready = let h = (st.placed j j_none).switch in grind (arith, stands)
 
@@ -139,7 +139,7 @@ module _ {P : ℕ → Watch} (n : ℕ) (q : Option Place) where
   pub given_unchecked : (xs : List ℕ) (s : Core) → Stand P n q xs s → (k : ℕ) → is_there k s ≡ true → Given k s
   given_unchecked xs s st k h = (h, grind (arith, once_or_not (times k (n ∷ xs)) (st.once k), st.placed k, st.loose k))
 
-  -- what stands at switch is there
+  -- what is at switch is there
   pub switch_there : (xs : List ℕ) (s : Core) → Stand P n q xs s → (m : ℕ) → s.queues.switch ≡ Some m → is_there m s ≡ true
   switch_there xs s st m e = grind (arith, nat_tests, once_or_not (times m (n ∷ xs)) (st.once m), st.placed m, st.loose m)
 

@@ -1,4 +1,4 @@
--- The end of a task as a chain of words.
+-- The end of a task as a chain of primitives.
 use Rattle.task_rules.proofs.Machine.{after_primitive, ap, arith, Bool, Call, CallEnd, Caller, caller_of, cancelled, Core, EndCall, EndTells, false, get, get-change, give_result, GiveResult, Goal, goal_of, if◌then◌else◌, is_over, is_some, is_told, nat_tests, on_call, on_thread, Option, option_map_or, published, Records, refl, result_given, returned, same_map, SaysEnd, Scene, set_end, set_event, set_register, set_result, SetRegister, SetResult, Some, Status, status_of_end, subst, Subtask, sym, task_of, TellsNever, TellsNow, told, true, Walk, ℕ, ◌∙◌, ◌≡◌}
 use Rattle.task_rules.proofs.{CallThreads.LastEnds, ChainLemmas.Keep, ChainLemmas.chain_if, FreeLemmas.published_frees, PlacingLemmas.shifted_calls, PlacingLemmas.shifted_task, PlacingLemmas.shifts_shifted, WalkMoves.ToldSpares, WalkMoves.ToldTo, WalkMoves.published_shifts, WalkMoves.shifted, WalkMoves.told_at, WalkMoves.told_shifts, WalkMoves.word}
 
@@ -65,7 +65,7 @@ module _ {a : Scene} {b : Core} where
   result_given_walks (Goal.Register r) Caller.Main k v at says c = c
   result_given_walks _ f k v at says c = c
 
-  -- after the word that ends it
+  -- after the primitive that ends it
   ends_rest : (g : Goal) (f : Caller) (k v : ℕ) (e : CallEnd) (w : Option ℕ) (s : Core) → (e ≡ CallEnd.StartCancelled → ⊥) →
       ToldTo k w s → Keep a b (result_given g f k v (call_ends k e s)) → Keep a b (told k (status_of_end e) w (result_given g f k v (set_end k e s)))
   unfolding told

@@ -1,8 +1,8 @@
--- The moves of the machine as chains of words.
+-- The moves of the machine as chains of primitives.
 use Rattle.task_rules.proofs.Machine.{[], add_call, add_group, add_set, add_thread, add_work, Advance, after_placing, after_primitive, ap, arith, AtOp, blocked_on, Bool, ByHandle, call_group, call_made, call_settled, can_come, CanCome, checked, chosen, Core, count_work, Delivery, departed, Departs, end_of, ended, exited_if, false, first_entry, foot_of, free_handle, free_thread_handle, freed_thread_handle, FreeThreadHandle, get, get-change, get-insert, get-remove, get-remove_same, PickedEvent, give_handle, give_result, give_thread_handle, group_settled, Halted, Halts, handed_on, hands_on, has_ended, has_waiter, held_why_of, OpProgress, if◌then◌else◌, InOp, inr, instance_of, interest_settled, is_at, is_blocked_on, is_callback_waiter, is_deletable, is_done_host, is_explicit, is_finished, is_group_done, is_some, is_told, is_waiter, is_waiting_on, IsNamed, IsRunner, IsSettling, IsStarting, Join, join_of, Lands, lands_alone, lands_inside, LandsAt, le_refl, le_trans, Leaves, leaving, List, MakeThread, Mark, may_hand_on, may_not_suspend, may_publish, may_tell, may_wake, may_wake_joined, MayCome, MayDeliver, MayLand, MayPut, MayRemoveCall, PickedMember, nat_tests, NothingPicked, None, not, NoPrimitive, numbers, on_call, on_instance, on_thread, on_work, op_in, Option, option_map, option_map_or, TaskEvent, PickedTaskEvent, Place, place_of, Places, Placing, poll_pends, position_of, Promote, promoted, promoted_first, promoted_unless, published, push_high, Put, put_high, Quits, Records, refl, released, released_one, Releases, remove, remove_call, remove_group, remove_set, remove_thread, remove_work, RemoveCall, RemoveGroup, RemoveThread, Restart, Scene, set_backpressure, set_cancel_delivered, set_cancelled, set_course, set_do_not_enter, set_do_not_suspend, set_end, set_event, set_exited, set_op_progress, set_join, set_task_event, set_phase, set_position, set_register, set_result, set_saved_callee, set_saved_own, set_script, set_stage, set_started, set_starting_published, set_subtask_handle, set_thread_handle, set_trapped, set_uninteresting, set_word, SetCallEvent, SetCancelDelivered, SetExited, SetTaskEvent, Settles, SetUninteresting, Shifts, Some, Status, Stay, Stop, stopped, subst, Subtask, sym, take_result, TakeHost, taken, TakePush, TakesNamed, TakeWorkEvent, task_of, Tells, Then, Thread, thread_handle_of, told, Trip, true, Turn, unblocked, Unblocks, wake, wake_joined, wake_why, waken_by, Wakes, Walk, Why, with_handle, with_thread_handle, Primitive, work_queued, ℕ, ◌||◌, ◌∙◌, ◌∷◌, ◌≡◌, ◌≤◌}
 use Rattle.task_rules.proofs.{CallThreads.LastEnds, CallThreads.SameTasks, CallThreads.any_found, ChainLemmas.Keep, ChainLemmas.Keeps, ChainLemmas.along, ChainLemmas.chain_if, ChainLemmas.gone_walk, ChainLemmas.join, ChainLemmas.keep_stay, ChainLemmas.settle_keeps, ChainLemmas.settle_stays, ChainLemmas.shift_keeps, ChainLemmas.weaken, PlacingLemmas.Shifted, PlacingLemmas.placed, PlacingLemmas.placing_shifted, PlacingLemmas.popped_shifted, PlacingLemmas.unplaced, PromotionLemmas.first_has_entry, StandLemmas.set_place_is, StopLemmas.find_passes}
 
--- ---- What other threads come to
+-- ---- What other threads result in
 
 put_shifts : (n : ℕ) (w : Why) (s : Core) → MayPut n w s → Shifts s (put_high n w s)
 put_shifts n w s ok = placed (Put Mark.High n w) ok NoPrimitive
@@ -151,7 +151,7 @@ module _ (a : Scene) (n : ℕ) (runs : place_of n a.base ≡ Some Place.Running)
     position = let m = q.made in grind (arith, nat_tests, get-change, get-insert, get-remove, q.position, m, below);
   }
 
--- no word before those of an op that is done brings the running thread further
+-- no primitive before those of an op that is done brings the running thread further
 pub keep_at : {a : Scene} {b t : Core} (n : ℕ) → a.turn ≡ Turn.Run n → StillAt n a.base b → Keep a b t → AtOp a n t
 keep_at {a = a} n to first c = (to, λ runs below there. (along (StillAt n a.base) (still_word a n runs below) first c).position (grind arith))
 

@@ -1,4 +1,4 @@
--- The rows of the ops on sets, subtasks and threads as chains of words.
+-- The rows of the ops on sets, subtasks and threads as chains of primitives.
 use Rattle.task_rules.proofs.Walks.{[], aborted_phase, AbortsOwn, add_work, advanced, after_primitive, AlreadyEnded, and_parts, answered, answered_by, Answers, answers_by, ap, arith, assigned, Async, at_handle_limit, AtOnce, blocked_code, Bool, by_number, ByHandle, ByOp, BySetHandle, ByThread, ByWait, Call, call_begins, call_done_walks, call_ends, call_host_by, call_instance, call_let_go, call_of_op, call_pending, call_queues, call_resumes, call_rule, call_settled, call_settles, call_status, call_status_by, call_sync_begins, call_sync_host_by, call_sync_host_rule, call_sync_host_stops, call_sync_rule, call_sync_status, call_sync_status_by, call_sync_stops, call_taken, call_with_handle, CallbackWaits, CallbackYields, Callee, callee_of_op, CallEnd, Caller, caller_of, CallLabel, CallOp, calls_host, cancel_aborts_host, cancel_asks, cancel_by, cancel_by_end, cancel_case, cancel_ended_by, cancel_ended_rule, cancel_guest, cancel_guest_by, cancel_hands_of, cancel_label, cancel_promotes_yield, cancel_resumed, cancel_rule, cancel_stops, cancel_subtask, cancel_subtask_by, cancel_target, cancel_wakes_callback, cancel_writes_of, CancelCase, cancelled_of_op, Cancelling, Cancels, checked, checked_shifts, Choice, chosen, chosen_of, CloseSet, Core, count_work, CountWork, Delivery, Doer, dropped, end_for, ended, EndsSubtask, EndTells, EndPrimitives, enter_runs, event_gone, event_of, export_kind, Failing, false, finds_nothing, finish, first_polled, FirstPoll, fits, free_handle, get, get-change, get-insert_same, get-remove, PickedEvent, picked_event, give_handle, given_out, Goal, Continues, Going, group_settled, Halt, halt_rule, halted, halted_at, halted_checked, halted_promoting, halted_resuming, halting, halting_by, halts, halts_by, handed_as, handed_by_cancel, handed_by_event, handed_on, handed_on_shifts, handed_out, hands_by, HandsAtOnce, HandsOut, has_ended, has_member, has_waiters, has_yielded, HasNoEnd, HasSubtask, heard_first, host_at, host_end, host_valued, host_with_handle, HostDef, HostPoll, op_progress_of, OpProgress, if◌then◌else◌, inl, inr, instance_of, is_async_lifted, is_async_work, is_callback_yield, is_calling_host, is_cancel, is_direct, is_ended_work, is_for_main, is_join, is_joined, is_open, is_other, is_ready_to_resume, is_script, is_some, is_stage_ended, is_sync_call, is_sync_cancel, is_sync_host_call, is_thread_op, is_wait, is_waiting_on, is_watched, is_yielded, IsNamed, IsNew, IsReadyAtOnce, Join, join, join_done, join_done_by, join_label, join_of, join_to, join_to_by, joined, joins, Keep, keep_stay, keep_still, Label, lands_at, Later, Leaves, List, MadeCounts, Main, makes_set, MakeThread, Mark, may, may_hand_on, may_wake_new, MayBeOpen, MayCancel, MayJoin, MayMakeCall, MayTake, PickedMember, Mode, Move, moved_over, moved_to, mute_words, NameCall, NameThread, NameWork, nat_tests, new_handle, new_thread, new_thread_handle, new_work, next_thread, next_work, NoAnswer, NothingPicked, None, none_said, not, NoPrimitive, on_call, on_instance, on_thread, on_work, OneEvent, OneNumber, Op, op_in, OpenSet, Option, option_and_then, option_map, option_map_or, OtherwiseRuns, TaskEvent, PickedTaskEvent, OwnScript, packed, passes_check, pauses, phase_of, Place, place_of, placed, placing_shifted, polled_first, Progress, Promote, promoted, promoted_unless, promoted_walks, push_high, Put, put_back, put_low, put_switch, queues_work, QueueWork, received, received_by, received_woken, received_woken_by, Records, refl, registers_for, registers_of, remove_group, remove_thread, remove_work, result_gone, result_of, resume_why, resumed_by, Resumes, returned_of_op, said_is, saved_callee_of, says, says_by, Scene, Script, set_at, set_cancelled, set_closed, set_do_not_suspend, set_end, set_event, set_op_progress, set_join, set_opened, set_task_event, set_phase, set_position, set_register, set_result, set_rule, set_saved_callee, set_subtask_handle, set_switch, SetCancelled, SetExited, SetLabel, SetOp, SetTaskEvent, SetPhase, SetRegister, SetResult, SetSavedCallee, Setting, settled, settled_gone, SetUninteresting, Shifted, shifted, shifted_after, shifted_calls, shifted_far, shifted_made, shifted_ready, shifted_task, Shifts, shifts_shifted, Slot, slot_at, Some, SomeHost, Stage, StartNotRun, Status, status_code, status_found, Stay, stay_walk, Stops, subst, Subtask, subtask_at, subtask_ended, subtask_handle, subtask_instance, subtask_rule, subtask_under_way, suc, Suspends, suspends, Suspension, sym, Sync, sync_answered, T, taken, TakesEvent, task_of, TellsLater, TellsNone, Then, then_promote, then_promote_by, scripted_then_promote_rule, then_promote_rule, then_resume_rule, Thread, thread_added, thread_at, thread_group, thread_handle_of, thread_new_rule, thread_rule, ThreadLabel, ThreadOp, Trap, trap_if, Trip, true, Turn, undelivered_end, UnnameCall, unnamed, UnnameWork, unwrap_or, value_of, values_in, wait_begins, wait_begins_by, wait_goes_on, wait_goes_on_by, wait_label, wait_rule, wait_stops, wait_stops_checked, wake_shifts, wakes_joined, Walk, was_cancelled, was_started, Why, with_handle, Withdraw, withdrawn, word, Work, work_caller_of, work_deleted, work_queued, work_value, WorkCaller, Writes, WritesAtOnce, WritesCall, WritesNever, WritesToo, written_as, written_by_cancel, Yielding, Yields, yields, zero, ℕ, ◌+◌, ◌==◌, ◌∙◌, ◌∷◌, ◌≡◌, ◌⊎◌}
 use Rattle.task_rules.proofs.{WalkParts.AtOps, WalkParts.answered_calls, WalkParts.answered_first, WalkParts.answered_fresh, WalkParts.answered_settled, WalkParts.answered_works, WalkParts.call_answers_walks, WalkParts.call_queues_walks, WalkParts.call_resumes_walks, WalkParts.call_stops_walks, WalkParts.cancel_goes_behind_walks, WalkParts.cancel_stops_walks, WalkParts.checked_walks, WalkParts.enter_gives, WalkParts.enter_runs_walks, WalkParts.event_taken_walks, WalkParts.finished_calls, WalkParts.finished_fresh, WalkParts.finished_works, WalkParts.picked_event_is, WalkParts.picked_event_none, WalkParts.join_walks, WalkParts.joined_ended, WalkParts.parted_answers_walks, WalkParts.parted_takes_walks, WalkParts.put_back_walks, WalkParts.received_walks, WalkParts.rejoined, WalkParts.stopped_walks, WalkParts.wait_stops_walks, WalkParts.withdrawn_walks, WalkParts.withdraws, WalkParts.work_deleted_walks, WalkTask.CanFinish, WalkTask.Leads, WalkTask.answered_walks, WalkTask.finished_walks, WalkTask.goes_on, WalkTask.goes_on_told, WalkTask.goes_over, WalkTask.is_plain, WalkTask.is_still, WalkTask.may_leads, WalkTask.or_never_leads, WalkTask.or_trap_leads, WalkTask.over_now, WalkTask.running_scene, WalkTask.stops_here, WalkTask.trap_if_leads, WalkTask.unnot}
 

@@ -1,4 +1,4 @@
--- What the rows of the ops are made of, as chains of words: what is read, gifts, moves, and a new call.
+-- What the rows of the ops are made of, as chains of primitives: what is read, gifts, moves, and a new call.
 use Rattle.task_rules.proofs.Walks.{add_call, add_thread, advanced, after_placing, after_primitive, answered, answered_by, ap, ap₂, arith, assigned, AtOp, behind_one, behind_switch, Blocks, Bool, ByHandle, ByOp, call_clears_flag, call_ends, call_instance, call_made, call_queues, call_resumes, call_settled, call_stops, Callee, callee_of_op, CallEnd, Caller, can_come, cancel_goes_behind, cancel_stops, Cancelling, change-change_same, checked, checked_shifts, Choice, chosen, Core, Doer, EndCall, Enter, enter_runs, event_of, ExportKind, false, finish, foot_of, get, get-change, get-insert, get-remove_same, PickedEvent, picked_event, give_thread_handle, Given, Goal, goal_of, GoBehind, Going, group_settled, group_settles, halted_at, has_ready_member, has_same, HasCalled, HasSet, HasSubtask, op_progress_of, OpProgress, inl, inr, instance_of, is_at_wait, is_begun, is_blocked_on, is_cancel, is_deletable, is_deletable_call, is_direct, is_ended_work, is_explicit, is_group_done, is_joined, is_none, is_running, is_some, is_sync_call, is_sync_cancel, is_wait, IsNew, IsRunner, IsWithdrawn, Join, join_of, Keep, keep_still, lands_at, Leaves, less_switch, List, MadeCounts, MakeCall, Mark, may_not_suspend, MayCancel, MayCome, MayDeliver, MayJoin, MayMakeCall, MayRemoveWork, MayTake, MayWithdraw, PickedMember, Move, moved_to, NameThread, nat_tests, next_thread, NoAnswer, NothingPicked, None, NoneCame, not, NoPrimitive, on_call, on_instance, on_thread, on_work, OneEvent, OneNumber, op_in, OpAnswer, Option, option_map_or, task_event_of, TaskEvent, PickedTaskEvent, OwnScript, Place, place_of, placed, placing_shifted, Put, put_back, put_switch, received, received_by, refl, remove_call, remove_group, remove_thread, remove_work, RemoveWork, saved_callee_of, says, SaysEnd, Scene, set_do_not_suspend, set_end, set_event, set_exited, set_given, set_high, set_op_progress, set_join, set_low, set_place, set_position, set_register, set_saved_callee, set_saved_own, set_started, set_switch, set_thread_handle, set_uninteresting, SetCallEvent, SetCallJoin, SetDoNotSuspend, SetExited, SetSavedCallee, SetSavedOwn, SetStarted, settle_group_of, settled, SetUninteresting, SetWorkJoin, Shifted, shifted, shifted_after, shifted_calls, shifted_explicit, shifted_made, shifted_ready, shifts_shifted, Some, SomeHost, Starts, Status, Stop, stopped, stopped_on, subst, Subtask, subtask_ended, subtask_under_way, sym, sync_sets_flag, taken_walks, TakesCalled, TakesCancelled, TakesNamed, TakeWorkEvent, task_of, Then, Thread, thread_group, Trip, true, Turn, undelivered_end, unqueued, unwrap_or, wait_stops, Waits, watches, Why, with_thread_handle, Withdraw, withdrawn, word, work_deleted, work_group, ℕ, ◌&&◌, ◌==◌, ◌∙◌, ◌≡◌, ◌⊎◌}
 use Rattle.task_rules.proofs.WalkTask.{answered_walks, CanFinish, finished_walks, moved_passes}
 
@@ -275,7 +275,7 @@ cleared : (n j : ℕ) (k : ExportKind) (m : ℕ) (t : Core) → let v = call_cle
 unfolding set_do_not_suspend on_instance set_saved_callee on_thread
 cleared n j k m t = (grind arith, (grind (arith, nat_tests, get-change), (grind (arith, nat_tests, get-change), grind arith)))
 
--- what stands at switch stays there
+-- what is at switch stays there
 cleared_switch : (n j : ℕ) (k : ExportKind) (t : Core) → (call_clears_flag n j k t).queues.switch ≡ t.queues.switch
 unfolding set_do_not_suspend on_instance set_saved_callee on_thread
 cleared_switch n j k t = grind arith

@@ -1,4 +1,4 @@
--- Each step as a chain of words: host works, main, the loop and all turns.
+-- Each step as a chain of primitives: host works, main, the loop and all turns.
 use Rattle.task_rules.proofs.Walks.{[], Abort, aborted_phase, act_of, add_group, add_work, AddGroup, advanced_main, Answer, ap, arith, Asked, Asks, at_turn, Await, base_at, base_without, Began, begun_holder, blocked_at, blocked_on, Bool, ByProgram, ByScript, call_answer, call_made, Callee, Caller, CallLabel, Chain, Choice, choice_of, chosen_in_of, Collapses, Core, count_work, Course, course_for, course_of, course_value, deadlock_trap, DeadlockStep, did, Does, EmptyFor, end_for, ended, Ends, EndTells, EndPrimitives, EndWork, Entry, entry_number, export_kind, Fails, FailsNow, Unwinds, false, Finish, finish_act, finish_result, finished_call, finished_is, FinishWork, followed, Frees, FuturesStep, get, get-change, get-insert, get-remove, get-remove_same, Goal, Continues, goes_open, goes_to, handed_by_main, hands_by, HandsOut, has_end, has_interesting, has_moving_work, heard, host_at, host_done, host_label, host_result, host_status, host_taken, HostDef, HostPoll, HostRulesAreWalks, inl, inr, is_aborted, is_async_work, is_complete, is_data_op, is_direct, is_exit_op, is_free, is_mute, is_none, is_open, is_ready_for_call, is_some, is_spawn, is_stage_ended, is_unended_take, IsUnwind, IsRunner, join, join_of, Keep, keep_stay, Label, LastPrimitives, length, line_of, List, LoopLabel, Main, main_aborted, main_outcome, main_rule, main_spawned, main_started, MainAct, MainLabel, MainOpDef, MainPlace, MainProgress, MainProgresses, MainStep, MakeCall, Mark, may, may_act, may_deadlock, may_publish, MayAbort, MayCall, MayFinish, mute_words, nat_tests, Never, next_entry, next_polled, next_thread, next_work, None, none_said, not, NoPrimitive, on_thread, on_work, Op, op_at, op_of, scripted_op_rule, op_rule, open_spawned, OpenAct, OpenProgresses, ops_of, Option, option_map, option_map_or, Ordered, Outcome, outcome_of_label, OwnScript, Pend, Pends, Phase, phase_of, Place, place_of, placed, Poll, poll_ends, poll_of, poll_pends, Polled, polled_again, polled_course, polled_in, Pop, popped, popped_shifted, position_of, ProgramAborts, Progress, Progresses, published_frees, published_shifts, push_high, pushed, Put, put_high, QueueWork, Quiet, Ready, refl, Refused, Remains, remove_thread, remove_threads, RemoveThread, RestStep, result_taken, RulesAreWalks, runner_at, said_is, SameMain, Scene, script_of, ScriptAborts, Scripted, ScriptStep, set_answer, set_course, set_event, set_high, set_low, set_phase, set_place, set_stage, set_switch, set_trapped, SetPhase, SetRegister, Setting, settled_turn, SetTrapped, shifted, Shifts, size, slice_get, Some, SomeHost, spares_of, Spawn, spawned_at, SpawnOpen, SpawnsNamed, Stage, stage_of, Start, start_act, start_of, start_refusal, Started, started_at, started_end, Starts, State, Status, stay_walk, Step, StepsAreWalks, still_first, StillPends, Stops, strand_from, strand_of, unwound, subst, Subtask, suc, sym, T, take_result, take_rule, TakeHost, TakeLabel, TakePush, TakeResult, takes_by, TakesResult, TakeStep, TellsLater, Then, Thread, thread_answer, thread_of_entry, Trap, trap_label, Traps, Trip, trip_walk, true, Turn, TurnStep, unblocked_shifts, unblocked_stuck, Unblocking, under_of, unless_pending, Unscripted, unwrap_or, Walk, WalkedAs, Why, woken_of, word, work_caller_of, work_queued, WorkCaller, Writes, writes_by, WritesPolled, zero, ℕ, ⊎_elim, ◌&&◌, ◌++◌, ◌+◌, ◌-◌, ◌∙◌, ◌∷◌, ◌≡◌, ◌≤◌, ◌⊎◌}
 use Rattle.task_rules.proofs.{WalkOps.set_rule_leads, WalkOps.subtask_rule_leads, WalkOps.thread_rule_leads, WalkParts.Born, WalkParts.call_born, WalkTakes.thread_taken_leads, WalkTask.Leads, WalkTask.data_rule_leads, WalkTask.op_stands, WalkTask.running_scene, WalkTask.seen, WalkTask.task_rule_leads, WalkTask.under_place}
 use Rattle.task_rules.specs.MainOps.{Answers}
@@ -474,7 +474,7 @@ turn_step_walks x s (Turn.Run n) l t is =
     progresses_walk x s l (ops_of x.component s.core) (Turn.Run n) s.core n (λ u. NoPrimitive) (did x.component n s.core (choice_of l)) t (λ u. op_rule_leads (ops_of x.component s.core) x s.main s.core n l u (choice_of l) (op_of x.component n s.core) refl (op_stands x.component n s.core)) is
 turn_step_walks x s Turn.Over l t is = absurd is
 
--- each step is a chain of words
+-- each step is a chain of primitives
 pub step_walks : StepsAreWalks
 unfolding Step
 step_walks x s l t is = let c = turn_step_walks x s s.turn l t is in record { next = c.next; turn = c.turn; main = c.main; walk = c.walk; trip = c.trip; ends = c.words }
@@ -483,14 +483,14 @@ step_walks x s l t is = let c = turn_step_walks x s s.turn l t is in record { ne
 abbrev WalkedAt : (ℕ → Op) → Setting → State → Label → State → Turn → Type 0
 WalkedAt ops x s l t u = WalkedBy (λ next. record { setting = x; main = s.main; turn = u; base = base_at u s.core; runner = runner_at u s.core; label = l; next = next; ops = ops }) s.core s.main t
 
--- what the running thread does by a progress that leads on is a chain of words
+-- what the running thread does by a progress that leads on is a chain of primitives
 leads_walk : (ops : ℕ → Op) (x : Setting) (s : State) (n : ℕ) (l : Label) (p : Progress) (t : State) → s.turn ≡ Turn.Run n → ((u : Turn) → Leads (running_scene ops x s.main s.core n l u) s.core p) → Progresses s s.core n p l t → WalkedAs ops x s l t
 leads_walk ops x s n l p t at leads is =
     let runs : WalkedAt ops x s l t (Turn.Run n) = progresses_walk x s l ops (Turn.Run n) s.core n (λ u. NoPrimitive) p t leads is in
     let c = subst (WalkedAt ops x s l t) (sym at) runs in
     record { next = c.next; turn = c.turn; main = c.main; walk = c.walk; trip = c.trip; ends = c.words }
 
--- the rule at any op that the running thread is said to have is a chain of words
+-- the rule at any op that the running thread is said to have is a chain of primitives
 pub rules_walk : RulesAreWalks
 unfolding RulesAreWalks
 rules_walk ops x s n l o t at has on is = leads_walk ops x s n l (scripted_op_rule x.component n s.core (choice_of l) o) t at (λ u. op_rule_leads ops x s.main s.core n l u (choice_of l) o has on) is

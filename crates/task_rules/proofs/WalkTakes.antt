@@ -1,4 +1,4 @@
--- The takings of entries as chains of words.
+-- The takings of entries as chains of primitives.
 use Rattle.task_rules.proofs.Walks.{activated, activated_woken, admits, and_parts, ap, arith, at_handle_limit, begun_holder, Bool, chain_if, Choice, chosen, cond, Core, delivered, Delivery, delivery_rule, end_for, end_of, EndPrimitives, event_label, ExportKind, false, foot_of, get, get-change, PickedEvent, picked_event, give_thread_handle, Given, given_for, given_out, Continues, Halted, halted_at, Halts, handed_by_event, handed_on, handed_on_shifts, handed_out, hands_by, HandsOut, held_label, holder_at_start, Holds, if◌then◌else◌, inl, inr, instance_of, is_begun, is_exit, is_explicit, is_free, is_holding, is_mute, is_none, is_running, is_some, is_start, is_told, IsLaid, Keep, kind_of, Label, lands, lands_alone, LastPrimitives, leaving, Main, Mark, may, may_hand_on, may_not_enter, may_tell, may_tell_starting, MayDeliver, MayMove, MayTake, PickedMember, Move, moved_to, mute_words, NameThread, nat_tests, NothingPicked, None, none_said, not, NoPrimitive, on_call, on_instance, on_thread, Op, Option, option_map_or, outcome_of_label, own_delivered, task_event_of, picked_task_event_of, picked_task_event_only, own_or_nothing, TaskEvent, PickedTaskEvent, Place, place_of, placing_shifted, refl, Restart, running, Runs, Scene, Script, set_delivered, set_do_not_enter, set_do_not_suspend, set_event, set_given, set_op_progress, set_place, set_position, set_register, set_saved_own, set_script, set_started, set_starting_published, set_thread_handle, SetDoNotEnter, SetStarted, SetStartingPublished, Setting, shifted, shifted_admits, shifted_calls, shifted_instance, shifted_ready, shifted_task, shifts_shifted, Some, start_admitted, start_begins, start_holds, start_rule, start_sets_flags, starting_is_published, starting_told, Status, Stop, stopped, stopped_on, Stops, subst, Subtask, sym, T, take_holds, take_label, TakeLabel, taken, taken_walks, taking, task_of, thread_taken, told, told_shifts, told_to, told_walks, ToldTo, Trap, true, Turn, unwrap_or, wait_again, WaitsAgain, was_started, WasReady, Why, with_thread_handle, word, ℕ, ◌&&◌, ◌∙◌, ◌≡◌}
 use Rattle.task_rules.proofs.{WalkParts.picked_event_is, WalkParts.picked_event_none, WalkParts.sync_sets_flag_walks, WalkTask.Leads, WalkTask.may_leads, WalkTask.moved_passes, WalkTask.not_main, WalkTask.one_runner, WalkTask.or_never_leads, WalkTask.seen, WalkTask.set_given_walks, WalkTask.trap_if_leads}
 

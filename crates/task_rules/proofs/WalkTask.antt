@@ -1,4 +1,5 @@
--- The rows of ops as chains of words: what a row owes, the ops on registers and words, and the ops that end a task or an activation.
+-- The rows of ops as chains of primitives: what a row owes, the ops on registers and memory cells, and the ops that end a task or
+-- an activation.
 use Rattle.task_rules.proofs.Walks.{[], Advance, advanced, and_parts, answered, answered_by, ap, ap₂, arith, Asks, assigned, AwaitsEvent, backpressure_of, begun_holder, blocking_exit_rule, blocking_exits, blocking_returned, Bool, both_none, BySetHandle, Call, call_ends, CallEnd, Caller, cancel_was_delivered, cancelled, cancelled_rest, cancelled_tells, checked, checked_shifts, Choice, chosen_released, code_exits, code_finds, code_kind_rule, code_rule, code_stops, code_wait_rule, code_waits, code_yields, ComesAgain, Component, component_of, Core, data_rule, DataLabel, DataOp, Delivery, direct_exit_to, direct_exits, direct_return, Doer, end_for, end_reopens, EndCall, ended, ended_halts, ended_last, ended_walks, ends_activation, ends_untold, EndsActivation, EndsByExit, EndsCall, EndsOwn, EndTells, EndPrimitives, exit_label, exit_restores, exit_rule_for, exit_stops, Exits, exits_trip, ExportKind, Fails, false, find_passes, FindsEvent, finish, foot_of, get, get-change, Given, given_code, given_handle, given_result, GivesUp, Goal, goal_of, Continues, GoesBack, Going, Gone, Halted, halted_from, halted_on, handed_as, HandsOut, has_ended, has_event_for, has_ready_member, HasSet, held_by_flag, holder_at_exit, HostPoll, OpProgress, if◌then◌else◌, implicit_exit_rule, inl, InOp, inr, instance_of, is_async_lifted, is_at, is_code_op, is_direct, is_ending_exit, is_exit, is_exit_op, is_explicit, is_guest_call, is_holding, is_mute, is_none, is_other, is_over, is_running, is_under, IsPermutation, IsRunner, join, Keep, keep_at, keep_position, keep_stay, kind_exit_rule, kind_of, Label, lands, last_of, last_shifted, LastEnds, LastPrimitives, Leaves, leaves_no_result, Left, left_gone, left_walk, length, List, Main, Mark, may, may_tell, MayBar, MayEnd, MayOwe, min, Move, moved_to, mute_words, nat_le, nat_lt, nat_tests, Never, NoAnswer, None, none_said, NoneHeldIn, not, NoPrimitive, numbers, on_call, on_instance, on_thread, OneEvent, OneNumber, Op, op_at_place, op_in, op_of, OpAnswer, Option, option_map_or, or_never, or_trap, Ordered, outcome_of_label, task_event_of, own_or_none, TaskEvent, OwnScript, passes_after_return, passes_after_stop, passes_check, Place, place_of, placing_shifted, position_of, Progress, Put, ready_same, Records, refl, register_of, release_leaves, released_on, released_shifts, Remains, ret_label, returned, returned_holder, returned_last, returned_rest, returned_tells, ReturnsNow, said_is, saved_own_of, says_by, SaysEnd, Scene, script_of, set_at, set_backpressure, set_do_not_enter, set_do_not_suspend, set_end, set_op_progress, set_place, SetBackpressure, SetDoNotEnter, SetDoNotSuspend, SetOpProgress, SetTaskEvent, SetRegister, SetSavedCallee, Setting, SetWord, Shifted, shifted, shifted_after, shifted_calls, shifted_ready, shifted_task, shifts_shifted, skip_rule, skipped, Some, SomeHost, spared_released, Status, stay_walk, StillAt, Stop, stopped_on, Stops, stored, subst, Subtask, SubtaskEnd, suc, sym, sync_exit_rule, sync_exits, T, task_cancel_label, task_end, task_of, TaskLabel, TaskOp, TellsNever, Then, Thread, thread_exit_rule, told_spares, told_to, ToldSpares, ToldTo, Trap, trap_if, Traps, Trip, trip_walk, true, Turn, Uncovers, under_of, unwrap_or, value_of, Walk, Why, word, Writes, writes_by, WritesCall, WritesToo, written_as, zero, ℕ, ◌%◌, ◌&&◌, ◌*◌, ◌+◌, ◌-◌, ◌/◌, ◌==◌, ◌||◌, ◌∙◌, ◌∷◌, ◌≡◌, ◌≤◌, ◌⊎◌}
 use Rattle.task_rules.specs.{Finish.set_given, Task.dec_by, Task.held_by_counter, Task.pressure_gone, Task.pressure_lowered, Task.pressure_raised, Task.ret_rule, Task.task_cancel_rule, Task.task_rule}
 
@@ -27,7 +28,7 @@ CanFinish SomeHost a b n = (a.turn ≡ Turn.Run n) × StillAt n a.base b
 abbrev pub seen : (ℕ → Op) → Setting → Main → Turn → Core → ℕ → Label → Turn → Scene
 seen ops x main u s n l next = record { setting = x; main = main; turn = u; base = s; runner = Some n; label = l; next = next; ops = ops }
 
--- From b a chain of words leads to what the row comes to, where that shows the scene's label and leads to its turn.
+-- From b a chain of primitives leads to what the row results in, where that shows the scene's label and leads to its turn.
 abbrev pub Leads : Scene → Core → Progress → Type 0
 Leads a b (Continues l new m) = a.label ≡ l → a.next ≡ Turn.Run m → Trip a b new × LastPrimitives a new
 Leads a b (Stops l new) = a.label ≡ l → a.next ≡ Turn.Main → Trip a b new × LastPrimitives a new
@@ -168,7 +169,7 @@ module _ {a : Scene} {b : Core} (n : ℕ) (is : IsRunner a n) where
       let gone = left_gone n e in
       (subst (λ (y : Core). Trip a b (set_op_progress m (OpProgress.Answered v) y)) (placing_shifted (Move m Place.Running) (ended n u)).only (GoesBack e.before (ended n u) n m v (keep_stay e.stays) is runs to under back e.settles (Uncovers n is to under (ap (λ (o : Option Thread). is_none o) gone) refl)), grind (arith, nat_tests, get-change, gone))
 
--- The same with the strand stopped.
+-- As before, with the strand stopped.
 module _ {a : Scene} {b : Core} (n : ℕ) (is : IsRunner a n) where
   exit_stops_gone : {t : Core} → LastEnds n t → Leaves a n → Keep a b t → Gone a b n (exit_stops n t)
   unfolding exit_stops
@@ -254,7 +255,7 @@ module _ (ops : ℕ → Op) (x : Setting) (main : Main) (s : Core) (n : ℕ) (l 
       let r = c is to in
       (r.0, quiet_ends is quiet (λ j at. subst (λ (i : ℕ). (Turn.Run n ≡ Turn.Run i) ⊎ (option_map_or is_running (place_of i t) true ≡ true)) (one_runner m j (sym to ∙ at)) runs) r.1 (says is))
 
-  -- ---- The ops on registers and words
+  -- ---- The ops on registers and memory cells
 
   skip_rule_leads : Stands a s n → (k : ℕ) (b : Bool) → Leads a s (skip_rule x.component n k s b)
   unfolding skipped

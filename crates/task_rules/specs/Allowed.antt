@@ -1,4 +1,4 @@
--- Where a step does a word: what its row has tested or done before, and what is known of the thread that runs or was taken.
+-- Where a step does a primitive: what its rule has tested or done before, and what is known of the thread that runs or was taken.
 use Rattle.task_machine.specs.declared.records.Course.{Course}
 use Rattle.task_machine.specs.declared.component.HostDef.{HostDef}
 use Rattle.std.specs.Option.{option_map_or}
@@ -66,7 +66,7 @@ use Rattle.task_machine.specs.declared.words.Status.TheVariants as status
 abbrev pub IsRunner : Scene → ℕ → Type 0
 IsRunner a n = a.runner ≡ Some n
 
--- it was taken with an entry that stood for this
+-- it was taken with an entry that represented this
 abbrev pub WasReady : Scene → ℕ → Why → Type 0
 WasReady a n w = (m : Mark) × (place_of n a.base ≡ Some (place.Ready m w))
 
@@ -411,7 +411,7 @@ MayOwe a k (Some e) s =
     ⊎ ((n : ℕ) × (EndsActivation a n × ((k ≡ task_of n a.base) × (own_or_none (task_event_of k a.base) ≡ Some e))))
 MayOwe a k None s = (n : ℕ) × (IsRunner a n × (k ≡ task_of n a.base))
 
--- a thread that was taken with a delivery finds Cancelled as its task's own event
+-- a thread that was taken with a delivery finds Cancelled as its task event
 abbrev pub MayDeliver : Scene → ℕ → Type 0
 MayDeliver a k = (n : ℕ) × (IsRunner a n × ((k ≡ task_of n a.base) × (((d : Delivery) × WasReady a n (why.Delivery d)) ×
     (task_event_of k a.base ≡ Some own.Cancelled))))
@@ -473,7 +473,7 @@ is_async_work _ = false
 abbrev pub IsPolled : Scene → ℕ → Core → Type 0
 IsPolled a i s = (n : ℕ) × ((a.turn ≡ turn.Futures n) × (next_polled n s ≡ Some i))
 
--- the sync call of the running thread is answered, and done, or its ended subtask is dropped; whose the work is is as before the step
+-- the sync call of the running thread is answered, and done, or its ended subtask is dropped; whose the work is as before the step
 abbrev pub MayRemoveWork : Scene → ℕ → Core → Type 0
 MayRemoveWork a i s = (n : ℕ) × (IsRunner a n × ((work_caller_of i s ≡ work_caller_of i a.base) ×
     (((op_progress_of n a.base ≡ op_progress.Calls (subtask.Host i)) × (op_progress_of n s ≡ op_progress.Fresh)) ⊎
@@ -575,7 +575,7 @@ Allowed a _ s = Unit {0}
 
 -- ---- While the running thread stays
 
--- The words of a step before that thread comes to where it goes, or is gone.
+-- The primitives of a step before that thread comes to where it goes, or is gone.
 abbrev pub Stays : Scene → Primitive → Core → Type 0
 Stays a (Places p) s = MayShift p s ⊎ MayHasten a p s
 Stays a (RemoveThread n) s = ⊥

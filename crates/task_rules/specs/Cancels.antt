@@ -120,7 +120,7 @@ cancel_host mode n r i s = cancel_host_by (OwnScript r) mode n i s
 abbrev pub cancel_withdraws : ℕ → ℕ → ℕ → Core → Core
 cancel_withdraws n r k s = answered n r 3 (withdrawn k s)
 
--- the task finds Cancelled as its own event
+-- the task finds Cancelled as its task event
 unfoldable pub cancel_asks : ℕ → Core → Core
 cancel_asks k s = set_task_event k (Some own.Cancelled) s
 
@@ -141,7 +141,7 @@ cancel_goes_behind n k s =
 unfoldable pub cancel_wakes_callback : ℕ → ℕ → Core → Core
 cancel_wakes_callback n k s = cancel_goes_behind n k (put_switch k (why.Delivery delivery.Cancel) (cancel_asks k s))
 
--- the callback's yield moves to switch, unless an entry stands there
+-- the callback's yield moves to switch, unless an entry is there
 unfoldable pub cancel_promotes_yield : ℕ → ℕ → Core → Core
 cancel_promotes_yield n k s = cancel_goes_behind n k (promoted_unless k (cancel_asks k s))
 
@@ -190,7 +190,7 @@ cancel_subtask_by d mode n s (subtask.Host i) = cancel_host_by d mode n i s
 abbrev pub cancel_subtask : Mode → ℕ → ℕ → Core → Subtask → Progress
 cancel_subtask mode n r s sub = cancel_subtask_by (OwnScript r) mode n s sub
 
--- trap 7 (WaitableSyncAndAsync) where the subtask stands in any set
+-- trap 7 (WaitableSyncAndAsync) where the subtask is in any set
 abbrev pub cancel_found_by : Doer → Mode → ℕ → Core → Subtask → Progress
 cancel_found_by d mode n s sub =
     trap_if (is_joined (join_of sub s)) trap.WaitableSyncAndAsync (
@@ -235,8 +235,8 @@ unnamed n h sub s =
 abbrev pub dropped : ℕ → ℕ → Subtask → Core → Core
 dropped n h sub s = finish (OwnScript 0) n NoAnswer (unnamed n h sub s)
 
--- trap 7 (WaitableSyncAndAsync) where the subtask stands in a thread's own set,
--- trap 6 (SubtaskDropNotResolved) where it hasn't ended, and where its event wasn't handed out
+-- trap 7 (WaitableSyncAndAsync) where the subtask is in a thread's own set, trap 6 (SubtaskDropNotResolved) where it hasn't ended,
+-- and where its event wasn't handed out
 abbrev pub drop_by : Doer → ℕ → ℕ → Core → Subtask → Progress
 drop_by d n h s sub =
     trap_if (is_watched (join_of sub s)) trap.WaitableSyncAndAsync (

@@ -1,4 +1,4 @@
--- Each step as a chain of words.
+-- Each step as a chain of primitives.
 use Rattle.task_rules.specs.MainOps.{is_spawn, spawned_at}
 use Rattle.task_machine.specs.declared.records.Subtask.{Subtask}
 use Rattle.task_rules.specs.Works.{has_end}
@@ -44,12 +44,12 @@ use Rattle.task_machine.specs.declared.records.Place.TheVariants as place
 use Rattle.task_machine.specs.declared.records.Turn.TheVariants as turn
 use Rattle.task_machine.specs.declared.records.WorkCaller.TheVariants as work_caller
 
--- From b one word after another, each where it may be done.
+-- From b one primitive after another, each where it may be done.
 pub data Chain (may : Primitive → Core → Type 0) (b : Core) : Core → Type 0 where
   NoPrimitive : Chain may b b
   Then : (s : Core) → (w : Primitive) → Chain may b s → may w s → Chain may b (after_primitive w s)
 
--- the words of a step
+-- the primitives of a step
 abbrev pub Walk : Scene → Core → Core → Type 0
 Walk a b t = Chain (Allowed a) b t
 
@@ -230,7 +230,7 @@ pub record EndPrimitives (a : Scene) (t : Core) : Type 0 where
   -- the op that answers is done
   pub answers : (n : ℕ) → sync_answered a.label ≡ Some n → op_progress_of n t ≡ op_progress.Fresh
 
--- What the last words of a step leave.
+-- What the last primitives of a step leave.
 pub record LastPrimitives (a : Scene) (t : Core) : Type 0 where
   -- a thread that was taken is at a place that says nothing of entries, or gone
   pub laid : (n : ℕ) → IsRunner a n → is_take a.turn ≡ true → option_map_or is_free (place_of n t) true ≡ true
@@ -268,18 +268,18 @@ pub record WalkedAs (ops : ℕ → Op) (x : Setting) (s : State) (l : Label) (t 
 abbrev pub Walked : Setting → State → Label → State → Type 0
 Walked x s l t = WalkedAs (ops_of x.component s.core) x s l t
 
--- each step is a chain of words, each where it may be done
+-- each step is a chain of primitives, each where it may be done
 abbrev pub StepsAreWalks : Type 0
 StepsAreWalks = (x : Setting) (s : State) (l : Label) (t : State) → Step x s l t → Walked x s l t
 
--- The rule at any op is a chain of words in which the running thread has that op, where one that isn't an exit stands at a place in its
--- script.
+-- The rule at any op is a chain of primitives in which the running thread has that op, where one that isn't an exit is at a place
+-- in its script.
 unfoldable pub RulesAreWalks : Type 0
 RulesAreWalks = (ops : ℕ → Op) (x : Setting) (s : State) (n : ℕ) (l : Label) (o : Op) (t : State) → s.turn ≡ turn.Run n → ops n ≡ o →
     (is_exit_op o ≡ false → position_of n s.core + 1 ≤ length (script_of x.component n s.core)) →
     Progresses s s.core n (scripted_op_rule x.component n s.core (choice_of l) o) l t → WalkedAs ops x s l t
 
--- So is the rule as a host has it done, of any op but one on registers and words, wherever the thread is in its script.
+-- So is the rule as a host has it done, of any op but one on registers and memory cells, wherever the thread is in its script.
 unfoldable pub HostRulesAreWalks : Type 0
 HostRulesAreWalks = (ops : ℕ → Op) (x : Setting) (s : State) (n : ℕ) (l : Label) (o : Op) (t : State) → s.turn ≡ turn.Run n → ops n ≡ o →
     is_data_op o ≡ false → Progresses s s.core n (op_rule SomeHost x.component n s.core (choice_of l) o) l t → WalkedAs ops x s l t

@@ -1,4 +1,4 @@
--- The ops on registers and words.
+-- The ops on registers and memory cells.
 use Rattle.std.specs.Prelude.{Bool, false, length, min, true, ℕ, ◌%◌, ◌+◌, ◌/◌, ◌==◌, ◌^◌}
 use Rattle.task_machine.specs.declared.component.Component.{Component}
 use Rattle.task_machine.specs.declared.op.DataOp.{DataOp}

@@ -182,7 +182,7 @@ code_finds n x order s = put_high n (why.Delivery (delivery.Set x)) (code_stops 
 unfoldable pub code_waits : ℕ → ℕ → List ℕ → Core → Core
 code_waits n x order s = set_place n (place.Waiting x true) (code_stops n order s)
 
--- the task's own event, or a ready member of the set, is there
+-- the task event, or a ready member of the set, is there
 unfoldable pub has_event_for : ℕ → ℕ → Core → Bool
 has_event_for k x s = is_some (task_event_of k s) || has_ready_member x s
 

@@ -38,8 +38,8 @@ set_given n r v s =
     let first = set_register n r (given_code v) s in
     set_register n (r + 2) (given_result v) (set_register n (r + 1) (given_handle v) first)
 
--- The op is done. In a script the answer goes to the op's register, and the thread to the next op; for a host the thread's registers and
--- its place in its script stay. No op of it is under way any more.
+-- Moves the thread past its op, which is done. In a script the answer goes to the op's register, and the thread to the next op; for
+-- a host the thread's registers and its place in its script stay. No op of it is under way any more.
 abbrev pub finish : Doer → ℕ → OpAnswer → Core → Core
 finish (OwnScript r) n NoAnswer s = advanced n s
 finish (OwnScript r) n (OneNumber v) s = assigned n r v s

@@ -122,7 +122,7 @@ pub record Takes (n : ℕ) (was now : List Entry) : Type 0 where
   pub before : was ≡ front ++ entry.Thread n ∷ back
   pub after : now ≡ front ++ back
 
--- One entry of the thread moves from high or from low to switch, where none stood; all others stay in order.
+-- One entry of the thread moves from high or from low to switch, where none was; all others stay in order.
 pub record Promotes (n : ℕ) (s t : Core) : Type 0 where
   pub none_stood : s.queues.switch ≡ None
   pub stands : t.queues.switch ≡ Some n

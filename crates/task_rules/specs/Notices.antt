@@ -45,7 +45,7 @@ switch_notices old new = if same_group old new then [] else group_notice notice.
 abbrev pub around : Option ℕ → List Notice
 around g = group_notice notice.Enter g ++ group_notice notice.Exit g
 
--- a poll of a host call by the loop, and the taking of a host entry, stand between Enter and Exit
+-- a poll of a host call by the loop, and the taking of a host entry, are between Enter and Exit
 abbrev pub work_notices : Label → Core → List Notice
 work_notices (label.Loop (loop_label.FuturePends i)) s = around (work_group i s)
 work_notices (label.Loop (loop_label.FutureEnds i)) s = around (work_group i s)

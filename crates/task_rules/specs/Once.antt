@@ -38,7 +38,7 @@ course_code (course.Continues host) = 0
 course_code (course.Value v) = 1
 course_code course.NoValue = 2
 
--- the subtask's end as a number: 0 for none, and None where it is in no map
+-- the subtask's end as a number: 0 for none, and None if it is in no map
 abbrev pub end_code : Subtask → Core → Option ℕ
 end_code (subtask.Guest k) s = option_map (λ c. call_end_code c.«end») (get s.calls k)
 end_code (subtask.Host i) s = option_map (λ w. course_code w.course) (get s.works i)
@@ -66,7 +66,7 @@ covers_end sub m = is_other (undelivered_end (event_of sub m.before.core)) (unde
 abbrev pub written : Component → Moment → Option SubtaskEnd
 written c m = written_by c m.before.core m.label m.after.core
 
--- with the direct call that returns in the step, each with the thread to which it returned; the last one stands first
+-- with the direct call that returns in the step, each with the thread to which it returned; the last one is first
 abbrev pub with_return : Moment → List (ℕ × ℕ) → List (ℕ × ℕ)
 with_return m rs = option_map_or (λ r. r ∷ rs) (direct_return m.before.core m.label) rs
 

@@ -23,7 +23,7 @@ is_code_op (task_op.CbWait x) = true
 is_code_op (task_op.Code x) = true
 is_code_op _ = false
 
--- on registers and words
+-- on registers and memory cells
 abbrev pub is_data_op : Op → Bool
 is_data_op (op.Data o) = true
 is_data_op _ = false

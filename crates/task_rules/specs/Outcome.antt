@@ -53,7 +53,8 @@ abbrev pub or_open : Option Outcome → Setting → State → List Label → ℕ
 or_open (Some o) x s labels steps = Some o
 or_open None x s labels steps = open_outcome (is_at_rest x s) (length labels == steps)
 
--- what a run of these labels to s has resulted in: what the last label gives, else idle, else out of steps; nothing where it isn't over
+-- what a run of these labels to s has resulted in: what the last label gives, else idle, else out of steps; nothing if it isn't
+-- over
 unfoldable pub outcome_of : Setting → State → List Label → ℕ → Option Outcome
 outcome_of x s labels steps = or_open (last_outcome labels) x s labels steps
 

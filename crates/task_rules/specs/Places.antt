@@ -15,7 +15,7 @@ abbrev pub one_if : Bool → ℕ
 one_if true = 1
 one_if false = 0
 
--- how many entries of the thread stand in the list
+-- how many entries of the thread are in the list
 abbrev pub entries : ℕ → List Entry → ℕ
 entries n [] = 0
 entries n (e ∷ es) = one_if (is_entry_of n e) + entries n es
@@ -24,7 +24,7 @@ abbrev pub switch_entries : ℕ → Option ℕ → ℕ
 switch_entries n None = 0
 switch_entries n (Some m) = one_if (n == m)
 
--- how often the thread stands in the list
+-- how often the thread is in the list
 abbrev pub times : ℕ → List ℕ → ℕ
 times n [] = 0
 times n (m ∷ ms) = one_if (n == m) + times n ms

@@ -1,4 +1,4 @@
--- What is known of a step, beside which its words are seen.
+-- What is known of a step, beside which its primitives are seen.
 use Rattle.std.specs.Prelude.{None, Option, Some, ℕ}
 use Rattle.task_machine.specs.Core.{Core, Main, State}
 use Rattle.task_machine.specs.Moves.{ended}

@@ -98,7 +98,7 @@ wait_stops n x s = set_op_progress n (op_progress.Waits x) (stopped_at n (place.
 unfoldable pub wait_stops_checked : ℕ → ℕ → Core → Core
 wait_stops_checked n x s = wait_stops n x (checked (instance_of n s) s)
 
--- neither the own event, as far as the thread may take it, nor a ready member is there
+-- neither the task event, as far as the thread may take it, nor a ready member is there
 unfoldable pub finds_nothing : ℕ → ℕ → Core → Bool
 finds_nothing n x s = is_none (picked_task_event_of false (task_of n s) s) && not (has_ready_member x s)
 
@@ -121,7 +121,7 @@ wait_begins_by d n ch s x false =
 abbrev pub wait_begins : ℕ → ℕ → Choice → Core → ℕ → Bool → Progress
 wait_begins n r ch s x b = wait_begins_by (OwnScript r) n ch s x b
 
--- the wake is handed on where the gift is the own event
+-- the wake is handed on where the gift is the task event
 abbrev pub received_woken_by : Doer → ℕ → ℕ → Option ℕ → PickedEvent → Given → Core → Core
 received_woken_by d n x w g v s = received_by d n g v (handed_on x g w s)
 
@@ -189,7 +189,7 @@ moved_over sub x w s = wakes_joined (event_of sub s) x w (set_join sub (joins x)
 abbrev pub joined : ℕ → Subtask → Option ℕ → Option ℕ → Core → Core
 joined n sub x w s = finish (OwnScript 0) n NoAnswer (moved_over sub x w s)
 
--- trap 7 (WaitableSyncAndAsync) where the subtask stands in a thread's own set
+-- trap 7 (WaitableSyncAndAsync) where the subtask is in a thread's own set
 abbrev pub join_done_by : Doer → ℕ → Subtask → Option ℕ → Core → Option ℕ → Progress
 join_done_by d n sub w s x =
     trap_if (is_watched (join_of sub s)) trap.WaitableSyncAndAsync (

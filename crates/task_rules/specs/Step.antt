@@ -37,8 +37,8 @@ use Rattle.task_rules.specs.Works.{Ends, FailsNow, Poll, StillPends, has_moving_
 
 -- ---- What runs
 
--- the running thread's op, by its group
--- the rule of an op: what it results in, by whoever has the thread do it; those on registers and words are a script's alone
+-- the running thread's op, by its group the rule of an op: what it results in, by whoever has the thread do it; those on registers
+-- and memory cells are a script's alone
 abbrev pub op_rule : Doer → Component → ℕ → Core → Choice → Op → Progress
 op_rule d c n s ch (op.Data o) = data_rule c n s o
 op_rule d c n s ch (op.Task o) = task_rule d n s ch o
@@ -131,7 +131,7 @@ abbrev pub DeadlockStep : State → Bool → Label → State → Type 0
 DeadlockStep s true l t = (l ≡ label.Loop (loop_label.Deadlock (deadlock_trap s.core))) × (t ≡ goes_to s (set_trapped s.core) turn.Over)
 DeadlockStep s false l t = ⊥
 
--- nothing stands: the turn rests where some live work goes on, else it may be a deadlock
+-- nothing is there: the turn rests where some live work goes on, else it may be a deadlock
 abbrev pub EmptyFor : Setting → State → Bool → Label → State → Type 0
 EmptyFor x s true l t = RestStep s (is_unended_take s.turn) l t
 EmptyFor x s false l t = DeadlockStep s (may_deadlock x s) l t

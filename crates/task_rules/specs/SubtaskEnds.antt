@@ -137,7 +137,7 @@ handed_by_set s (set_label.Wait g n) = handed_by_event n s g
 handed_by_set s (set_label.Poll g n) = handed_by_event n s g
 handed_by_set s _ = None
 
--- the end that the answer of a cancel stands for
+-- the end that the answer of a cancel represents
 abbrev pub end_answered : ℕ → Option Status
 end_answered answer =
     if answer == 2 then Some status.Returned

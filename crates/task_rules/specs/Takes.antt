@@ -146,7 +146,7 @@ set_delivered m n x ch s g =
     may (may_hand_on x g ch.woken s) (
     Continues (event_label m n v ch.woken) (activated_woken n x ch.woken g v s) n)
 
--- of a yield and of a cancel: the own event alone, and 0 0 0 where none is there
+-- of a yield and of a cancel: the task event alone, and 0 0 0 if none is there
 abbrev pub own_delivered : Mark → ℕ → Core → PickedEvent → Progress
 own_delivered m n s g =
     let v = given_for g 0 s in

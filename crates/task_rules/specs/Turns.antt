@@ -11,7 +11,7 @@ use Rattle.task_rules.specs.Works.{next_polled}
 abbrev pub queues_are_empty : Core → Bool
 queues_are_empty s = is_none (next_entry s)
 
--- after a work that ended in this turn and where nothing stands, main's turn comes
+-- after a work that ended in this turn and where nothing is there, main's turn comes
 abbrev pub settled_take : Bool → Bool → Turn
 settled_take true true = turn.Main
 settled_take ended stands = turn.Take ended

@@ -1,4 +1,4 @@
--- The words that every step is made of: each a change that keeps what is said of states.
+-- The primitives that every step is made of: each a change that keeps what is said of states.
 use Rattle.task_machine.specs.Read.{course_of, course_value, is_direct, is_guest_call}
 use Rattle.std.specs.Prelude.{Bool, List, None, Option, false, if◌then◌else◌, not, ℕ, ◌+◌, ◌&&◌, Some}
 use Rattle.task_machine.specs.Core.{Core}
@@ -153,7 +153,7 @@ is_told_of c e = is_guest_call c.caller && not (is_direct c.goal)
 abbrev pub ended_as : CallEnd → Call → Call
 ended_as e c = record c { «end» = Some e; event = if is_told_of c e then Some (status_of_end e) else c.event }
 
--- the core after the word; a change of places is written so that all else is seen to stay
+-- the core after the primitive; a change of places is written so that all else is seen to stay
 abbrev pub after_primitive : Primitive → Core → Core
 after_primitive (Places p) s = placed_as (after_placing p s) s
 after_primitive (SetRegister n r v) s = set_register n r v s

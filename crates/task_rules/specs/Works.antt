@@ -21,7 +21,7 @@ use Rattle.task_machine.specs.Moves.{unblocked}
 use Rattle.task_machine.specs.Read.{blocked_on, course_of, is_aborted, is_live, is_never, is_stage_ended, phase_of, stage_of, work_caller_of}
 use Rattle.task_machine.specs.Write.{push_high, set_course, set_phase, set_stage}
 
--- a host's work that has ended and has no entry: one whose entry stands is finishing
+-- a host's work that has ended and has no entry: one whose entry is finishing
 abbrev pub is_ended_work : Subtask → Core → Bool
 is_ended_work (subtask.Guest k) s = false
 is_ended_work (subtask.Host i) s = is_stage_ended (stage_of i s)

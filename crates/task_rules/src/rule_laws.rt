@@ -120,8 +120,8 @@ pub fn blocking_check_is_after()
     ensures { BlockingCheckIsAfter }
 {}
 
-/// Each step is a chain of words, each done where its guard allows it; in it the running thread stays
-/// and then comes to one place, once. So what each word keeps is kept by each step.
+/// Each step is a chain of primitives, each done where its guard allows it; in it the running thread stays and then comes to one
+/// place, once. So what each primitive keeps is kept by each step.
 #[tactic(auto, using(crate::proofs::WalkSteps::step_walks))]
 pub fn steps_are_walks()
     ensures { StepsAreWalks }

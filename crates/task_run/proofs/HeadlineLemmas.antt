@@ -87,6 +87,6 @@ headline x keeps y s t before after steps o core old new setting start none imag
           ∙ (ap (λ (k : ℕ). take k (told_of_run x after t run)) (less_none (2 * steps + 512)) ∙ take_whole (told_of_run x after t run) (2 * steps + 512) (room_suffices x after t run old new both.1 steps (subst (λ (ls : List Label). length ls ≤ steps) (sym d.trace) d.few))));
     }
 
--- a run has what it needs of a scenario that a text stands for
+-- a run has what it needs of a scenario that a text represents
 pub runnable_read : (text : List ℕ) (x : Scenario) → Reads text x → IsRunnable x
 runnable_read text x reads = subst (λ (x : Scenario). IsRunnable x) (sym reads.2) (runnable_scenario reads.0 reads.1.well_formed)

@@ -1,4 +1,4 @@
--- The scripts of a lowered component are those of the text, and stand there.
+-- The scripts of a lowered component are those of the text, and are there.
 use Rattle.std.proofs.Common.{inl, inr, ◌⊎◌, ◌≡◌, ◌<◌, ◌≤◌, ◌+◌, ℕ, suc, zero, Bool, true, false, List, [], ◌∷◌, ◌++◌, Option, Some, None, map, length, take, slice_get, refl, sym, ap, subst, ◌∙◌, arith}
 use Rattle.std.specs.Prelude.{replicate, slice_set, unwrap_or, nat_lt}
 use Rattle.std.specs.Option.{option_map, option_and_then, option_map_or}
@@ -45,7 +45,7 @@ module _ (is : List InstanceText) (f : Callee) where
   abbrev pub here : Option InstanceText → Option ExportDef
   here o = option_and_then (λ (d : InstanceDef). slice_get d.exports f.export) (option_map instance_def o)
 
-  -- the export of the text that d stands for
+  -- the export of the text that d represents
   pub record TextOf (d : ExportDef) : Type 0 where
     pub i : InstanceText
     pub e : ExportText
@@ -53,7 +53,7 @@ module _ (is : List InstanceText) (f : Callee) where
     pub within : slice_get (exports_in i.parts) f.export ≡ Some e
     pub is_def : export_def e ≡ d
 
-  -- an export that is there stands in the text
+  -- an export that is there is in the text
   pub export_text : (d : ExportDef) → here (slice_get is f.instance) ≡ Some d → TextOf d
   export_text d at = by_instance (slice_get is f.instance) refl at
     where
@@ -79,7 +79,7 @@ module _ (is : List InstanceText) (f : Callee) where
           let e = some_map (λ (e : ExportText). e.params) (slice_get exports f.export) n (sym (ap (λ es. option_map (λ (e : ExportText). e.params) (slice_get es f.export)) mine) ∙ at) in
           (export_def e.0, (ap here some ∙ slice_get-map export_def exports f.export ∙ ap (option_map export_def) e.1, sym e.2))
 
--- what stands among the first stands among all
+-- what is among the first is among all
 front_of : {X : Type 0} (xs : List X) (k i : ℕ) (x : X) → slice_get (take k xs) i ≡ Some x → slice_get xs i ≡ Some x
 front_of {X} xs zero i x at = absurd (let none : slice_get {X = X} [] i ≡ Some x = at in cc)
 front_of [] (suc k) i x at = at
@@ -141,7 +141,7 @@ pub at_lowered : (s : ScenarioText) (f : Callee) → export_at (lowered s) f ≡
 at_lowered s f = ap (option_and_then (λ (d : InstanceDef). slice_get d.exports f.export)) (slice_get-map instance_def s.instances f.instance)
 
 module _ (s : ScenarioText) (formed : IsWellFormed s) where
-  -- an export of the component stands in the text
+  -- an export of the component is in the text
   pub record Exported (f : Callee) (d : ExportDef) : Type 0 where
     pub before : List PartText
     pub e : ExportText
@@ -155,7 +155,7 @@ module _ (s : ScenarioText) (formed : IsWellFormed s) where
       let x = export_stands s.hosts (take f.instance s.instances) t.i.parts f.export t.e i.parts t.within in
       record { before = x.before; e = t.e; is_def = t.is_def; stands = x.stands }
 
-  -- a script stands after some instances, in a callback or not
+  -- a script is after some instances, in a callback or not
   pub record Known (ops : List Op) : Type 0 where
     pub instances : ℕ
     pub callback : Bool

@@ -1,4 +1,4 @@
--- What the parts of an instance stand for, part by part.
+-- What the parts of an instance represent, part by part.
 use Rattle.std.proofs.Common.{◌≡◌, List, [], ◌∷◌, ◌++◌, map, refl, ap, ◌∙◌}
 use Rattle.std.proofs.lemmas.List.{map-append}
 use Rattle.task_machine.specs.declared.component.Slot.{Slot}

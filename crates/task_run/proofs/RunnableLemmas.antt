@@ -1,4 +1,4 @@
--- A scenario that a text stands for keeps what a run of it needs.
+-- A scenario that a text represents keeps what a run of it needs.
 use Rattle.std.proofs.Common.{inl, inr, ◌⊎◌, ◌≡◌, ◌<◌, ◌≤◌, ◌+◌, ℕ, suc, zero, Bool, true, false, List, [], ◌∷◌, ◌++◌, Option, Some, None, map, length, take, slice_get, refl, sym, ap, subst, ◌∙◌, arith}
 use Rattle.std.specs.Prelude.{IsSome, nat_le, nat_lt, not, unwrap_or, ◌&&◌, ◌==◌, ◌^◌}
 use Rattle.std.specs.Option.{option_map, option_map_or}

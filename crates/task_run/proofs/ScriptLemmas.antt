@@ -66,7 +66,7 @@ module _ (c : Component) (ops : List MainOpDef) (p : MainPlace) (s : Core) (o : 
 pub pends_past : (c : Component) (ops : List MainOpDef) (p : MainPlace) (s : Core) → op_at ops p ≡ None → main.Pends c ops (Scripted p) s (Scripted p) s
 pends_past c ops p s none = record { part = refl; core = refl; pends = ap (pends_at (main_setting c ops) s p) none }
 
--- ---- What a start came to, in the words of its row
+-- ---- What a start resulted in, in the words of its rule
 
 module _ (c : Component) (e : Callee) (words : List ℕ) (s t : StateView) (k : ℕ) where
   pub started_rule : (o : Option Trap) (n : ℕ) → Starts c e words s o (Ok n) t → start_act c k e words s.core o ≡ Does (main_label.Start k n) t.core

@@ -33,8 +33,8 @@ machine_scenario x = record {
   aborters = x.aborters;
 }
 
--- Some run of the scenario with at most so many steps shows these labels, has come to this, and its last state has this core. It hands out
--- each end once, and one holding entry of an instance runs at a time. The groups are its notices.
+-- Some run of the scenario with at most so many steps shows these labels, has ended so, and its last state has this core. It hands
+-- out each end once, and one holding entry of an instance runs at a time. The groups are its notices.
 pub record IsRunOf (x : ScenarioDef) (steps : ℕ) (trace : List Label) (outcome : Outcome) (core : Core) (groups : List Notice) :
     Type 0 where
   pub last : State
@@ -46,7 +46,7 @@ pub record IsRunOf (x : ScenarioDef) (steps : ℕ) (trace : List Label) (outcome
   pub alone : OneHolder (history (setting_of x) (opens x) trace last run)
   pub told : groups ≡ notices (history (setting_of x) (opens x) trace last run)
 
--- The report is of a run of the scenario that the text stands for. Its store is concurrent, and no run stands on it.
+-- The report is of a run of the scenario that the text represents. Its store is concurrent, and no run rests on it.
 pub record IsReportOf (text : List ℕ) (steps : ℕ) (r : Report) : Type 0 where
   pub scenario : Scenario
   pub reads : Reads text scenario

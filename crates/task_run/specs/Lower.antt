@@ -1,4 +1,4 @@
--- The scenario that a tree of a text stands for.
+-- The scenario that a tree of a text represents.
 use Rattle.std.specs.Prelude.{◌≡◌, ℕ, List, [], ◌∷◌, ◌++◌, map, replicate, slice_set, unwrap_or, Some, None, Result, Ok, Err}
 use Rattle.text_lines.specs.declared.line.HostWork.{HostWork}
 use Rattle.text_lines.specs.declared.line.HostWork.TheVariants as work
@@ -79,11 +79,11 @@ scenario_of s = record {
   aborters = s.aborters;
 }
 
--- the text stands for the scenario
+-- the text represents the scenario
 abbrev pub Reads : List ℕ → Scenario → Type 0
 Reads text x = (tree : ScenarioText) × IsTextOf tree text × (x ≡ scenario_of tree)
 
--- a text gives its scenario, or is refused with its bad line; memory may be wanting
+-- a text gives its scenario, or is refused with its bad line; it may be out of memory
 abbrev pub ReadsAs : List ℕ → Result Scenario RunError → Type 0
 ReadsAs text (Ok x) = Reads text x
 ReadsAs text (Err why) = RefusedAs text why

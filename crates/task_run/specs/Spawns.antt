@@ -5,7 +5,7 @@ use Rattle.task_store.specs.Spawned.{IsSpawnedIn}
 use Rattle.task_store.specs.declared.spawn.SpawnHandle.{SpawnHandle}
 use Rattle.task_words.specs.StateView.{StateView}
 
--- the number of the spawn's work, 0 where there is no such spawn
+-- the number of the spawn's work, 0 if there is no such spawn
 abbrev pub number_in : Option SpawnHandle → ℕ
 number_in None = 0
 number_in (Some h) = h.number

@@ -69,10 +69,10 @@ PutsOrFails old new text report end =
 
 -- How `run n` ended of a text that was read whole, one line a status: `old` and `new` are what the sink holds.
 pub data TextEnded (n : ℕ) (all : List ℕ) (old new : Option (List ℕ)) (end : ToolEnd) : Type 0 where
-  -- 0: the report of a run of the scenario that the text stands for is written
+  -- 0: the report of a run of the scenario that the text represents is written
   Reported : (r : Report) → end.status ≡ 0 → end.report ≡ Some r → IsReportOf all n r → Appends old new (texts.text r.trace r.outcome) →
       TextEnded n all old new end
-  -- 1: memory was wanting
+  -- 1: it was out of memory
   NoneReported : EndsAt end 1 → TextEnded n all old new end
   -- 3: the text is outside the grammar, and its bad line is written
   SaidBadLine : EndsAt end 3 → (line : ℕ) → IsBadLine all line → Appends old new (bad_line_text line) → TextEnded n all old new end
@@ -95,7 +95,7 @@ pub data RunEnded (n : ℕ) (before after old new : Option (List ℕ)) (end : To
   -- 5: a front of that line is written
   TooLongCut : EndsAt end 5 → ((all : List ℕ) → before ≡ Some all → IsTooLong all after) → IsFront old new too_long_text →
       RunEnded n before after old new end
-  -- 1 or 4: memory was wanting, or the source failed, after some bytes were read
+  -- 1 or 4: it was out of memory, or the source failed, after some bytes were read
   Unread : EndsAt end 1 ⊎ EndsAt end 4 → ((all : List ℕ) → before ≡ Some all → (taken : List ℕ) × IsTaken all taken after) →
       RunEnded n before after old new end
 
@@ -120,7 +120,7 @@ pub data Ended (words : List (List ℕ)) (before after old new : Option (List �
   SaidUsage : IsNoForm words → EndsAt end 2 → Appends old new usage_text → Ended words before after old new end
   UsageCut : IsNoForm words → EndsAt end 5 → IsFront old new usage_text → Ended words before after old new end
 
--- this status, unless memory was wanting, or the source or the sink failed
+-- this status, unless it was out of memory, or the source or the sink failed
 abbrev pub IsUnhindered : ℕ → ℕ → Type 0
 IsUnhindered due status = (status ≡ due) ⊎ ((status ≡ 1) ⊎ ((status ≡ 4) ⊎ (status ≡ 5)))
 

@@ -140,7 +140,7 @@ fn copy_instances(alloc: Global, instances: &Instances) -> Result<Instances, All
     Ok(copies)
 }
 
-/// A copy of a component.
+/// Returns a copy of a component.
 pub fn copy_component(alloc: Global, component: &Component) -> Result<Component, AllocError>
     ensures { IfOk result (λ c. c ≡ component.now) }
 {

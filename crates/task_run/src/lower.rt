@@ -1,4 +1,4 @@
-//! From the text's tree to what is run: empty lines of the tree are gone, and the names stand apart.
+//! From the text's tree to what is run: empty lines of the tree are gone, and the names are apart.
 ghost use Rattle.std.specs.Prelude.{◌≡◌, ◌≤◌, [], ◌∷◌, ◌++◌, length, map, replicate, slice_set, unwrap_or, IfOk, OnOk, IsOkUnless};
 ghost use Rattle.task_run.specs.Lower.{host_def, export_def, instance_def, names_of, func_of, main_op, scenario_of, Reads, ReadsAs};
 ghost use Rattle.task_run.specs.declared.scenario.Scenario.{Scenario};
@@ -224,13 +224,13 @@ pub fn scenario_of(alloc: Global, text: ScenarioText) -> Result<Scenario, AllocE
     })
 }
 
-/// The scenario of a text of at most 1,048,576 bytes. A text that is none is refused with its first
-/// bad line, from 1 to one past the last.
+/// Returns the scenario of a text of at most 1,048,576 bytes. A text that is none is refused with its first bad line, from 1 to one
+/// past the last.
 pub fn read_scenario(alloc: Global, text: &[u8]) -> Result<Scenario, RunError>
     requires { length text.now ≤ 1048576 }
     // A scenario is the text's own, and a line is the bad one.
     ensures answer { ReadsAs text.now result }
-    // A scenario's text is refused for want of memory alone.
+    // A scenario's text is refused for lack of memory alone.
     ensures only { (x : Scenario) → Reads text.now x → IsOkUnless result RunError.NoMemory }
 {
     match read_tree(alloc, text) {
@@ -242,7 +242,7 @@ pub fn read_scenario(alloc: Global, text: &[u8]) -> Result<Scenario, RunError>
     }
 }
 
-/// A copy of a scenario's component.
+/// Returns a copy of a scenario's component.
 pub fn component_of(alloc: Global, scenario: &Scenario) -> Result<Component, NoMemory>
     ensures { IfOk result (λ c. c ≡ scenario.now.component) }
 {

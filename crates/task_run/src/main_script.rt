@@ -42,7 +42,7 @@ fn words_of(
 }
 
 impl<'a> ScriptMain<'a> {
-    /// Main at its first op, with registers 0.
+    /// Makes main at its first op, with registers 0.
     pub fn new(alloc: Global, ops: &'a [MainOp]) -> Self
         ensures place { place_of result ≡ main_opening }
         ensures ops { result.ops.now ≡ ops.now }

@@ -296,14 +296,12 @@ fn big<K: Sink>(alloc: Global, number: u32, steps: u32, sink: &mut K) -> ToolEnd
     }
 }
 
-/// What the program does with its words, its input and its output. `run STEPS`, with 1 to 1,000,000
-/// steps, reads a scenario to the source's end, runs it and writes its report. `make NUMBER`, with 1
-/// to 256 requests, writes the generated scenario, and `big NUMBER STEPS` runs it and writes the
-/// summary of that run. The status is 0 where all was written, 1 where memory was wanting, and then
-/// nothing was written, 2 where the words are none of the forms, which writes the usage line, 3 where
-/// the text is no scenario, which writes its first bad line, 4 where the source failed, 5 where the
-/// sink did, and 6 where the source gave more than 1,048,576 bytes, which writes a line that says so.
-/// All words but `run STEPS` leave the source as it was.
+/// Does what the program's words ask, with its input and its output. `run STEPS`, with 1 to 1,000,000 steps, reads a scenario to
+/// the source's end, runs it and writes its report. `make NUMBER`, with 1 to 256 requests, writes the generated scenario, and
+/// `big NUMBER STEPS` runs it and writes the summary of that run. The status is 0 where all was written, 1 if it was out of memory,
+/// and then nothing was written, 2 if the words are none of the forms, which writes the usage line, 3 if the text is no scenario,
+/// which writes its first bad line, 4 if the source failed, 5 if the sink did, and 6 if the source gave more than 1,048,576 bytes,
+/// which writes a line that says so. All words but `run STEPS` leave the source as it was.
 pub fn tool<S: Source, K: Sink>(
     alloc: Global,
     words: &[String],
@@ -312,9 +310,9 @@ pub fn tool<S: Source, K: Sink>(
 ) -> ToolEnd
     // All words but `run` leave the source as it was.
     ensures untouched { ((n : ℕ) → IsRun (map string_bytes words.now) n → ⊥) → source.new ≡ source.old }
-    // What stands after each status.
+    // What is after each status.
     ensures ended { Ended (map string_bytes words.now) (S.left source.old) (S.left source.new) (K.held sink.old) (K.held sink.new) result }
-    // Only want of memory and a fault stand in the way of 0 for a scenario, of 3 for another text and of 6 for a longer one.
+    // Only lack of memory and a fault stand in the way of 0 for a scenario, of 3 for another text and of 6 for a longer one.
     ensures due { (n : ℕ) (all : List ℕ) → IsRun (map string_bytes words.now) n → S.left source.old ≡ Some all → IsDue all result.status }
     ensures unwritten { (result.status ≡ 1) ⊎ (result.status ≡ 4) → sink.new ≡ sink.old }
     ensures read { result.status ≡ 4 → HasRisen (S.faults source.old) (S.faults source.new) }

@@ -22,7 +22,7 @@ use task_loop::{NoticeList, Outcome, Trace, run_concurrent};
 use task_machine::{IdleLine, NoMemory};
 use task_store::{ScriptedHost, Store};
 
-/// What a run came to: its steps, its end, and the store that it left.
+/// What a run resulted in: its steps, its end, and the store that it left.
 #[derive(Drop)]
 pub struct Report {
     pub trace: Trace,
@@ -60,7 +60,7 @@ pub fn new_store<T: Drop, H: Drop>(
     Ok(store)
 }
 
-/// Whether a run with this idle line ends as a deadlock where nothing can go on.
+/// Returns whether a run with this idle line ends as a deadlock where nothing can go on.
 pub fn traps_on_idle(idle: IdleLine) -> bool
     ensures { idle_line_of result ≡ idle }
 {
@@ -110,11 +110,10 @@ fn run(alloc: Global, scenario: &Scenario, steps: u32) -> Result<Report, NoMemor
     })
 }
 
-/// Runs the scenario of a text of at most 1,048,576 bytes for at most `steps` steps, 1 to
-/// 1,000,000. The report's labels are those of a run of the component machine from the scenario's
-/// opening state, its outcome is what that run has come to, its groups are the notices of that run, and its store, which is
-/// concurrent and on which no run stands, has the run's last state as its image. A text that is no scenario is refused at its
-/// first bad line.
+/// Runs the scenario of a text of at most 1,048,576 bytes for at most `steps` steps, 1 to 1,000,000. The report's labels are those
+/// of a run of the component machine from the scenario's opening state, its outcome is what that run has resulted in, its groups
+/// are the notices of that run, and its store, which is concurrent and on which no run is, has the run's last state as its image. A
+/// text that is no scenario is refused at its first bad line.
 pub fn run_scenario(alloc: Global, text: &[u8], steps: u32) -> Result<Report, RunError>
     requires text { length text.now ≤ 1048576 }
     requires some { 0 < steps }
@@ -122,7 +121,7 @@ pub fn run_scenario(alloc: Global, text: &[u8], steps: u32) -> Result<Report, Ru
     ensures ran { IfOk result (λ r. IsReportOf text.now steps r) }
     ensures taken { IsOk result → (x : Scenario) × Reads text.now x }
     ensures refused { (n : ℕ) → IsErrOf result (RunError.BadScenario n) → IsBadLine text.now n }
-    // A scenario's text is refused for want of memory alone.
+    // A scenario's text is refused for lack of memory alone.
     ensures only { (x : Scenario) → Reads text.now x → IsOkUnless result RunError.NoMemory }
 {
     let scenario = read_scenario(alloc, text)?;
@@ -154,7 +153,7 @@ pub fn print_run(alloc: Global, trace: &Trace, outcome: Outcome) -> Result<Vec<u
     Ok(text_of(alloc, trace, outcome)?)
 }
 
-/// The text of a report: its labels, one a line, and the line of its outcome.
+/// Returns the text of a report: its labels, one a line, and the line of its outcome.
 pub fn print_report(alloc: Global, report: &Report) -> Result<Vec<u8>, NoMemory>
     ensures { IfOk result (λ out. out.items ≡ text report.now.trace report.now.outcome) }
 {

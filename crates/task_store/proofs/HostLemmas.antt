@@ -569,7 +569,7 @@ module _ (i : ℕ) (s : Core) (left right : ℕ → Option HeldWork) (h : HoldsW
       by None e = absurd (nobody e)
       by (Some w) e = ap (λ (b : Bool). b || has_end w.course) unasked ∙ goes w.course (phase_told w.caller w.phase) e.held
 
-  -- what the poll of a work comes to, by its phase
+  -- what the poll of a work results in, by its phase
   pub aborted_ends : is_aborted (phase_of i s) ≡ true → poll_of i s ≡ Ends None
   unfolding poll_of
   aborted_ends is = by (phase_of i s) is

@@ -1,4 +1,5 @@
--- Order stays with an instance more: whose number wasn't given, so that nothing names it, nobody is held in it, and no handle stands there.
+-- Order stays with an instance more: whose number wasn't given, so that nothing names it, nobody is held in it, and no handle is
+-- there.
 use Rattle.make_words.specs.Instances.{with_instance}
 use Rattle.order_laws.proofs.StayLemmas.{beside_in_order}
 use Rattle.std.proofs.Common.{ap, arith, refl, subst, sym, ◌∙◌}

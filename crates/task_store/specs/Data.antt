@@ -4,8 +4,8 @@ use Rattle.task_machine.specs.Read.{live_count, next_entry, table_use}
 use Rattle.task_rules.specs.Works.{has_live_work}
 use Rattle.task_words.specs.StateView.{StateView}
 
--- No entry is in the table, so no thread is there to be held; no handle is live, no entry stands at a mark, no thread
--- runs, no work is live.
+-- No entry is in the table, so no thread is there to be held; no handle is live, no entry is at a mark, no thread runs, no work is
+-- live.
 abbrev pub is_empty_state : StateView → Bool
 is_empty_state s =
     (table_use s.core == 0) && ((live_count s.core == 0) && (is_none (next_entry s.core) &&

@@ -18,7 +18,7 @@ told_of answers.Pending = told.Pends
 told_of (answers.Value v) = told.Ends (Some v)
 told_of answers.Failed = told.Fails
 
--- the core after a poll that comes to this
+-- the core after a poll that results in this
 abbrev pub polled_core : ℕ → Poll → Core → Core
 polled_core i (StillPends host) s = poll_pends i host s
 polled_core i (Ends v) s = poll_ends i v s

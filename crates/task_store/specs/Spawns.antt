@@ -26,7 +26,7 @@ of_task (Ok h) = Ok h
 of_task (Err e) = Err (refusals.Task e)
 
 module _ {T H G : Type 0} (course : H → HostDef) (work : H) where
-  -- the work is queued in the store as the machine's work, and held; or memory is wanting, and no work is made
+  -- the work is queued in the store as the machine's work, and held; or it is out of memory, and no work is made
   pub record Spawns (result : Result SpawnHandle TaskError) (s t : Store T H G) : Type 0 where
     pub number : IfOk result (λ h. h.number ≡ next_work s.state.core)
     pub named : IfOk result (λ h. work_of t.state h.work ≡ h.number)

@@ -20,7 +20,7 @@ pub trait Project<T> {
     // The value with this part in place of its own.
     ghost with_part: { T → Self.Data → T };
 
-    /// The part, for writing: what is written to it is written to the value.
+    /// Returns the part, for writing: what is written to it is written to the value.
     fn project(value: &mut T) -> &mut Self::Data
         ensures* writes_back { sem 𝓛 (Lends T.row Self.Data.row value.entry result (with_part value.old)) }
         ensures value { result.now ≡ part value.old };
@@ -37,7 +37,7 @@ impl<T> Project<T> for Whole {
 
     ghost with_part = { λ _ part. part };
 
-    /// The value itself.
+    /// Returns the value itself.
     fn project(value: &mut T) -> &mut T {
         value
     }
@@ -61,14 +61,14 @@ impl<'a, T, P, H, G: TaskGroupHook> Access<'a, T, P, H, G> {
         }
     }
 
-    /// The store.
+    /// Returns the store.
     pub fn as_context(&self) -> &Store<T, H, G>
         ensures { result.now ≡ self.now.store.now }
     {
         self.store
     }
 
-    /// The store, for writing: what is written to it is written to the store behind the access.
+    /// Returns the store, for writing: what is written to it is written to the store behind the access.
     pub fn as_context_mut(&mut self) -> &mut Store<T, H, G>
         ensures* writes_back { sem 𝓛 (LendsStore T.row P.row H.row G.row G.TaskGroupHook self.entry result) }
         ensures value { result.now ≡ self.old.store.now }
@@ -76,7 +76,7 @@ impl<'a, T, P, H, G: TaskGroupHook> Access<'a, T, P, H, G> {
         self.store
     }
 
-    /// The host's value, for writing.
+    /// Returns the host's value, for writing.
     pub fn data_mut(&mut self) -> &mut T
         ensures* writes_back { sem 𝓛 (LendsPart T.row P.row H.row G.row G.TaskGroupHook T.row self.entry result (λ _ value. value)) }
         ensures value { result.now ≡ self.old.store.now.value }
@@ -94,7 +94,7 @@ impl<'a, T, P, H, G: TaskGroupHook> Access<'a, T, P, H, G> {
 }
 
 impl<'a, T, P: Project<T>, H, G: TaskGroupHook> Access<'a, T, P, H, G> {
-    /// The part of the host's value, for writing.
+    /// Returns the part of the host's value, for writing.
     pub fn get(&mut self) -> &mut P::Data
         ensures* writes_back { sem 𝓛 (LendsPart T.row P.row H.row G.row G.TaskGroupHook P.Data.row self.entry result P.with_part) }
         ensures value { result.now ≡ P.part self.old.store.now.value }

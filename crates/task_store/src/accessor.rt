@@ -34,7 +34,7 @@ pub enum SpawnError<H> {
 }
 
 impl<T, P> Accessor<T, P> {
-    /// An accessor with this projection.
+    /// Makes an accessor with this projection.
     pub fn new(getter: PhantomData<P>) -> Self
         ensures { result.part ≡ getter }
     {
@@ -51,7 +51,7 @@ impl<T, P> Accessor<T, P> {
         self.part
     }
 
-    /// An accessor to the same stores with another projection.
+    /// Returns an accessor to the same stores with another projection.
     pub fn with_getter<Q>(&self, getter: PhantomData<Q>) -> Accessor<T, Q>
         ensures { result.part ≡ getter }
     {
@@ -102,8 +102,7 @@ impl<T, P> Accessor<T, P> {
         }
     }
 
-    /// Ready exactly where no task is left that a host waits for, in the slot's store. It is main's op
-    /// `quiet`.
+    /// Returns `Ready` exactly if no task is left that a host waits for, in the slot's store. It is main's op `quiet`.
     pub fn poll_no_interesting_tasks<H>(
         &self,
         slot: &mut StoreSlot<'_, T, H>,
@@ -125,8 +124,7 @@ impl<T, P> Accessor<T, P> {
         }
     }
 
-    /// Ready exactly where a call of the instance could start, in the slot's store. It is main's op
-    /// `ready`.
+    /// Returns `Ready` exactly if a call of the instance could start, in the slot's store. It is main's op `ready`.
     pub fn poll_ready_for_concurrent_call<H>(
         &self,
         slot: &mut StoreSlot<'_, T, H>,
@@ -160,7 +158,7 @@ pub trait AsAccessor {
 
     ghost accessor: { Self → Accessor Self.Data Self.AccessorData };
 
-    /// The accessor.
+    /// Returns the accessor.
     fn as_accessor(&self) -> &Accessor<Self::Data, Self::AccessorData>
         ensures { result.now ≡ accessor self.now };
 }

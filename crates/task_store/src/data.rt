@@ -24,7 +24,7 @@ pub struct StoreComponentInstanceId {
 }
 
 impl StoreComponentInstanceId {
-    /// Whether the instance is of the store with this number.
+    /// Returns whether the instance is of the store with this number.
     pub fn belongs_to(&self, store: u64) -> bool
         ensures { result ≡ (self.now.store == store) }
     {
@@ -33,14 +33,14 @@ impl StoreComponentInstanceId {
 }
 
 impl<T, H, G: TaskGroupHook> Store<T, H, G> {
-    /// Whether the store's calls may run beside one another.
+    /// Returns whether the store's calls may run beside one another.
     pub fn is_concurrent(&self) -> bool
         ensures { result ≡ self.now.concurrent }
     {
         self.concurrent
     }
 
-    /// The number of the instance that is made next, which is the number of instances.
+    /// Returns the number of the instance that is made next, which is the number of instances.
     pub fn next_component_instance_id(&self) -> ComponentInstanceId
         ensures { result.0 ≡ min (size self.now.state.core.instances) 4294967295 }
     {
@@ -56,8 +56,8 @@ impl<T, H, G: TaskGroupHook> Store<T, H, G> {
         *count -= self.next_component_instance_id().0;
     }
 
-    /// How much a call of a host may copy, in bytes: the last value set, and 134,217,728 in a new
-    /// store. Nothing here spends it.
+    /// Returns how much a call of a host may copy, in bytes: the last value set, and 134,217,728 in a new store. Nothing here
+    /// spends it.
     pub fn hostcall_fuel(&self) -> usize
         ensures { result ≡ self.now.fuel }
     {
@@ -71,7 +71,7 @@ impl<T, H, G: TaskGroupHook> Store<T, H, G> {
         self.fuel = fuel;
     }
 
-    /// How many entries the table of a concurrent store has.
+    /// Returns how many entries the table of a concurrent store has.
     pub fn concurrent_state_table_size(&self) -> u64
         requires { self.now.concurrent ≡ true }
         ensures { result ≡ table_use self.now.state.core }
@@ -79,8 +79,8 @@ impl<T, H, G: TaskGroupHook> Store<T, H, G> {
         self.state.used()
     }
 
-    /// Whether nothing is left in a concurrent store: its table has no entry, so no thread is held, no
-    /// handle is live, no entry stands at a mark, no thread runs, and no work of the host is live.
+    /// Returns whether nothing is left in a concurrent store: its table has no entry, so no thread is held, no handle is live, no
+    /// entry is at a mark, no thread runs, and no work of the host is live.
     pub fn concurrent_state_empty(&self) -> bool
         requires { self.now.concurrent ≡ true }
         ensures { result ≡ is_empty_state self.now.state }

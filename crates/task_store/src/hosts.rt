@@ -60,9 +60,8 @@ fn told_of(answer: HostPoll) -> PollNews
 }
 
 impl<T, H: AccessorTask<T>, G: TaskGroupHook> Store<T, H, G> {
-    /// Spawns a work beside the calls of the store. It is queued, becomes live when a run takes it,
-    /// and is polled from then on, at most once a turn, until it ends. A core in order stays so,
-    /// whosever turn it is. Where memory is wanting, no work is made.
+    /// Spawns a work beside the calls of the store. It is queued, becomes live when a run takes it, and is polled from then on, at
+    /// most once a turn, until it ends. A core in order stays so, whosever turn it is. If it is out of memory, no work is made.
     pub fn spawn(&mut self, work: H) -> Result<SpawnHandle, TaskError>
         requires given { given self.old.state.core < 2 ^ 61 }
         ensures spawns { Spawns H.course work result self.old self.new }
@@ -125,8 +124,7 @@ impl<T, H: AccessorTask<T>, G: TaskGroupHook> Store<T, H, G> {
 }
 
 impl<T, H: AccessorTask<T>, G: TaskGroupHook> Store<T, H, G> {
-    /// Holds a work under the next number, for a guest's call that is to make it. Where memory is wanting, it isn't
-    /// held.
+    /// Holds a work under the next number, for a guest's call that is to make it. If it is out of memory, it isn't held.
     pub fn hold_next(&mut self, work: H) -> Result<u64, NoMemory>
         requires given { given self.old.state.core < 2 ^ 61 }
         ensures number { IfOk result (λ i. i ≡ next_work self.old.state.core) }
@@ -152,7 +150,7 @@ impl<T, H: AccessorTask<T>, G: TaskGroupHook> Store<T, H, G> {
         }
     }
 
-    /// The work with this number, whose call was refused, is let go.
+    /// Lets the work with this number go, whose call was refused.
     pub fn let_held_go(&mut self, number: u64)
         ensures left { (i : ℕ) → held_by H.course self.new i ≡ cond (number == i) None (held_by H.course self.old i) }
         ensures rest { self.new ≡ record self.old { works = self.new.works } }
@@ -176,8 +174,8 @@ impl<T, H: AccessorTask<T> + FromHost, G: TaskGroupHook> Store<T, H, G> {
         (Some(work), answer)
     }
 
-    /// A guest's call has polled this work first, and goes on with it if it has made one. It is held from then on. Where
-    /// memory is wanting, it isn't.
+    /// Holds the work that a guest's call has polled first, if the call goes on with it. It is held from then on. If it is out of
+    /// memory, it isn't.
     pub fn hold_called(&mut self, called: Option<H>, work: Option<WorkId>) -> Result<(), NoMemory>
         ensures held { OnOk result ((i : ℕ) → held_by H.course self.new i ≡ held_after_call (option_map (λ id. work_of self.old.state id) work) (option_map H.course called) (held_by H.course self.old) i) }
         ensures rest { self.new ≡ record self.old { works = self.new.works } }

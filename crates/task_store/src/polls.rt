@@ -10,7 +10,7 @@ use task_group::TaskGroupHook;
 use task_words::{InstancePrimitives, ResultPrimitives};
 
 impl<T, H, G: TaskGroupHook> Store<T, H, G> {
-    /// Ready exactly where no task is left that main has to wait for: main's op `quiet`.
+    /// Returns `Ready` exactly if no task is left that main has to wait for: main's op `quiet`.
     pub fn poll_no_interesting_tasks(&self) -> Poll<()>
         ensures { result ≡ ready_if (not (has_interesting self.now.state.core)) }
     {
@@ -20,8 +20,8 @@ impl<T, H, G: TaskGroupHook> Store<T, H, G> {
         Poll::Ready(())
     }
 
-    /// Ready exactly where a call of the instance could start: nothing asks its entries to wait, and
-    /// none holds it. It is main's op `ready`.
+    /// Returns `Ready` exactly if a call of the instance could start: nothing asks its entries to wait, and none holds it. It is
+    /// main's op `ready`.
     #[tactic(auto, unfolding(task_rules::specs::MainOps::is_ready_for_call))]
     pub fn poll_ready_for_concurrent_call(&self, instance: RuntimeInstance) -> Poll<()>
         ensures { result ≡ ready_if (is_ready_for_call instance.instance.0 self.now.state.core) }

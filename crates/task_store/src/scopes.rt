@@ -7,8 +7,8 @@ use std::alloc::Global;
 use std::marker::Model;
 use task_machine::NoMemory;
 
-/// The calls of a store that isn't concurrent, which stand one above the other: how many borrows each
-/// holds, the outermost first. They are numbered from 0.
+/// The calls of a store that isn't concurrent, which are one above the other: how many borrows each holds, the outermost first.
+/// They are numbered from 0.
 #[derive(Drop)]
 pub struct ComponentTasksNotConcurrent {
     borrows: Vec<u32>,
@@ -23,7 +23,7 @@ impl Model for ComponentTasksNotConcurrent {
 }
 
 impl ComponentTasksNotConcurrent {
-    /// No scope.
+    /// Makes an empty list of scopes.
     pub fn new(alloc: Global) -> Self
         ensures { result ≡ [] }
     {
@@ -32,7 +32,7 @@ impl ComponentTasksNotConcurrent {
         }
     }
 
-    /// A scope more, with no borrow. Where memory is wanting, all is as before.
+    /// Enters a scope, with no borrow. If it is out of memory, all is as before.
     pub fn enter_call(&mut self) -> Result<(), NoMemory>
         ensures ok { OnOk result (self.new ≡ self.old ++ 0 ∷ []) }
         ensures err { OnErr result (self.new ≡ self.old) }
@@ -43,7 +43,7 @@ impl ComponentTasksNotConcurrent {
         }
     }
 
-    /// The scope entered last is left. False exactly where there is none, and then nothing is changed.
+    /// Leaves the scope entered last. False exactly where there is none, and then nothing is changed.
     pub fn exit_call(&mut self) -> bool
         ensures there { IsTrue result ↔ (0 < length self.old) }
         ensures left { self.new ≡ one_fewer self.old }
@@ -51,7 +51,7 @@ impl ComponentTasksNotConcurrent {
         self.borrows.pop().is_some()
     }
 
-    /// The borrows of a scope. None exactly where no scope has that number.
+    /// Returns the borrows of a scope. None exactly where no scope has that number.
     pub fn call_context(&self, scope: u32) -> Option<CallContext>
         ensures { option_map (λ x. x.borrows) result ≡ slice_get self.now scope }
     {
@@ -61,8 +61,7 @@ impl ComponentTasksNotConcurrent {
         }
     }
 
-    /// The scope holds so many borrows. False exactly where no scope has that number, and then nothing
-    /// is changed.
+    /// Sets how many borrows the scope holds. False exactly where no scope has that number, and then nothing is changed.
     pub fn set_call_context(&mut self, scope: u32, context: CallContext) -> bool
         ensures there { IsTrue result ↔ (scope < length self.old) }
         ensures new { self.new ≡ slice_set self.old scope context.borrows }

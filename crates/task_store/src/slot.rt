@@ -17,7 +17,7 @@ pub enum SlotError {
 }
 
 impl SlotError {
-    /// The refusal that this is: 23 or 24.
+    /// Returns the refusal that this is: 23 or 24.
     pub fn trap(self) -> Trap
         ensures { result ≡ trap_of self }
     {
@@ -63,14 +63,14 @@ fn without_store<'a, T, H>(slot: &StoreSlot<'a, T, H>, taken: bool) -> TryGet<'a
 }
 
 impl<'a, T, H> StoreSlot<'a, T, H> {
-    /// A slot without a store.
+    /// Makes a slot without a store.
     pub fn absent() -> Self
         ensures { result.held ≡ Held.Absent }
     {
         StoreSlot { held: Held::Absent }
     }
 
-    /// A slot with this store.
+    /// Makes a slot with this store.
     pub fn set(store: &'a mut Store<T, H>) -> Self
         ensures { result.held ≡ Held.Store store.entry }
     {
@@ -79,7 +79,7 @@ impl<'a, T, H> StoreSlot<'a, T, H> {
         }
     }
 
-    /// The store, given back. None where there is none, or where it is taken.
+    /// Returns the store, given back. None if there is none, or where it is taken.
     pub fn into_store(self) -> Option<&'a mut Store<T, H>>
         ensures { result ≡ held_store self.entry.held }
     {

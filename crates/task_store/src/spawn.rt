@@ -36,14 +36,14 @@ fn after_abort(phase: Phase) -> Phase
 }
 
 impl SpawnHandle {
-    /// The number of the work, by which labels name it.
+    /// Returns the number of the work, by which labels name it.
     pub fn number(&self) -> u64
         ensures { result ≡ self.now.number }
     {
         self.number
     }
 
-    // The id of the work, none where it is gone.
+    // The id of the work, none if it is gone.
     fn work<T, H, G: TaskGroupHook>(&self, store: &Store<T, H, G>) -> Option<WorkId>
         requires { IsSpawnedIn self.now store.now.state }
         ensures some { IfSome result (λ id. work_of store.now.state id ≡ self.now.number) }
@@ -75,7 +75,7 @@ impl SpawnHandle {
         phase
     }
 
-    /// Ready exactly where the work has ended.
+    /// Returns `Ready` exactly if the work has ended.
     pub fn poll<T, H: HostWork, G: TaskGroupHook>(&self, store: &mut Store<T, H, G>) -> Poll<()>
         requires spawned { IsSpawnedIn self.now store.old.state }
         requires hosts { HoldsHosts H.course store.old }

@@ -28,8 +28,7 @@ use task_words::ResultPrimitives;
 #[derive(Clone, Copy, PartialEq, Eq)]
 pub struct ComponentInstanceId(pub u32);
 
-/// The table of a concurrent store, as it is told: how many entries stand in it, and for how many it
-/// has room.
+/// Returns the table of a concurrent store, as it is told: how many entries are in it, and for how many it has room.
 #[derive(Clone, Copy)]
 pub struct ConcurrentTable {
     pub len: u64,
@@ -51,7 +50,7 @@ pub fn finish_ended<G: TaskGroupHook>(
     told
 }
 
-/// A run that stands on a store. Only `Store::begin_run` makes one.
+/// A run that rests on a store. Only `Store::begin_run` makes one.
 #[derive(Drop)]
 pub struct ActiveRun {
     begun: (),
@@ -71,7 +70,7 @@ pub struct Store<T, H, G: TaskGroupHook = NoHook> {
     pub listeners: Listeners<G>,
     // The host works that haven't ended.
     pub(crate) works: HostWorks<H>,
-    // Whether a run stands on the store.
+    // Whether a run is active on the store.
     running: bool,
 }
 
@@ -93,8 +92,8 @@ impl<T: Drop, H: Drop, G: TaskGroupHook> Drop for Store<T, H, G> {
 }
 
 impl<T, H, G: TaskGroupHook> Store<T, H, G> {
-    /// A store in which nothing was made. `concurrent` says whether its calls may run beside one
-    /// another, and `id` is the number by which the host knows it.
+    /// Makes a store in which nothing was made. `concurrent` says whether its calls may run beside one another, and `id` is the
+    /// number by which the host knows it.
     pub fn new(alloc: Global, value: T, concurrent: bool, id: u64) -> Self
         ensures { IsNewStore value concurrent id result }
     {
@@ -111,14 +110,14 @@ impl<T, H, G: TaskGroupHook> Store<T, H, G> {
         }
     }
 
-    /// The host's value.
+    /// Returns the host's value.
     pub fn data(&self) -> &T
         ensures { result.now ≡ self.now.value }
     {
         &self.value
     }
 
-    /// The host's value, for writing.
+    /// Returns the host's value, for writing.
     pub fn data_mut(&mut self) -> &mut T
         ensures* writes_back { sem 𝓛 (LendsValue T.row H.row G.row G.TaskGroupHook self.entry result) }
         ensures value { result.now ≡ self.old.value }
@@ -126,8 +125,7 @@ impl<T, H, G: TaskGroupHook> Store<T, H, G> {
         &mut self.value
     }
 
-    /// Makes an instance and answers its number, from 0. A core in order stays so. Where memory is
-    /// wanting, the store is as before.
+    /// Makes an instance and answers its number, from 0. A core in order stays so. If it is out of memory, the store is as before.
     pub fn add_instance(&mut self) -> Result<ComponentInstanceId, NoMemory>
         requires { size self.old.state.core.instances < 4294967295 }
         ensures number { IfOk result (λ i. i.0 ≡ size self.old.state.core.instances) }
@@ -141,8 +139,7 @@ impl<T, H, G: TaskGroupHook> Store<T, H, G> {
         }
     }
 
-    /// How many threads, host works, sets and groups were made in the store, up to 2^64 - 1; 0
-    /// where it isn't concurrent.
+    /// Returns how many threads, host works, sets and groups were made in the store, up to 2^64 - 1; 0 if it isn't concurrent.
     pub fn given(&self) -> u64
         ensures { result ≡ cond self.now.concurrent (min (given self.now.state.core) (2 ^ 64 - 1)) 0 }
     {
@@ -167,8 +164,7 @@ impl<T, H, G: TaskGroupHook> Store<T, H, G> {
         self.state.set_capacity(n);
     }
 
-    /// How many handles may be live at once in the store: the last value set, and 100,000 in a new
-    /// store.
+    /// Returns how many handles may be live at once in the store: the last value set, and 100,000 in a new store.
     pub fn max_component_handles(&self) -> usize
         ensures is { result ≡ self.now.state.core.handle_limit }
         ensures bound { result ≤ 268435455 }
@@ -185,8 +181,8 @@ impl<T, H, G: TaskGroupHook> Store<T, H, G> {
         self.state.set_handle_limit(limit as u32);
     }
 
-    /// The table of a concurrent store, of its calls, threads, sets, host calls and groups. None
-    /// exactly where the store isn't concurrent.
+    /// Returns the table of a concurrent store, of its calls, threads, sets, host calls and groups. None exactly where the store
+    /// isn't concurrent.
     pub fn concurrent_resource_table(&self) -> Option<ConcurrentTable>
         ensures some { IsSome result ↔ (self.now.concurrent ≡ true) }
         ensures len { IfSome result (λ table. table.len ≡ table_use self.now.state.core) }
@@ -201,7 +197,7 @@ impl<T, H, G: TaskGroupHook> Store<T, H, G> {
         })
     }
 
-    /// Whether the store is trapped: then it takes no further call.
+    /// Returns whether the store is trapped: then it takes no further call.
     pub fn trapped(&self) -> bool
         ensures { result ≡ self.now.state.core.trapped }
     {
@@ -209,7 +205,7 @@ impl<T, H, G: TaskGroupHook> Store<T, H, G> {
     }
 
     /// Traps the store, and finishes all groups, which is told in order of number, as it is of those that have ended and weren't
-    /// told of. Errors of the hook are passed over. No group is known then.
+    /// told of. Errors of the hook are passed over. No group is tracked then.
     pub fn set_trapped(&mut self)
         ensures rest { self.new ≡ record self.old { state = asked (on_core set_trapped self.old.state); listeners = self.new.listeners } }
         ensures told { ToldListeners (finishes self.old.state.tags.tracked) self.old.listeners self.new.listeners }
@@ -226,8 +222,7 @@ impl<T, H, G: TaskGroupHook> Store<T, H, G> {
         self.listeners.set_hook(hook);
     }
 
-    /// From now on each notice of a group is kept, until `room` of them are. Where memory is
-    /// wanting, the store is as before.
+    /// Keeps each notice of a group from now on, until `room` of them are. If it is out of memory, the store is as before.
     pub fn keep_notices(&mut self, room: usize) -> Result<(), NoMemory>
         requires concurrent { self.old.concurrent ≡ true }
         ensures ok { OnOk result (self.new ≡ record self.old { listeners = record self.old.listeners { room = room } }) }
@@ -236,7 +231,7 @@ impl<T, H, G: TaskGroupHook> Store<T, H, G> {
         self.listeners.keep_notices(room)
     }
 
-    /// The notices that were kept, in the order in which they were told.
+    /// Returns the notices that were kept, in the order in which they were told.
     pub fn notices(&self) -> Notices<'_>
         requires { self.now.concurrent ≡ true }
         ensures { result ≡ self.now.listeners.notices }
@@ -244,7 +239,7 @@ impl<T, H, G: TaskGroupHook> Store<T, H, G> {
         self.listeners.notices()
     }
 
-    /// The notices that were kept, in a list of their own that shares their memory: they stay kept, and none is copied.
+    /// Returns the notices that were kept, in a list of their own that shares their memory: they stay kept, and none is copied.
     /// `NoMemory` where there is none for the list.
     pub fn share_notices(&mut self, alloc: Global) -> Result<NoticeList, NoMemory>
         requires { self.old.concurrent ≡ true }
@@ -254,15 +249,14 @@ impl<T, H, G: TaskGroupHook> Store<T, H, G> {
         self.listeners.share_notices(alloc)
     }
 
-    /// Whether a run stands on the store.
+    /// Returns whether a run is active on the store.
     pub fn running(&self) -> bool
         ensures { result ≡ self.now.running }
     {
         self.running
     }
 
-    /// A run stands on the store from now on. Refused with trap 21 exactly where one does, and then
-    /// nothing is changed.
+    /// Begins a run on the store. Refused with trap 21 exactly if one is active, and then nothing is changed.
     pub fn begin_run(&mut self) -> Result<ActiveRun, Trap>
         ensures refused { IfErr result (λ trap. (trap ≡ Trap.RecursiveRun) × (self.old.running ≡ true)) }
         ensures begun { OnOk result (self.old.running ≡ false) }
@@ -275,7 +269,7 @@ impl<T, H, G: TaskGroupHook> Store<T, H, G> {
         Ok(ActiveRun { begun: () })
     }
 
-    /// The run stands on the store no longer.
+    /// Ends the run on the store.
     pub fn end_run(&mut self, run: ActiveRun)
         ensures { self.new ≡ record self.old { running = false } }
     {

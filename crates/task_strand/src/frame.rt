@@ -9,7 +9,7 @@ pub enum Half {
     Saved(u64, Option<bool>),
 }
 
-/// One frame of a strand: where a thread stands in its script. The registers stand in the thread's entry.
+/// One frame of a strand: where a thread is in its script. The registers are in the thread's entry.
 #[derive(Clone, Copy)]
 pub struct Frame {
     /// The thread's number, which is never given again.

@@ -37,7 +37,7 @@ impl Model for Strand {
 impl Strand {
     ghost use Rattle.task_strand.specs.LentFrames.{lends_top};
 
-    /// A strand of one frame, its foot and its top.
+    /// Makes a strand of one frame, its foot and its top.
     ///
     /// `NoMemory` where there is none for it.
     pub fn new(alloc: Global, frame: Frame) -> Result<Self, NoMemory>
@@ -72,14 +72,14 @@ impl Strand {
         self.frames.pop()
     }
 
-    /// The frame that was pushed last. `None` exactly where there is no frame.
+    /// Returns the frame that was pushed last. `None` exactly where there is no frame.
     pub fn top(&self) -> Option<&Frame>
         ensures { option_copied result ≡ top_of self.now }
     {
         self.frames.last()
     }
 
-    /// The frame that was pushed last, to be written. `None` exactly where there is no frame.
+    /// Returns the frame that was pushed last, to be written. `None` exactly where there is no frame.
     pub fn top_mut(&mut self) -> Option<&mut Frame>
         ensures* writes_back { sem 𝓛 (lends_top self.entry result) }
         ensures value { option_copied_mut result ≡ top_of self.old }
@@ -87,14 +87,14 @@ impl Strand {
         self.frames.last_mut()
     }
 
-    /// The frame that was pushed first. `None` exactly where there is no frame.
+    /// Returns the frame that was pushed first. `None` exactly where there is no frame.
     pub fn foot(&self) -> Option<&Frame>
         ensures { option_copied result ≡ foot_of self.now }
     {
         self.frames.first()
     }
 
-    /// Whether no frame is left.
+    /// Returns whether no frame is left.
     pub fn done(&self) -> bool
         ensures { IsTrue result ↔ (self.now ≡ []) }
     {

@@ -161,7 +161,7 @@ module _ {E : Type 0} where
   pub slot_within : (ps : List (TableCell E)) (i : ℕ) → IsSome (slot_at ps i) → i < length ps
   slot_within ps i taken = slice_get_within ps i _ (slot_there ps i taken).1
 
-  -- what was read at an index stands there
+  -- what was read at an index is there
   pub place_read : (ps : List (TableCell E)) (i : ℕ) (read place : TableCell E) → IsSome (slot_at ps i) → read ≡ get_or ps i read → read ≡ place → slice_get ps i ≡ Some place
   place_read ps i read place taken value is = slice_get_read ps (length ps) i read refl (slot_within ps i taken) value ∙ ap Some is
 

@@ -38,7 +38,7 @@ module _ {E : Type 0} where
       by_free [] is = ap (λ fs. place_at t (next_of fs (length t.places))) is ∙ ap standing (slice_get_past t.places (length t.places) (omega arith))
       by_free (rep ∷ rest) is = ap (λ fs. place_at t (next_of fs (length t.places))) is ∙ there_place_at t rep None (free_head t rep rest is table)
 
-  -- what stands at a place after a push
+  -- what is at a place after a push
   pub place_at-pushed : (t : Table E) (entry : E) (r : ℕ) → IsTable t → place_at (pushed entry t) r ≡ (cond (r == next_place t) (Some (record { serial = t.given; parent = None; entry = entry })) (place_at t r))
   unfolding pushed
   place_at-pushed t entry r table = by_free t.free refl
@@ -65,7 +65,7 @@ module _ {E : Type 0} where
       by_free [] is = subst at (sym is) appended
       by_free (rep ∷ rest) is = subst at (sym is) (filled rep rest is)
 
-  -- what stands at a place after a deletion
+  -- what is at a place after a deletion
   pub place_at-deleted : (t : Table E) (rep r : ℕ) → place_at (deleted rep t) r ≡ (cond (r == rep) None (place_at t r))
   unfolding deleted
   place_at-deleted t rep r = elim (cases_eq r rep) [
@@ -77,7 +77,7 @@ module _ {E : Type 0} where
       gone None is = ap (λ ps. standing (slice_get ps rep)) (set-none t.places rep None is) ∙ ap standing is
       gone (Some p) is = read_same t.places rep None p is
 
-  -- what stands at a place after a write at one
+  -- what is at a place after a write at one
   written : (t : Table E) (rep r : ℕ) (f : Option (Placed E) → Option (Placed E)) → f None ≡ None → standing (slice_get (set t.places rep (f (place_at t rep))) r) ≡ (cond (r == rep) (f (place_at t r)) (place_at t r))
   written t rep r f nothing = elim (cases_eq r rep) [
     | inl here ↦
@@ -246,7 +246,7 @@ module _ {E : Type 0} where
         others = λ r s differs. ap (λ x. found x r s) is ∙ found-deleted t rep r s ∙ ap (λ b. cond b None (found t r s)) (ne_eqb r rep differs);
       }
 
-  -- what a list made of the places becomes, as the records of a kind that stand there
+  -- what a list made of the places becomes, as the records of a kind that are there
   module _ {X : Type 0} (f : Option (Placed E) → X) where
     pub map-pushed : (t : Table E) (entry : E) → map f (pushed entry t).places ≡ put_at_next t.free (f (Some (record { serial = t.given; parent = None; entry = entry }))) (map f t.places)
     unfolding pushed

@@ -18,7 +18,7 @@ module _ {E X : Type 0} (key : E → Option (ℕ × X)) where
   pub number_of-found : (t : Table E) (rep serial n : ℕ) (x : X) (p : Placed E) → found t rep serial ≡ Some p → key p.entry ≡ Some (n, x) → number_of key t rep serial ≡ n
   number_of-found t rep serial n x p at is = number_read t rep serial (Some p) at ∙ ap (λ e. number_in e) is
 
-  -- what an id names stands at its place
+  -- what an id names is at its place
   pub record_at-Names : (t : Table E) (rep serial n : ℕ) (x : X) → Names key t rep serial n x → record_at key t.places rep ≡ Some (n, x)
   record_at-Names t rep serial n x names = ap (key_in key) (found_at t rep serial names.placed names.at).0 ∙ names.is
 

@@ -29,7 +29,7 @@ module _ {X : Type 0} where
   slice_get-push_other (x ∷ xs) zero y differs = refl
   slice_get-push_other (x ∷ xs) (suc i) y differs = slice_get-push_other xs i y (λ same. differs (omega arith))
 
-  -- a write of what stands there
+  -- a write of what is there
   pub set-slice_get : (xs : List X) (i : ℕ) (x : X) → slice_get xs i ≡ Some x → set xs i x ≡ xs
   set-slice_get xs i x found = ap (set xs i) (sym (get_or_from_slice_get xs i x x found)) ∙ set-get_or xs i x
 

@@ -27,7 +27,7 @@ module _ {E X : Type 0} (key : E → Option (ℕ × X)) where
       | inr elsewhere ↦ key_other _ r (next_place t) (place_at t r) elsewhere
     ])
 
-    -- a push of an entry of the kind, under a number that stands nowhere yet
+    -- a push of an entry of the kind, under a number that is nowhere yet
     pub PutsRecord-pushed : (entry : E) (n : ℕ) (y : X) → IsTable t → AreApart key t.places → key entry ≡ Some (n, y) → found_record key n t.places ≡ None → PutsRecord key t.places (pushed entry t).places n y
     PutsRecord-pushed entry n y table apart is new =
         puts key t.places (pushed entry t).places apart (next_place t) n y
@@ -94,7 +94,7 @@ module _ {E X : Type 0} (key : E → Option (ℕ × X)) where
     unfolding with_capacity
     KeepsRecords-with_capacity n apart = record { map = refl; apart = apart; found = λ q. refl }
 
-    -- the same as equations in what stands at the place and in the new entry, whether they are of the kind or not
+    -- the same as equations in what is at the place and in the new entry, whether they are of the kind or not
     record IsPut (new : List (Option (Placed E))) (e : Option (ℕ × X)) : Type 0 where
       map : records key new ≡ with_record e (records key t.places)
       apart : AreApart key new

@@ -1,4 +1,4 @@
--- How many records of a kind there are, by what stands in the table.
+-- How many records of a kind there are, by what is in the table.
 use Rattle.std.proofs.Common.{◌≡◌, ℕ, ◌+◌, ◌≤◌, Bool, true, false, List, [], ◌∷◌, count_by, sum_by, Option, Some, None, is_some, refl, sym, ◌∙◌, arith}
 use Rattle.std.proofs.lemmas.List.Sums.{sum_by-cons}
 use Rattle.task_machine.specs.Maps.{size, empty}

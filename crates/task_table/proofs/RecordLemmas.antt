@@ -31,7 +31,7 @@ module _ {E X : Type 0} (key : E → Option (ℕ × X)) where
   pub AreApart-rest : (o : Option (Placed E)) (os : List (Option (Placed E))) → AreApart key (o ∷ os) → AreApart key os
   AreApart-rest o os apart = record { one_place = λ r s n x y at_r at_s. let same = apart.one_place (suc r) (suc s) n x y at_r at_s in omega arith }
 
-  -- a record that is found stands at a place
+  -- a record that is found is at a place
   pub record_found : (ps : List (Option (Placed E))) (n : ℕ) (x : X) → found_record key n ps ≡ Some x → (r : ℕ) × (record_at key ps r ≡ Some (n, x))
   unfolding found_record
   record_found [] n x is = absurd (cc)
@@ -44,7 +44,7 @@ module _ {E X : Type 0} (key : E → Option (ℕ × X)) where
         | inr other ↦ later (sym (cond-other n e.0 (Some e.1) (found_record key n os) other) ∙ some)
       ]
 
-  -- a record that stands at a place is found
+  -- a record that is at a place is found
   pub found_record_at : (ps : List (Option (Placed E))) (r n : ℕ) (x : X) → AreApart key ps → record_at key ps r ≡ Some (n, x) → found_record key n ps ≡ Some x
   unfolding found_record
   found_record_at [] r n x apart at = absurd (cc)
@@ -58,7 +58,7 @@ module _ {E X : Type 0} (key : E → Option (ℕ × X)) where
         | inr other ↦ cond-other n e.0 (Some e.1) (found_record key n os) other ∙ rest
       ]
 
-  -- the number of the first record stands nowhere else
+  -- the number of the first record is nowhere else
   pub fresh_first : (o : Option (Placed E)) (os : List (Option (Placed E))) (n : ℕ) (x : X) → AreApart key (o ∷ os) → key_in key o ≡ Some (n, x) → found_record key n os ≡ None
   fresh_first o os n x apart first = by_rest (found_record key n os) refl
     where
@@ -67,7 +67,7 @@ module _ {E X : Type 0} (key : E → Option (ℕ × X)) where
       by_rest (Some y) is = absurd (let one = record_found os n y is in let two = apart.one_place 0 (suc one.0) n x y first one.1 in omega arith)
 
   module _ (old new : List (Option (Placed E))) (apart : AreApart key old) where
-    -- what is found under a number, where its record stands in both or in neither
+    -- what is found under a number, where its record is in both or in neither
     found-alike : (n : ℕ) → AreApart key new → ((r : ℕ) (x : X) → record_at key old r ≡ Some (n, x) → record_at key new r ≡ Some (n, x)) → ((r : ℕ) (x : X) → record_at key new r ≡ Some (n, x) → record_at key old r ≡ Some (n, x)) → found_record key n new ≡ found_record key n old
     found-alike n apart_new there back = by_found (found_record key n new) (found_record key n old) refl refl
       where

@@ -16,7 +16,7 @@ abbrev pub one_if : Bool → ℕ
 one_if b = cond b 1 0
 
 module _ {E : Type 0} where
-  -- the entry at a place, by what stands there
+  -- the entry at a place, by what is there
   pub place_at_there : (t : Table E) (rep : ℕ) (p : Placed E) → place_at t rep ≡ Some p → slice_get t.places rep ≡ Some (Some p)
   place_at_there t rep p at = by_read (slice_get t.places rep) refl at
     where
@@ -123,7 +123,7 @@ module _ {E : Type 0} where
   some_of None is = absurd (cc)
   some_of (Some p) is = (p, refl)
 
-  -- where an id is found, an entry stands at its place
+  -- where an id is found, an entry is at its place
   pub found_place : (t : Table E) (rep serial : ℕ) → IsSome (found t rep serial) → IsSome (place_at t rep)
   found_place t rep serial is =
       let one = some_of (found t rep serial) is in
@@ -371,7 +371,7 @@ module _ {E : Type 0} where
       let total = table.free_or_taken in
       omega arith
 
-  -- the entry of an id with an item stands at its place
+  -- the entry of an id with an item is at its place
   pub item_place : {Item : Type 0} (item_of : E → Option Item) (t : Table E) (rep serial : ℕ) (item : Item) → item_at item_of t rep serial ≡ Ok item → (p : Placed E) × (place_at t rep ≡ Some p) × (item_of p.entry ≡ Some item)
   item_place item_of t rep serial item is =
       let one = item_found item_of t rep serial item is in

@@ -1,5 +1,5 @@
--- The records that the entries of a table hold, by their numbers. A key tells of an entry its number and its record, and None where the
--- entry is of another kind.
+-- The records that the entries of a table hold, by their numbers. A key tells of an entry its number and its record, and None if
+-- the entry is of another kind.
 --     records key places                 the map of the records
 --     found_record key n places          the record of number n
 --     number_of key t rep serial         the number of the entry that an id finds
@@ -39,7 +39,7 @@ module _ {X : Type 0} where
   SameNumber (Some d) (Some e) = d.0 ≡ e.0
 
 module _ {E X : Type 0} where
-  -- the number and the record of what stands at a place
+  -- the number and the record of what is at a place
   abbrev pub key_in : (E → Option (ℕ × X)) → Option (Placed E) → Option (ℕ × X)
   key_in key None = None
   key_in key (Some p) = key p.entry
@@ -57,21 +57,21 @@ module _ {E X : Type 0} where
   found_record key n [] = None
   found_record key n (o ∷ os) = or_record n (key_in key o) (found_record key n os)
 
-  -- what stands at a place is of the kind
+  -- what is at a place is of the kind
   abbrev pub is_of : (E → Option (ℕ × X)) → Option (Placed E) → Bool
   is_of key o = is_some (key_in key o)
 
-  -- the number of the entry that the id finds, and 0 where it finds none of the kind
+  -- the number of the entry that the id finds, and 0 if it finds none of the kind
   unfoldable pub number_of : (E → Option (ℕ × X)) → Table E → ℕ → ℕ → ℕ
   number_of key t rep serial = number_in (key_in key (found t rep serial))
 
-  -- the number of the new record stands nowhere yet
+  -- the number of the new record is nowhere yet
   abbrev pub IsNew : (E → Option (ℕ × X)) → List (Option (Placed E)) → Option (ℕ × X) → Type 0
   IsNew key places None = Unit {0}
   IsNew key places (Some e) = found_record key e.0 places ≡ None
 
   module _ (key : E → Option (ℕ × X)) where
-    -- No number stands at two places.
+    -- No number is at two places.
     pub record AreApart (places : List (Option (Placed E))) : Type 0 where
       pub one_place : (r s n : ℕ) (x y : X) → record_at key places r ≡ Some (n, x) → record_at key places s ≡ Some (n, y) → r ≡ s
 
@@ -81,7 +81,7 @@ module _ {E X : Type 0} where
       pub at : found t rep serial ≡ Some placed
       pub is : key placed.entry ≡ Some (n, x)
 
-    -- The id has a number, and this stands in the table and in the map.
+    -- The id has a number, and this is in the table and in the map.
     pub record NumberFound (t : Table E) (rep serial : ℕ) : Type 0 where
       pub placed : Placed E
       pub held : X

@@ -1,4 +1,4 @@
--- What contracts see of a `ResourceTable`: what stands at each place, and which places are free.
+-- What contracts see of a `ResourceTable`: what is at each place, and which places are free.
 use Rattle.std.specs.Prelude.{◌≡◌, ℕ, ◌+◌, ◌-◌, ◌<◌, ◌≤◌, ◌^◌, ◌==◌, ◌&&◌, ◌||◌, nat_le, if◌then◌else◌, Bool, true, false, List, [], ◌∷◌, length, slice_get, count_by, Option, Some, None, is_some, refl}
 use Rattle.std.specs.Coded.{Coded, code_by, coded×, coded_ℕ, coded_list, coded_option}
 
@@ -8,7 +8,7 @@ pub record Placed (E : Type 0) : Type 0 where
   pub parent : Option ℕ
   pub entry : E
 
--- what stands at each place, the free places from the one freed last on, how many serials were given, and the capacity
+-- what is at each place, the free places from the one freed last on, how many serials were given, and the capacity
 pub record Table (E : Type 0) : Type 0 where
   pub places : List (Option (Placed E))
   pub free : List ℕ
@@ -72,7 +72,7 @@ module _ {E : Type 0} where
   abbrev pub children_of : Table E → ℕ → ℕ
   children_of t rep = count_by (is_child_of rep) t.places
 
-  -- a place was made there, and no entry stands at it
+  -- a place was made there, and no entry is at it
   abbrev pub is_free : Option (Option (Placed E)) → Bool
   is_free None = false
   is_free (Some None) = true

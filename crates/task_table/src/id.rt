@@ -16,7 +16,7 @@ pub struct TableId<K> {
 }
 
 impl<K> TableId<K> {
-    /// The id with this place and this serial. It names an entry only where a table holds one there.
+    /// Makes the id with this place and this serial. It names an entry only where a table holds one there.
     pub fn new(rep: u32, serial: u64) -> TableId<K>
         ensures rep { result.rep ≡ rep }
         ensures serial { result.serial ≡ serial }
@@ -28,14 +28,14 @@ impl<K> TableId<K> {
         }
     }
 
-    /// The entry's place in the table, from 0. Another entry can have it later.
+    /// Returns the entry's place in the table, from 0. Another entry can have it later.
     pub fn rep(&self) -> u32
         ensures { result ≡ self.now.rep }
     {
         self.rep
     }
 
-    /// The entry's serial, which no other entry of the table ever has.
+    /// Returns the entry's serial, which no other entry of the table ever has.
     pub fn serial(&self) -> u64
         ensures { result ≡ self.now.serial }
     {

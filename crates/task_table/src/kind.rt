@@ -16,20 +16,21 @@ pub trait Kind<E> {
     // the item of an entry of this kind, and `None` of another kind
     ghost item_of: { E → Option Self.Item };
 
-    /// The entry that holds the item.
+    /// Returns the entry that holds the item.
     fn wrap(item: Self::Item) -> E
         ensures { result ≡ entry_of item };
 
-    /// The item, if the entry is of this kind.
+    /// Returns the item, if the entry is of this kind.
     fn view(entry: &E) -> Option<&Self::Item>
         ensures { option_copied result ≡ item_of entry.now };
 
-    /// The item for writing, if the entry is of this kind. After a write the entry is what `wrap` makes of the item written.
+    /// Returns the item for writing, if the entry is of this kind. After a write the entry is what `wrap` makes of the item
+    /// written.
     fn view_mut(entry: &mut E) -> Option<&mut Self::Item>
         ensures* writes_back { sem 𝓛 (LendsIf E.row Self.Item.row entry.entry result entry_of entry.old) }
         ensures value { option_copied_mut result ≡ item_of entry.old };
 
-    /// The item, or the entry where it is of another kind.
+    /// Makes the item, or the entry where it is of another kind.
     fn unwrap(entry: E) -> Result<Self::Item, E>
         ensures { result ≡ unwrapped item_of entry };
 

@@ -1,6 +1,6 @@
 //! The resource table: entries of several kinds in one table, each named by an id whose place is given again and whose serial is not.
 //!
-//! It stands on `task_machine` alone, and the crates above know it by its contracts and its laws.
+//! It rests on `task_machine` alone, and the crates above know it by its contracts and its laws.
 #![tactic(auto)]
 
 mod error;

@@ -1,4 +1,4 @@
-//! What stands at the places of a table, and the changes of one place.
+//! What is at the places of a table, and the changes of one place.
 ghost use Rattle.std.specs.Prelude.{◌≡◌, ◌<◌, ◌≤◌, ◌+◌, ◌^◌, [], map, reverse, drop, Some, None, IsSome, OnOk, slice_set, slice_index_or, length, vec_capacity};
 ghost use Rattle.std.specs.Option.{option_copied, option_map};
 ghost use Rattle.std.specs.Borrow.{Lends, sem};
@@ -11,9 +11,9 @@ use std::mem;
 /// A place of the table.
 #[derive(Drop)]
 pub(crate) enum TableCell<E> {
-    /// No entry stands there.
+    /// No entry is there.
     Free,
-    /// An entry stands there.
+    /// An entry is there.
     Taken(TakenCell<E>),
 }
 

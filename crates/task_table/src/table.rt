@@ -18,7 +18,10 @@ use std::marker::Model;
 
 /// Entries of several kinds, as the calls, threads, sets and works of a store: a finite map from ids to entries, with a list of free places.
 ///
-/// Contracts see what stands at each place, the free places from the one freed last on, how many serials were given, and the capacity. A place is given again, the one freed last first; a serial never is, so an id that was deleted finds nothing from then on. An entry can have one parent, and a parent is deleted only after its children. A refused call leaves the table as it was, and each call works in constant time, but for the growth of the table.
+/// Contracts see what is at each place, the free places from the one freed last on, how many serials were given, and the capacity.
+/// A place is given again, the one freed last first; a serial never is, so an id that was deleted finds nothing from then on. An
+/// entry can have one parent, and a parent is deleted only after its children. A refused call leaves the table as it was, and each
+/// call works in constant time, but for the growth of the table.
 #[derive(Drop)]
 pub struct ResourceTable<E> {
     places: Vec<TableCell<E>>,
@@ -47,7 +50,7 @@ impl<E> Model for ResourceTable<E> {
 impl<E> ResourceTable<E> {
     ghost use Rattle.task_table.specs.LentEntries.{lends_entry, lends_item};
 
-    /// An empty table with a capacity of 1,000,000 entries.
+    /// Makes an empty table with a capacity of 1,000,000 entries.
     pub fn new(alloc: Global) -> ResourceTable<E>
         ensures empty { result ≡ new_table }
         ensures sound { IsTable result }
@@ -60,7 +63,7 @@ impl<E> ResourceTable<E> {
         }
     }
 
-    /// How many entries there are.
+    /// Returns how many entries there are.
     pub fn len(&self) -> usize
         ensures len { result ≡ table_len self.now }
         ensures sound { IsTable self.now }
@@ -68,21 +71,21 @@ impl<E> ResourceTable<E> {
         self.places.len() - self.free.len()
     }
 
-    /// Whether there is no entry.
+    /// Returns whether there is no entry.
     pub fn is_empty(&self) -> bool
         ensures { result ≡ (table_len self.now == 0) }
     {
         self.len() == 0
     }
 
-    /// How many pushes the capacity still allows: the free places, and the places that may still be made.
+    /// Returns how many pushes the capacity still allows: the free places, and the places that may still be made.
     pub fn free(&self) -> usize
         ensures { result ≡ free_count self.now }
     {
         self.free.len() + self.max_capacity.saturating_sub(self.places.len())
     }
 
-    /// The capacity: the most places that pushes make, 1,000,000 in a new table.
+    /// Returns the capacity: the most places that pushes make, 1,000,000 in a new table.
     pub fn max_capacity(&self) -> usize
         ensures { result ≡ self.now.capacity }
     {
@@ -143,7 +146,8 @@ impl<E> ResourceTable<E> {
         self.free.is_empty() && self.places.len() >= self.max_capacity || self.given == u64::MAX
     }
 
-    /// The item of the entry with this id. `NotPresent` where no entry has its place and serial, `WrongType` where that entry is of another kind.
+    /// Returns the item of the entry with this id. `NotPresent` where no entry has its place and serial, `WrongType` where that
+    /// entry is of another kind.
     pub fn get<K: Kind<E>>(&self, id: TableId<K>) -> Result<&K::Item, ResourceTableError>
         ensures { result_copied result ≡ item_at K.item_of self.now id.rep id.serial }
     {
@@ -162,7 +166,8 @@ impl<E> ResourceTable<E> {
         self.places[rep as usize].entry_mut()
     }
 
-    /// The item of the entry with this id, for writing. It is refused as `get` is. After a write the entry is the one that the kind makes of the item written, under the same id.
+    /// Returns the item of the entry with this id, for writing. It is refused as `get` is. After a write the entry is the one that
+    /// the kind makes of the item written, under the same id.
     pub fn get_mut<K: Kind<E>>(
         &mut self,
         id: TableId<K>,
@@ -179,7 +184,7 @@ impl<E> ResourceTable<E> {
         }
     }
 
-    /// The place that the next push gives. `None` where no push is allowed.
+    /// Returns the place that the next push gives. `None` where no push is allowed.
     pub fn next_place(&self) -> Option<u32>
         ensures some { IfSome result (λ rep. rep ≡ next_place self.now) }
         ensures none { (result ≡ None) ↔ (is_full self.now ≡ true) }
@@ -287,7 +292,7 @@ impl<E> ResourceTable<E> {
         }
     }
 
-    /// The serial of what stands at a place, so that an id may be made of the place alone.
+    /// Returns the serial of what is at a place, so that an id may be made of the place alone.
     pub fn serial_at(&self, rep: u32) -> Option<u64>
         ensures { result ≡ option_map (λ p. p.serial) (place_at self.now rep) }
     {
@@ -297,7 +302,7 @@ impl<E> ResourceTable<E> {
         }
     }
 
-    /// The item of what stands at a place, whatever its serial, if it is of this kind.
+    /// Returns the item of what is at a place, whatever its serial, if it is of this kind.
     pub fn item_at<K: Kind<E>>(&self, rep: u32) -> Option<&K::Item>
         ensures { option_copied result ≡ option_and_then (λ p. K.item_of p.entry) (place_at self.now rep) }
     {
@@ -307,7 +312,8 @@ impl<E> ResourceTable<E> {
         }
     }
 
-    /// Whether the entry with this id has a parent: the test for the condition of `add_child`. False where there is no such entry.
+    /// Returns whether the entry with this id has a parent: the test for the condition of `add_child`. False where there is no such
+    /// entry.
     pub fn has_parent<C>(&self, child: TableId<C>) -> bool
         ensures { result ≡ is_some (parent_of (found self.now child.rep child.serial)) }
     {
@@ -357,7 +363,7 @@ impl<E> ResourceTable<E> {
         Ok(())
     }
 
-    /// Each entry with its place, in order of the place.
+    /// Returns each entry with its place, in order of the place.
     pub fn iter(&self) -> TableIter<'_, E>
         ensures entries { result ≡ entries self.now }
         ensures len { length result ≡ table_len self.now }

@@ -1,4 +1,4 @@
--- What an op on registers and words comes to in the context of a thread.
+-- What an op on registers and memory cells results in in the context of a thread.
 use Rattle.std.proofs.Common.{ap, ap₂, arith, refl, subst, sym, ◌∙◌, ◌<◌}
 use Rattle.std.proofs.lemmas.Bool.Decides.{nat_tests}
 use Rattle.std.specs.Option.{option_map_or}

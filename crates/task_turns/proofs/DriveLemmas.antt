@@ -216,7 +216,7 @@ pub turned_same : (c : Component) (ops ops' : List MainOpDef) (b b' : Bool) (p :
     → Turned (setting_of c ops b) p m s made m' t → Turned (setting_of c ops' b') p m s made m' t
 turned_same c ops ops' b b' p m s made m' t script trap h = subst (λ v. Turned (setting_of c ops' v) p m s made m' t) trap (subst (λ o. Turned (setting_of c o b) p m s made m' t) script h)
 
--- ---- Want of memory
+-- ---- lack of memory
 
 -- the run had gone on so far
 pub was_on : (x : Setting) (s : State) (before : List Label) (numbers : ℕ) (p : Turn) (m : Main) (t : StateView) (mid after : List Label) (n steps : ℕ) → IsOn x s before numbers p m t mid n → n ≤ steps → after ≡ mid → WasGoing x s before after steps

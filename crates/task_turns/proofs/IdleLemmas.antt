@@ -34,7 +34,7 @@ use Rattle.task_turns.specs.declared.made.MadeStep.{MadeStep}
 use Rattle.task_words.specs.Apart.{IsBlockedUnqueued, work_entries}
 use Rattle.task_words.specs.StateView.{StateView}
 
--- ---- Nothing stands
+-- ---- Nothing is there
 
 none_high : (o : Option ℕ) (h l : List Entry) → or_high o h l ≡ None → h ≡ []
 none_high (Some n) h l e = absurd (cc)
@@ -85,7 +85,7 @@ module _ (x : Setting) (s : Core) (m : Main) where
   unfolding is_at_rest is_stalled
   no_rest p off = grind (arith, off)
 
-  -- another turn, an entry that stands and a work that goes on are no rest
+  -- another turn, an entry that is and a work that goes on are no rest
   pub rest_else : (p : Turn) → is_unended_take p ≡ false → is_at_rest x (state_at s m p) ≡ false
   rest_else p other = no_rest p (idle_off p (inl (ap (λ v. v && main_pends x s m) other)))
 

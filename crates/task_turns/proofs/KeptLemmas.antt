@@ -62,7 +62,7 @@ core_in_order_after x s t m k p q l sits step =
 pub made_in_order : MadeInOrder
 made_in_order c p s made t sits makes = core_in_order_after (setting c) s.core t.core Unscripted Unscripted p made.turn made.label sits (makes.step (setting c) refl Unscripted)
 
--- An act of main that takes no running thread away is a step in main's turn. While another turn stands, no more than order in that turn
+-- An act of main that takes no running thread away is a step in main's turn. While another turn is, no more than order in that turn
 -- is known before it.
 pub acted : (c : Component) (p : Turn) (act : MainAct) (l : MainLabel) (s t : Core) → may_act c s act ≡ true → main_rule c 1 s act ≡ Does l t → ((n : ℕ) → place_of n s ≡ Some place.Running → place_of n t ≡ Some place.Running) → (Awake p s → Awake p t) → CoreInOrder c p s → CoreInOrder c p t
 unfolding Step at_turn

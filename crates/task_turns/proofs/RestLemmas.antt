@@ -1,4 +1,4 @@
--- What comes where nothing stands.
+-- What comes where nothing is there.
 use Rattle.std.proofs.Common.{ap, ap₂, refl, subst, sym, ◌∙◌}
 use Rattle.std.specs.Prelude.{None, Option, false, option_map, true, ◌≡◌, ◌&&◌}
 use Rattle.task_machine.specs.Core.{Core, Main}

@@ -83,7 +83,7 @@ module _ (id : TableId ThreadKey) (n : ℕ) (s t : StateView) (number : thread_o
   core_same (op_result.Traps why) e = ap (λ k. core_after k (op_result.Traps why) t.core) (ap (λ (v : StateView). thread_of v id) e ∙ number)
   core_same (op_result.Fails i) e = ap (λ k. core_after k (op_result.Fails i) t.core) (ap (λ (v : StateView). thread_of v id) e ∙ number)
 
-  -- an op that met its row makes a step
+  -- an op that met its rule makes a step
   pub ran : (c : Component) (r : OpResult) (l : Label) (p : Turn) (u : Core) → Implements (did c n s.core (choice_of (label_of n r))) s.core r t.core → StaysAfter r s t → l ≡ label_of (thread_of t id) r → p ≡ turn_after r
       → u ≡ core_after (thread_of t id) r t.core → (x : Setting) → x.component ≡ c → (m : Main) → Step x (state_at s.core m (turn.Run n)) l (state_at u m p)
   ran c r l p u meets stays label_is turn_is core_is x component m =
@@ -98,7 +98,7 @@ module _ (id : TableId ThreadKey) (n : ℕ) (s t : StateView) (number : thread_o
       → u ≡ core_after (thread_of t id) r t.core → (x : Setting) → x.component ≡ c → (m : Main) → Step x (state_at s.core m (turn.Run n)) l (state_at u m p)
   ran_at c r l p u meets = ran c r l p u (subst (λ k. Implements (did c k s.core (choice_of (label_of k r))) s.core r t.core) number meets)
 
--- a taking that met its row makes a step
+-- a taking that met its rule makes a step
 pub took : (c : Component) (ended : Bool) (mark : Mark) (id : TableId ThreadKey) (n : ℕ) (s u t : StateView) (r : OpResult) (l : Label) (p : Turn) (z : Core) → thread_of u id ≡ n → u.core ≡ popped mark s.core
     → next_entry s.core ≡ Some (mark, entry.Thread n) → Implements (thread_taken mark (thread_of u id) (choice_of (label_of (thread_of u id) r)) u.core (place_of (thread_of u id) u.core)) u.core r t.core → StaysAfter r u t
     → l ≡ label_of (thread_of t id) r → p ≡ turn_after r → z ≡ core_after (thread_of t id) r t.core → (x : Setting) → x.component ≡ c → (m : Main) → Step x (state_at s.core m (turn.Take ended)) l (state_at z m p)

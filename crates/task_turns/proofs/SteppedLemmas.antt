@@ -121,7 +121,7 @@ module _ (id : TableId ThreadKey) (s t : StateView) where
   rule_ran_as P Q made same h =
       record { op_result = h.op_result; left = h.left; meets = same h.op_result h.left.core h.meets; stays = h.stays; label = h.label; turn = h.turn; core = h.core; running = h.running; over = h.over }
 
--- what an op by its row came to is a step of the running thread
+-- what an op by its row resulted in is a step of the running thread
 module _ (c : Component) (id : TableId ThreadKey) (n : ℕ) (s t : StateView) (number : thread_of s id ≡ n) (o : Op) (is : op_of c (thread_of s id) s.core ≡ o)
     (same : (op_result : OpResult) (u : Core) → Implements (scripted_op_rule c (thread_of s id) s.core (choice_of (label_of (thread_of s id) op_result)) o) s.core op_result u → Implements (did c (thread_of s id) s.core (choice_of (label_of (thread_of s id) op_result))) s.core op_result u) where
   polled_at : (host : Option HostDef) → host ≡ polled_host c (op_progress_of (thread_of s id) s.core) o → host ≡ polled_host c (op_progress_of n s.core) (op_of c n s.core)
@@ -162,7 +162,7 @@ take_added c ended mark id n s u v t r stepped before after number base next mee
 
 -- ---- An entry that was taken
 
--- what the word took stood first
+-- what the primitive took was first
 pub next_is : (s : StateView) (r : Option (Mark × EntryId)) (mark : Mark) (e : EntryId) → option_map (λ (x : Mark × EntryId). (x.0, entry_in s.tags x.1)) r ≡ next_entry s.core → r ≡ Some (mark, e) → next_entry s.core ≡ Some (mark, entry_in s.tags e)
 next_is s r mark e next is = sym next ∙ ap (option_map (λ (x : Mark × EntryId). (x.0, entry_in s.tags x.1))) is
 

@@ -65,7 +65,7 @@ says_at m test each (Some p) h = each p h
 first_stands : (n : ℕ) (es es' : List Entry) → es ≡ entry.Thread n ∷ es' → 1 ≤ entries n es
 first_stands n es es' e = let x = ap (entries n) e in let y = ap one_if (eq_refl n) in omega (arith, x, y)
 
--- the thread stands at the mark at which its entry comes first
+-- the thread is at the mark at which its entry comes first
 ready_at : (m : Mark) (n : ℕ) (s : Core) → First m (entry.Thread n) s → HasPlace n s → IsAt m (place_of n s)
 ready_at mark.Switch n s f h = says_at mark.Switch is_at_switch switch_at (place_of n s) (let x = h.switch in let y = ap (switch_entries n) (f.1.0 ∙ ap (λ (e : Entry). Some (named e)) (sym f.1.1)) in let z = ap one_if (eq_refl n) in omega (arith, x, y, z))
   where
@@ -120,7 +120,7 @@ module _ (c : Component) (ended : Bool) (s : Core) (sits : CoreInOrder c (turn.T
   joined : (sub : Subtask) → IsJoinThere sub s
   joined sub x e = let j = order.joins_named.joins sub x e in some_from _ (get s.sets x) j.instance j.home
 
-  -- nobody is under a thread whose start stands
+  -- nobody is under a thread whose start is
   bottom : (m : Mark) (w : Why) (n : ℕ) → place_of n s ≡ Some (place.Ready m w) → w ≡ why.Start → under_of n s ≡ None
   bottom m w n at start = none_under n s (λ k under. apart ((order.awake refl).free.under k n under))
     where
@@ -185,7 +185,7 @@ module _ (c : Component) (ended : Bool) (s : Core) (sits : CoreInOrder c (turn.T
   some_stands : (i : ℕ) (es es' : List Entry) → es ≡ entry.Host i ∷ es' → 1 ≤ stands (is_host_of i) es
   some_stands i es es' e = let x = ap (stands (is_host_of i)) e in let y = ap one_if (eq_refl i) in omega (arith, x, y)
 
-  -- it stands at high
+  -- it is at high
   at_high : (m : Mark) (i : ℕ) → First m (entry.Host i) s → (m ≡ mark.High) × (1 ≤ stands (is_host_of i) s.queues.high)
   at_high mark.Switch i f = absurd (let e = f.1.1 in cc)
   at_high mark.High i f = (refl, some_stands i s.queues.high _ f)

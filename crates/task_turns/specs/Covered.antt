@@ -9,7 +9,7 @@ use Rattle.task_machine.specs.declared.op.Op.{Op}
 use Rattle.task_machine.specs.declared.op.Op.TheVariants as op
 use Rattle.task_rules.specs.Scripts.{export_at, slot_at, slot_script}
 
--- the ops on registers and words, and those of the task
+-- the ops on registers and memory cells, and those of the task
 abbrev pub is_covered_op : Op → Bool
 is_covered_op (op.Data x) = true
 is_covered_op (op.Task x) = true

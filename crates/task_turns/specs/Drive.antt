@@ -21,7 +21,7 @@ pub record Going (x : Setting) (s : State) (before : List Label) (t : State) (af
   pub count : length added ≡ n
   pub going_on : last_outcome added ≡ None
 
--- A run of at most so many labels was added, and this is what it has come to.
+-- A run of at most so many labels was added, and this is what it has resulted in.
 pub record Drives (x : Setting) (s : State) (before : List Label) (t : State) (after : List Label) (steps : ℕ)
     (outcome : Outcome) : Type 0 where
   pub added : List Label
@@ -30,7 +30,7 @@ pub record Drives (x : Setting) (s : State) (before : List Label) (t : State) (a
   pub few : length added ≤ steps
   pub ends : IsOutcome x t added steps outcome
 
--- What the turns came to: a run, and how the store stands then.
+-- What the turns resulted in: a run, and the state of the store then.
 pub record Drove (x : Setting) (s : State) (before : List Label) (numbers : ℕ) (p : Turn) (m : Main) (t : StateView) (after : List Label)
     (steps : ℕ) (outcome : Outcome) : Type 0 where
   pub drives : Drives x s before (state_at t.core m p) after steps outcome
@@ -41,7 +41,7 @@ pub record Drove (x : Setting) (s : State) (before : List Label) (numbers : ℕ)
   pub running : running_of t ≡ runs_in p
   pub pends : PendsIn x t.core m p
 
--- The run has gone on for n labels, and the store stands so that it can go on.
+-- The run has gone on for n labels, and the store is so that it can go on.
 pub record IsOn (x : Setting) (s : State) (before : List Label) (numbers : ℕ) (p : Turn) (m : Main) (t : StateView) (after : List Label)
     (n : ℕ) : Type 0 where
   pub going : Going x s before (state_at t.core m p) after n
@@ -65,7 +65,7 @@ pub record Computes (c : Component) (p : Turn) (s : StateView) (before : List La
   pub count : k ≡ added + length labels
   pub run : (x : Setting) → x.component ≡ c → (m : Main) → Run x (state_at s.core m p) labels (state_at t.core m p)
 
--- Memory is wanting: the run has gone on in this turn to a state that is lost, and its labels are in the trace.
+-- It is out of memory: the run has gone on in this turn to a state that is lost, and its labels are in the trace.
 pub record StopsShort (c : Component) (p : Turn) (s : StateView) (before : List Label) (added : ℕ) (after : List Label) (steps : ℕ) :
     Type 0 where
   pub last : StateView

@@ -42,7 +42,7 @@ module _ (c : Component) (ops : List MainOpDef) (m : Main) (s : Core) where
     pub core : s' ≡ s
     pub step : machine.MainStep (main_setting c ops) (state_at s m turn.Main) m (label.Main (main_label.Answer v)) (state_at s m turn.Over)
 
-  -- what the step of a main came to
+  -- what the step of a main resulted in
   abbrev pub Steps : MainStep → Main → Core → Type 0
   Steps (step.Did l) m' s' = Did l m' s'
   Steps step.Pends m' s' = Pends m' s'

@@ -33,8 +33,8 @@ Stands (stepped.Continues p computed) before made after =
 Stands (stepped.Over o) before made after =
     (after ≡ before ++ made.label ∷ []) × ((made.turn ≡ turn.Over) × (outcome_of_label made.label ≡ Some o))
 
--- The step that was made, where a function that isn't inlined answers this and these are the labels then. None where nothing stood, and
--- where memory was wanting.
+-- The step that was made, where a function that isn't inlined answers this and these are the labels then. None where nothing was,
+-- and if it was out of memory.
 abbrev pub stepped_by : PackedStep → List Label → Option StepResult
 stepped_by brief.Nothing ls = None
 stepped_by brief.Stops ls = Some (stepped.Continues turn.Main false)
@@ -47,12 +47,12 @@ stepped_by brief.Full ls = None
 abbrev pub Added : (MadeStep → Type 0) → StepResult → List Label → List Label → Type 0
 Added P stepped before after = (made : MadeStep) × (Stands stepped before made after × P made)
 
--- The same, or none was made, and nothing was added.
+-- A step was made and its label added, or none was made and nothing was added.
 abbrev pub AddedOrNone : (Option MadeStep → Type 0) → Option StepResult → List Label → List Label → Type 0
 AddedOrNone P None before after = P None × (after ≡ before)
 AddedOrNone P (Some stepped) before after = Added (λ made. P (Some made)) stepped before after
 
--- what an op of the thread shows that came to this
+-- what an op of the thread shows that resulted in this
 abbrev pub made_by : ℕ → OpResult → MadeStep
 made_by n r = record { label = label_of n r; turn = turn_after r }
 
@@ -65,7 +65,7 @@ pub record Shown (id : TableId ThreadKey) (r : OpResult) (s : StateView) (before
   pub tags : is_going r ≡ true → t.tags ≡ s.tags
   pub over : is_none (outcome_of_label (label_of (thread_of s id) r)) ≡ is_open (turn_after r)
 
--- The op of the thread came to what its row says, and what it shows is in the trace.
+-- The op of the thread came to what its rule says, and what it shows is in the trace.
 pub record RuleShown (row : OpResult → Progress) (id : TableId ThreadKey) (s : StateView) (before : List Label) (stepped : StepResult)
     (t : StateView) (after : List Label) : Type 0 where
   pub op_result : OpResult
@@ -74,7 +74,7 @@ pub record RuleShown (row : OpResult → Progress) (id : TableId ThreadKey) (s :
   pub stays : StaysAfter op_result s left
   pub shown : Shown id op_result left before stepped t after
 
--- The same of a step whose label is still to be added.
+-- A step whose label is still to be added.
 pub record RuleRan (row : OpResult → Progress) (id : TableId ThreadKey) (s : StateView) (made : MadeStep) (t : StateView) : Type 0 where
   pub op_result : OpResult
   pub left : StateView

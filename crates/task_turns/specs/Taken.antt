@@ -21,7 +21,7 @@ pub record Taken (m : Mark) (n : ℕ) (s : Core) : Type 0 where
   pub join : IsJoinThere (subtask.Guest (task_of n s)) s
   pub bottom : why_of n s ≡ why.Start → under_of n s ≡ None
 
--- The set for which a delivery stands is there, and its ready members are named in the thread's instance.
+-- The set of a delivery is there, and its ready members are named in the thread's instance.
 pub record FindsSet (n : ℕ) (s : Core) : Type 0 where
   pub there : (x : ℕ) → delivered_set (why_of n s) ≡ Some x → is_some (get s.sets x) ≡ true
   pub members : (x : ℕ) → delivered_set (why_of n s) ≡ Some x → MembersNamed (instance_of n s) x s

@@ -115,7 +115,7 @@ abbrev pub TurnedBeside : Component → (trap_on_idle : Bool) → Turn → State
 TurnedBeside c b p s made t =
     (x : Setting) → x.component ≡ c → x.idle ≡ idle_line_of b → (m : Main) → PendsIn x s.core m p → Turned x p m s made m t
 
--- nothing stood there and nothing is changed, or a step was made
+-- nothing was there and nothing is changed, or a step was made
 abbrev pub Took : Component → Bool → StateView → Option MadeStep → StateView → Type 0
 Took c ended s None t = (next_entry s.core ≡ None) × (t ≡ s)
 Took c ended s (Some made) t = MakesStep c (turn.Take ended) s made t × IsFree made.turn

@@ -1,4 +1,4 @@
--- The group of the work that a turn works on, as long as it is known.
+-- The group of the work that a turn works on, as long as it is tracked.
 use Rattle.group_laws.specs.Tells.{entry_group, worked_group}
 use Rattle.std.specs.Prelude.{Option, option_and_then, ℕ}
 use Rattle.task_machine.specs.declared.records.Entry.{Entry}

@@ -1,4 +1,4 @@
-//! Ops on registers and words, in the context of a thread.
+//! Ops on registers and memory cells, in the context of a thread.
 ghost use Rattle.std.specs.Prelude.{◌≡◌, ◌==◌, ◌<◌, ◌+◌, ◌^◌, Some, if◌then◌else◌, length, min, slice_set};
 ghost use Rattle.task_machine.specs.Maps.{get};
 ghost use Rattle.task_machine.specs.Read.{instance_of, position_of, registers_of};
@@ -21,7 +21,7 @@ pub struct ThreadContext {
     pub registers: [u64; 16],
 }
 
-/// The context of a thread.
+/// Returns the context of a thread.
 pub(crate) fn context_of<W: Primitives>(w: &W, thread: ThreadId) -> ThreadContext
     requires { 0 < thread_of (W.view w.now) thread }
     ensures position { result.position ≡ position_of (thread_of (W.view w.now) thread) (W.view w.now).core }
@@ -33,7 +33,7 @@ pub(crate) fn context_of<W: Primitives>(w: &W, thread: ThreadId) -> ThreadContex
     }
 }
 
-/// An operand's value in these registers.
+/// Returns an operand's value in these registers.
 #[inline(always)]
 pub fn operand_value(registers: &[u64; 16], operand: Operand) -> u64
     ensures { result ≡ value_in registers.now operand }
@@ -69,8 +69,8 @@ fn place_after(context: &ThreadContext, left: Operand, right: Operand, ops: u32,
     place.min(end as u64) as u32
 }
 
-/// A thread that is there, of this instance and at this context before its script's end, does an op on registers
-/// and words. Its record keeps the context of before. It is inlined so that a label is made where it stands.
+/// Returns a thread that is there, of this instance and at this context before its script's end, does an op on registers and memory
+/// cells. Its record keeps the context of before. It is inlined so that a label is made where it is.
 #[inline(always)]
 pub(crate) fn computes_in<W: Primitives>(
     w: &mut W,

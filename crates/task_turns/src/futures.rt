@@ -17,7 +17,7 @@ use task_machine::{Label, LoopLabel, Turn};
 use task_ops::{Polled, PollNews, poll_work};
 use task_words::{Primitives, WorkId};
 
-/// The next live work past those with numbers up to `polled`, which has this number, was polled, and told this.
+/// Does what the poll of the next live work asks: it is past those with numbers up to `polled`, has this number, and told this.
 #[inline(always)]
 pub(crate) fn step_poll<W: Primitives>(
     w: &mut W,

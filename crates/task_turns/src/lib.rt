@@ -1,5 +1,4 @@
-//! The turns of the loop over the words of a core: each makes a step of the machine, from a state
-//! in order to one.
+//! The turns of the loop over the primitives of a core: each makes a step of the machine, from a state in order to one.
 #![tactic(auto)]
 
 mod context;

@@ -26,26 +26,26 @@ pub struct MadeStep {
 /// A step that was made, whose label is in the trace.
 #[derive(Clone, Copy)]
 pub enum StepResult {
-    /// Whose turn it is then. `computed` says that the step did an op on registers and words, which another seems to follow.
+    /// Whose turn it is then. `computed` says that the step did an op on registers and memory cells, which another seems to follow.
     Continues { turn: Turn, computed: bool },
     /// The run is over.
     Over(Outcome),
 }
 
-/// The same in two registers, as an answer of a function that isn't inlined: without the outcome, which the label gives.
+/// The result of a step in two registers, for a function that isn't inlined: without the outcome, which the label gives.
 #[derive(Clone, Copy)]
 pub(crate) enum PackedStep {
-    /// No entry stood, and nothing was made.
+    /// No entry was, and nothing was made.
     Nothing,
     /// Main's turn comes.
     Stops,
     /// The thread runs.
     Runs(u64),
-    /// The same after an op on registers and words, which another seems to follow.
+    /// The thread runs, after an op on registers and memory cells, which another seems to follow.
     Computes(u64),
     /// The run is over.
     Over,
-    /// Memory was wanting, and nothing was added.
+    /// It was out of memory, and nothing was added.
     Full,
 }
 
@@ -80,7 +80,7 @@ fn outcome_of(label: Label) -> Option<Outcome>
     }
 }
 
-/// Adds the label of a step that was made to the trace. Where memory is wanting, nothing is added.
+/// Adds the label of a step that was made to the trace. If it is out of memory, nothing is added.
 #[inline(always)]
 pub fn put(trace: &mut PackedLabels, made: MadeStep) -> Result<StepResult, NoMemory>
     requires over { is_none (outcome_of_label made.label) ≡ is_open made.turn }
@@ -103,7 +103,7 @@ pub fn put(trace: &mut PackedLabels, made: MadeStep) -> Result<StepResult, NoMem
     }
 }
 
-// The outcome that the last label gives. It is out of line, as few steps end a run.
+// The outcome that the last label gives. It is a function of its own, as few steps end a run.
 #[cold]
 #[inline(never)]
 fn last_outcome(trace: &PackedLabels) -> Option<Outcome>
@@ -130,7 +130,7 @@ fn over_by(brief: PackedStep, trace: &PackedLabels) -> Option<StepResult>
     }
 }
 
-/// The step that was made, whose label is the last one in the trace. None where nothing stood, and where memory was wanting.
+/// Returns the step that was made, whose label is the last one in the trace. None where nothing was, and if it was out of memory.
 #[inline(always)]
 pub(crate) fn stepped_by(brief: PackedStep, trace: &PackedLabels) -> Option<StepResult>
     ensures { result ≡ stepped_by brief trace.now }
@@ -152,7 +152,7 @@ pub(crate) fn stepped_by(brief: PackedStep, trace: &PackedLabels) -> Option<Step
     }
 }
 
-/// Adds the label of a step after which main's turn comes. Where memory is wanting, nothing is added.
+/// Adds the label of a step after which main's turn comes. If it is out of memory, nothing is added.
 #[inline(always)]
 pub(crate) fn put_stop(trace: &mut PackedLabels, made: MadeStep) -> PackedStep
     requires over { is_none (outcome_of_label made.label) ≡ is_open made.turn }
@@ -184,7 +184,7 @@ fn fell<W: Primitives>(w: &mut W, thread: ThreadId, label: Label) -> MadeStep
     }
 }
 
-/// What an op that came to this shows. A strand that trapped is taken away.
+/// Returns what an op that resulted in this shows. A strand that trapped is taken away.
 #[inline(always)]
 pub(crate) fn made_of<W: Primitives>(w: &mut W, thread: ThreadId, op_result: OpResult) -> MadeStep
     requires unwinds { CanUnwind op_result (thread_of (W.view w.old) thread) (W.view w.old).core }
@@ -220,8 +220,8 @@ pub(crate) fn made_of<W: Primitives>(w: &mut W, thread: ThreadId, op_result: OpR
     }
 }
 
-// Adds what an op that came to this shows to the trace, where its strand is gone with it. It is out of line, as traps are
-// rare.
+// Adds what an op that resulted in this shows to the trace, where its strand is gone with it. It is a function of its own, as traps
+// are rare.
 #[cold]
 #[inline(never)]
 fn show_unwind<W: Primitives>(w: &mut W, thread: ThreadId, trace: &mut PackedLabels, op_result: OpResult) -> PackedStep
@@ -253,7 +253,7 @@ fn show_trap<W: Primitives>(w: &mut W, thread: ThreadId, trace: &mut PackedLabel
     show_unwind(w, thread, trace, OpResult::Traps(trap))
 }
 
-// The same of a host that failed.
+// Ends a step whose host failed.
 #[inline(always)]
 fn show_failure<W: Primitives>(w: &mut W, thread: ThreadId, trace: &mut PackedLabels, work: u64) -> PackedStep
     requires unwinds { CanUnwind (OpResult.Fails work) (thread_of (W.view w.old) thread) (W.view w.old).core }
@@ -266,8 +266,8 @@ fn show_failure<W: Primitives>(w: &mut W, thread: ThreadId, trace: &mut PackedLa
     show_unwind(w, thread, trace, OpResult::Fails(work))
 }
 
-/// Adds what an op that came to this shows to the trace. A strand that trapped is taken away. `computed` says that
-/// the op was on registers and words, and another seems to follow. It is inlined, so that a label is packed where it is made.
+/// Adds what an op that resulted in this shows to the trace. A strand that trapped is taken away. `computed` says that the op was
+/// on registers and memory cells, and another seems to follow. It is inlined, so that a label is packed where it is made.
 #[inline(always)]
 pub(crate) fn show<W: Primitives>(
     w: &mut W,

@@ -12,7 +12,7 @@ use crate::settles::turn_where;
 use task_machine::{Label, LoopLabel, MainLabel, Turn};
 use task_words::Primitives;
 
-/// What main's next op came to.
+/// What main's next op resulted in.
 #[derive(Clone, Copy)]
 pub enum MainStep {
     /// The op is done, with this label.
@@ -23,8 +23,8 @@ pub enum MainStep {
     Answer(u64),
 }
 
-/// What main's step shows, in the state that it has left. Where main waits, the live works are polled, or else an
-/// entry is taken.
+/// Returns what main's step shows, in the state that it has left. Where main waits, the live works are polled, or else an entry is
+/// taken.
 pub fn made_by_main<W: Primitives>(w: &W, step: MainStep) -> MadeStep
     requires { running_of (W.view w.now) ≡ None }
     ensures label { result.label ≡ label_of_step step }

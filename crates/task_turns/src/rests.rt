@@ -1,4 +1,4 @@
-//! What comes where nothing stands, and nothing can go on.
+//! What comes where nothing is there, and nothing can go on.
 ghost use Rattle.std.specs.Prelude.{◌≡◌, None, false, is_none, true};
 ghost use Rattle.task_machine.specs.Core.{Main};
 ghost use Rattle.task_machine.specs.Read.{next_entry};
@@ -13,7 +13,7 @@ use task_machine::{IdleLine, Label, LoopLabel, Turn};
 use task_ops::deadlock;
 use task_words::Primitives;
 
-/// Nothing can go on, no work is live, and main waits: the store is trapped.
+/// Traps the store in a deadlock: nothing can go on, no work is live, and main waits.
 pub(crate) fn step_deadlock<W: Primitives>(w: &mut W) -> MadeStep
     requires current { (W.view w.old).current ≡ None }
     requires none { next_entry (W.view w.old).core ≡ None }

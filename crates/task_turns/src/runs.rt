@@ -1,4 +1,4 @@
-//! The step of the running thread: its op is done by its row.
+//! The step of the running thread: its op is done by its rule.
 ghost use Rattle.op_dispatch.specs.Fits.{HasHandles, HasInstances, calls_host, is_plain, op_fits};
 ghost use Rattle.op_dispatch.specs.Polls.{polled_host};
 ghost use Rattle.op_dispatch.specs.Runner.{Runner};
@@ -25,8 +25,8 @@ use task_machine::{Component, DataOp, HostPoll, Label, NoMemory, Op, TaskLabel, 
 use task_ops::{OpResult, compute};
 use task_words::{ThreadId, Primitives};
 
-/// The running thread does the op at its place; it exits at its script's end. An open host that it polls first has answered
-/// so. Memory is wanting only for an op that may take some, and then all is as before.
+/// Does the op at the running thread's position; it exits at its script's end. An open host that it polls first has answered so. It
+/// is out of memory only for an op that may take some, and then all is as before.
 pub fn run_op<W: Primitives>(
     component: &Component,
     w: &mut W,
@@ -53,7 +53,7 @@ pub fn run_op<W: Primitives>(
     }
 }
 
-// An op of the thread's script on registers and words is done. `more` says that another seems to follow.
+// An op of the thread's script on registers and memory cells is done. `more` says that another seems to follow.
 #[inline(never)]
 fn run_data<W: Primitives>(
     component: &Component,
@@ -80,7 +80,8 @@ fn run_data<W: Primitives>(
     show(w, thread, trace, op_result, more)
 }
 
-// Another op of the thread's script that calls no host is done and ended. It is out of line, so that its ops are there once.
+// Another op of the thread's script that calls no host is done and ended. It is a function of its own, so that its ops are there
+// once.
 #[inline(never)]
 fn run_plain<W: Primitives>(
     component: &Component,
@@ -112,7 +113,8 @@ fn run_plain<W: Primitives>(
     show(w, thread, trace, op_result, false)
 }
 
-// The same as `show`. The exit of a thread that wakes none is told apart from the other labels, as most exits are so.
+// Adds a label to the trace, as `show` does. It tells the exit of a thread that wakes none apart from the other labels, as most
+// exits are so.
 #[inline(always)]
 fn show_exit<W: Primitives>(w: &mut W, thread: ThreadId, trace: &mut PackedLabels, op_result: OpResult) -> PackedStep
     requires unwinds { CanUnwind op_result (thread_of (W.view w.old) thread) (W.view w.old).core }
@@ -170,9 +172,8 @@ fn run_host<W: Primitives>(
     })
 }
 
-// The op at this position of the thread's script is done, unless it calls a host. It is inlined, so that a step isn't copied.
-// After an op on registers and words it is seen whether the next one is such an op too, so that others aren't looked for in
-// vain.
+// The op at this position of the thread's script is done, unless it calls a host. It is inlined, so that a step isn't copied. After
+// an op on registers and memory cells it is seen whether the next one is such an op too, so that others aren't looked for in vain.
 #[inline(always)]
 fn run_by<W: Primitives>(
     component: &Component,
@@ -215,9 +216,9 @@ fn run_by<W: Primitives>(
     }
 }
 
-/// The running thread, which has this number, does its op, and what that shows is added to the trace. Where the op calls a
-/// host nothing is done, since that is asked for by `step_call`. Where memory is wanting, nothing is added, and nothing is
-/// said of the state.
+/// Does the op of the running thread, which has this number, and adds what that shows to the trace. Where the op calls a host
+/// nothing is done, since that is asked for by `step_call`. If it is out of memory, nothing is added, and nothing is said of the
+/// state.
 #[inline(always)]
 pub fn step_run<W: Primitives>(
     component: &Component,
@@ -260,9 +261,9 @@ pub fn step_run<W: Primitives>(
     }
 }
 
-/// The running thread, which has this number, does its op, which calls a host: the step, the host that was polled first, which
-/// has answered so if it is open, and the work that was made are answered, and the label is still to be added. Where memory is
-/// wanting, nothing is said of the state. It is out of line, so that what it answers is there only where a host is called.
+/// Has the running thread, which has this number, do its op, which calls a host: the step, the host that was polled first, which
+/// has answered so if it is open, and the work that was made are answered, and the label is still to be added. If it is out of
+/// memory, nothing is said of the state. It is a function of its own, so that what it answers is there only where a host is called.
 #[inline(never)]
 pub fn step_call<W: Primitives>(
     component: &Component,

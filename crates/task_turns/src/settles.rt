@@ -28,7 +28,7 @@ pub(crate) fn queues_are_empty<W: Primitives>(w: &W) -> bool
     }
 }
 
-/// The turn after a work has ended.
+/// Returns the turn after a work has ended.
 pub(crate) fn turn_after_end<W: Primitives>(w: &W) -> Turn
     ensures { result ≡ settled_turn (W.view w.now).core (Turn.Take true) }
 {

@@ -1,5 +1,5 @@
-//! A stretch of ops on registers and words, which the running thread does one after another. It works with the
-//! thread's context, which is written back in the end, so that no op looks the thread up.
+//! A stretch of ops on registers and memory cells, which the running thread does one after another. It works with the thread's
+//! context, which is written back in the end, so that no op looks the thread up.
 ghost use Rattle.std.specs.Prelude.{◌≡◌, ◌≤◌, IfOk, OnErr, Some, true};
 ghost use Rattle.task_machine.specs.Read.{op_progress_of};
 ghost use Rattle.task_machine.specs.declared.records.OpProgress.TheVariants as op_progress;
@@ -15,7 +15,7 @@ use op_dispatch::{op_at, script_ops};
 use task_machine::{Component, Label, NoMemory, Op, Turn};
 use task_words::{OpProgressId, ThreadId, Primitives};
 
-// The op at the thread's position is on registers and words, and hasn't begun.
+// The op at the thread's position is on registers and memory cells, and hasn't begun.
 fn is_plain<W: Primitives>(w: &W, thread: ThreadId, script: &[Op], position: u32) -> bool
     ensures fresh { result ≡ true → op_progress_of (thread_of (W.view w.now) thread) (W.view w.now).core ≡ op_progress.Fresh }
 {
@@ -25,9 +25,9 @@ fn is_plain<W: Primitives>(w: &W, thread: ThreadId, script: &[Op], position: u32
     matches!(w.op_progress(thread), OpProgressId::Fresh)
 }
 
-/// The running thread, which has this number, does its ops on registers and words one after another, up to another
-/// op, to its script's end or to so many labels, of which some were added before. Answers how many labels were
-/// added then. It is out of line, so that a turn without such ops saves no registers.
+/// Does the ops on registers and memory cells of the running thread, which has this number, one after another, up to another op, to
+/// its script's end or to so many labels, of which some were added before. Answers how many labels were added then. It is a
+/// function of its own, so that a turn without such ops saves no registers.
 #[inline(never)]
 pub(crate) fn stretch<W: Primitives>(
     component: &Component,

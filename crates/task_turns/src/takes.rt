@@ -75,7 +75,7 @@ fn take_thread<W: Primitives>(w: &mut W, mark: Mark, thread: ThreadId) -> Result
     }
 }
 
-// The same as `show`. The label of a taking is told apart from the others, as most are of those.
+// Adds a label to the trace, as `show` does. It tells the label of a taking apart from the others, as most are of those.
 #[inline(always)]
 fn show_taken<W: Primitives>(w: &mut W, thread: ThreadId, trace: &mut PackedLabels, op_result: OpResult) -> PackedStep
     requires unwinds { CanUnwind op_result (thread_of (W.view w.old) thread) (W.view w.old).core }
@@ -147,8 +147,8 @@ fn step_host<W: Primitives>(w: &mut W, mark: Mark, work: WorkId) -> MadeStep
     }
 }
 
-/// The next entry is taken, and what that shows is added to the trace; none where nothing stands. Where memory is
-/// wanting, nothing is added, and nothing is said of the state. It is asked whose work it is, where the entry is that of one.
+/// Takes the next entry, and adds what that shows to the trace; none where nothing is there. If it is out of memory, nothing is
+/// added, and nothing is said of the state. It is asked whose work it is, where the entry is that of one.
 #[inline(never)]
 pub(crate) fn step_take<W: Primitives>(
     component: &Component,

@@ -28,7 +28,7 @@ use task_machine::{Component, Label, LoopLabel, NoMemory, Turn};
 use task_ops::PollNews;
 use task_words::{Primitives, WorkId};
 
-/// The live work that is next, past those with numbers up to `polled`, has this number; it was polled, and told this.
+/// Does a poll of the next live work, past those with numbers up to `polled`, which has this number; it was polled, and told this.
 #[inline(always)]
 pub fn poll<W: Primitives>(w: &mut W, work: WorkId, number: u64, polled: u64, told: PollNews) -> MadeStep
     requires placed { Placed (W.view w.old).core }
@@ -45,7 +45,7 @@ pub fn poll<W: Primitives>(w: &mut W, work: WorkId, number: u64, polled: u64, to
     step_poll(w, work, number, polled, told)
 }
 
-// Nothing stands, and no work ended in this turn.
+// Nothing is there, and no work ended in this turn.
 fn rest<W: Primitives>(w: &mut W, trap_on_idle: bool) -> Option<MadeStep>
     requires works { WorksQueued (W.view w.old).core }
     requires current { (W.view w.old).current ≡ None }
@@ -70,8 +70,8 @@ fn rest<W: Primitives>(w: &mut W, trap_on_idle: bool) -> Option<MadeStep>
     Some(step_deadlock(w))
 }
 
-/// The next entry is taken, or else it is seen what it is that nothing stands. What that shows is added to
-/// the trace. Where memory is wanting, nothing is added, and nothing is said of the state.
+/// Takes the next entry, or else finds out why there is none. What that shows is added to the trace. If it is out of memory,
+/// nothing is added, and nothing is said of the state.
 pub fn take<W: Primitives>(
     component: &Component,
     w: &mut W,
@@ -107,7 +107,7 @@ pub fn take<W: Primitives>(
     }
 }
 
-/// The ops on registers and words that come next, where a thread runs. They are looked for only where such an op
+/// Returns the ops on registers and memory cells that come next, where a thread runs. They are looked for only where such an op
 /// made the last label and another seems to follow it, since ops mostly come alone.
 #[inline(always)]
 pub fn compute<W: Primitives>(
@@ -146,7 +146,7 @@ fn is_take(turn: Turn) -> bool
     matches!(turn, Turn::Take { ended: false })
 }
 
-/// Whether nothing can go on in this turn, and that is no deadlock.
+/// Returns whether nothing can go on in this turn, and that is no deadlock.
 pub fn is_idle<W: Primitives>(w: &W, turn: Turn, trap_on_idle: bool) -> bool
     ensures { (x : Setting) → CoreInOrder x.component turn (W.view w.now).core → x.idle ≡ idle_line_of trap_on_idle → (m : Main) → PendsIn x (W.view w.now).core m turn → is_at_rest x (state_at (W.view w.now).core m turn) ≡ result }
 {

@@ -14,7 +14,7 @@ module _ {P : Type 0} where
   append_parts [] b d = refl
   append_parts (e ∷ es) b d = ap (λ l. e ∷ l) (append_parts es b d)
 
-  -- the last entry stands after the others
+  -- the last entry is after the others
   last_split : (f : ℕ × P) (fs : List (ℕ × P)) (e : ℕ × P) → last_or (Some f) fs ≡ Some e → (a : List (ℕ × P)) × (f ∷ fs ≡ a ++ e ∷ [])
   last_split f [] e is = ([], ap (λ k. k ∷ []) (some_is is))
     where
@@ -32,7 +32,7 @@ module _ {P : Type 0} where
       ap (λ t. cond t 1 (position_of n (es ++ (n, v) ∷ b) + 1)) (ne_eqb e.0 n (λ same. apart.0 (subst (λ m. In m (es ++ (n, v) ∷ b)) (sym same) (In-here (n, v) es b))))
       ∙ (ap (λ k. k + 1) (position-at n v es b apart.1) ∙ omega arith)
 
-  -- as many entries stand up to the last of the front as the front has
+  -- as many entries are up to the last of the front as the front has
   up_to-front : (front back : List (ℕ × P)) → Apart (front ++ back) → up_to (last_of front) (front ++ back) ≡ length front
   up_to-front front back apart = by_last (last_of front) refl
     where

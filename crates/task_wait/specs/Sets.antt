@@ -62,7 +62,7 @@ module _ {P : Type 0} where
   abbrev pub IsLeast : (P → P → Ordering) → P → List (ℕ × P) → Type 0
   IsLeast cmp value list = list_any (λ e. is_lt (cmp e.1 value)) list ≡ false
 
-  -- no value is less than one that stands before it
+  -- no value is less than one that is before it
   abbrev pub IsAscending : (P → P → Ordering) → List (ℕ × P) → Type 0
   IsAscending cmp [] = Unit {0}
   IsAscending cmp (e ∷ es) = IsLeast cmp e.1 es × IsAscending cmp es

@@ -12,7 +12,8 @@ pub const WAIT: u32 = 2;
 /// What a call answers that would have to block.
 pub const BLOCKED: u32 = 4294967295;
 
-/// The two parts of the number that a callback answers: the code, in the low four bits, and the rest, which is a set's handle where the code is [`WAIT`].
+/// Returns the two parts of the number that a callback answers: the code, in the low four bits, and the rest, which is a set's
+/// handle where the code is [`WAIT`].
 ///
 /// The form is that of the component model's public standard. It takes no memory.
 pub fn unpack_callback_code(code: u32) -> (u32, u32)
@@ -26,7 +27,7 @@ pub fn unpack_callback_code(code: u32) -> (u32, u32)
 pub enum Event {
     /// Nothing has happened.
     None,
-    /// A subtask has come to this status.
+    /// A subtask has ended so status.
     Subtask(Status),
     /// A read of a stream has ended with this code.
     StreamRead(u32),
@@ -41,7 +42,8 @@ pub enum Event {
 }
 
 impl Event {
-    /// The event's number, from 0 to 6 in the order of the variants, and its payload: a subtask's status, the code of a read or a write, else 0.
+    /// Returns the event's number, from 0 to 6 in the order of the variants, and its payload: a subtask's status, the code of a
+    /// read or a write, else 0.
     ///
     /// The numbers are those of the component model's public standard. It takes no memory.
     pub fn parts(self) -> (u32, u32)

@@ -92,8 +92,8 @@ fn place<P: Copy + Ord>(links: &Links<P>, chain: usize, value: P) -> Option<Node
     place
 }
 
-/// Puts a free node into a live chain, after the last value that is less, so that a chain into which all were put so
-/// stands in ascending order. Where it is the greatest, that takes constant time.
+/// Puts a free node into a live chain, after the last value that is less, so that a chain into which all were put so is in
+/// ascending order. Where it is the greatest, that takes constant time.
 pub fn put_in_order<P: Copy + Ord>(links: &mut Links<P>, chain: usize, node: Node, value: P)
     requires chain { IsSome (list_of links.old chain) }
     requires free { is_free links.old node.index ≡ true }
@@ -107,7 +107,7 @@ pub fn put_in_order<P: Copy + Ord>(links: &mut Links<P>, chain: usize, node: Nod
 }
 
 impl WaitableSet {
-    /// A set with no ready member and no waiter. Where there is no memory for its chains, none is left.
+    /// Makes a set with no ready member and no waiter. Where there is no memory for its chains, none is left.
     pub fn new(
         sync: bool,
         ready: &mut Links<Waitable>,
@@ -136,28 +136,28 @@ impl WaitableSet {
         }
     }
 
-    /// Whether the set is a sync one.
+    /// Returns whether the set is a sync one.
     pub fn is_sync(&self) -> bool
         ensures { result ≡ sync_flag self.now }
     {
         self.sync
     }
 
-    /// Whether the set's chains are live in these links, as its other calls need.
+    /// Returns whether the set's chains are live in these links, as its other calls need.
     pub fn is_live(&self, ready: &Links<Waitable>, waiting: &Links<WaiterKey>) -> bool
         ensures { (result ≡ true) ↔ IsSome (list_of ready.now (ready_chain self.now)) × IsSome (list_of waiting.now (waiter_chain self.now)) }
     {
         ready.is_live(self.ready) && waiting.is_live(self.waiters)
     }
 
-    /// Whether the set has no ready member and no waiter in these links, so that it may be closed.
+    /// Returns whether the set has no ready member and no waiter in these links, so that it may be closed.
     pub fn is_empty(&self, ready: &Links<Waitable>, waiting: &Links<WaiterKey>) -> bool
         ensures { (result ≡ true) ↔ (list_of ready.now (ready_chain self.now) ≡ Some []) × (list_of waiting.now (waiter_chain self.now) ≡ Some []) }
     {
         ready.is_empty(self.ready) && waiting.is_empty(self.waiters)
     }
 
-    /// Whether a thread waits at the set.
+    /// Returns whether a thread waits at the set.
     pub fn has_waiters(&self, waiting: &Links<WaiterKey>) -> bool
         requires { IsSome (list_of waiting.now (waiter_chain self.now)) }
         ensures { result ≡ is_some (head_of (waiter_list self.now waiting.now)) }
@@ -165,7 +165,8 @@ impl WaitableSet {
         waiting.first(self.waiters).is_some()
     }
 
-    /// The first of the ready members, which is the least where they stand in ascending order. `None` exactly where none is ready.
+    /// Returns the first of the ready members, which is the least where they are in ascending order. `None` exactly where none is
+    /// ready.
     pub fn first_ready(&self, ready: &Links<Waitable>) -> Option<Waitable>
         requires { IsSome (list_of ready.now (ready_chain self.now)) }
         ensures first { result ≡ option_map (λ e. e.1) (head_of (ready_list self.now ready.now)) }
@@ -174,7 +175,8 @@ impl WaitableSet {
         first_value(ready, self.ready)
     }
 
-    /// Adds a member to the ready ones, after the last that is less, so that members that were all put so stand in ascending order. Where it is the greatest, that takes constant time.
+    /// Adds a member to the ready ones, after the last that is less, so that members that were all put so are in ascending order.
+    /// Where it is the greatest, that takes constant time.
     pub fn mark(&mut self, ready: &mut Links<Waitable>, node: Node, waitable: Waitable)
         requires chain { IsSome (list_of ready.old (ready_chain self.old)) }
         requires free { is_free ready.old node.index ≡ true }
@@ -197,7 +199,8 @@ impl WaitableSet {
         take_out(ready, self.ready, node)
     }
 
-    /// Adds a waiter, after the last that is less, so that waiters that were all put so stand in ascending order. Where it is the greatest, that takes constant time.
+    /// Adds a waiter, after the last that is less, so that waiters that were all put so are in ascending order. Where it is the
+    /// greatest, that takes constant time.
     pub fn add_waiter(&mut self, waiting: &mut Links<WaiterKey>, node: Node, waiter: WaiterKey)
         requires chain { IsSome (list_of waiting.old (waiter_chain self.old)) }
         requires free { is_free waiting.old node.index ≡ true }
@@ -218,7 +221,8 @@ impl WaitableSet {
         waiting.push_back(self.waiters, node, waiter);
     }
 
-    /// Takes the first waiter, which is the least where they stand in ascending order; its node is then free. `None` exactly where none waits.
+    /// Takes the first waiter, which is the least where they are in ascending order; its node is then free. `None` exactly where
+    /// none waits.
     pub fn take_first_waiter(&mut self, waiting: &mut Links<WaiterKey>) -> Option<WaiterKey>
         requires { IsSome (list_of waiting.old (waiter_chain self.old)) }
         ensures first { result ≡ option_map (λ e. e.1) (head_of (waiter_list self.old waiting.old)) }

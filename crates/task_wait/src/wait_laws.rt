@@ -8,8 +8,8 @@ ghost use Rattle.task_wait.specs.Keys.{waitable_order, waiter_order};
 use crate::keys::{Waitable, WaiterKey};
 use task_machine::Status;
 
-/// The law that what [`Status::pack`] gives comes apart by [`unpack_callback_code`](crate::unpack_callback_code), into
-/// the status and the waitable's handle, or 0 where there is none.
+/// The law that what [`Status::pack`] gives comes apart by [`unpack_callback_code`](crate::unpack_callback_code), into the status
+/// and the waitable's handle, or 0 if there is none.
 pub fn packed_status_unpacks(status: Status, waitable: Option<u32>)
     ensures { unpacked (packed_status status waitable) ≡ (status_code status, unwrap_or waitable 0) }
 {

@@ -1,4 +1,4 @@
--- What the chains of entries and callers ask: a node stands in one chain at a time.
+-- What the chains of entries and callers ask: a node is in one chain at a time.
 use Rattle.std.specs.Prelude.{◌≡◌, ◌==◌, true, List, [], ◌∷◌, Option, None, Some, ℕ, if◌then◌else◌, suc}
 use Rattle.task_machine.specs.Core.{Core}
 use Rattle.task_machine.specs.Moves.{newest, older}
@@ -13,7 +13,7 @@ pub record IsUnqueued (n : ℕ) (s : Core) : Type 0 where
   pub high : entries n s.queues.high ≡ 0
   pub low : entries n s.queues.low ≡ 0
 
--- The thread at switch, if one stands there, has no entry elsewhere.
+-- The thread at switch, if one is there, has no entry elsewhere.
 abbrev pub IsSwitchUnqueued : Core → Type 0
 IsSwitchUnqueued s = (m : ℕ) → s.queues.switch ≡ Some m → IsUnqueued m s
 
@@ -27,7 +27,7 @@ pub record IsApart (n : ℕ) (s : Core) : Type 0 where
   pub switch : switch_entries n s.queues.switch ≡ 0
   pub behind : IsBehindNobody n s
 
--- how many entries of the work stand in the list
+-- how many entries of the work are in the list
 abbrev pub work_entries : ℕ → List Entry → ℕ
 work_entries i [] = 0
 work_entries i (entry.Push j ∷ es) = if i == j then suc (work_entries i es) else work_entries i es

@@ -1,4 +1,4 @@
--- What a word that makes or removes something comes to.
+-- What a primitive that makes or removes something results in.
 use Rattle.std.specs.Prelude.{Err, Ok, Result, ℕ, ◌+◌, ◌≡◌}
 use Rattle.task_table.specs.declared.id.TableId.{TableId}
 use Rattle.task_wait.specs.declared.keys.GuestTaskKey.{GuestTaskKey}
@@ -14,11 +14,11 @@ pub record BecomesWith (AreKept : Tags → Tags → Type 0) (c : Core) (s t : St
   pub current : t.current ≡ s.current
   pub tags : AreKept s.tags t.tags
 
--- The core is this, the same thread runs, each id names what it named, and the same groups are known.
+-- The core is this, the same thread runs, each id names what it named, and the same groups are tracked.
 abbrev pub BecomesRecord : Core → StateView → StateView → Type 0
 BecomesRecord = BecomesWith Keeps
 
--- The same, and a group more is known.
+-- The same, and a group more is tracked.
 abbrev pub BecomesGrouped : Core → StateView → StateView → Type 0
 BecomesGrouped c s = BecomesWith (KeepsWith (s.core.made.groups + 1)) c s
 
@@ -26,7 +26,7 @@ BecomesGrouped c s = BecomesWith (KeepsWith (s.core.made.groups + 1)) c s
 abbrev pub BecomesBut : Lost → Core → StateView → StateView → Type 0
 BecomesBut lost = BecomesWith (KeepsBut lost)
 
--- Something is made whose ids are named so, and the core is this; or memory is wanting, and all is as before.
+-- Something is made whose ids are named so, and the core is this; or it is out of memory, and all is as before.
 abbrev pub MakesTo : {A E : Type 0} → (Tags → Tags → Type 0) → (A → StateView → Type 0) → Core → StateView → Result A E → StateView → Type 0
 MakesTo AreKept IsNamed c s (Ok ids) t = IsNamed ids t × BecomesWith AreKept c s t
 MakesTo AreKept IsNamed c s (Err _) t = t ≡ s

@@ -1,4 +1,4 @@
--- What a record names, where it is still there; 0, under which nothing stands, where it is gone.
+-- What a record names, where it is still there; 0, under which nothing is there, where it is gone.
 use Rattle.std.specs.Prelude.{Option, None, Some, ℕ, if◌then◌else◌, is_some}
 use Rattle.task_machine.specs.declared.records.Caller.{Caller}
 use Rattle.task_machine.specs.declared.records.Caller.TheVariants as caller

@@ -1,4 +1,4 @@
--- What a poll of a live work may come to.
+-- What a poll of a live work may result in.
 use Rattle.std.specs.Prelude.{Option, ℕ, ◌≡◌}
 use Rattle.task_machine.specs.declared.component.HostDef.{HostDef}
 use Rattle.task_machine.specs.declared.words.HostPoll.{HostPoll}

@@ -7,13 +7,13 @@ use Rattle.task_wait.specs.declared.keys.SetKey.{SetKey}
 use Rattle.task_wait.specs.declared.keys.ThreadKey.{ThreadKey}
 use Rattle.task_machine.specs.Core.{Core}
 
--- What stands at a place of a table: its serial and its number.
+-- What is at a place of a table: its serial and its number.
 pub record Tag : Type 0 where
   pub serial : ℕ
   pub number : ℕ
 
--- What each id names: what stands at each place of the tables of threads, of calls, of sets and of host works, spawns among them. And which
--- groups are known, in order: those that are live, and those that have ended since it was last asked which.
+-- What each id names: what is at each place of the tables of threads, of calls, of sets and of host works, spawns among them. And
+-- which groups are tracked, in order: those that are live, and those that have ended since it was last asked which.
 pub record Tags : Type 0 where
   pub threads : List (Option Tag)
   pub calls : List (Option Tag)
@@ -26,13 +26,13 @@ pub record StateView : Type 0 where
   pub tags : Tags
   pub current : Option (TableId ThreadKey)
 
--- the number of what stands at a place, 0 where the serial is another one
+-- the number of what is at a place, 0 if the serial is another one
 abbrev pub named : ℕ → Option (Option Tag) → ℕ
 named serial None = 0
 named serial (Some None) = 0
 named serial (Some (Some tag)) = if tag.serial == serial then tag.number else 0
 
--- the number of what the id names, 0 where it names nothing
+-- the number of what the id names, 0 if it names nothing
 unfoldable pub thread_number : Tags → TableId ThreadKey → ℕ
 thread_number tags id = named id.serial (slice_get tags.threads id.rep)
 
@@ -68,7 +68,7 @@ on_core f s = with_core (f s.core) s
 abbrev pub with_current : Option (TableId ThreadKey) → StateView → StateView
 with_current id s = record { core = s.core; tags = s.tags; current = id }
 
--- Each id that named something names it still, and these groups are known.
+-- Each id that named something names it still, and these groups are tracked.
 pub record KeepsTo (tracked : List ℕ) (old new : Tags) : Type 0 where
   pub threads : (id : TableId ThreadKey) → 0 < thread_number old id → thread_number new id ≡ thread_number old id
   pub calls : (id : TableId GuestTaskKey) → 0 < call_number old id → call_number new id ≡ call_number old id
@@ -76,7 +76,7 @@ pub record KeepsTo (tracked : List ℕ) (old new : Tags) : Type 0 where
   pub works : (id : TableId HostTaskKey) → 0 < work_number old id → work_number new id ≡ work_number old id
   pub same : new.tracked ≡ tracked
 
--- the groups that were known
+-- the groups that were tracked
 abbrev pub Keeps : Tags → Tags → Type 0
 Keeps old new = KeepsTo old.tracked old new
 
@@ -106,7 +106,8 @@ lost_set x = record nothing_lost { set = x }
 abbrev pub lost_work : ℕ → Lost
 lost_work i = record nothing_lost { work = i }
 
--- Each id names what it named, but for what is lost; what named the thread that is lost, or no thread, names none. The same groups are known.
+-- Each id names what it named, but for what is lost; what named the thread that is lost, or no thread, names none. The same groups
+-- are tracked.
 pub record KeepsBut (lost : Lost) (old new : Tags) : Type 0 where
   pub threads : (id : TableId ThreadKey) → thread_number old id ≢ lost.thread → thread_number new id ≡ thread_number old id
   pub calls : (id : TableId GuestTaskKey) → call_number old id ≢ lost.call → call_number new id ≡ call_number old id

@@ -1,7 +1,7 @@
-//! The words of a core, keyed by the ids of its table: what ops read, write, make and remove.
+//! The primitives of a core, keyed by the ids of its table: what ops read, write, make and remove.
 //!
-//! Each is one equation of what contracts see. An id that names nothing has the number 0, under
-//! which nothing stands: a read of it answers the machine's default, a write of it changes nothing.
+//! Each is one equation of what contracts see. An id that names nothing has the number 0, under which nothing is there: a read of
+//! it answers the machine's default, a write of it changes nothing.
 #![tactic(auto)]
 
 mod call_primitives;

@@ -61,7 +61,7 @@ pub enum OpProgressId {
     Yields,
 }
 
-/// In which set a subtask is.
+/// Returns in which set a subtask is.
 #[derive(Clone, Copy)]
 pub enum JoinId {
     Nowhere,

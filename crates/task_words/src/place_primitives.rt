@@ -19,69 +19,69 @@ use task_machine::{Mark, Place, Why};
 
 /// Where threads are, and who is behind, under or waiting for whom.
 pub trait PlacePrimitives: View {
-    /// Where the thread is, by the numbers of what that names.
+    /// Returns the thread's place, by the numbers of what that names.
     fn place(&self, thread: ThreadId) -> Option<Place>
         ensures { result ≡ place_of (thread_of (Self.view self.now) thread) (Self.view self.now).core };
 
-    /// Why the thread's entry is queued.
+    /// Returns why the thread's entry is queued.
     fn why(&self, thread: ThreadId) -> Why
         ensures { result ≡ why_of (thread_of (Self.view self.now) thread) (Self.view self.now).core };
 
-    /// The set that the thread's queued delivery is for.
+    /// Returns the set that the thread's queued delivery is for.
     fn delivered_set(&self, thread: ThreadId) -> Option<SetId>
         ensures { option_map (λ id. set_of (Self.view self.now) id) result ≡ option_map (λ x. live_set x (Self.view self.now).core) (delivered_set (why_of (thread_of (Self.view self.now) thread) (Self.view self.now).core)) };
 
-    /// The thread is at this place; its entry at a mark, if that has one, is put there apart.
+    /// Moves the thread to this place; its entry at a mark, if the place has one, is queued by another call.
     fn set_place(&mut self, thread: ThreadId, place: PlaceId)
         ensures { Self.view self.new ≡ on_core (set_place (thread_of (Self.view self.old) thread) (place_in (Self.view self.old).tags place)) (Self.view self.old) };
 
-    /// The thread is at this place from now on, and has come so far in its op.
+    /// Moves the thread to this place, and sets the progress of its op.
     fn stand_at(&mut self, thread: ThreadId, place: PlaceId, op_progress: OpProgressId)
         ensures { Self.view self.new ≡ on_core (λ s. set_op_progress (thread_of (Self.view self.old) thread) (op_progress_in (Self.view self.old).tags op_progress) (set_place (thread_of (Self.view self.old) thread) (place_in (Self.view self.old).tags place) s)) (Self.view self.old) };
 
-    /// A thread that is there runs from now on: seldom one that was anywhere but at New.
+    /// Lets a thread that is there run: seldom one that was anywhere but at New.
     fn run_first(&mut self, thread: ThreadId)
         requires { 0 < thread_of (Self.view self.old) thread }
         ensures { Self.view self.new ≡ on_core (set_place (thread_of (Self.view self.old) thread) place_of_thread.Running) (Self.view self.old) };
 
-    /// The thread is under the thread of a call, and inside that call, from now on: nothing is tested of those two.
+    /// Moves the thread under the thread of a call, and inside that call: nothing is tested of those two.
     fn stand_under(&mut self, thread: ThreadId, callee: ThreadId, call: CallId)
         requires callee { 0 < thread_of (Self.view self.old) callee }
         requires call { 0 < call_of (Self.view self.old) call }
         ensures { Self.view self.new ≡ on_core (λ s. set_op_progress (thread_of (Self.view self.old) thread) (op_progress_of_thread.Calls (subtasks.Guest (call_of (Self.view self.old) call))) (set_place (thread_of (Self.view self.old) thread) (place_of_thread.Under (thread_of (Self.view self.old) callee)) s)) (Self.view self.old) };
 
-    /// The thread's entry is at this mark from now on, for the same reason.
+    /// Records that the thread's entry is at this mark, for the same reason as before.
     fn set_mark(&mut self, thread: ThreadId, mark: Mark)
         ensures { Self.view self.new ≡ on_core (λ s. stand (thread_of (Self.view self.old) thread) mark (why_of (thread_of (Self.view self.old) thread) s) s) (Self.view self.old) };
 
-    /// The thread is held with its entry, which was taken.
+    /// Holds the thread with its entry, which was taken.
     fn hold(&mut self, thread: ThreadId)
         ensures { Self.view self.new ≡ on_core (λ s. set_place (thread_of (Self.view self.old) thread) (place_of_thread.Held (why_of (thread_of (Self.view self.old) thread) s)) s) (Self.view self.old) };
 
-    /// How many threads there are.
+    /// Returns how many threads there are.
     fn threads(&self) -> u64
         ensures { result ≡ size (Self.view self.now).core.threads };
 
-    /// The thread that waits under this one for its direct callee.
+    /// Returns the thread that waits under this one for its direct callee.
     fn under(&self, thread: ThreadId) -> Option<ThreadId>
         requires { 0 < thread_of (Self.view self.now) thread }
         ensures is { option_map (λ id. thread_of (Self.view self.now) id) result ≡ under_of (thread_of (Self.view self.now) thread) (Self.view self.now).core }
         ensures live { IfSome result (λ id. 0 < thread_of (Self.view self.now) id) };
 
-    /// The thread that is blocked on a subtask.
+    /// Returns the thread that is blocked on a subtask.
     fn blocked_on(&self, subtask: SubtaskId) -> Option<ThreadId>
         requires { 0 < number_in (Self.view self.now).tags subtask }
         ensures is { option_map (λ id. thread_of (Self.view self.now) id) result ≡ blocked_on (subtask_in (Self.view self.now).tags subtask) (Self.view self.now).core }
         ensures live { IfSome result (λ id. 0 < thread_of (Self.view self.now) id) };
 
-    /// The first waiter of a set, in the order of the set's chain.
+    /// Returns the first waiter of a set, in the order of the set's chain.
     fn first_waiter(&self, set: SetId) -> Option<ThreadId>
         requires { 0 < set_of (Self.view self.now) set }
         ensures none { IfNone result (has_waiter (set_of (Self.view self.now) set) (Self.view self.now).core ≡ false) }
         ensures some { IfSome result (λ id. is_waiter (set_of (Self.view self.now) set) (thread_of (Self.view self.now) id) (Self.view self.now).core ≡ true) }
         ensures live { IfSome result (λ id. 0 < thread_of (Self.view self.now) id) };
 
-    /// Whether some thread is behind this one.
+    /// Returns whether some thread is behind this one.
     fn has_callers(&self, thread: ThreadId) -> bool
         ensures { result ≡ not (is_nil (callers_of (thread_of (Self.view self.now) thread) (Self.view self.now).core)) };
 
@@ -106,7 +106,7 @@ pub trait PlacePrimitives: View {
         ensures live { IfSome result (λ id. 0 < thread_of (Self.view self.old) id) }
         ensures new { Self.view self.new ≡ on_core (set_callers (thread_of (Self.view self.old) thread) (older_of (callers_of (thread_of (Self.view self.old) thread) (Self.view self.old).core))) (Self.view self.old) };
 
-    /// Whether a held thread of the instance is admitted.
+    /// Returns whether a held thread of the instance is admitted.
     fn has_admitted(&self, instance: u32) -> bool
         ensures { result ≡ not (is_nil (admitted_held instance (Self.view self.now).core)) };
 

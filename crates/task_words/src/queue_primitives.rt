@@ -14,48 +14,48 @@ use task_machine::Mark;
 
 /// The three marks.
 pub trait QueuePrimitives: View {
-    /// The thread at switch.
+    /// Returns the thread at switch.
     fn switch(&self) -> Option<ThreadId>
         ensures is { option_map (λ id. thread_of (Self.view self.now) id) result ≡ (Self.view self.now).core.queues.switch }
         ensures live { IfSome result (λ id. 0 < thread_of (Self.view self.now) id) };
 
-    /// The thread of the first entry of an instance, at high, else at low.
+    /// Returns the thread of the first entry of an instance, at high, else at low.
     fn first_entry(&self, instance: u32) -> Option<ThreadId>
         ensures is { option_map (λ id. thread_of (Self.view self.now) id) result ≡ first_entry instance (Self.view self.now).core }
         ensures live { IfSome result (λ id. 0 < thread_of (Self.view self.now) id) };
 
-    /// What is taken next.
+    /// Returns the entry that is taken next, with its mark.
     fn next_entry(&self) -> Option<(Mark, EntryId)>
         ensures { option_map (λ e. (e.0, entry_in (Self.view self.now).tags e.1)) result ≡ next_entry (Self.view self.now).core };
 
-    /// The first entry of the mark is gone.
+    /// Removes the first entry of the mark.
     fn pop(&mut self, mark: Mark)
         ensures { Self.view self.new ≡ on_core (popped mark) (Self.view self.old) };
 
-    /// What is taken next leaves its mark.
+    /// Removes the entry that is taken next from its mark, and returns it.
     fn take_next(&mut self) -> Option<(Mark, EntryId)>
         ensures next { option_map (λ e. (e.0, entry_in (Self.view self.old).tags e.1)) result ≡ next_entry (Self.view self.old).core }
         ensures taken { IfSome result (λ e. Self.view self.new ≡ on_core (popped e.0) (Self.view self.old)) }
         ensures none { is_none result ≡ true → Self.view self.new ≡ Self.view self.old };
 
-    /// This thread has the entry at switch, or none has.
+    /// Gives this thread the entry at switch, or leaves switch empty.
     fn set_switch(&mut self, thread: Option<ThreadId>)
         requires { IfSome thread (λ id. 0 < thread_of (Self.view self.old) id) }
         ensures { Self.view self.new ≡ on_core (set_switch (option_map (λ id. thread_of (Self.view self.old) id) thread)) (Self.view self.old) };
 
-    /// The thread's entry is put at the end of high.
+    /// Puts the thread's entry at the end of high.
     fn push_high(&mut self, thread: ThreadId)
         requires live { 0 < thread_of (Self.view self.old) thread }
         requires unqueued { IsUnqueued (thread_of (Self.view self.old) thread) (Self.view self.old).core }
         ensures { Self.view self.new ≡ on_core (push_high (entries.Thread (thread_of (Self.view self.old) thread))) (Self.view self.old) };
 
-    /// At the front of high.
+    /// Puts the thread's entry at the front of high.
     fn push_high_first(&mut self, thread: ThreadId)
         requires live { 0 < thread_of (Self.view self.old) thread }
         requires unqueued { IsUnqueued (thread_of (Self.view self.old) thread) (Self.view self.old).core }
         ensures { Self.view self.new ≡ on_core (push_high_first (entries.Thread (thread_of (Self.view self.old) thread))) (Self.view self.old) };
 
-    /// The thread's entry is put at the end of low.
+    /// Puts the thread's entry at the end of low.
     fn push_low(&mut self, thread: ThreadId)
         requires live { 0 < thread_of (Self.view self.old) thread }
         requires unqueued { IsUnqueued (thread_of (Self.view self.old) thread) (Self.view self.old).core }
@@ -67,7 +67,7 @@ pub trait QueuePrimitives: View {
         requires unqueued { work_entries (work_of (Self.view self.old) work) (Self.view self.old).core.queues.high ≡ 0 }
         ensures { Self.view self.new ≡ on_core (push_high (entries.Host (work_of (Self.view self.old) work))) (Self.view self.old) };
 
-    /// The thread's entry leaves high, or else low.
+    /// Removes the thread's entry from high, or else from low.
     fn unqueue(&mut self, thread: ThreadId)
         ensures { Self.view self.new ≡ on_core (unqueued (thread_of (Self.view self.old) thread)) (Self.view self.old) };
 }

@@ -18,40 +18,40 @@ pub trait ResultPrimitives: View {
         requires { goal_of (call_of (Self.view self.old) call) (Self.view self.old).core ≡ goals.Main }
         ensures { Self.view self.new ≡ on_core (give_result (call_of (Self.view self.old) call) value) (Self.view self.old) };
 
-    /// What the call with this number has returned to main, which has not taken it.
+    /// Returns what the call with this number has returned to main, which has not taken it.
     fn result(&self, call: u64) -> Option<u64>
         ensures { result ≡ get (Self.view self.now).core.results call };
 
-    /// Whether something was returned to main that it has not taken.
+    /// Returns whether something was returned to main that it has not taken.
     fn has_results(&self) -> bool
         ensures none { result ≡ false → (call : ℕ) → get (Self.view self.now).core.results call ≡ None }
         ensures some { result ≡ true → (call : ℕ) × IsSome (get (Self.view self.now).core.results call) };
 
-    /// The result of main's call of this number is taken: it is there no more.
+    /// Removes the result of main's call of this number, which main takes.
     fn take_result(&mut self, call: u64)
         ensures { Self.view self.new ≡ on_core (take_result call) (Self.view self.old) };
 
-    /// Whether the store is trapped.
+    /// Returns whether the store is trapped.
     fn trapped(&self) -> bool
         ensures { result ≡ (Self.view self.now).core.trapped };
 
-    /// The store is trapped, and all groups are finished.
+    /// Traps the store, and finishes all groups.
     fn set_trapped(&mut self)
         ensures { Self.view self.new ≡ on_core set_trapped (Self.view self.old) };
 
-    /// Whether so many entries more have room in the table.
+    /// Returns whether so many entries more have room in the table.
     fn fits(&self, entries: usize) -> bool
         ensures { result ≡ fits entries (Self.view self.now).core };
 
-    /// Whether main has to wait for some task.
+    /// Returns whether main has to wait for some task.
     fn has_interesting(&self) -> bool
         ensures { result ≡ has_interesting (Self.view self.now).core };
 
-    /// Whether the instance of some call may not suspend.
+    /// Returns whether the instance of some call may not suspend.
     fn some_may_not_suspend(&self) -> bool
         ensures { result ≡ some_may_not_suspend (Self.view self.now).core };
 
-    /// How many threads, works, sets and groups were made so far.
+    /// Returns how many threads, works, sets and groups were made so far.
     fn made(&self) -> MadeCounts
         ensures { result ≡ (Self.view self.now).core.made };
 }

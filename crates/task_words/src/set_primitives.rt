@@ -13,28 +13,28 @@ use task_machine::NoMemory;
 
 /// Waitable sets, their members and what keeps them.
 pub trait SetPrimitives: View {
-    /// Whether a subtask is joined to the set.
+    /// Returns whether a subtask is joined to the set.
     fn has_member(&self, set: SetId) -> bool
         requires { 0 < set_of (Self.view self.now) set }
         ensures { result ≡ has_member (set_of (Self.view self.now) set) (Self.view self.now).core };
 
-    /// Whether a subtask that is joined to the set has an event.
+    /// Returns whether a subtask that is joined to the set has an event.
     fn has_ready_member(&self, set: SetId) -> bool
         requires { 0 < set_of (Self.view self.now) set }
         ensures { result ≡ has_ready_member (set_of (Self.view self.now) set) (Self.view self.now).core };
 
-    /// Whether a thread waits on the set or has an entry for it.
+    /// Returns whether a thread waits on the set or has an entry for it.
     fn has_waiters(&self, set: SetId) -> bool
         requires { 0 < set_of (Self.view self.now) set }
         ensures { result ≡ has_waiters (set_of (Self.view self.now) set) (Self.view self.now).core };
 
-    /// The first ready member of a set, in the order of the set's chain.
+    /// Returns the first ready member of a set, in the order of the set's chain.
     fn first_ready(&self, set: SetId) -> Option<SubtaskId>
         requires { 0 < set_of (Self.view self.now) set }
         ensures none { IfNone result (has_ready_member (set_of (Self.view self.now) set) (Self.view self.now).core ≡ false) }
         ensures some { IfSome result (λ member. is_ready_member (set_of (Self.view self.now) set) (subtask_in (Self.view self.now).tags member) (Self.view self.now).core ≡ true) };
 
-    /// Makes a set of an instance, and its handle there. Where memory is wanting, all is as before.
+    /// Makes a set of an instance, and its handle there. If it is out of memory, all is as before.
     fn open_set(&mut self, instance: u32) -> Result<SetId, NoMemory>
         requires there { is_some (get (Self.view self.old).core.handles instance) ≡ true }
         requires few { (Self.view self.old).core.made.sets + 1 < 2 ^ 64 }
@@ -42,7 +42,7 @@ pub trait SetPrimitives: View {
         requires limit { at_handle_limit (Self.view self.old).core ≡ false }
         ensures { MakesRecord (names_set ((Self.view self.old).core.made.sets + 1)) (give_handle instance (names.Set ((Self.view self.old).core.made.sets + 1)) (add_set (record { instance = instance }) (Self.view self.old).core)) (Self.view self.old) result (Self.view self.new) };
 
-    /// A set without members and waiters is gone, and its handle in the instance.
+    /// Removes a set without members and waiters, and frees its handle in the instance.
     fn close_set(&mut self, instance: u32, handle: u32, set: SetId)
         requires live { 0 < set_of (Self.view self.old) set }
         requires names { IsSome (set_at instance handle (Self.view self.old).core) }

@@ -12,11 +12,11 @@ use crate::view::View;
 
 /// Words that no step of the machine needs, and calls of a host do.
 pub trait StatePrimitives: View {
-    /// Whether there is such an instance.
+    /// Returns whether there is such an instance.
     fn has_instance(&self, instance: u32) -> bool
         ensures { result ≡ is_some (get (Self.view self.now).core.instances instance) };
 
-    /// Whether some thread of the instance is held.
+    /// Returns whether some thread of the instance is held.
     fn has_held(&self, instance: u32) -> bool
         ensures { result ≡ not (is_nil (held_in instance (Self.view self.now).core)) };
 

@@ -13,35 +13,35 @@ use task_machine::{NoMemory, Status};
 
 /// What calls and host works have in common as subtasks.
 pub trait SubtaskPrimitives: View {
-    /// The status of a subtask that was not handed out yet, if there is one.
+    /// Returns the status of a subtask that was not handed out yet, if there is one.
     fn event(&self, subtask: SubtaskId) -> Option<Status>
         ensures { result ≡ event_of (subtask_in (Self.view self.now).tags subtask) (Self.view self.now).core };
 
-    /// The set that the subtask is joined to, or the thread in whose own set it is.
+    /// Returns the set that the subtask is joined to, or the thread in whose own set it is.
     fn join(&self, subtask: SubtaskId) -> JoinId
         ensures { join_in (Self.view self.now).tags result ≡ live_join (join_of (subtask_in (Self.view self.now).tags subtask) (Self.view self.now).core) (Self.view self.now).core };
 
-    /// The handle that names the subtask, if it has one.
+    /// Returns the handle that names the subtask, if it has one.
     fn subtask_handle(&self, subtask: SubtaskId) -> Option<u32>
         ensures { result ≡ subtask_handle (subtask_in (Self.view self.now).tags subtask) (Self.view self.now).core };
 
-    /// Whether the call or the work has ended.
+    /// Returns whether the call or the work has ended.
     fn has_ended(&self, subtask: SubtaskId) -> bool
         ensures { result ≡ subtask_ended (subtask_in (Self.view self.now).tags subtask) (Self.view self.now).core };
 
-    /// The status that is to be handed out of a subtask is this one, or none.
+    /// Sets the event of a subtask: a status that is to be handed out, or none.
     fn set_event(&mut self, subtask: SubtaskId, event: Option<Status>)
         ensures { Self.view self.new ≡ on_core (set_event (subtask_in (Self.view self.old).tags subtask) event) (Self.view self.old) };
 
-    /// The subtask is joined to this set, to the own set of a thread, or to none.
+    /// Joins the subtask to this set, to the own set of a thread, or to none.
     fn set_join(&mut self, subtask: SubtaskId, join: JoinId)
         ensures { Self.view self.new ≡ on_core (set_join (subtask_in (Self.view self.old).tags subtask) (join_in (Self.view self.old).tags join)) (Self.view self.old) };
 
-    /// The handle that names the subtask is this one, or none.
+    /// Sets the handle that names the subtask, or removes it.
     fn set_subtask_handle(&mut self, subtask: SubtaskId, handle: Option<u32>)
         ensures { Self.view self.new ≡ on_core (set_subtask_handle (subtask_in (Self.view self.old).tags subtask) handle) (Self.view self.old) };
 
-    /// Gives a subtask its handle in an instance. Where memory is wanting, all is as before.
+    /// Gives a subtask its handle in an instance. If it is out of memory, all is as before.
     fn name_subtask(&mut self, instance: u32, subtask: SubtaskId) -> Result<u32, NoMemory>
         requires there { is_some (get (Self.view self.old).core.handles instance) ≡ true }
         requires limit { at_handle_limit (Self.view self.old).core ≡ false }

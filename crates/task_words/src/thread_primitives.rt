@@ -23,139 +23,138 @@ use task_machine::{Given, NoMemory};
 
 /// The records of threads.
 pub trait ThreadPrimitives: View {
-    /// The number of a thread; 0 where the id names none.
+    /// Returns the number of a thread; 0 if the id names none.
     fn number(&self, thread: ThreadId) -> u64
         ensures { result ≡ thread_of (Self.view self.now) thread };
 
-    /// The number of a thread that is there: nothing is tested.
+    /// Returns the number of a thread that is there: nothing is tested.
     fn number_unchecked(&self, thread: ThreadId) -> u64
         requires { 0 < thread_of (Self.view self.now) thread }
         ensures { result ≡ thread_of (Self.view self.now) thread };
 
-    /// The thread's call, which is there as long as the thread.
+    /// Returns the thread's call, which is there as long as the thread.
     fn task_of(&self, thread: ThreadId) -> CallId
         ensures is { call_of (Self.view self.now) result ≡ task_of (thread_of (Self.view self.now) thread) (Self.view self.now).core }
         ensures live { 0 < thread_of (Self.view self.now) thread → 0 < call_of (Self.view self.now) result };
 
-    /// The call of a thread that is there: nothing is tested.
+    /// Returns the call of a thread that is there: nothing is tested.
     fn task_unchecked(&self, thread: ThreadId) -> CallId
         requires { 0 < thread_of (Self.view self.now) thread }
         ensures is { call_of (Self.view self.now) result ≡ task_of (thread_of (Self.view self.now) thread) (Self.view self.now).core }
         ensures live { 0 < call_of (Self.view self.now) result };
 
-    /// The instance of the thread's call.
+    /// Returns the instance of the thread's call.
     fn instance_of(&self, thread: ThreadId) -> u32
         ensures { result ≡ instance_of (thread_of (Self.view self.now) thread) (Self.view self.now).core };
 
-    /// The instance of the call of a thread that is there: nothing is tested.
+    /// Returns the instance of the call of a thread that is there: nothing is tested.
     fn instance_unchecked(&self, thread: ThreadId) -> u32
         requires { 0 < thread_of (Self.view self.now) thread }
         ensures { result ≡ instance_of (thread_of (Self.view self.now) thread) (Self.view self.now).core };
 
-    /// The number of the thread's group, as long as that is known: 0 once its end was told.
+    /// Returns the number of the thread's group, as long as that is tracked: 0 once its end was told.
     fn thread_group(&self, thread: ThreadId) -> u64
         ensures { result ≡ tracked_group (thread_of (Self.view self.now) thread) (Self.view self.now) };
 
-    /// One of the thread's registers, 0 to 15.
+    /// Returns one of the thread's registers, 0 to 15.
     fn register(&self, thread: ThreadId, register: u8) -> u64
         ensures { result ≡ register_of (thread_of (Self.view self.now) thread) register (Self.view self.now).core };
 
-    /// One of the registers, 0 to 15, of a thread that is there: nothing is tested of the thread.
+    /// Returns one of the registers, 0 to 15, of a thread that is there: nothing is tested of the thread.
     fn register_unchecked(&self, thread: ThreadId, register: u8) -> u64
         requires { 0 < thread_of (Self.view self.now) thread }
         ensures { result ≡ register_of (thread_of (Self.view self.now) thread) register (Self.view self.now).core };
 
-    /// All registers.
+    /// Returns all registers.
     fn registers(&self, thread: ThreadId) -> [u64; 16]
         requires { 0 < thread_of (Self.view self.now) thread }
         ensures { result ≡ registers_of (thread_of (Self.view self.now) thread) (Self.view self.now).core };
 
-    /// The place in its script at which the thread is, from 0; the script's length at its end.
+    /// Returns the thread's position in its script, from 0; the script's length at its end.
     fn position(&self, thread: ThreadId) -> u32
         ensures { result ≡ position_of (thread_of (Self.view self.now) thread) (Self.view self.now).core };
 
-    /// Where a thread is in its code.
+    /// Returns where a thread is in its code.
     fn at(&self, thread: ThreadId) -> ThreadAt
         requires { 0 < thread_of (Self.view self.now) thread }
         ensures callee { result.callee ≡ callee_of (task_of (thread_of (Self.view self.now) thread) (Self.view self.now).core) (Self.view self.now).core }
         ensures script { (t : Thread) → get (Self.view self.now).core.threads (thread_of (Self.view self.now) thread) ≡ Some t → result.script ≡ t.script }
         ensures position { result.position ≡ position_of (thread_of (Self.view self.now) thread) (Self.view self.now).core };
 
-    /// How far the thread has come in its op; what that names is no id of anything where it is gone.
+    /// Returns the progress of the thread's op; what that names is no id of anything if it is gone.
     fn op_progress(&self, thread: ThreadId) -> OpProgressId
         ensures { op_progress_in (Self.view self.now).tags result ≡ live_op_progress (op_progress_of (thread_of (Self.view self.now) thread) (Self.view self.now).core) (Self.view self.now).core };
 
-    /// Whether the thread isn't the first one of its call.
+    /// Returns whether the thread isn't the first one of its call.
     fn is_explicit(&self, thread: ThreadId) -> bool
         ensures { result ≡ is_explicit (thread_of (Self.view self.now) thread) (Self.view self.now).core };
 
-    /// Whether a thread that is there isn't the first one of its call: nothing is tested of it.
+    /// Returns whether a thread that is there isn't the first one of its call: nothing is tested of it.
     fn explicit_unchecked(&self, thread: ThreadId) -> bool
         requires { 0 < thread_of (Self.view self.now) thread }
         ensures { result ≡ is_explicit (thread_of (Self.view self.now) thread) (Self.view self.now).core };
 
-    /// Whether its instance may keep its start out: it isn't explicit, and its export isn't sync.
+    /// Returns whether its instance may keep its start out: it isn't explicit, and its export isn't sync.
     fn is_barred(&self, thread: ThreadId) -> bool
         requires { 0 < thread_of (Self.view self.now) thread }
         ensures { result ≡ is_barred (thread_of (Self.view self.now) thread) (Self.view self.now).core };
 
-    /// It is the only thread of its call.
+    /// Returns whether it is the only thread of its call.
     fn is_last_thread(&self, thread: ThreadId) -> bool
         ensures { result ≡ is_last_thread (thread_of (Self.view self.now) thread) (Self.view self.now).core };
 
-    /// The thread's handle in its instance, if it has one.
+    /// Returns the thread's handle in its instance, if it has one.
     fn thread_handle(&self, thread: ThreadId) -> Option<u32>
         ensures { result ≡ thread_handle_of (thread_of (Self.view self.now) thread) (Self.view self.now).core };
 
-    /// The thread's instance's flag `do_not_suspend` as it was before the thread's start, if that was saved.
+    /// Returns the thread's instance's flag `do_not_suspend` as it was before the thread's start, if that was saved.
     fn saved_own(&self, thread: ThreadId) -> Option<bool>
         ensures { result ≡ saved_own_of (thread_of (Self.view self.now) thread) (Self.view self.now).core };
 
-    /// The callee's flag `do_not_suspend` as it was before the thread's call, if that was saved.
+    /// Returns the callee's flag `do_not_suspend` as it was before the thread's call, if that was saved.
     fn saved_callee(&self, thread: ThreadId) -> Option<bool>
         ensures { result ≡ saved_callee_of (thread_of (Self.view self.now) thread) (Self.view self.now).core };
 
-    /// One of the thread's registers, 0 to 15, is written.
+    /// Writes one of the thread's registers, 0 to 15.
     fn set_register(&mut self, thread: ThreadId, register: u8, value: u64)
         ensures { Self.view self.new ≡ on_core (set_register (thread_of (Self.view self.old) thread) register value) (Self.view self.old) };
 
-    /// The thread has come so far in its op.
+    /// Sets the progress of the thread's op.
     fn set_op_progress(&mut self, thread: ThreadId, op_progress: OpProgressId)
         ensures { Self.view self.new ≡ on_core (set_op_progress (thread_of (Self.view self.old) thread) (op_progress_in (Self.view self.old).tags op_progress)) (Self.view self.old) };
 
-    /// The flag of the thread's own instance is kept, or no longer.
+    /// Saves the flag of the thread's own instance, or removes what was saved.
     fn set_saved_own(&mut self, thread: ThreadId, flag: Option<bool>)
         ensures { Self.view self.new ≡ on_core (set_saved_own (thread_of (Self.view self.old) thread) flag) (Self.view self.old) };
 
-    /// The flag of the callee's instance is kept, or no longer.
+    /// Saves the flag of the callee's instance, or removes what was saved.
     fn set_saved_callee(&mut self, thread: ThreadId, flag: Option<bool>)
         ensures { Self.view self.new ≡ on_core (set_saved_callee (thread_of (Self.view self.old) thread) flag) (Self.view self.old) };
 
-    /// The thread is about to begin the op at this position, with these registers.
+    /// Sets the thread's position, at the start of an op, and its registers.
     fn set_context(&mut self, thread: ThreadId, position: u32, registers: &[u64; 16])
         ensures { Self.view self.new ≡ on_core (with_context (thread_of (Self.view self.old) thread) position registers.now) (Self.view self.old) };
 
-    /// The thread goes on with the op at this position.
+    /// Moves the thread to the op at this position.
     fn move_to(&mut self, thread: ThreadId, position: u32)
         ensures { Self.view self.new ≡ on_core (moved_to (thread_of (Self.view self.old) thread) position) (Self.view self.old) };
 
-    /// The op is done.
+    /// Moves the thread past its op, which is done.
     fn advance(&mut self, thread: ThreadId)
         requires { position_of (thread_of (Self.view self.old) thread) (Self.view self.old).core + 1 < 2 ^ 32 }
         ensures { Self.view self.new ≡ on_core (advanced (thread_of (Self.view self.old) thread)) (Self.view self.old) };
 
-    /// The op is done, with its answer in a register.
+    /// Moves the thread past its op, and writes the op's answer to a register.
     fn assign(&mut self, thread: ThreadId, register: u8, value: u64)
         requires { position_of (thread_of (Self.view self.old) thread) (Self.view self.old).core + 1 < 2 ^ 32 }
         ensures { Self.view self.new ≡ on_core (assigned (thread_of (Self.view self.old) thread) register value) (Self.view self.old) };
 
-    /// An activation begins: the thread is given what is there in r0, r1 and r2, its instance keeps
-    /// other entries out, and it runs the react script from its start.
+    /// Begins an activation: the thread is given what is there in r0, r1 and r2, its instance keeps other entries out, and it runs
+    /// the react script from its start.
     fn activate(&mut self, thread: ThreadId, instance: u32, given: Given)
         ensures { Self.view self.new ≡ on_core (activating (thread_of (Self.view self.old) thread) instance given) (Self.view self.old) };
 
-    /// Makes an explicit thread of a call with these words, and gives it its handle. Where memory is
-    /// wanting, all is as before.
+    /// Makes an explicit thread of a call with these words, and gives it its handle. If it is out of memory, all is as before.
     fn make_thread(&mut self, task: CallId, slot: u8, words: &[u64]) -> Result<ThreadId, NoMemory>
         requires words { length words.now ≤ 16 }
         requires task { 0 < call_of (Self.view self.old) task }
@@ -165,13 +164,13 @@ pub trait ThreadPrimitives: View {
         requires limit { at_handle_limit (Self.view self.old).core ≡ false }
         ensures { MakesRecord (names_thread (next_thread (Self.view self.old).core)) (with_thread_handle (call_instance (call_of (Self.view self.old) task) (Self.view self.old).core) (next_thread (Self.view self.old).core) (add_thread (new_thread (call_of (Self.view self.old) task) true (scripts.Slot slot) (registers_for words.now) None) (Self.view self.old).core)) (Self.view self.old) result (Self.view self.new) };
 
-    /// A thread gives back its handle and is gone.
+    /// Removes a thread, and frees its handle.
     fn retire_thread(&mut self, thread: ThreadId)
         requires live { 0 < thread_of (Self.view self.old) thread }
         requires apart { IsApart (thread_of (Self.view self.old) thread) (Self.view self.old).core }
         ensures { BecomesBut (lost_thread (thread_of (Self.view self.old) thread)) (remove_thread (thread_of (Self.view self.old) thread) (freed_thread_handle (instance_of (thread_of (Self.view self.old) thread) (Self.view self.old).core) (thread_handle_of (thread_of (Self.view self.old) thread) (Self.view self.old).core) (Self.view self.old).core)) (Self.view self.old) (Self.view self.new) };
 
-    /// A thread is gone, as it stands, and no thread is behind it any more.
+    /// Removes a thread whatever its place is; no thread is behind it any more.
     fn remove_thread(&mut self, thread: ThreadId)
         requires live { 0 < thread_of (Self.view self.old) thread }
         requires apart { IsApart (thread_of (Self.view self.old) thread) (Self.view self.old).core }

@@ -18,15 +18,15 @@ use crate::work_primitives::WorkPrimitives;
 pub trait View {
     ghost view: { Self → StateView };
 
-    /// The thread that runs.
+    /// Returns the thread that runs.
     fn current(&self) -> Option<ThreadId>
         ensures { result ≡ (view self.now).current };
 
-    /// This thread runs, or none does.
+    /// Makes this thread the one that runs, or lets none run.
     fn set_current(&mut self, thread: Option<ThreadId>)
         ensures { view self.new ≡ with_current thread (view self.old) };
 
-    /// Nothing has the number 0, which is that of an id that names nothing.
+    /// Says that nothing has the number 0, which is that of an id that names nothing. It does nothing.
     fn none_is_zero(&self)
         ensures threads { get (view self.now).core.threads 0 ≡ None }
         ensures calls { get (view self.now).core.calls 0 ≡ None }
@@ -35,7 +35,7 @@ pub trait View {
         ensures groups { is_in (view self.now).tags.tracked 0 ≡ false };
 }
 
-/// All words.
+/// All primitives.
 pub trait Primitives: ThreadPrimitives
     + PlacePrimitives
     + CallPrimitives

@@ -20,55 +20,55 @@ use task_machine::{Course, HostDef, NoMemory, Phase, Stage};
 
 /// The records of host works.
 pub trait WorkPrimitives: View {
-    /// The number of a work; 0 where the id names none.
+    /// Returns the number of a work; 0 if the id names none.
     fn work_number(&self, work: WorkId) -> u64
         ensures { result ≡ work_of (Self.view self.now) work };
 
-    /// How the work goes on, with the polls that are left and its end, or how it has ended.
+    /// Returns how the work goes on, with the polls that are left and its end, or how it has ended.
     fn course(&self, work: WorkId) -> Course
         ensures { result ≡ course_of (work_of (Self.view self.now) work) (Self.view self.now).core };
 
-    /// The phase of the work's join handle.
+    /// Returns the phase of the work's join handle.
     fn phase(&self, work: WorkId) -> Phase
         ensures { result ≡ phase_of (work_of (Self.view self.now) work) (Self.view self.now).core };
 
-    /// Who has made the work: a spawn, or a thread, whose id names nothing where it is gone.
+    /// Returns who has made the work: a spawn, or a thread, whose id names nothing if it is gone.
     fn work_caller(&self, work: WorkId) -> WorkCallerId
         ensures { work_caller_in (Self.view self.now).tags result ≡ live_work_caller (work_caller_of (work_of (Self.view self.now) work) (Self.view self.now).core) (Self.view self.now).core };
 
-    /// The number of the work's group, if it is a call, as long as that group is known.
+    /// Returns the number of the work's group, if it is a call, as long as that group is tracked.
     fn work_group(&self, work: WorkId) -> Option<u64>
         ensures { result ≡ tracked_work_group (work_of (Self.view self.now) work) (Self.view self.now) };
 
-    /// Whether the work was cancelled by its caller.
+    /// Returns whether the work was cancelled by its caller.
     fn was_cancelled(&self, work: WorkId) -> bool
         ensures { result ≡ was_cancelled (work_of (Self.view self.now) work) (Self.view self.now).core };
 
-    /// The live work that is polled next, where those with numbers up to this one were.
+    /// Returns the live work that is polled next, where those with numbers up to this one were.
     fn next_polled(&self, polled: u64) -> Option<WorkId>
         ensures { option_map (λ id. work_of (Self.view self.now) id) result ≡ next_polled polled (Self.view self.now).core };
 
-    /// Whether a work is live, so that the loop polls it.
+    /// Returns whether a work is live, so that the loop polls it.
     fn has_live_work(&self) -> bool
         ensures { result ≡ has_live_work (Self.view self.now).core };
 
-    /// Whether some live work is polled to no end.
+    /// Returns whether some live work is polled to no end.
     fn has_moving_work(&self) -> bool
         ensures { result ≡ has_moving_work (Self.view self.now).core };
 
-    /// The work goes on so, or has ended so.
+    /// Sets how the work goes on, or how it has ended.
     fn set_course(&mut self, work: WorkId, course: Course)
         ensures { Self.view self.new ≡ on_core (set_course (work_of (Self.view self.old) work) course) (Self.view self.old) };
 
-    /// The phase of the work's join handle is this one.
+    /// Sets the phase of the work's join handle.
     fn set_phase(&mut self, work: WorkId, phase: Phase)
         ensures { Self.view self.new ≡ on_core (set_phase (work_of (Self.view self.old) work) phase) (Self.view self.old) };
 
-    /// The work is at this stage: at its first poll, queued, live, finishing or ended.
+    /// Sets the work's stage: at its first poll, queued, live, finishing or ended.
     fn set_stage(&mut self, work: WorkId, stage: Stage)
         ensures { Self.view self.new ≡ on_core (set_stage (work_of (Self.view self.old) work) stage) (Self.view self.old) };
 
-    /// A live work is pending at its poll: one poll fewer is left of it, or it is never to end or open, as before.
+    /// Counts a poll at which a live work was pending: one poll fewer is left of it, or it is never to end or open, as before.
     /// Answers whether a live work comes after it.
     fn count_poll(&mut self, work: WorkId) -> bool
         requires live { is_stage_live (stage_of (work_of (Self.view self.old) work) (Self.view self.old).core) ≡ true }
@@ -76,30 +76,29 @@ pub trait WorkPrimitives: View {
         ensures new { (left : Left) → PendsWith left (poll_of (work_of (Self.view self.old) work) (Self.view self.old).core) → Self.view self.new ≡ on_core (poll_pends (work_of (Self.view self.old) work) left) (Self.view self.old) }
         ensures more { result ≡ is_some (next_polled (work_of (Self.view self.old) work) (Self.view self.new).core) };
 
-    /// The work was cancelled by its caller.
+    /// Records that the work was cancelled by its caller.
     fn set_cancelled(&mut self, work: WorkId)
         ensures { Self.view self.new ≡ on_core (set_cancelled (work_of (Self.view self.old) work)) (Self.view self.old) };
 
-    /// A host was ready at its first poll: its work has its number, and no record.
+    /// Counts the work of a host that was ready at its first poll: it has its number, and no record.
     fn count_work(&mut self)
         requires { (Self.view self.old).core.made.works + 1 < 2 ^ 64 }
         ensures { Self.view self.new ≡ on_core count_work (Self.view self.old) };
 
-    /// Makes a spawned work, and its push. Where memory is wanting, all is as before.
+    /// Makes a spawned work, and its push. If it is out of memory, all is as before.
     fn queue_spawn(&mut self, host: HostDef) -> Result<WorkId, NoMemory>
         requires { (Self.view self.old).core.made.works + 1 < 2 ^ 64 }
         ensures { MakesRecord (names_work (next_work (Self.view self.old).core)) (work_queued work_callers.Spawn host None (Self.view self.old).core) (Self.view self.old) result (Self.view self.new) };
 
-    /// Makes the work of a thread's `call_sync`, in the thread's group, and its push. Where memory
-    /// is wanting, all is as before.
+    /// Makes the work of a thread's `call_sync`, in the thread's group, and its push. If it is out of memory, all is as before.
     fn queue_sync_call(&mut self, thread: ThreadId, host: HostDef) -> Result<WorkId, NoMemory>
         requires live { 0 < thread_of (Self.view self.old) thread }
         requires few { (Self.view self.old).core.made.works + 1 < 2 ^ 64 }
         requires room { fits 1 (Self.view self.old).core ≡ true }
         ensures { MakesRecord (names_work (next_work (Self.view self.old).core)) (work_queued (work_callers.Sync (thread_of (Self.view self.old) thread)) host (Some (thread_group (thread_of (Self.view self.old) thread) (Self.view self.old).core)) (Self.view self.old).core) (Self.view self.old) result (Self.view self.new) };
 
-    /// Makes the work of a thread's `call`, in the thread's group, with its push, and gives it a
-    /// handle in the thread's instance. Where memory is wanting, all is as before.
+    /// Makes the work of a thread's `call`, in the thread's group, with its push, and gives it a handle in the thread's instance.
+    /// If it is out of memory, all is as before.
     fn queue_call(
         &mut self,
         thread: ThreadId,
@@ -113,7 +112,7 @@ pub trait WorkPrimitives: View {
         ensures new { MakesRecord (names_work (next_work (Self.view self.old).core)) (with_handle (instance_of (thread_of (Self.view self.old) thread) (Self.view self.old).core) (subtasks.Host (next_work (Self.view self.old).core)) (work_queued (work_callers.Async (thread_of (Self.view self.old) thread) register) host (Some (thread_group (thread_of (Self.view self.old) thread) (Self.view self.old).core)) (Self.view self.old).core)) (Self.view self.old) result (Self.view self.new) }
         ensures small { OnOk result (new_handle (instance_of (thread_of (Self.view self.old) thread) (Self.view self.old).core) (Self.view self.old).core < 2 ^ 28) };
 
-    /// A work is gone, and its group is finished, if nothing of it is left.
+    /// Deletes a work, and finishes its group if nothing of the group is left.
     fn delete_work(&mut self, work: WorkId)
         requires live { 0 < work_of (Self.view self.old) work }
         requires unqueued { work_entries (work_of (Self.view self.old) work) (Self.view self.old).core.queues.high ≡ 0 }

@@ -1,4 +1,4 @@
--- Which values a line may have, apart from where it stands.
+-- Which values a line may have, apart from where it is.
 use Rattle.std.specs.Prelude.{ℕ, ◌^◌, Bool, true, false, nat_lt, nat_le, ◌&&◌}
 use Rattle.task_machine.specs.declared.op.Operand.{Operand}
 use Rattle.task_machine.specs.declared.op.Operand.TheVariants.{Number, Register}

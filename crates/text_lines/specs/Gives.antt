@@ -1,4 +1,4 @@
--- A step of reading gives a value or refuses it, unless memory is wanting.
+-- A step of reading gives a value or refuses it, unless it is out of memory.
 use Rattle.std.specs.Prelude.{◌≡◌, Option, Some, None, Result, Ok, Err}
 use Rattle.text_lines.specs.declared.line.LineError.{LineError}
 use Rattle.text_lines.specs.declared.line.LineError.TheVariants as errors
@@ -8,7 +8,7 @@ Gives (Ok x) read = read ≡ Some x
 Gives (Err errors.Bad) read = read ≡ None
 Gives (Err errors.NoMemory) read = Unit {0}
 
--- The same of a step that changes what it is given: it becomes the value.
+-- A step that changes what it is given, which becomes the value.
 abbrev pub BecomesValue : {X : Type 0} → X → Result (Unit {0}) LineError → Option X → Type 0
 BecomesValue now (Ok u) read = read ≡ Some now
 BecomesValue now (Err errors.Bad) read = read ≡ None

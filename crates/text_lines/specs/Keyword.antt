@@ -142,7 +142,7 @@ keywords_long =
     ∷ keyword.Thread thread.Index ∷ keyword.Thread thread.ResumeLater ∷ keyword.Thread thread.SuspendThenResume
     ∷ keyword.Thread thread.YieldThenResume ∷ keyword.Thread thread.SuspendThenPromote ∷ keyword.Thread thread.YieldThenPromote ∷ []
 
--- the keywords among which a word of this length stands
+-- the keywords among which a word of this length is
 abbrev pub keywords_of : ℕ → List Keyword
 keywords_of n =
     if n == 3 then keywords_three

@@ -1,4 +1,4 @@
--- A line as it is read, apart from where it stands.
+-- A line as it is read, apart from where it is.
 use Rattle.std.specs.Prelude.{ℕ, List, [], ◌∷◌, Option, Some, None, length, take, drop, ◌+◌, position, codes, ◌==◌, ◌&&◌, if◌then◌else◌}
 use Rattle.std.specs.Str.{bytes_eq}
 use Rattle.task_machine.specs.declared.op.Operand.{Operand}

@@ -15,7 +15,7 @@ infixl 10 ◌>>=◌
 abbrev pub ◌>>=◌ : {A B : Type 0} → Option A → (A → Option B) → Option B
 o >>= f = option_and_then f o
 
--- digits, the first of them not 0 where there are more
+-- digits, the first of them not 0 if there are more
 abbrev pub is_numeral : List ℕ → Bool
 is_numeral word =
     if length word == 0 then false

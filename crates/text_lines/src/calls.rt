@@ -89,7 +89,7 @@ fn call_sync_after(alloc: Global, words: &[&[u8]]) -> Result<NamedCall, LineErro
     Ok(NamedCall::CallSync(to, callee, params))
 }
 
-/// The line of an op on subtasks that the words after its first one complete.
+/// Returns the line of an op on subtasks that the words after its first one complete.
 #[inline(never)]
 #[tactic(auto, unfolding(crate::specs::Line::call_line_after))]
 pub fn call_line_after(alloc: Global, word: CallWord, words: &[&[u8]]) -> Result<Line, LineError>
@@ -113,7 +113,7 @@ pub fn call_line_after(alloc: Global, word: CallWord, words: &[&[u8]]) -> Result
     }
 }
 
-/// The names of the instance and the export that the words after `start` have, and its operands.
+/// Returns the names of the instance and the export that the words after `start` have, and its operands.
 #[tactic(auto, unfolding(crate::specs::Line::start_after))]
 pub fn start_words<'a>(
     alloc: Global,
@@ -134,7 +134,7 @@ fn start_after(alloc: Global, words: &[&[u8]]) -> Result<NamedOp, LineError>
     Ok(NamedOp::Start(instance, copied(alloc, export)?, operands))
 }
 
-/// The start that the words after `finish` name, and the register for its value.
+/// Returns the start that the words after `finish` name, and the register for its value.
 #[tactic(auto, unfolding(crate::specs::Line::finish_after))]
 pub fn finish_words(words: &[&[u8]]) -> Option<(u32, u8)>
     ensures { option_map (λ p. named.Finish p.0 p.1) result ≡ finish_after (map (λ w. w.now) words.now) }
@@ -179,7 +179,7 @@ fn ready_after(alloc: Global, words: &[&[u8]]) -> Result<NamedOp, LineError>
     Ok(NamedOp::Ready(instance, copied(alloc, export)?))
 }
 
-/// The op of main that the words after its first one complete.
+/// Returns the op of main that the words after its first one complete.
 #[inline(never)]
 #[tactic(auto, unfolding(crate::specs::Line::main_op_after))]
 pub fn main_op_after(alloc: Global, word: MainWord, words: &[&[u8]]) -> Result<NamedOp, LineError>

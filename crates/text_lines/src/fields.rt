@@ -46,7 +46,7 @@ pub fn four<'a>(words: &[&'a [u8]]) -> Option<(&'a [u8], &'a [u8], &'a [u8], &'a
     Some((words[0], words[1], words[2], words[3]))
 }
 
-/// The operands that words are.
+/// Returns the operands that words are.
 pub fn operands(alloc: Global, words: &[&[u8]]) -> Result<Seq<Operand>, LineError>
     ensures { Gives result (operands_at (map (λ w. w.now) words.now)) }
 {

@@ -118,7 +118,7 @@ pub enum Keyword {
 }
 
 impl HeadWord {
-    /// The word itself.
+    /// Returns the word itself.
     pub fn text(self) -> &'static [u8]
         ensures { result.now ≡ head_word self }
     {
@@ -132,7 +132,7 @@ impl HeadWord {
 }
 
 impl PartWord {
-    /// The word itself.
+    /// Returns the word itself.
     pub fn text(self) -> &'static [u8]
         ensures { result.now ≡ part_word self }
     {
@@ -148,7 +148,7 @@ impl PartWord {
 }
 
 impl DataWord {
-    /// The word itself.
+    /// Returns the word itself.
     pub fn text(self) -> &'static [u8]
         ensures { result.now ≡ data_word self }
     {
@@ -164,7 +164,7 @@ impl DataWord {
 }
 
 impl TaskWord {
-    /// The word itself.
+    /// Returns the word itself.
     pub fn text(self) -> &'static [u8]
         ensures { result.now ≡ task_word self }
     {
@@ -183,7 +183,7 @@ impl TaskWord {
 }
 
 impl SetWord {
-    /// The word itself.
+    /// Returns the word itself.
     pub fn text(self) -> &'static [u8]
         ensures { result.now ≡ set_word self }
     {
@@ -198,7 +198,7 @@ impl SetWord {
 }
 
 impl CallWord {
-    /// The word itself.
+    /// Returns the word itself.
     pub fn text(self) -> &'static [u8]
         ensures { result.now ≡ call_word self }
     {
@@ -213,7 +213,7 @@ impl CallWord {
 }
 
 impl ThreadWord {
-    /// The word itself.
+    /// Returns the word itself.
     pub fn text(self) -> &'static [u8]
         ensures { result.now ≡ thread_word self }
     {
@@ -232,7 +232,7 @@ impl ThreadWord {
 }
 
 impl MainWord {
-    /// The word itself.
+    /// Returns the word itself.
     pub fn text(self) -> &'static [u8]
         ensures { result.now ≡ main_word self }
     {
@@ -249,7 +249,7 @@ impl MainWord {
 }
 
 impl FrameWord {
-    /// The word itself.
+    /// Returns the word itself.
     pub fn text(self) -> &'static [u8]
         ensures { result.now ≡ frame_word self }
     {
@@ -339,7 +339,7 @@ const LONG: [Keyword; 10] = [
 ];
 
 impl Keyword {
-    /// The word itself.
+    /// Returns the word itself.
     pub fn text(self) -> &'static [u8]
         ensures { result.now ≡ keyword_text self }
     {
@@ -356,8 +356,7 @@ impl Keyword {
         }
     }
 
-    /// The keyword that a word is. It is sought among those of the word's length, the frequent ones
-    /// first.
+    /// Returns the keyword that a word is. It is sought among those of the word's length, the frequent ones first.
     pub fn from_word(word: &[u8]) -> Option<Keyword>
         ensures { result ≡ keyword_at word.now }
     {

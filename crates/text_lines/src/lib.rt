@@ -1,4 +1,4 @@
-//! The lines of a scenario text, each read apart from where it stands.
+//! The lines of a scenario text, each read apart from where it is.
 #![tactic(auto)]
 
 mod calls;

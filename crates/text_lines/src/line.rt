@@ -1,4 +1,4 @@
-//! One line, apart from where it stands.
+//! One line, apart from where it is.
 ghost use Rattle.std.specs.Prelude.{◌≡◌, map};
 ghost use Rattle.text_lines.specs.Line.{frame_after, line_after};
 ghost use Rattle.text_lines.specs.Gives.{Gives};
@@ -121,8 +121,8 @@ fn frame_after(alloc: Global, word: FrameWord, words: &[&[u8]]) -> Result<Line, 
     }
 }
 
-/// The line that a keyword and the words after it spell, in the one spelling that it has. Numbers that
-/// count earlier lines are at most 4,095 here.
+/// Returns the line that a keyword and the words after it spell, in the one spelling that it has. Numbers that count earlier lines
+/// are at most 4,095 here.
 #[tactic(auto, unfolding(crate::specs::Line::line_after))]
 pub fn line_after(alloc: Global, keyword: Keyword, words: &[&[u8]]) -> Result<Line, LineError>
     ensures { Gives result (line_after keyword (map (λ w. w.now) words.now)) }

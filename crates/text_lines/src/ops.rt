@@ -21,7 +21,7 @@ pub fn operand_after(words: &[&[u8]]) -> Option<Operand>
     operand(one(words)?)
 }
 
-/// A register and an operand, of two words.
+/// Returns a register and an operand, of two words.
 #[inline(always)]
 #[tactic(auto, unfolding(crate::specs::Line::target_after))]
 pub fn target(words: &[&[u8]]) -> Option<(u8, Operand)>
@@ -79,7 +79,7 @@ fn skip_after(words: &[&[u8]]) -> Option<DataOp>
     Some(DataOp::SkipEq { left, right, ops })
 }
 
-/// The op on registers that the words after its first one complete.
+/// Returns the op on registers that the words after its first one complete.
 #[tactic(auto, unfolding(crate::specs::Line::data_op_after))]
 pub fn data_op_after(word: DataWord, words: &[&[u8]]) -> Option<DataOp>
     ensures { result ≡ data_op_after word (map (λ w. w.now) words.now) }
@@ -103,8 +103,7 @@ pub fn data_op_after(word: DataWord, words: &[&[u8]]) -> Option<DataOp>
     }
 }
 
-/// The op that ends a task or an activation, or changes the backpressure, that the words after its
-/// first one complete.
+/// Returns the op that ends a task or an activation, or changes the backpressure, that the words after its first one complete.
 #[tactic(auto, unfolding(crate::specs::Line::task_op_after))]
 pub fn task_op_after(word: TaskWord, words: &[&[u8]]) -> Option<TaskOp>
     ensures { result ≡ task_op_after word (map (λ w. w.now) words.now) }
@@ -140,7 +139,7 @@ fn join_after(words: &[&[u8]]) -> Option<SetOp>
     Some(SetOp::Join { waitable, set })
 }
 
-/// The op on sets that the words after its first one complete.
+/// Returns the op on sets that the words after its first one complete.
 #[inline(never)]
 #[tactic(auto, unfolding(crate::specs::Line::set_op_after))]
 pub fn set_op_after(word: SetWord, words: &[&[u8]]) -> Option<SetOp>
@@ -176,7 +175,7 @@ fn new_thread_after(words: &[&[u8]]) -> Option<ThreadOp>
     Some(ThreadOp::New { to, slot, context })
 }
 
-/// The op on threads that the words after its first one complete.
+/// Returns the op on threads that the words after its first one complete.
 #[inline(never)]
 #[tactic(auto, unfolding(crate::specs::Line::thread_op_after))]
 pub fn thread_op_after(word: ThreadWord, words: &[&[u8]]) -> Option<ThreadOp>

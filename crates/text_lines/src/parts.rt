@@ -16,7 +16,7 @@ pub fn copied(alloc: Global, name: &[u8]) -> Result<Name, AllocError>
     Ok(Seq::from_vec(Vec::from_slice(alloc, name)?))
 }
 
-/// The line of the head that the words after its first one complete.
+/// Returns the line of the head that the words after its first one complete.
 #[inline(never)]
 #[tactic(auto, unfolding(crate::specs::Line::head_after))]
 pub fn head_after(word: HeadWord, words: &[&[u8]]) -> Option<HeadLine>
@@ -121,7 +121,7 @@ fn slot_after(words: &[&[u8]]) -> Option<u8>
     Some(bounded(one(words)?, 15)? as u8)
 }
 
-/// The line that opens a part, completed by the words after its first one.
+/// Returns the line that opens a part, completed by the words after its first one.
 #[inline(never)]
 #[tactic(auto, unfolding(crate::specs::Line::part_after))]
 pub fn part_after(alloc: Global, word: PartWord, words: &[&[u8]]) -> Result<PartLine, LineError>

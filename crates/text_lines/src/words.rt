@@ -92,7 +92,7 @@ fn digits(word: &[u8]) -> Option<u64>
     Some(value)
 }
 
-/// The number that a word is, 0 to 2^64 - 1, in decimal without leading zeros.
+/// Returns the number that a word is, 0 to 2^64 - 1, in decimal without leading zeros.
 #[tactic(auto, unfolding(crate::specs::Words::number_at, crate::specs::Words::digits_at))]
 pub fn number(word: &[u8]) -> Option<u64>
     ensures { result ≡ number_at word.now }
@@ -103,7 +103,7 @@ pub fn number(word: &[u8]) -> Option<u64>
     digits(word)
 }
 
-/// The number that a word is, up to a limit.
+/// Returns the number that a word is, up to a limit.
 #[tactic(auto, unfolding(crate::specs::Words::bounded_at))]
 pub fn bounded(word: &[u8], limit: u64) -> Option<u64>
     ensures value { result ≡ bounded_at limit word.now }
@@ -112,14 +112,14 @@ pub fn bounded(word: &[u8], limit: u64) -> Option<u64>
     number(word).filter(|n| *n <= limit)
 }
 
-/// The number that a word is in decimal without leading zeros, where that is at most the limit.
+/// Returns the number that a word is in decimal without leading zeros, where that is at most the limit.
 pub fn number_up_to(word: &[u8], limit: u64) -> Option<u64>
     ensures { MatchOption result ((n : ℕ) → n ≤ limit → word.now ≢ decimal n) (λ n. (word.now ≡ decimal n) × (n ≤ limit)) }
 {
     bounded(word, limit)
 }
 
-/// The register that a word names, `r0` to `r15`.
+/// Returns the register that a word names, `r0` to `r15`.
 #[tactic(auto, unfolding(crate::specs::Words::register_up_to))]
 pub fn register(word: &[u8]) -> Option<u8>
     ensures { result ≡ register_at word.now }
@@ -130,7 +130,7 @@ pub fn register(word: &[u8]) -> Option<u8>
     }
 }
 
-/// The register that a word names, `r0` to `r13`: the first of three that an event is written to.
+/// Returns the register that a word names, `r0` to `r13`: the first of three that an event is written to.
 #[tactic(auto, unfolding(crate::specs::Words::register_up_to))]
 pub fn event_register(word: &[u8]) -> Option<u8>
     ensures { result ≡ register_up_to 13 word.now }
@@ -141,7 +141,7 @@ pub fn event_register(word: &[u8]) -> Option<u8>
     }
 }
 
-/// The number or register that a word is.
+/// Returns the number or register that a word is.
 #[tactic(auto, unfolding(crate::specs::Words::operand_at))]
 pub fn operand(word: &[u8]) -> Option<Operand>
     ensures { result ≡ operand_at word.now }
@@ -152,7 +152,7 @@ pub fn operand(word: &[u8]) -> Option<Operand>
     }
 }
 
-/// What happens where nothing goes on, as a word says it.
+/// Returns what happens where nothing goes on, as a word says it.
 #[tactic(auto, unfolding(crate::specs::Words::idle_at))]
 pub fn idle_line(word: &[u8]) -> Option<IdleLine>
     ensures { result ≡ idle_at word.now }
@@ -163,7 +163,7 @@ pub fn idle_line(word: &[u8]) -> Option<IdleLine>
     (word == b"wait".as_slice()).then_some(IdleLine::Wait)
 }
 
-/// The kind of an export, as a word says it.
+/// Returns the kind of an export, as a word says it.
 #[tactic(auto, unfolding(crate::specs::Words::kind_at))]
 pub fn export_kind(word: &[u8]) -> Option<ExportKind>
     ensures { result ≡ kind_at word.now }
@@ -192,7 +192,7 @@ fn all_name_bytes(word: &[u8]) -> bool
     word.iter().all(|b| is_name_byte(*b))
 }
 
-/// Whether a word may be a name: 1 to 16 of `a` to `z`, `0` to `9` and `_`, a letter first.
+/// Returns whether a word may be a name: 1 to 16 of `a` to `z`, `0` to `9` and `_`, a letter first.
 pub fn is_name(word: &[u8]) -> bool
     ensures { result ≡ is_name word.now }
 {

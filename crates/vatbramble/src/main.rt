@@ -7,7 +7,7 @@ use std::process::ExitCode;
 use std::{env, io};
 use task_run::{StdSink, StdSource, tool};
 
-// The status where memory is wanting.
+// The status if it is out of memory.
 const NO_MEMORY: u8 = 1;
 
 // The words behind the program's name; none if one of them isn't text.

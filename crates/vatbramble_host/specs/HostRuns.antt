@@ -25,8 +25,8 @@ host_setting x = record { component = x.component; script = []; idle = x.idle }
 abbrev pub host_opening : Scenario → State
 host_opening x = state_at (fresh (length x.component.instances) x.handles x.table) Unscripted turn.Main
 
--- Some run of the machine with at most so many steps shows these labels and has come to this outcome. It writes each end once, and hands it
--- out once.
+-- Some run of the machine with at most so many steps shows these labels and has ended in this outcome. It writes each end once, and
+-- hands it out once.
 pub record IsHostRunOf (x : Scenario) (steps : ℕ) (trace : List Label) (outcome : Outcome) : Type 0 where
   pub last : State
   pub run : Run (host_setting x) (host_opening x) trace last

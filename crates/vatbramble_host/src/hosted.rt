@@ -31,7 +31,7 @@ pub struct Hosted {
     ghost codes: { CodesInCallbacks scenario.component },
 }
 
-/// What a run of a host has come to.
+/// What a run of a host has resulted in.
 #[derive(Drop)]
 pub struct HostRun<D: Drop> {
     /// The labels of the run, in order.
@@ -60,7 +60,7 @@ impl Hosted {
         }
     }
 
-    /// The export that the text gives these names to, of an instance and in it. It is refused exactly if there is none.
+    /// Returns the export that the text gives these names to, of an instance and in it. It is refused exactly if there is none.
     pub fn func(&self, instance: &str, export: &str) -> Result<Func, HostError>
         ensures named { IfOk result (λ f. func_named self.now.scenario.names instance.now export.now ≡ Some f) }
         ensures none { IfErr result (λ e. func_named self.now.scenario.names instance.now export.now ≡ None) }
@@ -113,9 +113,9 @@ impl Hosted {
         })
     }
 
-    /// Runs the host over the component, in a new store, for at most so many steps. The trace is a run of the component machine from
-    /// that store, with a main that is no script, and the outcome is what that run has come to. An idle run ends as the text's
-    /// idle line says. A call of an open host never ends. If it is refused, memory is wanting.
+    /// Runs the host over the component, in a new store, for at most so many steps. The trace is a run of the component machine
+    /// from that store, with a main that is no script, and the outcome is what that run has resulted in. An idle run ends as the
+    /// text's idle line says. A call of an open host never ends. If it is refused, it is out of memory.
     pub fn run<D: HostMain + Drop>(
         &self,
         alloc: Global,
@@ -131,8 +131,8 @@ impl Hosted {
         }
     }
 
-    /// The same, with a value of the host and works of its own: a call of an open host is a work `W`, whose polls may change that
-    /// value.
+    /// Runs the component with a value of the host and works of its own: a call of an open host is a work `W`, whose polls may
+    /// change that value.
     pub fn run_open<T: Drop, W: OpenTask<T> + CalledTask, D: HostMain + Drop>(
         &self,
         alloc: Global,
@@ -189,7 +189,7 @@ impl Hosted {
 }
 
 impl<D: Drop> HostRun<D> {
-    /// The report of the run: its labels, one a line, and the line of its outcome.
+    /// Returns the report of the run: its labels, one a line, and the line of its outcome.
     pub fn print(&self, alloc: Global) -> Result<Vec<u8>, HostError>
         ensures report { IfOk result (λ out. out.items ≡ text self.now.trace self.now.outcome) }
         ensures error { IfErr result (λ e. e ≡ HostError.NoMemory) }

@@ -40,7 +40,7 @@ fn exports_named(names: &[InstanceNames], place: u32) -> &[Seq<u8>]
     }
 }
 
-/// The export of these names.
+/// Finds the export of these names.
 #[tactic(auto, unfolding(crate::specs::Named::func_named))]
 pub(crate) fn func_named(names: &[InstanceNames], instance: &[u8], export: &[u8]) -> Option<Func>
     ensures { result ≡ func_named names.now instance.now export.now }

@@ -1,4 +1,4 @@
--- A state in order has what the facts of wakes stand on.
+-- A state in order has what the facts of wakes rest on.
 use Rattle.task_machine.specs.declared.op.Op.{Op}
 use Rattle.task_places.proofs.BlockedLemmas.{inside_of}
 use Rattle.task_laws.proofs.Words.{subtask_handle}

@@ -8,7 +8,7 @@ use Rattle.wake_laws.proofs.EaseLemmas.{callers_kept, Moves, moves_keep, nobody,
 use Rattle.wake_laws.proofs.MoveLemmas.{member_as}
 use Rattle.wake_laws.specs.Stands.{PopKeeps, SwitchReady}
 
--- only what stands at the marks is otherwise
+-- only what is at the marks is otherwise
 queue_moves : (q : Queues) (s : Core) → (SwitchReady s → SwitchReady (record s { queues = q })) → Moves s (record s { queues = q })
 queue_moves q s switch = record {
   callers = callers_kept nobody s t (none_leaves s t) (λ n. inl refl);

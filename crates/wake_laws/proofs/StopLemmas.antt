@@ -51,7 +51,7 @@ module _ (f : ℕ) (s : Core) (h : NoWakeLost s) where
   one_listed : (j : ℕ) → 1 ≤ times j cs → times j cs ≡ 1
   one_listed j one = let at = was_listed j f in grind (arith, nat_tests, at, one)
 
-  -- what a thread comes to, by what stands at switch
+  -- what a thread results in, by what is at switch
   abbrev Comes : Option ℕ → ℕ → Core → Type 0
   Comes o j v = ((place_of j v ≡ place_of j s) × (times j cs ≡ 0)) ⊎ ((1 ≤ times j cs) ×
       (((o ≡ None) × ((y : Mark) × (place_of j v ≡ Some (Place.Ready y Why.Resumption)))) ⊎ ((m : ℕ) × ((o ≡ Some m) × (place_of j v ≡ Some (Place.Behind (foot_of m u)))))))
@@ -99,7 +99,7 @@ module _ (f : ℕ) (s : Core) (h : NoWakeLost s) where
   unfolding stopped set_callers
   passed_switch k at = ap (λ (o : Option ℕ). (passed_on o cs u).queues.switch) at ∙ ap (λ q. q.switch) (behind_switch (foot_of k u) cs u)
 
-  -- the newest caller stands at switch
+  -- the newest caller is at switch
   newest_stands : (ns : List ℕ) (m : ℕ) → s.queues.switch ≡ None → ((k : ℕ) → 1 ≤ times k ns → (is_there k s ≡ true) × (times k ns ≡ 1)) → (resumed_callers ns u).queues.switch ≡ Some m →
       is_at m (resumed_callers ns u) is_at_switch ≡ true
   unfolding put_switch set_switch
@@ -172,7 +172,7 @@ module _ (f : ℕ) (s : Core) (h : NoWakeLost s) where
   there_same : (j : ℕ) → is_there j t ≡ is_there j s
   there_same j = let same = shifted.threads j in grind (arith, same)
 
-  -- the lists of callers, by what stands at switch
+  -- the lists of callers, by what is at switch
   lists : (o : Option ℕ) → s.queues.switch ≡ o → (j g : ℕ) → times j (callers_of g (passed_on o cs u)) ≡ (if g == f then 0 else times j (callers_of g s)) + option_map_or (λ (m : ℕ). if g == foot_of m u then times j cs else 0) o 0
   unfolding put_switch set_switch set_place on_thread
   lists (Some m) is j g = let all = behind_lists (foot_of m u) cs u j g in grind (arith, nat_tests, get-insert, all)

@@ -30,12 +30,12 @@ OneBlocked s = (n m : ℕ) (sub : Subtask) → place_of n s ≡ Some (place.Bloc
 abbrev pub CallersBehind : Core → Type 0
 CallersBehind s = (n f : ℕ) → times n (callers_of f s) ≡ (if is_there f s then says (is_behind_of f) (place_of n s) else 0)
 
--- what stands at switch is ready there
+-- what is at switch is ready there
 abbrev pub SwitchReady : Core → Type 0
 SwitchReady s = (m : ℕ) → s.queues.switch ≡ Some m → is_at m s is_at_switch ≡ true
 
--- The four facts of `wakes`, and what else is so of each core in order on which they stand. A thread whose item was taken, and that hasn't
--- gone on yet, counts as ready.
+-- The four facts of `wakes`, and what else is so of each core in order on which they are. A thread whose item was taken, and that
+-- hasn't gone on yet, counts as ready.
 pub record NoWakeLost (s : Core) : Type 0 where
   pub counted : WakesCounted s
   pub callers : CallersGoOn s
@@ -96,8 +96,8 @@ PopKeeps = (m : Mark) (s : Core) → KeepsWakes s (popped m s)
 unfoldable pub StopKeeps : Type 0
 StopKeeps = (f : ℕ) (s : Core) → KeepsWakes s (stopped f s)
 
--- The thread is there, stands at no mark and is behind nobody, and nobody is behind it or under it. It isn't woken: its item isn't in hand,
--- and it isn't inside a wait in which it was resumed.
+-- The thread is there, is at no mark and is behind nobody, and nobody is behind it or under it. It isn't woken: its item isn't in
+-- hand, and it isn't inside a wait in which it was resumed.
 pub record MayLeave (n : ℕ) (s : Core) : Type 0 where
   pub there : is_there n s ≡ true
   pub switch : (m : ℕ) → s.queues.switch ≡ Some m → (m == n) ≡ false
@@ -110,7 +110,7 @@ pub record MayLeave (n : ℕ) (s : Core) : Type 0 where
 unfoldable pub EndKeeps : Type 0
 EndKeeps = (n : ℕ) (s : Core) → MayLeave n s → KeepsWakes s (ended n s)
 
--- The thread is there, stands at no mark and is behind nobody. Where it is woken for a set, it is inside a wait on that set.
+-- The thread is there, is at no mark and is behind nobody. Where it is woken for a set, it is inside a wait on that set.
 pub record MayComeToRun (n : ℕ) (s : Core) : Type 0 where
   pub there : is_there n s ≡ true
   pub switch : (m : ℕ) → s.queues.switch ≡ Some m → (m == n) ≡ false

@@ -1,4 +1,4 @@
--- A release of two chains: always the thread of the lesser seat is put at high, and leaves its chain.
+-- A release of two chains: always the thread of the lesser order key is put at high, and leaves its chain.
 use Rattle.task_records.proofs.Core.{[], ap, ap₂, arith, Bool, ChangesOnly, ChangesOnly-unlinked, cond, entries, eq-eqb, false, filter, has, head_of, held_why_of, In, inl, inr, is_some, IsLinks, IsSome, IsUnqueued, length, link_of, List, list_of, list_or_nil, made_linked, map, None, on_core, Once, Option, option_map, put_high, refl, removed, removed_by, same_Some, seen, Some, Spot, StateView, subst, sym, true, Why, without, ℕ, ◌<◌, ◌==◌, ◌||◌, ◌∙◌, ◌∷◌, ◌≡◌, ◌⊎◌}
 use Rattle.std.proofs.lemmas.Bool.{or_left, or_right}
 use Rattle.task_records.specs.declared.parts.CoreParts.{CoreParts}

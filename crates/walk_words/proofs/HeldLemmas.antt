@@ -176,7 +176,7 @@ module _ (a : CoreParts) (sound : IsSoundCore a) where
   home_at r q at = sound.whole.named.threads r _ (place_mapped (on_item bare_thread) a.threads r q at)
 
   module _ (starts : Bool) (i n : ℕ) where
-    -- a thread that stands at a place is listed as its entry says
+    -- a thread that is at a place is listed as its entry says
     held_at : (r : ℕ) (t : Thread) (j : ℕ) (c : Bool) (o : Option (Placed (Single GuestThread))) → place_at a.threads r ≡ o → key_in held_key o ≡ Some (n, (t, (j, c))) → listed_in starts i (seen a).core n ≡ holds_in starts i (n, (t, (j, c)))
     unfolding seen IsSoundCore
     held_at r t j c None at is = absurd (cc)

@@ -1,4 +1,4 @@
--- Two chains, of which always the node of the lesser seat leaves.
+-- Two chains, of which always the node of the lesser order key leaves.
 use Rattle.task_records.proofs.Core.{[], ap, Bool, cond, eq-eqb, false, has, List, map, Once, refl, subst, sym, true, ℕ, ◌==◌, ◌||◌, ◌∙◌, ◌∷◌, ◌≡◌}
 use Rattle.std.proofs.Math.Bool.{or_assoc}
 use Rattle.std.proofs.lemmas.Bool.{or_parts, or_right}

@@ -1,4 +1,4 @@
--- Two chains as one list stand in the order of places in the resource table.
+-- Two chains as one list are in the order of places in the resource table.
 use Rattle.task_records.proofs.Core.{[], ap, Bool, false, IsAscending, IsSoundCore, List, map, refl, subst, sym, true, ℕ, ◌∙◌, ◌∷◌, ◌≡◌}
 use Rattle.std.proofs.lemmas.Bool.{or_from, or_parts}
 use Rattle.task_records.specs.declared.parts.CoreParts.{CoreParts}

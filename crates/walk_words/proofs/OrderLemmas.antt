@@ -1,4 +1,4 @@
--- The threads of a chain of places stand in the order of their places in the resource table.
+-- The threads of a chain of places are in the order of their places in the resource table.
 use Rattle.task_records.proofs.Core.{[], ap, ap₂, bare, Bool, cond, Each, false, Filing, filings, filings_at, filter, IsAscending, IsSoundCore, key_in, link_of, List, map, None, number_in, number_in_link, Option, option_and_then, option_map, parts_of, place_at, place_chain, place_filing, refl, same_Some, Some, sym, thread_key, true, Where, where_at, ℕ, ◌∙◌, ◌∷◌, ◌≡◌}
 use Rattle.std.proofs.lemmas.Bool.{or_parts}
 use Rattle.task_records.specs.declared.{parts.CoreParts.CoreParts, single.Single.Single, thread_records.GuestThread.GuestThread}
@@ -15,13 +15,13 @@ use Rattle.task_wait.specs.Sets.{IsLeast}
 use Rattle.walk_words.specs.Order.{AreInOrder, NotBefore}
 use Rattle.walk_words.specs.Walks.{at_place, at_order_key, of_node}
 
--- each node of the list is in some chain with its seat
+-- each node of the list is in some chain with its order key
 abbrev pub AreKeyed : CoreParts → List (ℕ × OrderKey) → Type 0
 AreKeyed a [] = Unit {0}
 AreKeyed a (e ∷ es) = ((c : ℕ) × (link_of a.places e.0 ≡ Some (c, e.1))) × AreKeyed a es
 
 module _ (a : CoreParts) (sound : IsSoundCore a) where
-  -- a link's seat is that of the thread with the number at its place
+  -- a link's order key is that of the thread with the number at its place
   order_key_here : (node c : ℕ) (v : OrderKey) → link_of a.places node ≡ Some (c, v) → (r : ℕ) (q : Standing (Single GuestThread)) → place_at a.threads r ≡ Some q → q.entry.item.number ≡ at_place a v.place → thread_order_key r q.entry.item ≡ v
   unfolding IsSoundCore
   order_key_here node c v link r q there number = by o.0 o.1.0 o.1.1.0 o.1.1.1 (place_at a.threads o.0) refl
@@ -48,7 +48,7 @@ module _ (a : CoreParts) (sound : IsSoundCore a) where
   number_is : (c : ℕ) (e : ℕ × OrderKey) → link_of a.places e.0 ≡ Some (c, e.1) → of_node a e.0 ≡ at_place a e.1.place
   number_is c e link = ap (number_in_link (at_order_key a)) link
 
-  -- one that stands later, of whatever chain, doesn't come before
+  -- one that is later, of whatever chain, doesn't come before
   not_before : (c d : ℕ) (e k : ℕ × OrderKey) → link_of a.places e.0 ≡ Some (c, e.1) → link_of a.places k.0 ≡ Some (d, k.1) → is_lt (order_key_order k.1 e.1) ≡ false → NotBefore a (of_node a e.0) (of_node a k.0)
   not_before c d e k e_link k_link off r q there is_e s p here is_k =
       let one = order_key_here e.0 c e.1 e_link r q there (is_e ∙ number_is c e e_link) in
@@ -72,7 +72,7 @@ module _ (a : CoreParts) (sound : IsSoundCore a) where
   pub chain_in_order : (c : ℕ) (l : List (ℕ × OrderKey)) → AreLinked a.places c l → IsAscending order_key_order l → AreInOrder a (map (λ e. of_node a e.0) l)
   chain_in_order c l linked up = keyed_in_order l (keyed_chain c l linked) up
 
--- those of the list that pass stand in the same order
+-- those of the list that pass are in the same order
 module _ (a : CoreParts) (test : ℕ → Bool) where
   each_filter : (n : ℕ) (ms : List ℕ) → Each (NotBefore a n) ms → Each (NotBefore a n) (filter test ms)
   each_filter n [] all = tt

@@ -76,7 +76,7 @@ not_less v e is = ge_from_not_lt v.number e.number (by (nat_cmp v.number e.numbe
     by Equal q is = refl
     by Greater q is = refl
 
--- what stands after a work has a number as great
+-- what is after a work has a number as great
 above_all : (e : LiveWork) (es : List (ℕ × LiveWork)) → IsLeast live_order e es → (k : ℕ) → has k (live_numbers es) ≡ true → e.number ≤ k
 above_all e [] least k is = absurd (cc)
 above_all e (f ∷ fs) least k is =

@@ -216,7 +216,7 @@ held_positive a sound n held = by n held
     by zero is = absurd (let two = sym is ∙ ap is_some none_there in cc)
     by (suc m) is = omega arith
 
--- what leaves with the node of a thread leaves with the node that stands for it
+-- what leaves with the node of a thread leaves with the node that represents it
 pub leaves : (a : CoreParts) → IsSoundCore a → (id : TableId ThreadKey) → 0 < thread_of (seen a) id → (node : ℕ) → IsSome (link_of a.places node) → thread_of (seen a) id ≡ of_node a node → (new : List (Spot OrderKey)) → ((g : GuestThread) → Ok g ≡ item_at item_of a.threads id.rep id.serial → new ≡ removed g.node.index a.places) → new ≡ removed node a.places
 leaves a sound id live node linked named new takes = by (item_at item_of a.threads id.rep id.serial) refl (link_of a.places node) refl linked
   where

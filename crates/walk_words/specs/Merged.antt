@@ -1,4 +1,4 @@
--- Two chains as one list, by the seats of their nodes.
+-- Two chains as one list, by the order keys of their nodes.
 use Rattle.std.specs.Ordering.{is_lt}
 use Rattle.std.specs.Prelude.{ℕ, if◌then◌else◌, List, [], ◌∷◌, map}
 use Rattle.table_order.specs.declared.ordered_lists.OrderKey.{OrderKey}
@@ -11,7 +11,7 @@ abbrev pub into : ℕ × OrderKey → (List (ℕ × OrderKey) → List (ℕ × O
 into x rest [] = x ∷ rest []
 into x rest (y ∷ ys) = if is_lt (order_key_order y.1 x.1) then y ∷ into x rest ys else x ∷ rest (y ∷ ys)
 
--- always the entry of the lesser seat of the two that come first
+-- always the entry of the lesser order key of the two that come first
 abbrev pub merged : List (ℕ × OrderKey) → List (ℕ × OrderKey) → List (ℕ × OrderKey)
 merged [] ys = ys
 merged (x ∷ xs) ys = into x (merged xs) ys

@@ -11,7 +11,7 @@ abbrev pub NotBefore : CoreParts → ℕ → ℕ → Type 0
 NotBefore a n m =
     EachEntry (λ g. g.number ≡ n → EachEntry (λ h. h.number ≡ m → is_lt (thread_order h g) ≡ false) a.threads) a.threads
 
--- no thread of the list comes before one that stands earlier in it
+-- no thread of the list comes before one that is earlier in it
 abbrev pub AreInOrder : CoreParts → List ℕ → Type 0
 AreInOrder a [] = Unit {0}
 AreInOrder a (n ∷ ns) = Each (NotBefore a n) ns × AreInOrder a ns

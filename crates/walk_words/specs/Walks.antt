@@ -16,7 +16,7 @@ at_place a place = number_in (record_at thread_key a.threads.places place)
 abbrev pub at_order_key : CoreParts → OrderKey → ℕ
 at_order_key a order_key = at_place a order_key.place
 
--- the number of the thread that a node stands for, and those of a chain, in order
+-- the number of the thread that a node represents, and those of a chain, in order
 abbrev pub of_node : CoreParts → ℕ → ℕ
 of_node a n = number_at (at_order_key a) a.places n
 

@@ -42,7 +42,7 @@ fn admits(parts: &CoreParts, thread: ThreadId, why: Why) -> bool
     }
 }
 
-/// Whether the thread is held in the instance and is admitted now.
+/// Returns whether the thread is held in the instance and is admitted now.
 #[inline(always)]
 pub(crate) fn is_admitted(parts: &CoreParts, instance: u32, thread: ThreadId) -> bool
     requires { IsSoundCore parts.now }
@@ -73,7 +73,7 @@ fn some_admitted(parts: &CoreParts, instance: u32, chain: usize) -> bool
     false
 }
 
-/// Whether a held thread of the instance is admitted. Where the instance is open, all are but the barred starts, which are
+/// Returns whether a held thread of the instance is admitted. Where the instance is open, all are but the barred starts, which are
 /// where no backpressure is; where it is shut, none of these is, and the others are looked at.
 pub fn has_admitted(parts: &CoreParts, instance: u32) -> bool
     requires { IsSoundCore parts.now }
@@ -101,7 +101,7 @@ fn has_any(parts: &CoreParts, chain: usize) -> bool
     parts.places.first(chain).is_some()
 }
 
-/// Whether some thread of the instance is held.
+/// Returns whether some thread of the instance is held.
 pub fn has_held(parts: &CoreParts, instance: u32) -> bool
     requires { IsSoundCore parts.now }
     ensures { result ≡ not (is_nil (held_in instance (seen parts.now).core)) }

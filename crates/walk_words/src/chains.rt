@@ -8,7 +8,7 @@ ghost use Rattle.walk_words.specs.Walks.{of_node};
 use task_records::{CoreParts, Node, standing_thread, thread_at};
 use task_words::ThreadId;
 
-/// The thread that a node stands for.
+/// Returns the thread that a node represents.
 pub(crate) fn node_thread(parts: &CoreParts, node: Node) -> ThreadId
     requires { IsSome (link_of parts.now.places node.index) }
     ensures { thread_of (seen parts.now) result ≡ of_node parts.now node.index }
@@ -19,7 +19,7 @@ pub(crate) fn node_thread(parts: &CoreParts, node: Node) -> ThreadId
     }
 }
 
-/// The thread that a node stands for, which is there: nothing is tested.
+/// Returns the thread that a node represents, which is there: nothing is tested.
 pub(crate) fn held_thread(parts: &CoreParts, node: Node) -> ThreadId
     requires link { IsSome (link_of parts.now.places node.index) }
     requires live { 0 < of_node parts.now node.index }
@@ -31,7 +31,7 @@ pub(crate) fn held_thread(parts: &CoreParts, node: Node) -> ThreadId
     }
 }
 
-/// The law that each node of a chain has its seat there. It does nothing.
+/// The law that each node of a chain has its order key there. It does nothing.
 #[inline(always)]
 pub(crate) fn nodes_have_order_keys(parts: &CoreParts, chain: usize)
     requires { IsSome (list_of parts.now.places chain) }

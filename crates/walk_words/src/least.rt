@@ -46,7 +46,7 @@ fn least(parts: &CoreParts, chain: usize) -> Option<ThreadId>
     least
 }
 
-/// The thread that waits under this one for its direct callee: of those in the chain that of the least number. Where the
+/// Returns the thread that waits under this one for its direct callee: of those in the chain that of the least number. Where the
 /// machine has come there itself one thread at most is under another, so that takes constant time.
 #[inline(always)]
 pub fn under(parts: &CoreParts, thread: ThreadId) -> Option<ThreadId>
@@ -59,7 +59,7 @@ pub fn under(parts: &CoreParts, thread: ThreadId) -> Option<ThreadId>
     least(parts, found.under)
 }
 
-/// The thread that is blocked on a subtask: of those in the chain that of the least number. Where the machine has come
+/// Returns the thread that is blocked on a subtask: of those in the chain that of the least number. Where the machine has come
 /// there itself one thread at most is blocked on a subtask, so that takes constant time.
 pub fn blocked_on(parts: &CoreParts, subtask: SubtaskId) -> Option<ThreadId>
     requires sound { IsSoundCore parts.now }

@@ -1,5 +1,4 @@
-//! The live work that is polled next. The live works stand in order of number, so it is the one after the work that was
-//! polled last.
+//! The live work that is polled next. The live works are in order of number, so it is the one after the work that was polled last.
 ghost use Rattle.std.specs.List.{find};
 ghost use Rattle.std.specs.Prelude.{◌≡◌, IsSome, is_some, nat_lt, option_map, true};
 ghost use Rattle.task_links.specs.Links.{AreLinked, IsLinks, entries, list_of};
@@ -76,7 +75,7 @@ fn first_above(parts: &CoreParts, chain: usize, polled: u64) -> Option<WorkId>
     first_from(parts, chain, polled, start)
 }
 
-/// The live work that is polled next, where those with numbers up to this one were. Where this one is the number of the
+/// Returns the live work that is polled next, where those with numbers up to this one were. Where this one is the number of the
 /// work that was polled last, or 0, that takes constant time.
 pub fn next_polled(parts: &CoreParts, polled: u64) -> Option<WorkId>
     requires { IsSoundCore parts.now }
@@ -88,7 +87,7 @@ pub fn next_polled(parts: &CoreParts, polled: u64) -> Option<WorkId>
     }
 }
 
-// Whether a live work stands after this node, whose work has this number.
+// Whether a live work is after this node, whose work has this number.
 #[inline(always)]
 fn has_more(parts: &CoreParts, node: Node, number: u64) -> bool
     requires sound { IsSoundCore parts.now }
@@ -120,8 +119,8 @@ fn count_down(course: &mut Course)
     }
 }
 
-/// A live work is pending at its poll: one poll fewer is left of it, or it is never to end, as before. Answers whether a
-/// live work comes after it.
+/// Counts a poll at which a live work was pending: one poll fewer is left of it, or it is never to end, as before. Answers whether
+/// a live work comes after it.
 pub fn count_poll(parts: &mut CoreParts, work: WorkId) -> bool
     requires sound { IsSoundCore parts.old }
     requires live { is_stage_live (stage_of (work_of (seen parts.old) work) (seen parts.old).core) ≡ true }

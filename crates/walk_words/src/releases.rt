@@ -100,7 +100,7 @@ fn release_chain(parts: &mut CoreParts, instance: u32, chain: usize)
     }
 }
 
-// The first node of two chains by its seat: `None` where both are empty.
+// The first node of two chains by its order key: `None` where both are empty.
 fn first_of(parts: &CoreParts, chain: usize, other: usize) -> Option<Node>
     requires chain { IsSome (list_of parts.now.places chain) }
     requires other { IsSome (list_of parts.now.places other) }
@@ -119,7 +119,7 @@ fn first_of(parts: &CoreParts, chain: usize, other: usize) -> Option<Node>
     }
 }
 
-// Puts all of two chains of held threads at high, by their seats: all are admitted.
+// Puts all of two chains of held threads at high, by their order keys: all are admitted.
 fn release_both(parts: &mut CoreParts, instance: u32, chain: usize, other: usize)
     requires sound { IsSoundCore parts.old }
     requires placed { Placed (seen parts.old).core }

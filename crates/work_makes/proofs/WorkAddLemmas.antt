@@ -35,7 +35,7 @@ group_number r = r.number
 abbrev group_calls : TaskGroup → ℕ
 group_calls r = r.calls
 
--- few stand in a table
+-- few are in a table
 places_few : {E X : Type 0} (key : E → Option (ℕ × X)) (t : Table E) → IsTable t → AreApart key t.places → length (records key t.places).list ≤ 4294967295
 unfolding size
 places_few key t table apart =

@@ -29,7 +29,7 @@ use task_table::TableId;
 use task_wait::GroupKey;
 use task_words::{SubtaskId, ThreadId, WorkId};
 
-// Gives a work its handle in an instance. Where memory is wanting, all is as before.
+// Gives a work its handle in an instance. If it is out of memory, all is as before.
 fn name_work(parts: &mut CoreParts, instance: u32, work: WorkId) -> Result<u32, NoMemory>
     requires sound { IsSoundCore parts.old }
     requires there { instance < length parts.old.instances.items }
@@ -73,8 +73,7 @@ fn drop_work(parts: &mut CoreParts, id: TableId<GroupKey>, group: TaskGroup, new
     parts.kept.used -= 1;
 }
 
-// A work that is queued, with nodes that were made for it, its handle and its push. Where memory is
-// wanting, it isn't there.
+// A work that is queued, with nodes that were made for it, its handle and its push. If it is out of memory, it isn't there.
 fn call_work(
     parts: &mut CoreParts,
     request: WorkRequest,
@@ -154,8 +153,8 @@ fn queue_call_at(
     }
 }
 
-/// Makes the work of a thread's `call`, in the thread's group, with its push, and gives it a handle
-/// in the thread's instance. Where memory is wanting, all is as before.
+/// Makes the work of a thread's `call`, in the thread's group, with its push, and gives it a handle in the thread's instance. If it
+/// is out of memory, all is as before.
 #[tactic(auto, unfolding(task_records::specs::Seen::seen, task_records::specs::Seen::IsSoundCore))]
 pub fn queue_call(
     parts: &mut CoreParts,

@@ -22,8 +22,7 @@ use task_table::TableId;
 use task_wait::GroupKey;
 use task_words::{ThreadId, WorkId};
 
-// A work that is queued, with nodes that were made for it, and its push. Where memory is wanting, all
-// is as before.
+// A work that is queued, with nodes that were made for it, and its push. If it is out of memory, all is as before.
 fn queue_work(
     parts: &mut CoreParts,
     request: WorkRequest,
@@ -52,7 +51,7 @@ fn queue_work(
     }
 }
 
-/// Makes a spawned work, and its push. Where memory is wanting, all is as before.
+/// Makes a spawned work, and its push. If it is out of memory, all is as before.
 pub fn queue_spawn(parts: &mut CoreParts, host: HostDef) -> Result<WorkId, NoMemory>
     requires sound { IsSoundCore parts.old }
     requires few { (seen parts.old).core.made.works + 1 < 2 ^ 64 }
@@ -109,8 +108,7 @@ fn queue_sync_call_at(
     }
 }
 
-/// Makes the work of a thread's `call_sync`, in the thread's group, and its push. Where memory is
-/// wanting, all is as before.
+/// Makes the work of a thread's `call_sync`, in the thread's group, and its push. If it is out of memory, all is as before.
 #[tactic(auto, unfolding(task_records::specs::Seen::seen, task_records::specs::Seen::IsSoundCore))]
 pub fn queue_sync_call(
     parts: &mut CoreParts,

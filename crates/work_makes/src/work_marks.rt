@@ -5,7 +5,7 @@ use node_words::make_live_chain;
 use task_machine::NoMemory;
 use task_records::CoreParts;
 
-/// Makes the chain of the live works, where there is none. Where memory is wanting, all is as before.
+/// Makes the chain of the live works, where there is none. If it is out of memory, all is as before.
 pub fn open_live(parts: &mut CoreParts) -> Result<(), NoMemory>
     requires { IsSoundCore parts.old }
     ensures sound { IsSoundCore parts.new }

@@ -21,8 +21,8 @@ pub struct WorkNodes {
     pub blocked: usize,
 }
 
-/// The nodes and the chain that a host work is to have, with the chains of high and of the live
-/// works. Where memory is wanting, all is as before.
+/// Returns the nodes and the chain that a host work is to have, with the chains of high and of the live works. If it is out of
+/// memory, all is as before.
 pub(crate) fn new_work_nodes(parts: &mut CoreParts) -> Result<WorkNodes, NoMemory>
     requires { IsSoundCore parts.old }
     ensures sound { IsSoundCore parts.new }

@@ -36,7 +36,7 @@ fn new_work(caller: WorkCaller, host: HostDef, group: Option<u64>) -> Work
     }
 }
 
-/// The record that a host work is to have, with nodes that were made for it.
+/// Returns the record that a host work is to have, with nodes that were made for it.
 pub(crate) fn record_for(
     number: u64,
     request: WorkRequest,

@@ -78,7 +78,7 @@ returns-in-Err-Trap-clause-step c =
     (rw b.1 (did_refuse d (callee_of c.args.func) words s.state (on_core set_trapped s.state) k (takes_one d c.args.func c.requires.takes) c.in-Err-Trap.trap b.0)) refl c.requires.may.suits
     (record { of = has.of; few = rw has.refuses.same (omega (arith, few, most)) })
 
--- ---- Memory is wanting
+-- ---- It is out of memory
 
 pub returns-in-Err-NoMemory-clause-stands : goal.returns-in-Err-NoMemory-clause-stands
 returns-in-Err-NoMemory-clause-stands c = rw c.start.ensures.keeps.rest refl

@@ -1,4 +1,4 @@
--- Each op by its row.
+-- Each op by its rule.
 use Rattle.std.proofs.Common.{ap}
 use Rattle.task_turns.proofs.ContextLemmas.{add_rule, beside_word, handle_rule, load_rule, scripted_set_rule, skip_eq_rule, store_rule}
 use Rattle.task_turns.proofs.context.computes_in.Goals as goal

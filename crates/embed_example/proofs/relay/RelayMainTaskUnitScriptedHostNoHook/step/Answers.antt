@@ -15,7 +15,7 @@ use Rattle.embed_example.specs.declared.relay.Relay.{Relay}
 use Rattle.task_turns.specs.declared.mains.MainStep.{MainStep}
 use Rattle.task_turns.specs.declared.mains.MainStep.TheVariants as step
 
--- what a start has come to is a step of main
+-- what a start has resulted in is a step of main
 started_to : {T G : Type 0} (d : Component) (r : Result MainStep TaskError) (m : Relay) (s : Store T ScriptedHost G) (n : Relay) (t : Store T ScriptedHost G) → IfOk r (λ q. HasStepResult relay_says (λ (w : ScriptedHost). w.left) d q m s n t) →
     IfErr r (λ e. e ≡ task_error.NoMemory) → StepsTo relay_says (λ (w : ScriptedHost). w.left) d r m s n t
 started_to d (Ok q) m s n t did err = did

@@ -1,4 +1,4 @@
--- The key that stands there is the number.
+-- The key that is there is the number.
 use Rattle.std.proofs.Common.{ap, sym, ◌∙◌}
 use Rattle.std.specs.Prelude.{Some, ℕ}
 use Rattle.host_works.proofs.kept.HostWorks.place_of.Goals as goal

@@ -1,4 +1,4 @@
--- The op is done apart from its place.
+-- The op is done elsewhere than at its thread's place.
 use Rattle.std.proofs.Common.{refl}
 use Rattle.task_calls.specs.OpAnswers.{nothing_answered}
 use Rattle.task_calls.specs.Intrinsics.{suspension_op}

@@ -1,4 +1,4 @@
--- The op is done apart from its place.
+-- The op is done elsewhere than at its thread's place.
 use Rattle.std.proofs.Common.{ap, refl}
 use Rattle.task_calls.specs.OpAnswers.{at_once, event_answered}
 use Rattle.task_loop.proofs.InstanceCallLemmas.{does_host_op}

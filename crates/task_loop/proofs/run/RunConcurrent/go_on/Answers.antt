@@ -131,7 +131,7 @@ turns-preserved g c =
       running = op_result.group ∙ sym (group_computed d c.turn.new.store.state c.turn.new.trace (n + 1) c.compute-all.new.w c.compute-all.new.trace c.in-Ok-all.all (setting says course d a) refl (ap (λ (ts : Tags). ts.tracked) all.works.tags) q all.computes all.still);
     }
 
--- ---- What it has come to
+-- ---- What it has resulted in
 
 pub returns-then-yields_by-clause-gone : goal.returns-then-yields_by-clause-gone
 returns-then-yields_by-clause-gone g c =
@@ -278,7 +278,7 @@ returns-clause-gone g c =
     (goes_on_by says course d a u c.args.steps stops (stop.Ends outcome.OutOfSteps) yield_budget yield_budget' (λ driven. come_out says course d a u n come c.args.steps (omega arith) moves)
     (λ polled. polled_out says course d a u n come yield_budget c.args.steps b k (paced polled) yield_budget' (omega arith) moves (ends.ensures.since polled) (ends.ensures.passes polled))))
 
--- ---- Memory is wanting, or the hook fails
+-- ---- It is out of memory, or the hook fails
 
 pub returns-in_default-clause-lost : goal.returns-in_default-clause-lost
 returns-in_default-clause-lost g c =
