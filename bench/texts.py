@@ -39,7 +39,7 @@ def threads():
     return text("instance a", *scripts, *FOREVER, *ops, *main("start a.f", "start a.f"))
 
 
-def host_works(count):
+def store_works(count):
     """So many works of hosts pend, and the loop rests."""
     ops = ("main", *("spawn h",) * count, "await 1", "answer r0", "end")
     return text("host h polls 1000000 value 1", *ops)
@@ -134,7 +134,7 @@ def growing():
     yield "waiters of whom two are woken, 100 and 2,000", woken_pairs(100), woken_pairs(2000), 20_000
     yield "waiters from both ends, 250 and 1,000", waiters_from_both_ends(250), waiters_from_both_ends(1000), 0
     yield "live handles, 64 and 4,000", handles(64), handles(4000), 20_000
-    yield "spawned works, 16 and 256", host_works(16), host_works(256), 20_000
+    yield "spawned works, 16 and 256", store_works(16), store_works(256), 20_000
     yield "depth of a strand, 4 and 62", depth(4), depth(62), 20_000
 
 
@@ -145,7 +145,7 @@ def all_texts():
     yield "plain ops, one script", million, plain_ops()
     yield "plain ops, long numbers", million, wide_ops()
     yield "threads", million, threads()
-    yield "256 works of hosts", million, host_works(256)
+    yield "256 works of hosts", million, store_works(256)
     yield "direct calls", million, direct_calls()
     yield "16 held calls", million, held_calls(16)
     yield "256 held calls", million, held_calls(256)

@@ -1,11 +1,11 @@
 #!/usr/bin/env python3
-"""Brings the names that the proofs of the core's crates cite into one place, crates/task_records/proofs/Core.antt.
+"""Brings the names that the proofs of the core's crates cite into one place, crates/core_records/proofs/Core.antt.
 
     tools/core_imports.py
 
-The place passes on each name of the crates below (of std, of task_machine, of the tables, links, indexes and handles) and of the
-specs of task_records that a proof file of the core brings in; every such file gets one `use` line for them, and one for the types
-that task_records declares. It works as tools/imports.py does for the theory: write new names as `use` lines of the modules that
+The place passes on each name of the crates below (of std, of machine_data, of the tables, links, indexes and handles) and of the
+specs of core_records that a proof file of the core brings in; every such file gets one `use` line for them, and one for the types
+that core_records declares. It works as tools/imports.py does for the theory: write new names as `use` lines of the modules that
 declare them, run this, then `rt fmt`.
 """
 import pathlib
@@ -36,11 +36,11 @@ class Place:
 
 PLACES = [
     Place(
-        'task_records.proofs.Core',
-        ['task_records', 'record_words', 'queue_words', 'count_words', 'place_words', 'handle_words', 'node_words', 'walk_words',
-         'removal_words', 'make_words', 'strand_words', 'work_makes', 'record_core'],
-        [f'{crate}.{kind}' for crate in ('std', 'task_machine', 'task_rules', 'task_table', 'task_links', 'task_wait', 'task_index',
-                                         'task_handles', 'task_words') for kind in ('specs', 'proofs')] + ['task_records.specs'],
+        'core_records.proofs.Core',
+        ['core_records', 'core_fields', 'core_queues', 'core_counts', 'core_places', 'core_fields', 'core_makes', 'core_removals',
+         'core_removals', 'core_makes', 'core_makes', 'core_removals', 'core_state'],
+        [f'{crate}.{kind}' for crate in ('std', 'machine_data', 'machine_rules', 'task_table', 'table_links', 'task_wait', 'table_lists',
+                                         'task_handles', 'core_primitives') for kind in ('specs', 'proofs')] + ['core_records.specs'],
         '-- The words of std, of the machine, of the crates below and of the records that the proofs of the core cite, in one place.',
     ),
 ]

@@ -1,5 +1,5 @@
 #!/usr/bin/env python3
-"""Writes a run as an example of the crate task_examples.
+"""Writes a run as an example of the crate laws_examples.
 
     tools/example.py NAME STEPS SCENARIO REPORT [--file FILE] [--exchanges LABEL:A-B,A-B ...]
 

@@ -1,16 +1,16 @@
 #!/usr/bin/env python3
-"""Brings the names that the proofs of task_rules, task_laws and task_places cite into few places.
+"""Brings the names that the proofs of machine_rules, laws_states and laws_places cite into few places.
 
     tools/imports.py
 
-Some files of proofs pass names on. task_rules' Machine passes on each name of std, of task_machine's specs and of task_rules' specs
-that a proof file of these crates brings in, and each lemma of task_machine's proofs; its Walks those and the lemmas of moves to the
-walks over the rows. task_laws' Rules passes all of the rules on to the laws, with the definitions of task_laws, and its Words what
-is known of each word; task_places' Laws passes that and the laws on to the laws of places. Every proof file gets one `use` line
+Some files of proofs pass names on. machine_rules' Machine passes on each name of std, of machine_data's specs and of machine_rules' specs
+that a proof file of these crates brings in, and each lemma of machine_data's proofs; its Walks those and the lemmas of moves to the
+walks over the rows. laws_states' Rules passes all of the rules on to the laws, with the definitions of laws_states, and its Words what
+is known of each word; laws_places' Laws passes that and the laws on to the laws of places. Every proof file gets one `use` line
 for what such a file passes on to it, and one for the modules of a folder beside. In a proof file new names are written as `use` lines of the
 modules that declare them; then this is run, and `rt fmt`. Names that a file no longer cites go. A variant is written behind its
 type: where a file has `use ..Place.TheVariants as place`, each `place.Running` becomes `Place.Running`, and the line goes. What a
-file else renames by `as`, a module of task_machine or of task_rules' specs that one file alone cites, and a name that two modules
+file else renames by `as`, a module of machine_data or of machine_rules' specs that one file alone cites, and a name that two modules
 have, stay as they are.
 """
 import pathlib
@@ -22,14 +22,14 @@ WORD = re.compile(r"^[\w'-]+$")
 ANY_USE = re.compile(r'^(unfoldable )?(pub )?use ')
 PASSED_ON = re.compile(r'^(unfoldable )?pub use (Rattle\.[\w.]+)\.\{(.*)\}$')
 UNFOLDABLE = re.compile(r'(?m)^\s*unfoldable pub (?:\{[^}]*\} )?(?!use )([^\s:]+)')
-SHARED = re.compile(r'Rattle\.(task_machine\.specs|task_machine\.proofs|task_rules\.specs|std\.specs|std\.proofs)\.')
+SHARED = re.compile(r'Rattle\.(machine_data\.specs|machine_data\.proofs|machine_rules\.specs|std\.specs|std\.proofs)\.')
 VARIANTS = re.compile(r'(?m)^use (Rattle\.[\w.]+\.(\w+))\.TheVariants as (\w+)$')
-MACHINE = 'Rattle.task_rules.proofs.Machine'
-WALKS = 'Rattle.task_rules.proofs.Walks'
-RULES = 'Rattle.task_laws.proofs.Rules'
-WORDS = 'Rattle.task_laws.proofs.Words'
-LAWS = 'Rattle.task_places.proofs.Laws'
-DECLARED = 'Rattle.task_machine.specs.declared'  # its types, each in a module of its own, are passed on by one line
+MACHINE = 'Rattle.machine_rules.proofs.Machine'
+WALKS = 'Rattle.machine_rules.proofs.Walks'
+RULES = 'Rattle.laws_states.proofs.Rules'
+WORDS = 'Rattle.laws_states.proofs.Words'
+LAWS = 'Rattle.laws_places.proofs.Laws'
+DECLARED = 'Rattle.machine_data.specs.declared'  # its types, each in a module of its own, are passed on by one line
 PRELUDE, COMMON = 'Rattle.std.specs.Prelude', 'Rattle.std.proofs.Common'  # the second passes on names of the first
 PLACES = {
     MACHINE: '-- The words of std, of the machine and of its rules that the proofs cite, in one place.',
@@ -49,13 +49,13 @@ def modules_of(crate, stems):
 
 # of each of the other places: the one below it, which modules it passes on beside, and for which modules of proofs
 ABOVE = {
-    WALKS: (MACHINE, lambda module: module in modules_of('task_rules', MOVES), lambda module: module in modules_of('task_rules', ROWS)),
-    RULES: (MACHINE, re.compile(r'Rattle\.(task_rules\.proofs|task_laws\.specs)\.').match, re.compile(r'Rattle\.(task_laws|task_places)\.').match),
+    WALKS: (MACHINE, lambda module: module in modules_of('machine_rules', MOVES), lambda module: module in modules_of('machine_rules', ROWS)),
+    RULES: (MACHINE, re.compile(r'Rattle\.(machine_rules\.proofs|laws_states\.specs)\.').match, re.compile(r'Rattle\.(laws_states|laws_places)\.').match),
     WORDS: (
-        RULES, lambda module: module in modules_of('task_laws', KNOWN),
-        lambda module: module.startswith('Rattle.task_laws.') and module not in modules_of('task_laws', KNOWN),
+        RULES, lambda module: module in modules_of('laws_states', KNOWN),
+        lambda module: module.startswith('Rattle.laws_states.') and module not in modules_of('laws_states', KNOWN),
     ),
-    LAWS: (RULES, re.compile(r'Rattle\.task_laws\.proofs\.').match, re.compile(r'Rattle\.task_places\.').match),
+    LAWS: (RULES, re.compile(r'Rattle\.laws_states\.proofs\.').match, re.compile(r'Rattle\.laws_places\.').match),
 }
 
 
@@ -86,7 +86,7 @@ def is_cited(name, body):
 def unfoldable_names():
     """Pairs of a module and a name whose definition may be unfolded."""
     found = set()
-    for crate in ('task_machine', 'task_rules', 'task_laws'):
+    for crate in ('machine_data', 'machine_rules', 'laws_states'):
         for file in (CRATES / crate / 'specs').rglob('*.antt'):
             found |= {(module_of(file), name) for name in UNFOLDABLE.findall(file.read_text())}
     return found
@@ -179,7 +179,7 @@ def written(word, pairs):
 
 
 def grouped(pairs, unfoldable):
-    """The lines that pass these pairs on, without those of task_machine's types."""
+    """The lines that pass these pairs on, without those of machine_data's types."""
     below = {pair for pair in pairs if pair[0] in PLACES}
     for group in (below, pairs - below):
         for word, unfolds in (('pub ', False), ('unfoldable pub ', True)):
@@ -194,7 +194,7 @@ def main():
     modules, unfoldable = passed_on()
     unfoldable |= unfoldable_names()
     files = {}
-    for crate in ('task_rules', 'task_laws', 'task_places'):
+    for crate in ('machine_rules', 'laws_states', 'laws_places'):
         for file in sorted((CRATES / crate / 'proofs').rglob('*.antt')):
             if file not in map(file_of, PLACES):
                 files[file] = read(file, modules)

@@ -10,7 +10,7 @@ import unittest
 import example
 
 TOP = os.path.dirname(os.path.dirname(os.path.abspath(__file__)))
-CRATE = os.path.join(TOP, 'crates', 'task_examples')
+CRATE = os.path.join(TOP, 'crates', 'laws_examples')
 ONE_CALL = """main start 1 thread 1
 main pends
 take high thread 1

@@ -205,7 +205,7 @@ class Words(Script):
         check(None)
 
     def test_the_usage_lines_are_the_programs(self):
-        for crate, usage in (('task_run', USAGE), ('request_server', SERVE_USAGE)):
+        for crate, usage in (('task_run', USAGE), ('serve_main', SERVE_USAGE)):
             with open(f'{TOP}/crates/{crate}/src/program.rt', encoding='utf-8') as file:
                 self.assertIn(f'b"{usage[:-1]}\\n"', file.read())
 

@@ -3,15 +3,15 @@ ghost use Rattle.std.specs.Prelude.{◌≡◌, IfOk, IsOkAnd};
 ghost use Rattle.task_abort.specs.Cells.{handle_cell, pass_cell, view_of, TellsComplete};
 ghost use Rattle.task_abort.specs.PhaseLog.{phase_of_code, phase, split_left, split_right};
 ghost use Rattle.task_abort.specs.Rule.{Calls, Meets};
-ghost use Rattle.task_machine.specs.declared.words.Phase.{Phase};
-ghost use Rattle.task_machine.specs.declared.words.Phase.TheVariants.{Complete};
+ghost use Rattle.machine_data.specs.declared.words.Phase.{Phase};
+ghost use Rattle.machine_data.specs.declared.words.Phase.TheVariants.{Complete};
 ghost use Rattle.task_abort.specs.declared.log.PhaseCall.TheVariants.{Abort, PollHandle};
 
 use crate::cell::{JoinHandle, JoinPass};
 use crate::rule::{Aborting, Joining, PollingHandle, Settling, Splitting};
 use futures::task::Poll;
+use machine_data::{NoMemory, Phase};
 use std::sync::Arc;
-use task_machine::{NoMemory, Phase};
 
 /// Returns the phase for which a found word is.
 pub(crate) fn phase_of_word(word: u64) -> Phase

@@ -8,7 +8,7 @@ ghost use Rattle.task_abort.specs.Rule.{HasMetAll, AllKnown};
 ghost use Rattle.task_abort.specs.Staged.{Aborter, Lists, OnlyAborted, LastRound, Numbered, all_aborts, aborts_of, any_abort, by_number, by_stages, entered, staged};
 ghost use Rattle.task_abort.specs.declared.log.CallMade.{CallMade};
 ghost use Rattle.task_abort.specs.declared.log.LogEntry.{LogEntry};
-ghost use Rattle.task_machine.specs.declared.words.Phase.TheVariants.{Running, Complete};
+ghost use Rattle.machine_data.specs.declared.words.Phase.TheVariants.{Running, Complete};
 ghost use Rattle.task_abort.specs.declared.log.PhaseCall.TheVariants.{Abort, Finish};
 
 use crate::cell::JoinPass;
@@ -19,6 +19,7 @@ pub fn known_callers(pass: &JoinPass)
     requires { HasMetAll (view_of pass.now) }
     ensures { AllKnown (view_of pass.now) }
 {
+    // only the contract speaks of `pass`
     let _pass = pass;
 }
 
@@ -28,6 +29,7 @@ pub fn staged_log_is_legal(pass: &JoinPass)
     requires { AllKnown (view_of pass.now) }
     ensures { (own : List CallMade) (aborters : List Aborter) (n : ℕ) → Lists (view_of pass.now) own aborters → LastRound (view_of pass.now) n → IsLegal (staged own aborters n) }
 {
+    // only the contract speaks of `pass`
     let _pass = pass;
 }
 
@@ -38,6 +40,7 @@ pub fn staged_log_keeps_lists(pass: &JoinPass)
     ensures run { (own : List CallMade) (aborters : List Aborter) (n : ℕ) → Lists (view_of pass.now) own aborters → LastRound (view_of pass.now) n → Numbered 0 aborters → by_number 0 (staged own aborters n) ≡ entered n (any_abort aborters) false own }
     ensures aborters { (own : List CallMade) (aborters : List Aborter) (n i : ℕ) (a : Aborter) → Lists (view_of pass.now) own aborters → LastRound (view_of pass.now) n → Numbered 0 aborters → get_elem? aborters i ≡ some a → by_number a.0 (staged own aborters n) ≡ aborts_of a }
 {
+    // only the contract speaks of `pass`
     let _pass = pass;
 }
 
@@ -47,6 +50,7 @@ pub fn late_calls_stand_last(pass: &JoinPass)
     requires { AllKnown (view_of pass.now) }
     ensures { (own : List CallMade) (aborters : List Aborter) (n : ℕ) → Lists (view_of pass.now) own aborters → LastRound (view_of pass.now) n → staged own aborters n ≡ by_stages (all_aborts aborters ++ take n (entered n (any_abort aborters) false own)) ++ drop n (entered n (any_abort aborters) false own) }
 {
+    // only the contract speaks of `pass`
     let _pass = pass;
 }
 
@@ -57,6 +61,7 @@ pub fn unfinished_calls(pass: &JoinPass)
     requires { AllKnown (view_of pass.now) }
     ensures { (aborters : List Aborter) (before rest : Log) (e : LogEntry Name) → OnlyAborted (view_of pass.now).met aborters → (view_of pass.now).own.calls ≡ before ++ e ∷ rest → ((m : ℕ) (x : LogEntry Name) → get_elem? before m ≡ some x → x.call ≢ Finish) → e.answer ≢ Complete }
 {
+    // only the contract speaks of `pass`
     let _pass = pass;
 }
 
@@ -66,5 +71,6 @@ pub fn phases_of_seen_calls(pass: &JoinPass)
     ensures aborted { (m : ℕ) (e : LogEntry Name) → get_elem? (view_of pass.now).seen m ≡ some e → e.call ≡ Abort → phase (view_of pass.now).seen ≢ Running }
     ensures finished { (m : ℕ) (e : LogEntry Name) → get_elem? (view_of pass.now).seen m ≡ some e → e.call ≡ Finish → phase (view_of pass.now).seen ≡ Complete }
 {
+    // only the contract speaks of `pass`
     let _pass = pass;
 }

@@ -21,5 +21,5 @@ pub use handle_laws::{
     known_callers, late_calls_stand_last, phases_of_seen_calls, staged_log_is_legal,
     staged_log_keeps_lists, unfinished_calls,
 };
-pub use log::{CallMade, HandleCaller, LogEntry, PhaseCall, PassView};
-pub use task_machine::{NoMemory, Phase};
+pub use log::{CallMade, HandleCaller, LogEntry, PassView, PhaseCall};
+pub use machine_data::{NoMemory, Phase};

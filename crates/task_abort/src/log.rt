@@ -1,6 +1,6 @@
 //! Phases, calls and logs, and what a pass knows of them.
+use machine_data::Phase;
 use std::collections::LinkedList;
-use task_machine::Phase;
 
 /// The four calls of a join handle that a log has.
 #[derive(Clone, Copy)]

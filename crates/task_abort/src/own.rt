@@ -3,8 +3,8 @@ ghost use Rattle.std.specs.Prelude.{◌≡◌, ◌↔◌, IfOk, true};
 ghost use Rattle.task_abort.specs.Cells.{own_view, TellsComplete};
 ghost use Rattle.task_abort.specs.PhaseLog.{first_view};
 ghost use Rattle.task_abort.specs.Rule.{Calls};
-ghost use Rattle.task_machine.specs.declared.words.Phase.{Phase};
-ghost use Rattle.task_machine.specs.declared.words.Phase.TheVariants.{Complete, Running};
+ghost use Rattle.machine_data.specs.declared.words.Phase.{Phase};
+ghost use Rattle.machine_data.specs.declared.words.Phase.TheVariants.{Complete, Running};
 ghost use Rattle.task_abort.specs.declared.log.PhaseCall.TheVariants.{Abort, Finish, PollFuture, PollHandle};
 
 use crate::cell::{JoinPass, OwnCell};
@@ -12,8 +12,8 @@ use crate::handle::phase_of_word;
 use crate::rule::{Aborting, Finishing, PollingFuture, PollingHandle};
 use atomic_table::Table;
 use futures::task::Poll;
+use machine_data::{NoMemory, Phase};
 use std::alloc::Global;
-use task_machine::{NoMemory, Phase};
 
 impl OwnCell {
     /// Makes a cell in phase `Running`, whose pass has seen nothing.

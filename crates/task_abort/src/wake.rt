@@ -5,17 +5,17 @@ ghost use Rattle.futures.specs.Task.{Covers, Keeps};
 ghost use Rattle.task_abort.specs.Cells.{handle_cell, work_cell, pass_cell, abort_source, end_source, work_of, view_of, TellsComplete, TellsRunning};
 ghost use Rattle.task_abort.specs.PhaseLog.{phase};
 ghost use Rattle.task_abort.specs.Rule.{Calls};
-ghost use Rattle.task_machine.specs.declared.words.Phase.{Phase};
-ghost use Rattle.task_machine.specs.declared.words.Phase.TheVariants.{Running, Complete};
+ghost use Rattle.machine_data.specs.declared.words.Phase.{Phase};
+ghost use Rattle.machine_data.specs.declared.words.Phase.TheVariants.{Running, Complete};
 ghost use Rattle.task_abort.specs.declared.log.PhaseCall.TheVariants.{Abort, PollFuture, PollHandle, Finish};
 
-use crate::cell::{Abortable, PhaseCell, JoinHandle, JoinPass};
+use crate::cell::{Abortable, JoinHandle, JoinPass, PhaseCell};
 use crate::handle::phase_of_word;
 use crate::rule::Finishing;
 use futures::Future;
 use futures::task::{Context, Poll};
+use machine_data::Phase;
 use std::sync::Wait;
-use task_machine::Phase;
 
 impl PhaseCell {
     // A waker wakes when it is dropped, and that is outside the lock.

@@ -6,19 +6,19 @@ ghost use Rattle.futures.specs.Task.{Covers, Keeps};
 ghost use Rattle.task_abort.specs.Cells.{handle_cell, work_cell, pass_cell, abort_source, work_of, view_of, TellsRunning};
 ghost use Rattle.task_abort.specs.PhaseLog.{first_view, phase};
 ghost use Rattle.task_abort.specs.Rule.{Calls};
-ghost use Rattle.task_machine.specs.declared.words.Phase.{Phase};
-ghost use Rattle.task_machine.specs.declared.words.Phase.TheVariants.{Running};
+ghost use Rattle.machine_data.specs.declared.words.Phase.{Phase};
+ghost use Rattle.machine_data.specs.declared.words.Phase.TheVariants.{Running};
 ghost use Rattle.task_abort.specs.declared.log.PhaseCall.TheVariants.{PollFuture, Finish};
 
-use crate::cell::{Abortable, PhaseCell, JoinHandle, JoinPass, Wakers};
+use crate::cell::{Abortable, JoinHandle, JoinPass, PhaseCell, Wakers};
 use crate::handle::phase_of_word;
 use crate::rule::{Finishing, PollingFuture};
 use atomic_table::Table;
 use futures::Future;
 use futures::task::{Context, Poll, Source};
+use machine_data::Phase;
 use std::alloc::Global;
 use std::sync::{Arc, Mutex};
-use task_machine::Phase;
 
 /// Returns a cell in phase `Running`, with its first pass.
 fn new_cell(alloc: Global) -> Option<(Arc<PhaseCell, Global>, JoinPass)>

@@ -10,7 +10,7 @@ use Rattle.std.proofs.lemmas.Bool.Decides.{nat_tests}
 use Rattle.std.proofs.lemmas.Grind.{common_steps}
 use Rattle.std.proofs.lemmas.List.Folds.{list_all-append}
 use Rattle.std.proofs.lemmas.List.{length-take, map-append}
-use Rattle.task_machine.specs.declared.records.Notice.{Notice}
+use Rattle.machine_data.specs.declared.records.Notice.{Notice}
 use Rattle.task_group.specs.Heard.{Heard, Tells}
 use Rattle.task_group.specs.Listeners.{AnsweredErr, Listeners, all_ok, answers_of, told_of, ToldListeners, errors_of}
 use Rattle.task_group.specs.Counts.{Counts}

@@ -2,9 +2,9 @@
 use Rattle.std.specs.Prelude.{◌≡◌, ℕ, ◌+◌, ◌≤◌, ◌==◌, nat_lt, List, [], ◌∷◌, map, Option, Some, None, Bool, true, false, is_some, IsSome, if◌then◌else◌, refl}
 use Rattle.std.specs.Coded.{Coded, code_by, coded×, coded_ℕ}
 use Rattle.std.specs.FinMap as finite
-use Rattle.task_machine.specs.declared.records.Notice.{Notice}
-use Rattle.task_machine.specs.declared.records.NoticeKind.{NoticeKind}
-use Rattle.task_machine.specs.declared.records.NoticeKind.TheVariants.{Finish}
+use Rattle.machine_data.specs.declared.records.Notice.{Notice}
+use Rattle.machine_data.specs.declared.records.NoticeKind.{NoticeKind}
+use Rattle.machine_data.specs.declared.records.NoticeKind.TheVariants.{Finish}
 use Rattle.task_group.specs.declared.notice.TaskGroupId.{TaskGroupId}
 use Rattle.task_group.specs.Heard.{notice_of, finish_of}
 use Rattle.task_group.specs.Listeners.{Listeners, listeners_code, errors_of, AnsweredErr, ToldListeners}

@@ -2,11 +2,11 @@
 use Rattle.std.specs.Prelude.{◌≡◌, ℕ, ◌<◌, List, [], ◌∷◌, ◌++◌, Option, Bool, false, IsTrue, refl}
 use Rattle.std.specs.Option.{option_map}
 use Rattle.std.specs.Coded.{Coded, code_by, coded×, coded_bool, coded_ℕ, coded_list, coded_option}
-use Rattle.task_machine.specs.declared.records.Notice.{Notice}
-use Rattle.task_machine.specs.declared.records.NoticeKind.{NoticeKind}
-use Rattle.task_machine.specs.declared.records.NoticeKind.TheVariants.{Start, Enter, Exit, Finish}
+use Rattle.machine_data.specs.declared.records.Notice.{Notice}
+use Rattle.machine_data.specs.declared.records.NoticeKind.{NoticeKind}
+use Rattle.machine_data.specs.declared.records.NoticeKind.TheVariants.{Start, Enter, Exit, Finish}
 use Rattle.task_group.specs.declared.notice.TaskGroupId.{TaskGroupId}
-use Rattle.task_machine.specs.contracts.records.Notice as notice
+use Rattle.machine_data.specs.contracts.records.Notice as notice
 
 -- the notices that a hook was told, and whether it answered `Ok` to each, where it tells these, and how many errors it answered
 pub record Heard : Type 0 where

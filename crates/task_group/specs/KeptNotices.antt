@@ -1,6 +1,6 @@
 -- The notices that are kept, and the room for them.
 use Rattle.std.specs.Prelude.{ℕ, ◌≡◌, ◌<◌, ◌≤◌, ◌^◌, List, []}
-use Rattle.task_machine.specs.declared.records.Notice.{Notice}
+use Rattle.machine_data.specs.declared.records.Notice.{Notice}
 
 pub record Kept : Type 0 where
   pub notices : List Notice

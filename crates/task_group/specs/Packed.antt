@@ -1,8 +1,8 @@
 -- Notices in little room: a word has what happened in its low two bits, and the group's number above them.
 use Rattle.std.specs.Prelude.{ℕ, ◌==◌, ◌/◌, ◌%◌, List, ◌++◌, map, if◌then◌else◌}
-use Rattle.task_machine.specs.declared.records.Notice.{Notice}
-use Rattle.task_machine.specs.declared.records.NoticeKind.{NoticeKind}
-use Rattle.task_machine.specs.declared.records.NoticeKind.TheVariants.{Start, Enter, Exit, Finish}
+use Rattle.machine_data.specs.declared.records.Notice.{Notice}
+use Rattle.machine_data.specs.declared.records.NoticeKind.{NoticeKind}
+use Rattle.machine_data.specs.declared.records.NoticeKind.TheVariants.{Start, Enter, Exit, Finish}
 
 abbrev pub kind_at : ℕ → NoticeKind
 kind_at code = if code == 0 then Start else if code == 1 then Enter else if code == 2 then Exit else Finish

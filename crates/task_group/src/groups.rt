@@ -10,9 +10,9 @@ use crate::listeners::Listeners;
 use crate::live::Live;
 use crate::notice::{GroupError, TaskGroupId};
 use crate::notices::{NoticeList, Notices};
+use machine_data::{NoMemory, NoticeKind};
 use std::alloc::Global;
 use std::marker::Model;
-use task_machine::{NoMemory, NoticeKind};
 
 /// The live groups of a store, with the number of tasks in each, and who is told of them.
 ///
@@ -86,6 +86,7 @@ impl<H: TaskGroupHook> Groups<H> {
         ensures failed { (result ≡ Err GroupError.HookFailed) ↔ AnsweredErr self.old.listeners self.new.listeners }
         ensures no_memory { result ≡ Err GroupError.NoMemory → self.new ≡ self.old }
     {
+        // read so that the proof knows the invariant of `self`
         let _counts = &self.counts;
         let made = self.made;
         let Ok(()) = self.prepare(made + 1) else {

@@ -2,7 +2,7 @@ ghost use Rattle.std.specs.Prelude.{◌≡◌, Bool, None, false, is_ok};
 ghost use Rattle.task_group.specs.Heard.{Heard, Tells, notice_of, start_of, enter_of, exit_of, finish_of};
 
 use crate::notice::{HookError, TaskGroupId};
-use task_machine::NoticeKind;
+use machine_data::NoticeKind;
 
 /// What a store's owner hands in to be told of groups. An error that it answers refuses the call that told it.
 ///

@@ -4,10 +4,10 @@ ghost use Rattle.task_group.specs.KeptNotices.{nothing};
 
 use crate::notices::{NoticeList, Notices, Written};
 use crate::packed::{LARGE, packed};
+use machine_data::{NoMemory, Notice};
 use std::alloc::Global;
 use std::marker::Model;
 use std::mem;
-use task_machine::{NoMemory, Notice};
 
 /// As many notices as there is room for, in their order: those that are shared with a list, and behind them words, and from the
 /// first on that doesn't fit one, whole.

@@ -14,6 +14,6 @@ mod packed;
 pub use groups::Groups;
 pub use hook::{NoHook, TaskGroupHook};
 pub use listeners::Listeners;
+pub use machine_data::{NoMemory, Notice, NoticeKind};
 pub use notice::{GroupError, HookError, TaskGroupId};
 pub use notices::{NoticeList, Notices};
-pub use task_machine::{NoMemory, Notice, NoticeKind};

@@ -6,9 +6,9 @@ use crate::hook::{TaskGroupHook, tell};
 use crate::kept::Kept;
 use crate::notice::{HookError, TaskGroupId};
 use crate::notices::{NoticeList, Notices};
+use machine_data::{NoMemory, Notice, NoticeKind};
 use std::alloc::Global;
 use std::marker::Model;
-use task_machine::{NoMemory, Notice, NoticeKind};
 
 /// Who is told of groups: a hook, if there is one, and a list that keeps as many notices as there is room for.
 #[derive(Drop)]

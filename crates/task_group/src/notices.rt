@@ -4,10 +4,10 @@ ghost use Rattle.std.specs.Prelude.{◌≡◌, [], IfErr, IfOk, length};
 ghost use Rattle.task_group.specs.Packed.{listed};
 
 use crate::packed::{LARGE, opened, packed};
+use machine_data::{NoMemory, Notice};
 use std::alloc::Global;
 use std::marker::Model;
 use std::sync::Arc;
-use task_machine::{NoMemory, Notice};
 
 /// The notices of a list that are left, one after another. A contract sees the list of them.
 #[derive(Drop)]
@@ -22,7 +22,7 @@ pub struct Notices<'a> {
 impl<'a> Model for Notices<'a> {
     ghost use Rattle.std.specs.Prelude.{◌++◌, List};
     ghost use Rattle.task_group.specs.Packed.{listed};
-    ghost use Rattle.task_machine.specs.declared.records.Notice.{Notice};
+    ghost use Rattle.machine_data.specs.declared.records.Notice.{Notice};
 
     ghost Value = { List Notice };
 
@@ -88,7 +88,7 @@ impl Model for NoticeList {
     ghost use Rattle.std.specs.Prelude.{[], List};
     ghost use Rattle.task_group.specs.Packed.{listed};
     ghost use Rattle.task_group.specs.declared.notices.Written.{Written};
-    ghost use Rattle.task_machine.specs.declared.records.Notice.{Notice};
+    ghost use Rattle.machine_data.specs.declared.records.Notice.{Notice};
 
     ghost Value = { List Notice };
 

@@ -2,7 +2,7 @@
 ghost use Rattle.std.specs.Prelude.{◌≡◌, ◌<◌, ◌+◌, ◌*◌, ◌^◌};
 ghost use Rattle.task_group.specs.Packed.{code_of, kind_at, opened};
 
-use task_machine::{Notice, NoticeKind};
+use machine_data::{Notice, NoticeKind};
 
 /// The number that a group's has to be below, so that a notice of it fits a word.
 pub const LARGE: u64 = 1 << 30;

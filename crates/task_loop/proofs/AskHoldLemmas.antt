@@ -1,98 +1,98 @@
 -- What a store holds of host works stays over an op that an instance has its running thread do.
-use Rattle.cell_laws.proofs.CellLemmas.{nobody, nothing_spawned}
-use Rattle.task_calls.proofs.AskLemmas.{met_progresses}
-use Rattle.task_rules.proofs.WalkSteps.{host_rules_walk}
-use Rattle.task_rules.specs.Chains.{HostRulesAreWalks}
-use Rattle.task_rules.specs.Finish.{SomeHost}
-use Rattle.task_rules.specs.Threads.{resume_later_by, resume_later_rule}
-use Rattle.task_rules.specs.Task.{ret_rule}
-use Rattle.cell_laws.specs.Cells.{Runs, RunsWorks}
-use Rattle.host_works.specs.KeptWorks.{HeldWork}
+use Rattle.laws_order.proofs.CellLemmas.{nobody, nothing_spawned}
+use Rattle.ops_calls.proofs.AskLemmas.{met_progresses}
+use Rattle.machine_rules.proofs.WalkSteps.{host_rules_walk}
+use Rattle.machine_rules.specs.Chains.{HostRulesAreWalks}
+use Rattle.machine_rules.specs.Finish.{SomeHost}
+use Rattle.machine_rules.specs.Threads.{resume_later_by, resume_later_rule}
+use Rattle.machine_rules.specs.Task.{ret_rule}
+use Rattle.laws_order.specs.Cells.{Runs, RunsWorks}
+use Rattle.store_works.specs.KeptWorks.{HeldWork}
 use Rattle.std.proofs.lemmas.Bool.Decides.{nat_tests}
-use Rattle.task_laws.specs.Order.{HostsAwaited, WorksKnown, WorksTold}
-use Rattle.task_machine.specs.Read.{at_handle_limit, fits, goal_of, has_ended, op_progress_of, instance_of, is_async_lifted, is_direct, is_explicit, is_stage_ended, kind_of, place_of, task_of, thread_at, thread_group}
-use Rattle.task_machine.specs.declared.records.Stage.TheVariants as stage
+use Rattle.laws_states.specs.Order.{HostsAwaited, WorksKnown, WorksTold}
+use Rattle.machine_data.specs.Read.{at_handle_limit, fits, goal_of, has_ended, op_progress_of, instance_of, is_async_lifted, is_direct, is_explicit, is_stage_ended, kind_of, place_of, task_of, thread_at, thread_group}
+use Rattle.machine_data.specs.declared.records.Stage.TheVariants as stage
 use Rattle.std.proofs.Common.{ap, arith, inl, inr, refl, subst, sym, ⊎_elim, ◌∙◌}
 use Rattle.std.specs.Option.{option_map_or}
 use Rattle.std.specs.Prelude.{Bool, Err, IfSome, List, None, Ok, Option, Result, Some, false, if◌then◌else◌, is_some, not, option_map, true, ℕ, ◌==◌, ◌<◌, ◌^◌, ◌≡◌, ◌≤◌, ◌∷◌, ◌⊎◌}
-use Rattle.state_calls.specs.declared.error.TaskError.{TaskError}
-use Rattle.state_calls.specs.declared.error.TaskError.TheVariants as task_error
-use Rattle.state_calls.specs.declared.name_calls.QualifiedThreadId.{QualifiedThreadId}
-use Rattle.subtask_ops.specs.Starts.{call_starts}
-use Rattle.op_dispatch.specs.Makes.{makes, takes_memory}
-use Rattle.task_calls.proofs.PausedLemmas.{is_plain}
-use Rattle.task_calls.specs.Asks.{Answers, AnswersHere, AnswersOp, Does, HasPaused, IsRunningIn, is_apart, row_at, scripted_rule_of, takes_here}
-use Rattle.task_calls.proofs.DirectLemmas.{goes_base}
-use Rattle.task_calls.specs.MainCalls.{Returned, Returns}
-use Rattle.task_calls.specs.Directs.{IsDirect, exits_rule}
-use Rattle.task_calls.specs.Intrinsics.{cancel_op, pressure_op, suspension_op}
-use Rattle.task_calls.specs.Prepared.{Prepares, starts_in}
-use Rattle.task_calls.specs.Resumes.{Resumed, first_in, resumed_by}
-use Rattle.task_calls.specs.declared.intrinsics.ResumeThread.{ResumeThread}
-use Rattle.task_calls.specs.declared.intrinsics.ResumeThread.TheVariants as resume
-use Rattle.task_calls.specs.declared.answer_calls.Step.{Step as Answer}
-use Rattle.task_calls.specs.declared.intrinsics.SuspensionTarget.{SuspensionTarget}
-use Rattle.task_calls.specs.declared.intrinsics.SuspensionTarget.TheVariants as target
-use Rattle.task_machine.proofs.CommuteLemmas.{get-change}
-use Rattle.task_machine.specs.Core.{Core, Main, Unscripted}
-use Rattle.task_machine.specs.Labels.{Choice, choice_of, ret_label}
-use Rattle.task_machine.specs.Maps.{Records, get}
-use Rattle.task_machine.specs.Moves.{behind_one, put_low, promoted, promoted_unless, put_switch}
-use Rattle.task_machine.specs.Write.{add_call, add_thread, give_thread_handle, on_call, on_instance, on_thread, set_callers, set_do_not_suspend, set_op_progress, set_place, set_register, set_saved_callee, set_saved_own, set_started, set_thread_handle}
-use Rattle.task_machine.specs.declared.component.Callee.{Callee}
-use Rattle.task_machine.specs.declared.component.Component.{Component}
-use Rattle.task_machine.specs.declared.component.ExportKind.{ExportKind}
-use Rattle.task_machine.specs.declared.component.ExportKind.TheVariants as kind
-use Rattle.task_machine.specs.declared.label.Label.{Label}
-use Rattle.task_machine.specs.declared.label.CallLabel.TheVariants as call_label
-use Rattle.task_machine.specs.declared.label.Label.TheVariants as label
-use Rattle.task_machine.specs.declared.label.ThreadLabel.TheVariants as thread_label
-use Rattle.task_machine.specs.declared.op.CallOp.TheVariants as call_op
-use Rattle.task_machine.specs.declared.op.Op.{Op}
-use Rattle.task_machine.specs.declared.op.Op.TheVariants as op
-use Rattle.task_machine.specs.declared.op.Operand.TheVariants as operand
-use Rattle.task_machine.specs.declared.op.TaskOp.TheVariants as task_op
-use Rattle.task_machine.specs.declared.records.Caller.{Caller}
-use Rattle.task_machine.specs.declared.records.Caller.TheVariants as caller
-use Rattle.task_machine.specs.declared.records.Goal.{Goal}
-use Rattle.task_machine.specs.declared.records.MadeCounts.{MadeCounts}
-use Rattle.task_machine.specs.declared.records.OpProgress.{OpProgress}
-use Rattle.task_machine.specs.declared.records.OpProgress.TheVariants as op_progress
-use Rattle.task_machine.specs.declared.records.Place.TheVariants as place
-use Rattle.task_machine.specs.declared.records.Subtask.TheVariants as subtask
-use Rattle.task_machine.specs.declared.records.Thread.{Thread}
-use Rattle.task_machine.specs.declared.records.Turn.{Turn}
-use Rattle.task_machine.specs.declared.records.Turn.TheVariants as turn
-use Rattle.task_machine.specs.declared.records.Work.{Work}
-use Rattle.task_machine.specs.declared.records.Why.{Why}
-use Rattle.task_machine.specs.declared.records.Why.TheVariants as whys
-use Rattle.task_machine.specs.declared.trap.Trap.{Trap}
-use Rattle.task_machine.specs.declared.trap.Trap.TheVariants as trap
-use Rattle.task_machine.specs.declared.words.Mark.TheVariants as mark
-use Rattle.task_moves.proofs.UntouchedLemmas.{set_register_untouched}
-use Rattle.task_ops.specs.OpResult.{Implements}
-use Rattle.task_ops.specs.Halting.{First, GoesFirst, Refused, StaysBehind, or_refused, promoted_found, promoted_if, refused_if, resumed_found}
-use Rattle.task_ops.specs.Stays.{StaysAfter}
-use Rattle.task_ops.specs.Steps.{label_of}
-use Rattle.task_ops.specs.declared.op_result.OpResult.{OpResult}
-use Rattle.task_ops.specs.declared.op_result.OpResult.TheVariants as op_result
-use Rattle.task_laws.specs.Courses.{CallsHost, MakesWork, Spawns}
-use Rattle.task_rules.proofs.PlacingLemmas.{placing_shifted, shifted_works}
-use Rattle.task_rules.specs.Calls.{call_made, enter_rule, enter_runs, next_thread, with_thread_handle}
-use Rattle.task_rules.specs.OpParts.{can_come, is_data_op, queues_work}
-use Rattle.task_rules.specs.Ends.{returned, direct_exit_rule, exit_rule, exit_rule_for, implicit_exit_rule, may_tell}
-use Rattle.task_rules.specs.Progress.{Asks, Fails, Continues, Never, Ordered, Progress, Stops, Traps, may, or_trap, trap_if}
-use Rattle.task_rules.specs.Scripts.{export_kind, op_of}
-use Rattle.task_rules.specs.Step.{Progresses, op_rule}
-use Rattle.task_rules.specs.Threads.{has_yielded, resume_why}
-use Rattle.task_rules.specs.Words.{Promote, Put}
+use Rattle.ops_state.specs.declared.error.TaskError.{TaskError}
+use Rattle.ops_state.specs.declared.error.TaskError.TheVariants as task_error
+use Rattle.ops_state.specs.declared.name_calls.QualifiedThreadId.{QualifiedThreadId}
+use Rattle.ops_subtasks.specs.Starts.{call_starts}
+use Rattle.ops_dispatch.specs.Makes.{makes, takes_memory}
+use Rattle.ops_calls.proofs.PausedLemmas.{is_plain}
+use Rattle.ops_calls.specs.Asks.{Answers, AnswersHere, AnswersOp, Does, HasPaused, IsRunningIn, is_apart, row_at, scripted_rule_of, takes_here}
+use Rattle.ops_calls.proofs.DirectLemmas.{goes_base}
+use Rattle.ops_calls.specs.MainCalls.{Returned, Returns}
+use Rattle.ops_calls.specs.Directs.{IsDirect, exits_rule}
+use Rattle.ops_calls.specs.Intrinsics.{cancel_op, pressure_op, suspension_op}
+use Rattle.ops_calls.specs.Prepared.{Prepares, starts_in}
+use Rattle.ops_calls.specs.Resumes.{Resumed, first_in, resumed_by}
+use Rattle.ops_calls.specs.declared.intrinsics.ResumeThread.{ResumeThread}
+use Rattle.ops_calls.specs.declared.intrinsics.ResumeThread.TheVariants as resume
+use Rattle.ops_calls.specs.declared.answer_calls.Step.{Step as Answer}
+use Rattle.ops_calls.specs.declared.intrinsics.SuspensionTarget.{SuspensionTarget}
+use Rattle.ops_calls.specs.declared.intrinsics.SuspensionTarget.TheVariants as target
+use Rattle.machine_data.proofs.CommuteLemmas.{get-change}
+use Rattle.machine_data.specs.Core.{Core, Main, Unscripted}
+use Rattle.machine_data.specs.Labels.{Choice, choice_of, ret_label}
+use Rattle.machine_data.specs.Maps.{Records, get}
+use Rattle.machine_data.specs.Moves.{behind_one, put_low, promoted, promoted_unless, put_switch}
+use Rattle.machine_data.specs.Write.{add_call, add_thread, give_thread_handle, on_call, on_instance, on_thread, set_callers, set_do_not_suspend, set_op_progress, set_place, set_register, set_saved_callee, set_saved_own, set_started, set_thread_handle}
+use Rattle.machine_data.specs.declared.component.Callee.{Callee}
+use Rattle.machine_data.specs.declared.component.Component.{Component}
+use Rattle.machine_data.specs.declared.component.ExportKind.{ExportKind}
+use Rattle.machine_data.specs.declared.component.ExportKind.TheVariants as kind
+use Rattle.machine_data.specs.declared.label.Label.{Label}
+use Rattle.machine_data.specs.declared.label.CallLabel.TheVariants as call_label
+use Rattle.machine_data.specs.declared.label.Label.TheVariants as label
+use Rattle.machine_data.specs.declared.label.ThreadLabel.TheVariants as thread_label
+use Rattle.machine_data.specs.declared.op.CallOp.TheVariants as call_op
+use Rattle.machine_data.specs.declared.op.Op.{Op}
+use Rattle.machine_data.specs.declared.op.Op.TheVariants as op
+use Rattle.machine_data.specs.declared.op.Operand.TheVariants as operand
+use Rattle.machine_data.specs.declared.op.TaskOp.TheVariants as task_op
+use Rattle.machine_data.specs.declared.records.Caller.{Caller}
+use Rattle.machine_data.specs.declared.records.Caller.TheVariants as caller
+use Rattle.machine_data.specs.declared.records.Goal.{Goal}
+use Rattle.machine_data.specs.declared.records.MadeCounts.{MadeCounts}
+use Rattle.machine_data.specs.declared.records.OpProgress.{OpProgress}
+use Rattle.machine_data.specs.declared.records.OpProgress.TheVariants as op_progress
+use Rattle.machine_data.specs.declared.records.Place.TheVariants as place
+use Rattle.machine_data.specs.declared.records.Subtask.TheVariants as subtask
+use Rattle.machine_data.specs.declared.records.Thread.{Thread}
+use Rattle.machine_data.specs.declared.records.Turn.{Turn}
+use Rattle.machine_data.specs.declared.records.Turn.TheVariants as turn
+use Rattle.machine_data.specs.declared.records.Work.{Work}
+use Rattle.machine_data.specs.declared.records.Why.{Why}
+use Rattle.machine_data.specs.declared.records.Why.TheVariants as whys
+use Rattle.machine_data.specs.declared.trap.Trap.{Trap}
+use Rattle.machine_data.specs.declared.trap.Trap.TheVariants as trap
+use Rattle.machine_data.specs.declared.words.Mark.TheVariants as mark
+use Rattle.ops_moves.proofs.UntouchedLemmas.{set_register_untouched}
+use Rattle.ops_guests.specs.OpResult.{Implements}
+use Rattle.ops_guests.specs.Halting.{First, GoesFirst, Refused, StaysBehind, or_refused, promoted_found, promoted_if, refused_if, resumed_found}
+use Rattle.ops_guests.specs.Stays.{StaysAfter}
+use Rattle.ops_guests.specs.Steps.{label_of}
+use Rattle.ops_guests.specs.declared.op_result.OpResult.{OpResult}
+use Rattle.ops_guests.specs.declared.op_result.OpResult.TheVariants as op_result
+use Rattle.laws_states.specs.Courses.{CallsHost, MakesWork, Spawns}
+use Rattle.machine_rules.proofs.PlacingLemmas.{placing_shifted, shifted_works}
+use Rattle.machine_rules.specs.Calls.{call_made, enter_rule, enter_runs, next_thread, with_thread_handle}
+use Rattle.machine_rules.specs.OpParts.{can_come, is_data_op, queues_work}
+use Rattle.machine_rules.specs.Ends.{returned, direct_exit_rule, exit_rule, exit_rule_for, implicit_exit_rule, may_tell}
+use Rattle.machine_rules.specs.Progress.{Asks, Fails, Continues, Never, Ordered, Progress, Stops, Traps, may, or_trap, trap_if}
+use Rattle.machine_rules.specs.Scripts.{export_kind, op_of}
+use Rattle.machine_rules.specs.Step.{Progresses, op_rule}
+use Rattle.machine_rules.specs.Threads.{has_yielded, resume_why}
+use Rattle.machine_rules.specs.Words.{Promote, Put}
 use Rattle.task_store.proofs.HostLemmas.{holds_quiet, holds_same, runs_works, walked_stays}
 use Rattle.task_store.specs.Hosts.{HoldsWorks, WorksNumbered}
-use Rattle.task_turns.proofs.KeptLemmas.{setting}
-use Rattle.task_turns.specs.Turn.{running_of, state_at}
-use Rattle.task_words.specs.StateView.{StateView, with_core, with_current}
-use Rattle.task_ops.specs.Shown.{goes_as}
-use Rattle.task_ops.specs.declared.op_result.OpAnswer.{OpAnswer}
+use Rattle.ops_turns.proofs.KeptLemmas.{setting}
+use Rattle.ops_turns.specs.Turn.{running_of, state_at}
+use Rattle.core_primitives.specs.StateView.{StateView, with_core, with_current}
+use Rattle.ops_guests.specs.Shown.{goes_as}
+use Rattle.ops_guests.specs.declared.op_result.OpAnswer.{OpAnswer}
 
 -- ---- An op that names neither an export nor a host
 

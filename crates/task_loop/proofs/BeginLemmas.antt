@@ -1,28 +1,28 @@
 -- What a run asks that was begun.
-use Rattle.host_works.specs.KeptWorks.{HoldsNone}
+use Rattle.store_works.specs.KeptWorks.{HoldsNone}
 use Rattle.std.proofs.Common.{ap₂, ap, arith, refl, subst, sym, ◌∙◌}
 use Rattle.std.specs.Prelude.{Bool, IfSome, Option, List, None, length, true, ℕ, ◌≡◌, ◌≤◌, ◌^◌}
-use Rattle.task_laws.specs.Settings.{CodesInCallbacks}
+use Rattle.laws_states.specs.Settings.{CodesInCallbacks}
 use Rattle.task_loop.specs.HasRun.{At, HasRun, Keeps, MayRun, Stands, at, numbers, setting}
 use Rattle.task_loop.specs.Says.{Says}
 use Rattle.task_loop.specs.declared.run.RunConcurrent.{RunConcurrent}
-use Rattle.task_machine.specs.Core.{fresh}
-use Rattle.task_machine.specs.declared.component.Component.{Component}
-use Rattle.task_machine.specs.declared.component.HostDef.{HostDef}
-use Rattle.task_machine.specs.declared.label.Label.{Label}
-use Rattle.task_machine.specs.declared.records.Turn.{Turn}
-use Rattle.task_machine.specs.declared.records.Turn.TheVariants as turn
-use Rattle.task_machine.specs.declared.scenario.MainOpDef.{MainOpDef}
-use Rattle.task_records.specs.Seen.{nothing}
-use Rattle.task_rules.specs.Stalled.{Setting}
+use Rattle.machine_data.specs.Core.{fresh}
+use Rattle.machine_data.specs.declared.component.Component.{Component}
+use Rattle.machine_data.specs.declared.component.HostDef.{HostDef}
+use Rattle.machine_data.specs.declared.label.Label.{Label}
+use Rattle.machine_data.specs.declared.records.Turn.{Turn}
+use Rattle.machine_data.specs.declared.records.Turn.TheVariants as turn
+use Rattle.machine_data.specs.declared.scenario.MainOpDef.{MainOpDef}
+use Rattle.core_records.specs.Seen.{nothing}
+use Rattle.machine_rules.specs.Stalled.{Setting}
 use Rattle.task_store.proofs.HostLemmas.{new_holds}
-use Rattle.task_words.specs.Groups.{IsAsked}
+use Rattle.core_primitives.specs.Groups.{IsAsked}
 use Rattle.task_store.specs.Hosts.{HoldsHosts}
 use Rattle.task_store.specs.declared.store.Store.{Store}
-use Rattle.task_turns.proofs.FreshLemmas.{given_fresh, core_in_order_fresh}
-use Rattle.task_turns.specs.Turn.{IsSettled, CoreInOrder, given, is_open, running_of, runs_in, setting_of}
-use Rattle.task_turns.specs.WellFormed.{IsWellFormed}
-use Rattle.task_words.specs.StateView.{StateView, with_core}
+use Rattle.ops_turns.proofs.FreshLemmas.{given_fresh, core_in_order_fresh}
+use Rattle.ops_turns.specs.Turn.{IsSettled, CoreInOrder, given, is_open, running_of, runs_in, setting_of}
+use Rattle.ops_turns.specs.WellFormed.{IsWellFormed}
+use Rattle.core_primitives.specs.StateView.{StateView, with_core}
 
 module _ {M T H G : Type 0} (says : Says M) (course : H → HostDef) (c : Component) where
   -- it is main's turn, and no thread runs

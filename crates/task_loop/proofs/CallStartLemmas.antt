@@ -1,13 +1,13 @@
 -- What the start of a call results in, of what was told and made; what stays of the store; and what is so of it then.
-use Rattle.group_notices.proofs.MoveLemmas.{with_hook_ok}
-use Rattle.group_notices.specs.Moves.{finishes}
-use Rattle.state_calls.specs.declared.error.TaskError.{TaskError}
-use Rattle.state_calls.specs.declared.error.TaskError.TheVariants as task_error
+use Rattle.store_notices.proofs.MoveLemmas.{with_hook_ok}
+use Rattle.store_notices.specs.Moves.{finishes}
+use Rattle.ops_state.specs.declared.error.TaskError.{TaskError}
+use Rattle.ops_state.specs.declared.error.TaskError.TheVariants as task_error
 use Rattle.std.proofs.Common.{ap, arith, inl, inr, refl, subst, sym, ◌∙◌}
 use Rattle.std.specs.Prelude.{Bool, Err, List, None, Ok, Option, Some, [], false, is_some, true, ℕ, ◌++◌, ◌+◌, ◌∷◌, ◌≡◌, ◌≢◌, ◌≤◌}
-use Rattle.task_calls.proofs.ApartLemmas.{trap_in_order}
-use Rattle.task_calls.specs.MainCalls.{Starts}
-use Rattle.task_calls.specs.Untrapped.{StartsUntrapped}
+use Rattle.ops_calls.proofs.ApartLemmas.{trap_in_order}
+use Rattle.ops_calls.specs.MainCalls.{Starts}
+use Rattle.ops_calls.specs.Untrapped.{StartsUntrapped}
 use Rattle.task_group.proofs.GroupLemmas.{still_hook_is_ok}
 use Rattle.task_group.specs.Listeners.{AnsweredErr, Listeners, ToldListeners, ToldWithHookOk, errors_of}
 use Rattle.task_loop.proofs.HookLemmas.{answered_after}
@@ -19,22 +19,22 @@ use Rattle.task_loop.specs.CallStarts.{HasStarted, IsReason, KeepsStore, LeavesU
 use Rattle.task_loop.specs.Hooked.{Unfailed, Unheard, Unhooked}
 use Rattle.task_loop.specs.Told.{StartFails}
 use Rattle.task_loop.specs.declared.call.FuncCallConcurrent.{FuncCallConcurrent}
-use Rattle.task_machine.specs.Core.{Core}
-use Rattle.task_machine.specs.Write.{set_trapped}
-use Rattle.task_machine.specs.declared.component.Callee.{Callee}
-use Rattle.task_machine.specs.declared.component.Component.{Component}
-use Rattle.task_machine.specs.declared.records.Notice.{Notice}
-use Rattle.task_machine.specs.declared.records.NoticeKind.TheVariants as notice
-use Rattle.task_machine.specs.declared.records.Turn.{Turn}
-use Rattle.task_machine.specs.declared.trap.Trap.{Trap}
-use Rattle.task_machine.specs.declared.trap.Trap.TheVariants as trap
-use Rattle.task_rules.specs.MainOps.{main_started, start_refusal}
-use Rattle.task_rules.specs.Notices.{told_of}
+use Rattle.machine_data.specs.Core.{Core}
+use Rattle.machine_data.specs.Write.{set_trapped}
+use Rattle.machine_data.specs.declared.component.Callee.{Callee}
+use Rattle.machine_data.specs.declared.component.Component.{Component}
+use Rattle.machine_data.specs.declared.records.Notice.{Notice}
+use Rattle.machine_data.specs.declared.records.NoticeKind.TheVariants as notice
+use Rattle.machine_data.specs.declared.records.Turn.{Turn}
+use Rattle.machine_data.specs.declared.trap.Trap.{Trap}
+use Rattle.machine_data.specs.declared.trap.Trap.TheVariants as trap
+use Rattle.machine_rules.specs.MainOps.{main_started, start_refusal}
+use Rattle.machine_rules.specs.Notices.{told_of}
 use Rattle.task_store.specs.Hosts.{HoldsHosts, HoldsWorks, held_by}
 use Rattle.task_store.specs.declared.store.Store.{Store}
-use Rattle.task_turns.specs.Turn.{CoreInOrder}
-use Rattle.task_words.specs.Groups.{IsAsked, asked}
-use Rattle.task_words.specs.StateView.{StateView, on_core}
+use Rattle.ops_turns.specs.Turn.{CoreInOrder}
+use Rattle.core_primitives.specs.Groups.{IsAsked, asked}
+use Rattle.core_primitives.specs.StateView.{StateView, on_core}
 
 -- ---- What stays of a store
 

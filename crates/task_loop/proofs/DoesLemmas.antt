@@ -1,24 +1,24 @@
 -- At another turn than its own main did nothing.
-use Rattle.label_laws.proofs.TurnLemmas.{main_at_its_turns}
-use Rattle.label_laws.specs.Own.{is_main_turn, is_of_main}
+use Rattle.laws_labels.proofs.TurnLemmas.{main_at_its_turns}
+use Rattle.laws_labels.specs.Own.{is_main_turn, is_of_main}
 use Rattle.std.proofs.Common.{ap, refl, subst, sym, ◌∙◌}
 use Rattle.std.specs.Prelude.{Bool, Err, IfOk, List, None, Ok, OnErr, OnOk, Option, Result, Some, false, ℕ, ◌≡◌}
 use Rattle.task_loop.specs.Ran.{DoesStep}
-use Rattle.task_machine.specs.Core.{Core, Main}
-use Rattle.task_machine.specs.declared.label.Label.{Label}
-use Rattle.task_machine.specs.declared.label.Label.TheVariants as label
-use Rattle.task_machine.specs.declared.label.LoopLabel.TheVariants as loop_label
-use Rattle.task_machine.specs.declared.records.Turn.{Turn}
-use Rattle.task_machine.specs.declared.records.Turn.TheVariants as turn
-use Rattle.task_rules.specs.Stalled.{Setting}
-use Rattle.task_turns.proofs.SteppedLemmas.{none_as}
-use Rattle.task_turns.specs.Does.{label_of_step, step_of, step_shown}
-use Rattle.task_turns.specs.StepResult.{AddedOrNone}
-use Rattle.task_turns.specs.Turn.{MakesStep, PendsIn, Turned, TurnedBeside, Turns, idle_line_of, state_at}
-use Rattle.task_turns.specs.declared.made.MadeStep.{MadeStep}
-use Rattle.task_turns.specs.declared.made.StepResult.{StepResult}
-use Rattle.task_turns.specs.declared.mains.MainStep.{MainStep}
-use Rattle.task_words.specs.StateView.{StateView}
+use Rattle.machine_data.specs.Core.{Core, Main}
+use Rattle.machine_data.specs.declared.label.Label.{Label}
+use Rattle.machine_data.specs.declared.label.Label.TheVariants as label
+use Rattle.machine_data.specs.declared.label.LoopLabel.TheVariants as loop_label
+use Rattle.machine_data.specs.declared.records.Turn.{Turn}
+use Rattle.machine_data.specs.declared.records.Turn.TheVariants as turn
+use Rattle.machine_rules.specs.Stalled.{Setting}
+use Rattle.ops_turns.proofs.SteppedLemmas.{none_as}
+use Rattle.ops_turns.specs.Does.{label_of_step, step_of, step_shown}
+use Rattle.ops_turns.specs.StepResult.{AddedOrNone}
+use Rattle.ops_turns.specs.Turn.{MakesStep, PendsIn, Turned, TurnedBeside, Turns, idle_line_of, state_at}
+use Rattle.ops_turns.specs.declared.made.MadeStep.{MadeStep}
+use Rattle.ops_turns.specs.declared.made.StepResult.{StepResult}
+use Rattle.ops_turns.specs.declared.mains.MainStep.{MainStep}
+use Rattle.core_primitives.specs.StateView.{StateView}
 
 others_show_none : (l : Label) → is_of_main l ≡ false → None ≡ step_shown l
 others_show_none (label.Main l) h = absurd (cc)

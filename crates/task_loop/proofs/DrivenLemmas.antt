@@ -1,15 +1,15 @@
 -- How far a run has come since it last yielded, once it was driven.
-use Rattle.run_pace.specs.YieldBudget.{since_driven}
-use Rattle.run_pace.specs.declared.yield_budget.YieldBudget.{YieldBudget}
+use Rattle.run_trace.specs.YieldBudget.{since_driven}
+use Rattle.run_trace.specs.declared.yield_budget.YieldBudget.{YieldBudget}
 use Rattle.std.proofs.Common.{ap, drop, length, refl, sym, ◌∙◌}
 use Rattle.std.proofs.Math.Seq.{drop-append_seam}
 use Rattle.std.specs.Prelude.{List, false, ℕ, ◌++◌, ◌≡◌}
 use Rattle.task_loop.specs.YieldBudgets.{LeavesYieldBudget}
 use Rattle.task_loop.specs.RunPolls.{since_left_by}
-use Rattle.task_machine.specs.declared.label.Label.{Label}
-use Rattle.task_machine.specs.declared.outcome.Outcome.{Outcome}
-use Rattle.task_machine.specs.declared.outcome.Outcome.TheVariants as outcome
-use Rattle.task_turns.specs.Turn.{goes_on}
+use Rattle.machine_data.specs.declared.label.Label.{Label}
+use Rattle.machine_data.specs.declared.outcome.Outcome.{Outcome}
+use Rattle.machine_data.specs.declared.outcome.Outcome.TheVariants as outcome
+use Rattle.ops_turns.specs.Turn.{goes_on}
 
 -- it ends a run, so nothing counts any more
 pub none_left : (o : Outcome) (k : ℕ) → goes_on o ≡ false → since_left_by o k ≡ 0

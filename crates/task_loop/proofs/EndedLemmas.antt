@@ -1,18 +1,18 @@
 -- The end of a thread between runs.
-use Rattle.state_calls.specs.Ends.{Ends}
-use Rattle.state_calls.specs.declared.error.TaskError.{TaskError}
+use Rattle.ops_state.specs.Ends.{Ends}
+use Rattle.ops_state.specs.declared.error.TaskError.{TaskError}
 use Rattle.std.proofs.Common.{inl, inr, refl, sym, ◌∙◌}
 use Rattle.std.specs.Option.{option_map_or}
 use Rattle.std.specs.Prelude.{Bool, Err, None, Ok, OnOk, Option, Result, Some, false, if◌then◌else◌, is_some, true, ℕ, ◌≡◌, ◌⊎◌}
-use Rattle.task_machine.specs.Core.{Core}
-use Rattle.task_machine.specs.Maps.{get}
-use Rattle.task_machine.specs.Moves.{call_settled, departed, ended, exited_if, freed_thread_handle, group_settled, interest_settled, is_deletable, is_finished, is_group_done}
-use Rattle.task_machine.specs.Read.{call_group, end_of, instance_of, is_explicit, is_last_thread, task_of, thread_handle_of}
-use Rattle.task_machine.specs.Write.{free_thread_handle, on_call, remove_call, remove_group, remove_thread, set_exited, set_uninteresting}
-use Rattle.task_machine.specs.declared.records.CallEnd.{CallEnd}
-use Rattle.task_moves.specs.Gone.{HasEnded}
-use Rattle.task_rules.specs.Ends.{leaves_no_result}
-use Rattle.task_words.specs.StateView.{StateView}
+use Rattle.machine_data.specs.Core.{Core}
+use Rattle.machine_data.specs.Maps.{get}
+use Rattle.machine_data.specs.Moves.{call_settled, departed, ended, exited_if, freed_thread_handle, group_settled, interest_settled, is_deletable, is_finished, is_group_done}
+use Rattle.machine_data.specs.Read.{call_group, end_of, instance_of, is_explicit, is_last_thread, task_of, thread_handle_of}
+use Rattle.machine_data.specs.Write.{free_thread_handle, on_call, remove_call, remove_group, remove_thread, set_exited, set_uninteresting}
+use Rattle.machine_data.specs.declared.records.CallEnd.{CallEnd}
+use Rattle.ops_moves.specs.Gone.{HasEnded}
+use Rattle.machine_rules.specs.Ends.{leaves_no_result}
+use Rattle.core_primitives.specs.StateView.{StateView}
 
 -- ---- It leaves the works
 

@@ -1,22 +1,22 @@
 -- What the hook makes of the calls that have another thread run, end a thread or begin a task.
-use Rattle.state_calls.specs.declared.error.TaskError.{TaskError}
-use Rattle.state_calls.specs.declared.name_calls.QualifiedThreadId.{QualifiedThreadId}
+use Rattle.ops_state.specs.declared.error.TaskError.{TaskError}
+use Rattle.ops_state.specs.declared.name_calls.QualifiedThreadId.{QualifiedThreadId}
 use Rattle.std.proofs.Common.{ap, arith, inl, inr, refl, subst, sym, ◌∙◌}
 use Rattle.std.specs.Prelude.{Bool, Err, IfOk, Ok, OnErr, Option, Result, false, is_some, true, ℕ, ◌≡◌, ◌≤◌, ◌⊎◌}
 use Rattle.task_group.specs.Listeners.{AnsweredErr, Listeners, errors_of}
 use Rattle.task_loop.proofs.HookLemmas.{must_listen, unanswered}
-use Rattle.state_calls.specs.declared.error.TaskError.TheVariants as task_error
-use Rattle.task_calls.specs.Tasks.{Begins}
+use Rattle.ops_state.specs.declared.error.TaskError.TheVariants as task_error
+use Rattle.ops_calls.specs.Tasks.{Begins}
 use Rattle.task_loop.proofs.HookStartLemmas.{heard_or_not, ok_or_err, unheard_at}
 use Rattle.task_loop.specs.Begun.{MakesTold}
 use Rattle.task_loop.specs.CallStarts.{IsReason}
 use Rattle.task_loop.specs.GuestCalls.{MakesOn, has_room, table_refusal}
 use Rattle.task_loop.specs.Hooked.{Unheard, Unhooked}
 use Rattle.task_loop.specs.Told.{refused_by_hook}
-use Rattle.task_machine.specs.declared.component.ExportKind.{ExportKind}
-use Rattle.task_machine.specs.declared.trap.Trap.TheVariants as trap
+use Rattle.machine_data.specs.declared.component.ExportKind.{ExportKind}
+use Rattle.machine_data.specs.declared.trap.Trap.TheVariants as trap
 use Rattle.task_store.specs.declared.store.Store.{Store}
-use Rattle.task_words.specs.StateView.{StateView}
+use Rattle.core_primitives.specs.StateView.{StateView}
 
 true_of : (b : Bool) → (b ≡ false → ⊥) → b ≡ true
 true_of true never = refl

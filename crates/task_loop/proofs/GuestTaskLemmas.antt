@@ -1,30 +1,30 @@
 -- Tasks and threads that begin and end between runs: the host works and the groups of a store.
-use Rattle.host_works.specs.KeptWorks.{HeldWork}
-use Rattle.state_calls.specs.Currents.{entered, is_left, left_for, now_runs, number_in, runner}
-use Rattle.state_calls.specs.Ends.{Ends}
-use Rattle.state_calls.specs.declared.currents.CurrentThread.{CurrentThread}
-use Rattle.state_calls.specs.declared.currents.CurrentThread.TheVariants as threads
-use Rattle.state_calls.specs.declared.error.TaskError.{TaskError}
-use Rattle.state_calls.specs.declared.error.TaskError.TheVariants as task_error
-use Rattle.state_calls.specs.declared.name_calls.QualifiedThreadId.{QualifiedThreadId}
+use Rattle.store_works.specs.KeptWorks.{HeldWork}
+use Rattle.ops_state.specs.Currents.{entered, is_left, left_for, now_runs, number_in, runner}
+use Rattle.ops_state.specs.Ends.{Ends}
+use Rattle.ops_state.specs.declared.currents.CurrentThread.{CurrentThread}
+use Rattle.ops_state.specs.declared.currents.CurrentThread.TheVariants as threads
+use Rattle.ops_state.specs.declared.error.TaskError.{TaskError}
+use Rattle.ops_state.specs.declared.error.TaskError.TheVariants as task_error
+use Rattle.ops_state.specs.declared.name_calls.QualifiedThreadId.{QualifiedThreadId}
 use Rattle.std.proofs.Common.{ap, arith, refl, subst, sym, ◌∙◌}
 use Rattle.std.proofs.lemmas.Bool.Decides.{nat_tests}
 use Rattle.std.specs.Prelude.{Bool, Err, None, Option, Result, Some, false, if◌then◌else◌, true, ℕ, ◌≡◌}
-use Rattle.task_calls.specs.Tasks.{Begins, task_begun, task_made}
+use Rattle.ops_calls.specs.Tasks.{Begins, task_begun, task_made}
 use Rattle.task_loop.proofs.EndedLemmas.{ended_works}
 use Rattle.task_loop.specs.Told.{current_group}
-use Rattle.task_machine.specs.Core.{Core}
-use Rattle.task_machine.proofs.CommuteLemmas.{get-change}
-use Rattle.task_machine.specs.Read.{thread_group}
-use Rattle.task_machine.specs.Write.{add_call, add_group, add_thread, on_thread, set_place, set_trapped}
-use Rattle.task_machine.specs.declared.component.ExportKind.{ExportKind}
-use Rattle.task_machine.specs.declared.records.Place.{Place}
-use Rattle.task_machine.specs.declared.records.Place.TheVariants as place
-use Rattle.task_rules.specs.Calls.{call_made}
+use Rattle.machine_data.specs.Core.{Core}
+use Rattle.machine_data.proofs.CommuteLemmas.{get-change}
+use Rattle.machine_data.specs.Read.{thread_group}
+use Rattle.machine_data.specs.Write.{add_call, add_group, add_thread, on_thread, set_place, set_trapped}
+use Rattle.machine_data.specs.declared.component.ExportKind.{ExportKind}
+use Rattle.machine_data.specs.declared.records.Place.{Place}
+use Rattle.machine_data.specs.declared.records.Place.TheVariants as place
+use Rattle.machine_rules.specs.Calls.{call_made}
 use Rattle.task_store.proofs.HostLemmas.{holds_same}
 use Rattle.task_store.specs.Hosts.{HoldsWorks}
-use Rattle.task_words.specs.Groups.{if_tracked, tracked_group}
-use Rattle.task_words.specs.StateView.{StateView, thread_of}
+use Rattle.core_primitives.specs.Groups.{if_tracked, tracked_group}
+use Rattle.core_primitives.specs.StateView.{StateView, thread_of}
 
 module _ (left : ℕ → Option HeldWork) where
   as_before : (s t : StateView) → t ≡ s → HoldsWorks left s.core → HoldsWorks left t.core

@@ -1,8 +1,8 @@
 -- What a poll of a run gives, of what its turns gave.
-use Rattle.label_laws.specs.Own.{next_mark, rests_by}
-use Rattle.run_pace.specs.YieldBudget.{counted, is_unyielded, since_after, yields_before}
-use Rattle.run_pace.specs.declared.yield_budget.YieldBudget.{YieldBudget}
-use Rattle.state_calls.specs.declared.error.TaskError.{TaskError}
+use Rattle.laws_labels.specs.Own.{next_mark, rests_by}
+use Rattle.run_trace.specs.YieldBudget.{counted, is_unyielded, since_after, yields_before}
+use Rattle.run_trace.specs.declared.yield_budget.YieldBudget.{YieldBudget}
+use Rattle.ops_state.specs.declared.error.TaskError.{TaskError}
 use Rattle.std.proofs.Common.{subst, sym, ◌∙◌}
 use Rattle.std.proofs.lemmas.List.{append_cancel_left}
 use Rattle.std.specs.Prelude.{Bool, List, None, Ok, Result, Some, false, length, not, true, ℕ, ◌&&◌, ◌<◌, ◌==◌, ◌≡◌, ◌≤◌}
@@ -13,18 +13,18 @@ use Rattle.task_loop.specs.RunPolls.{is_yielded, poll_answer, rests_last, run_an
 use Rattle.task_loop.specs.Says.{Says}
 use Rattle.task_loop.specs.declared.poll_methods.RunPoll.{RunPoll}
 use Rattle.task_loop.specs.declared.poll_methods.RunPoll.TheVariants as poll
-use Rattle.task_machine.specs.Core.{State}
-use Rattle.task_machine.specs.declared.component.Component.{Component}
-use Rattle.task_machine.specs.declared.component.HostDef.{HostDef}
-use Rattle.task_machine.specs.declared.label.Label.{Label}
-use Rattle.task_machine.specs.declared.outcome.Outcome.{Outcome}
-use Rattle.task_machine.specs.declared.records.Turn.{Turn}
-use Rattle.task_machine.specs.declared.records.Turn.TheVariants as turn
-use Rattle.task_rules.specs.Outcome.{is_at_rest}
-use Rattle.task_rules.specs.Stalled.{Setting}
-use Rattle.task_words.specs.Groups.{IsAsked}
+use Rattle.machine_data.specs.Core.{State}
+use Rattle.machine_data.specs.declared.component.Component.{Component}
+use Rattle.machine_data.specs.declared.component.HostDef.{HostDef}
+use Rattle.machine_data.specs.declared.label.Label.{Label}
+use Rattle.machine_data.specs.declared.outcome.Outcome.{Outcome}
+use Rattle.machine_data.specs.declared.records.Turn.{Turn}
+use Rattle.machine_data.specs.declared.records.Turn.TheVariants as turn
+use Rattle.machine_rules.specs.Outcome.{is_at_rest}
+use Rattle.machine_rules.specs.Stalled.{Setting}
+use Rattle.core_primitives.specs.Groups.{IsAsked}
 use Rattle.task_store.specs.Hosts.{HoldsHosts}
-use Rattle.task_turns.specs.declared.made.StepResult.TheVariants as stepped
+use Rattle.ops_turns.specs.declared.made.StepResult.TheVariants as stepped
 
 module _ {M T H G : Type 0} (says : Says M) (course : H → HostDef) (c : Component) (a b : At M T H G) (steps : ℕ) where
   has_polled : (r : Result RunPoll TaskError) (yield_budget yield_budget' : YieldBudget) → Paused (setting says course c a) (state says course c a) a.trace (numbers says course c a) yield_budget steps r b.turn (says.part b.main) b.store.state b.trace yield_budget' →

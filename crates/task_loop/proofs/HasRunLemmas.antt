@@ -1,12 +1,12 @@
 -- What a call on a run gives, of what its turns gave.
-use Rattle.run_pace.specs.declared.yield_budget.YieldBudget.{YieldBudget}
-use Rattle.state_calls.specs.declared.error.TaskError.{TaskError}
-use Rattle.state_calls.specs.declared.error.TaskError.TheVariants as task_error
+use Rattle.run_trace.specs.declared.yield_budget.YieldBudget.{YieldBudget}
+use Rattle.ops_state.specs.declared.error.TaskError.{TaskError}
+use Rattle.ops_state.specs.declared.error.TaskError.TheVariants as task_error
 use Rattle.std.proofs.Common.{ap, ap₂, arith, drop, inl, inr, length-append, refl, subst, sym, ◌∙◌}
 use Rattle.std.proofs.lemmas.List.{append_cancel_left}
 use Rattle.std.specs.Prelude.{Bool, Err, List, None, Ok, Option, Result, Some, [], false, is_some, length, true, ℕ, ◌+◌, ◌<◌, ◌∷◌, ◌≡◌, ◌≤◌, ◌^◌}
 use Rattle.task_group.specs.Listeners.{Listeners, ToldListeners}
-use Rattle.run_pace.specs.YieldBudget.{since_driven}
+use Rattle.run_trace.specs.YieldBudget.{since_driven}
 use Rattle.task_loop.proofs.DoesLemmas.{others_shown}
 use Rattle.task_loop.proofs.DrivenLemmas.{leaves_counted, leaves_none}
 use Rattle.task_loop.proofs.HookLemmas.{answered_after, knows_trapped, must_listen}
@@ -29,37 +29,37 @@ use Rattle.task_loop.specs.declared.run.Halt.{Halt}
 use Rattle.task_loop.specs.declared.run.Halt.TheVariants as halt
 use Rattle.task_loop.specs.declared.run.Stop.{Stop}
 use Rattle.task_loop.specs.declared.run.Stop.TheVariants as stop
-use Rattle.task_machine.specs.Core.{State}
-use Rattle.task_machine.specs.Write.{set_trapped}
-use Rattle.task_machine.specs.declared.component.Component.{Component}
-use Rattle.task_machine.specs.declared.component.HostDef.{HostDef}
-use Rattle.task_machine.specs.declared.label.Label.{Label}
-use Rattle.task_machine.specs.declared.outcome.Outcome.{Outcome}
-use Rattle.task_machine.specs.declared.outcome.Outcome.TheVariants as outcome
-use Rattle.task_machine.specs.declared.records.Turn.{Turn}
-use Rattle.task_machine.specs.declared.records.Turn.TheVariants as turn
-use Rattle.task_machine.specs.declared.scenario.MainOpDef.{MainOpDef}
-use Rattle.task_machine.specs.declared.trap.Trap.TheVariants as trap
-use Rattle.task_rules.specs.Outcome.{IsOutcome, is_at_rest}
-use Rattle.task_rules.specs.Stalled.{Setting}
+use Rattle.machine_data.specs.Core.{State}
+use Rattle.machine_data.specs.Write.{set_trapped}
+use Rattle.machine_data.specs.declared.component.Component.{Component}
+use Rattle.machine_data.specs.declared.component.HostDef.{HostDef}
+use Rattle.machine_data.specs.declared.label.Label.{Label}
+use Rattle.machine_data.specs.declared.outcome.Outcome.{Outcome}
+use Rattle.machine_data.specs.declared.outcome.Outcome.TheVariants as outcome
+use Rattle.machine_data.specs.declared.records.Turn.{Turn}
+use Rattle.machine_data.specs.declared.records.Turn.TheVariants as turn
+use Rattle.machine_data.specs.declared.scenario.MainOpDef.{MainOpDef}
+use Rattle.machine_data.specs.declared.trap.Trap.TheVariants as trap
+use Rattle.machine_rules.specs.Outcome.{IsOutcome, is_at_rest}
+use Rattle.machine_rules.specs.Stalled.{Setting}
 use Rattle.task_store.proofs.HostLemmas.{holds_same}
-use Rattle.group_notices.specs.Moves.{finishes}
-use Rattle.task_words.specs.Groups.{IsAsked, asked}
+use Rattle.store_notices.specs.Moves.{finishes}
+use Rattle.core_primitives.specs.Groups.{IsAsked, asked}
 use Rattle.task_store.specs.Hosts.{HoldsHosts, held_by}
 use Rattle.task_store.specs.declared.store.Store.{Store}
-use Rattle.task_turns.proofs.DriveLemmas.{on_begins, on_out_at, on_rests, was_on, was_on_short}
-use Rattle.task_turns.proofs.KeptLemmas.{core_in_order_after}
-use Rattle.task_turns.proofs.LaterLemmas.{last_by_works}
-use Rattle.task_turns.proofs.SteppedLemmas.{added_ends, added_more, added_none}
-use Rattle.task_turns.specs.Drive.{Computes, Drives, Drove, IsOn, KeepsOn, StopsShort, WasGoing}
-use Rattle.task_turns.specs.Later.{SameWorks, WorksLast}
-use Rattle.task_turns.specs.StepResult.{Added, AddedOrNone}
-use Rattle.task_turns.specs.Turn.{IsAtTurn, PendsIn, Turns, runs_in, setting_of, state_at}
-use Rattle.task_turns.specs.WellFormed.{IsWellFormed}
-use Rattle.task_turns.specs.declared.made.MadeStep.{MadeStep}
-use Rattle.task_turns.specs.declared.made.StepResult.{StepResult}
-use Rattle.task_turns.specs.declared.made.StepResult.TheVariants as stepped
-use Rattle.task_words.specs.StateView.{StateView, Tags, on_core}
+use Rattle.ops_turns.proofs.DriveLemmas.{on_begins, on_out_at, on_rests, was_on, was_on_short}
+use Rattle.ops_turns.proofs.KeptLemmas.{core_in_order_after}
+use Rattle.ops_turns.proofs.LaterLemmas.{last_by_works}
+use Rattle.ops_turns.proofs.SteppedLemmas.{added_ends, added_more, added_none}
+use Rattle.ops_turns.specs.Drive.{Computes, Drives, Drove, IsOn, KeepsOn, StopsShort, WasGoing}
+use Rattle.ops_turns.specs.Later.{SameWorks, WorksLast}
+use Rattle.ops_turns.specs.StepResult.{Added, AddedOrNone}
+use Rattle.ops_turns.specs.Turn.{IsAtTurn, PendsIn, Turns, runs_in, setting_of, state_at}
+use Rattle.ops_turns.specs.WellFormed.{IsWellFormed}
+use Rattle.ops_turns.specs.declared.made.MadeStep.{MadeStep}
+use Rattle.ops_turns.specs.declared.made.StepResult.{StepResult}
+use Rattle.ops_turns.specs.declared.made.StepResult.TheVariants as stepped
+use Rattle.core_primitives.specs.StateView.{StateView, Tags, on_core}
 
 -- ---- The turns of the run
 

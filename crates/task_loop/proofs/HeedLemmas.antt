@@ -1,25 +1,25 @@
 -- What the listeners of a run were told and heeded.
-use Rattle.group_laws.proofs.ListLemmas.{finish_none}
-use Rattle.group_laws.proofs.RunTells.{data_tells_nothing, data_runs_mild}
-use Rattle.label_laws.specs.Own.{is_data}
-use Rattle.state_calls.specs.declared.error.TaskError.{TaskError}
+use Rattle.laws_labels.proofs.ListLemmas.{finish_none}
+use Rattle.laws_labels.proofs.RunTells.{data_tells_nothing, data_runs_mild}
+use Rattle.laws_labels.specs.Own.{is_data}
+use Rattle.ops_state.specs.declared.error.TaskError.{TaskError}
 use Rattle.std.proofs.Common.{ap, refl, subst, sym, ◌∙◌, arith}
 use Rattle.std.specs.List.{list_all}
 use Rattle.std.specs.Prelude.{Err, IfOk, List, Ok, Result, [], false, true, ℕ, ◌∷◌, ◌≡◌, length, ◌+◌, ◌≤◌, ◌&&◌}
 use Rattle.task_group.proofs.GroupLemmas.{told-append, told-none}
 use Rattle.task_group.specs.Listeners.{Listeners, ToldListeners, ToldWithHookOk, errors_of}
 use Rattle.task_loop.specs.AnswersOk.{AnswersOkAll, is_refused, FewerGroups}
-use Rattle.task_machine.specs.Core.{State, Core}
-use Rattle.task_machine.specs.declared.label.Label.{Label}
-use Rattle.task_machine.specs.declared.records.Notice.{Notice}
-use Rattle.task_machine.specs.declared.records.Turn.TheVariants as turn
-use Rattle.task_rules.proofs.Machine.{and_parts}
-use Rattle.task_rules.specs.History.{Moment, history}
-use Rattle.task_rules.specs.Notices.{moment_notices, notices, finish_notices}
-use Rattle.task_rules.specs.Run.{Run}
-use Rattle.task_rules.specs.Stalled.{Setting}
-use Rattle.task_turns.specs.Does.{label_of_step}
-use Rattle.task_turns.specs.declared.mains.MainStep.{MainStep}
+use Rattle.machine_data.specs.Core.{State, Core}
+use Rattle.machine_data.specs.declared.label.Label.{Label}
+use Rattle.machine_data.specs.declared.records.Notice.{Notice}
+use Rattle.machine_data.specs.declared.records.Turn.TheVariants as turn
+use Rattle.machine_rules.proofs.Machine.{and_parts}
+use Rattle.machine_rules.specs.History.{Moment, history}
+use Rattle.machine_rules.specs.Notices.{moment_notices, notices, finish_notices}
+use Rattle.machine_rules.specs.Run.{Run}
+use Rattle.machine_rules.specs.Stalled.{Setting}
+use Rattle.ops_turns.specs.Does.{label_of_step}
+use Rattle.ops_turns.specs.declared.mains.MainStep.{MainStep}
 
 -- ---- What is heeded
 

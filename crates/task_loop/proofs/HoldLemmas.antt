@@ -1,47 +1,47 @@
 -- What the store holds of host works stays over turns in which it polls none.
 use Rattle.std.proofs.Common.{ap, arith, inl, inr, refl, subst, sym, ◌∙◌}
-use Rattle.cell_laws.specs.Cells.{Runs, StaysWork, Takes}
-use Rattle.host_works.specs.Course.{one_fewer}
-use Rattle.host_works.specs.KeptWorks.{HeldWork}
-use Rattle.op_dispatch.specs.Polls.{polled_host}
+use Rattle.laws_order.specs.Cells.{Runs, StaysWork, Takes}
+use Rattle.store_works.specs.Course.{one_fewer}
+use Rattle.store_works.specs.KeptWorks.{HeldWork}
+use Rattle.ops_dispatch.specs.Polls.{polled_host}
 use Rattle.std.specs.Option.{option_map}
 use Rattle.std.specs.Prelude.{[], Bool, Err, IfOk, List, None, Ok, OnOk, Option, Result, Some, cond, suc, true, zero, ℕ, ◌+◌, ◌==◌, ◌≡◌, ◌-◌}
-use Rattle.task_machine.specs.Core.{Main, State, Unscripted}
-use Rattle.task_machine.specs.Maps.{get}
-use Rattle.task_machine.specs.Read.{course_of, op_progress_of}
-use Rattle.task_machine.specs.declared.component.Component.{Component}
-use Rattle.task_machine.specs.declared.component.HostDef.{HostDef}
-use Rattle.task_machine.specs.declared.label.Label.{Label}
-use Rattle.task_machine.specs.declared.op.CallOp.TheVariants as call_op
-use Rattle.task_machine.specs.declared.op.Op.{Op}
-use Rattle.task_machine.specs.declared.op.Op.TheVariants as op
-use Rattle.task_machine.specs.declared.records.Course.TheVariants as courses
-use Rattle.task_machine.specs.declared.records.OpProgress.{OpProgress}
-use Rattle.task_machine.specs.declared.records.OpProgress.TheVariants as op_progress
-use Rattle.task_machine.specs.declared.records.Subtask.TheVariants as subtask
-use Rattle.task_machine.specs.declared.records.Turn.TheVariants as turn
-use Rattle.task_machine.specs.declared.scenario.IdleLine.TheVariants as idle_line
-use Rattle.task_laws.specs.Courses.{CallsHost, MakesWork, Spawns}
-use Rattle.task_rules.specs.Calls.{Later}
-use Rattle.subtask_ops.specs.First.{first_heard}
-use Rattle.task_machine.specs.declared.component.HostDef.TheVariants as host_def
-use Rattle.task_machine.specs.declared.words.HostPoll.{HostPoll}
-use Rattle.task_machine.specs.declared.words.HostPoll.TheVariants as host_poll
-use Rattle.task_rules.specs.OpParts.{queues_work}
-use Rattle.task_rules.proofs.WalkSteps.{step_walks}
-use Rattle.task_rules.specs.Chains.{WalkedAs}
-use Rattle.task_rules.specs.Scripts.{op_of, ops_of}
-use Rattle.task_rules.specs.Stalled.{Setting}
+use Rattle.machine_data.specs.Core.{Main, State, Unscripted}
+use Rattle.machine_data.specs.Maps.{get}
+use Rattle.machine_data.specs.Read.{course_of, op_progress_of}
+use Rattle.machine_data.specs.declared.component.Component.{Component}
+use Rattle.machine_data.specs.declared.component.HostDef.{HostDef}
+use Rattle.machine_data.specs.declared.label.Label.{Label}
+use Rattle.machine_data.specs.declared.op.CallOp.TheVariants as call_op
+use Rattle.machine_data.specs.declared.op.Op.{Op}
+use Rattle.machine_data.specs.declared.op.Op.TheVariants as op
+use Rattle.machine_data.specs.declared.records.Course.TheVariants as courses
+use Rattle.machine_data.specs.declared.records.OpProgress.{OpProgress}
+use Rattle.machine_data.specs.declared.records.OpProgress.TheVariants as op_progress
+use Rattle.machine_data.specs.declared.records.Subtask.TheVariants as subtask
+use Rattle.machine_data.specs.declared.records.Turn.TheVariants as turn
+use Rattle.machine_data.specs.declared.scenario.IdleLine.TheVariants as idle_line
+use Rattle.laws_states.specs.Courses.{CallsHost, MakesWork, Spawns}
+use Rattle.machine_rules.specs.Calls.{Later}
+use Rattle.ops_subtasks.specs.First.{first_heard}
+use Rattle.machine_data.specs.declared.component.HostDef.TheVariants as host_def
+use Rattle.machine_data.specs.declared.words.HostPoll.{HostPoll}
+use Rattle.machine_data.specs.declared.words.HostPoll.TheVariants as host_poll
+use Rattle.machine_rules.specs.OpParts.{queues_work}
+use Rattle.machine_rules.proofs.WalkSteps.{step_walks}
+use Rattle.machine_rules.specs.Chains.{WalkedAs}
+use Rattle.machine_rules.specs.Scripts.{op_of, ops_of}
+use Rattle.machine_rules.specs.Stalled.{Setting}
 use Rattle.task_store.proofs.HostLemmas.{holds_as, holds_made, holds_quiet, holds_unmade, running_stays, runs_works, taken_stays}
 use Rattle.task_store.specs.Hosts.{HoldsWorks, held_after_call, running}
 use Rattle.task_table.specs.declared.id.TableId.{TableId}
-use Rattle.task_turns.specs.Ran.{RanPolls, WorkMade}
-use Rattle.task_turns.specs.StepResult.{AddedOrNone}
-use Rattle.task_turns.specs.Turn.{MakesStep, PendsIn, CoreInOrder, Turned, TurnedBeside, idle_line_of, state_at}
-use Rattle.task_turns.specs.declared.made.Ran.{Ran}
-use Rattle.task_turns.specs.declared.made.StepResult.{StepResult}
+use Rattle.ops_turns.specs.Ran.{RanPolls, WorkMade}
+use Rattle.ops_turns.specs.StepResult.{AddedOrNone}
+use Rattle.ops_turns.specs.Turn.{MakesStep, PendsIn, CoreInOrder, Turned, TurnedBeside, idle_line_of, state_at}
+use Rattle.ops_turns.specs.declared.made.Ran.{Ran}
+use Rattle.ops_turns.specs.declared.made.StepResult.{StepResult}
 use Rattle.task_wait.specs.declared.keys.HostTaskKey.{HostTaskKey}
-use Rattle.task_words.specs.StateView.{StateView, work_of}
+use Rattle.core_primitives.specs.StateView.{StateView, work_of}
 
 -- ---- Takings
 

@@ -1,30 +1,30 @@
 -- Where a hook answers an error, and where it can't.
 use Rattle.std.proofs.Common.{ap, arith, inl, inr, le_refl, refl, subst, sym, ◌∙◌, ◌≡◌}
-use Rattle.state_calls.specs.declared.error.TaskError.{TaskError}
-use Rattle.state_calls.specs.declared.error.TaskError.TheVariants as task_error
+use Rattle.ops_state.specs.declared.error.TaskError.{TaskError}
+use Rattle.ops_state.specs.declared.error.TaskError.TheVariants as task_error
 use Rattle.std.specs.Option.{option_map_or}
 use Rattle.std.specs.Prelude.{Bool, Err, List, None, Option, Result, Some, false, is_some, true, ◌≤◌}
 use Rattle.task_group.specs.Heard.{Heard}
 use Rattle.task_group.specs.Listeners.{AnsweredErr, Listeners, errors_of}
 use Rattle.task_loop.specs.Hooked.{MainFails, StopsTurn, TellsInPart, Unfailed, Unheard}
-use Rattle.task_machine.specs.Core.{Main}
-use Rattle.task_machine.specs.declared.component.Component.{Component}
-use Rattle.task_machine.specs.Write.{set_trapped}
-use Rattle.task_machine.specs.declared.label.Label.{Label}
-use Rattle.task_machine.specs.declared.records.Turn.{Turn}
-use Rattle.task_machine.specs.declared.records.Turn.TheVariants as turn
-use Rattle.task_machine.specs.declared.trap.Trap.TheVariants as trap
-use Rattle.task_machine.specs.declared.scenario.MainOpDef.{MainOpDef}
-use Rattle.task_rules.specs.Stalled.{Setting}
-use Rattle.task_machine.specs.declared.component.HostDef.{HostDef}
-use Rattle.task_turns.specs.Later.{WorksLast}
+use Rattle.machine_data.specs.Core.{Main}
+use Rattle.machine_data.specs.declared.component.Component.{Component}
+use Rattle.machine_data.specs.Write.{set_trapped}
+use Rattle.machine_data.specs.declared.label.Label.{Label}
+use Rattle.machine_data.specs.declared.records.Turn.{Turn}
+use Rattle.machine_data.specs.declared.records.Turn.TheVariants as turn
+use Rattle.machine_data.specs.declared.trap.Trap.TheVariants as trap
+use Rattle.machine_data.specs.declared.scenario.MainOpDef.{MainOpDef}
+use Rattle.machine_rules.specs.Stalled.{Setting}
+use Rattle.machine_data.specs.declared.component.HostDef.{HostDef}
+use Rattle.ops_turns.specs.Later.{WorksLast}
 use Rattle.task_store.specs.declared.store.Store.{Store}
-use Rattle.task_turns.specs.StepResult.{Added}
-use Rattle.task_turns.specs.Turn.{Turns, setting_of}
-use Rattle.task_turns.specs.declared.made.MadeStep.{MadeStep}
-use Rattle.task_turns.specs.declared.made.StepResult.{StepResult}
-use Rattle.task_words.specs.Groups.{asked}
-use Rattle.task_words.specs.StateView.{StateView, on_core, work_number}
+use Rattle.ops_turns.specs.StepResult.{Added}
+use Rattle.ops_turns.specs.Turn.{Turns, setting_of}
+use Rattle.ops_turns.specs.declared.made.MadeStep.{MadeStep}
+use Rattle.ops_turns.specs.declared.made.StepResult.{StepResult}
+use Rattle.core_primitives.specs.Groups.{asked}
+use Rattle.core_primitives.specs.StateView.{StateView, on_core, work_number}
 
 -- a hook that isn't there answers none
 pub no_errors : (l : Listeners) → is_some l.hook ≡ false → errors_of l ≡ 0

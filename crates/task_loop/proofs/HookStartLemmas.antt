@@ -1,16 +1,16 @@
 -- A start that a hook is told of before it is made.
-use Rattle.state_calls.specs.declared.error.TaskError.{TaskError}
-use Rattle.state_calls.specs.declared.error.TaskError.TheVariants as task_error
+use Rattle.ops_state.specs.declared.error.TaskError.{TaskError}
+use Rattle.ops_state.specs.declared.error.TaskError.TheVariants as task_error
 use Rattle.std.proofs.Common.{arith, inl, inr, refl}
 use Rattle.std.proofs.lemmas.Bool.{cases_lt}
 use Rattle.std.specs.Prelude.{Bool, Err, IsErr, Ok, Result, Some, false, is_err, true, ◌↔◌, ◌≡◌, ◌≤◌, ◌⊎◌}
 use Rattle.task_group.specs.Listeners.{AnsweredErr, Listeners, errors_of}
 use Rattle.task_loop.specs.Hooked.{Unfailed, Unheard, Unhooked}
-use Rattle.task_machine.specs.Core.{Core}
-use Rattle.task_machine.specs.declared.trap.Trap.{Trap}
-use Rattle.task_machine.specs.declared.trap.Trap.TheVariants as trap
-use Rattle.task_machine.specs.Read.{fits}
-use Rattle.task_rules.specs.MainOps.{refusal, start_refusal}
+use Rattle.machine_data.specs.Core.{Core}
+use Rattle.machine_data.specs.declared.trap.Trap.{Trap}
+use Rattle.machine_data.specs.declared.trap.Trap.TheVariants as trap
+use Rattle.machine_data.specs.Read.{fits}
+use Rattle.machine_rules.specs.MainOps.{refusal, start_refusal}
 
 -- ---- Premises
 

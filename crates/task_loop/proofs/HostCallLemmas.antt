@@ -3,56 +3,56 @@ use Rattle.std.proofs.Common.{ap, arith, refl, subst, sym, ◌∙◌}
 use Rattle.std.proofs.lemmas.Bool.Decides.{nat_tests}
 use Rattle.std.specs.Option.{option_map}
 use Rattle.std.specs.Prelude.{Bool, Err, IfSome, Ok, None, Option, Result, Some, cond, false, is_ok, not, suc, true, zero, ℕ, ◌+◌, ◌-◌, ◌==◌, ◌≡◌}
-use Rattle.host_works.specs.KeptWorks.{HeldWork, after_poll}
-use Rattle.op_dispatch.proofs.CallLemmas.{host_makes_none, sync_host_makes_none}
-use Rattle.state_calls.specs.declared.error.TaskError.{TaskError}
-use Rattle.state_calls.specs.declared.error.TaskError.TheVariants as task_error
-use Rattle.task_calls.specs.OpAnswers.{answered, at_once, number_answered, value_answered}
-use Rattle.task_calls.specs.Asks.{Answers, Did, Does}
-use Rattle.task_calls.specs.PolledCalls.{blocks_rule, polls_rule}
-use Rattle.task_calls.specs.declared.answer_calls.Step.{Step}
-use Rattle.task_calls.specs.declared.answer_calls.Step.TheVariants as step
-use Rattle.task_machine.proofs.CommuteLemmas.{get-change}
-use Rattle.task_machine.specs.Core.{Core}
-use Rattle.task_machine.specs.Labels.{Choice}
-use Rattle.task_machine.specs.Maps.{get}
-use Rattle.task_machine.specs.Moves.{checked, passes_check}
-use Rattle.task_machine.specs.Read.{at_handle_limit, fits, foot_of, instance_of, new_handle, thread_group}
-use Rattle.task_machine.specs.Statuses.{packed}
-use Rattle.task_machine.specs.Write.{give_handle, on_thread, on_work, set_op_progress, set_place, set_subtask_handle}
-use Rattle.host_works.specs.Course.{MayTell, told_after}
-use Rattle.host_works.specs.KeptWorks.{MayAnswer}
-use Rattle.subtask_ops.specs.First.{first_heard}
-use Rattle.task_machine.specs.declared.component.HostDef.{HostDef}
-use Rattle.task_machine.specs.declared.component.HostDef.TheVariants as host_def
-use Rattle.task_machine.specs.declared.words.HostPoll.{HostPoll}
-use Rattle.task_machine.specs.declared.words.HostPoll.TheVariants as host_poll
+use Rattle.store_works.specs.KeptWorks.{HeldWork, after_poll}
+use Rattle.ops_dispatch.proofs.CallLemmas.{host_makes_none, sync_host_makes_none}
+use Rattle.ops_state.specs.declared.error.TaskError.{TaskError}
+use Rattle.ops_state.specs.declared.error.TaskError.TheVariants as task_error
+use Rattle.ops_calls.specs.OpAnswers.{answered, at_once, number_answered, value_answered}
+use Rattle.ops_calls.specs.Asks.{Answers, Did, Does}
+use Rattle.ops_calls.specs.PolledCalls.{blocks_rule, polls_rule}
+use Rattle.ops_calls.specs.declared.answer_calls.Step.{Step}
+use Rattle.ops_calls.specs.declared.answer_calls.Step.TheVariants as step
+use Rattle.machine_data.proofs.CommuteLemmas.{get-change}
+use Rattle.machine_data.specs.Core.{Core}
+use Rattle.machine_data.specs.Labels.{Choice}
+use Rattle.machine_data.specs.Maps.{get}
+use Rattle.machine_data.specs.Moves.{checked, passes_check}
+use Rattle.machine_data.specs.Read.{at_handle_limit, fits, foot_of, instance_of, new_handle, thread_group}
+use Rattle.machine_data.specs.Statuses.{packed}
+use Rattle.machine_data.specs.Write.{give_handle, on_thread, on_work, set_op_progress, set_place, set_subtask_handle}
+use Rattle.store_works.specs.Course.{MayTell, told_after}
+use Rattle.store_works.specs.KeptWorks.{MayAnswer}
+use Rattle.ops_subtasks.specs.First.{first_heard}
+use Rattle.machine_data.specs.declared.component.HostDef.{HostDef}
+use Rattle.machine_data.specs.declared.component.HostDef.TheVariants as host_def
+use Rattle.machine_data.specs.declared.words.HostPoll.{HostPoll}
+use Rattle.machine_data.specs.declared.words.HostPoll.TheVariants as host_poll
 use Rattle.task_store.specs.declared.store.Store.{Store}
-use Rattle.task_machine.specs.declared.label.CallLabel.TheVariants as call_label
-use Rattle.task_machine.specs.declared.label.Label.TheVariants as label
-use Rattle.task_machine.specs.declared.records.OpProgress.TheVariants as op_progress
-use Rattle.task_machine.specs.declared.records.MadeCounts.{MadeCounts}
-use Rattle.task_machine.specs.declared.records.Subtask.{Subtask}
-use Rattle.task_machine.specs.declared.records.Subtask.TheVariants as subtask
-use Rattle.task_machine.specs.declared.records.WorkCaller.TheVariants as callers
-use Rattle.task_machine.specs.declared.trap.Trap.{Trap}
-use Rattle.task_machine.specs.declared.trap.Trap.TheVariants as trap
-use Rattle.task_machine.specs.declared.words.Status.TheVariants as status
-use Rattle.task_ops.specs.OpResult.{Implements}
-use Rattle.task_ops.specs.Stays.{StaysAfter}
-use Rattle.task_ops.specs.declared.op_result.OpResult.{OpResult}
-use Rattle.task_ops.specs.declared.op_result.OpResult.TheVariants as op_result
-use Rattle.task_rules.proofs.PlacingLemmas.{Shifted, placing_shifted, shifted_made, shifts_shifted}
-use Rattle.task_rules.proofs.WalkMoves.{checked_shifts}
-use Rattle.task_rules.specs.Calls.{AtOnce, Failing, FirstPoll, Later, call_host_by, call_stops, call_sync_host_by, call_sync_host_stops, host_with_handle, next_work, with_handle, work_queued}
-use Rattle.task_rules.specs.Finish.{SomeHost}
-use Rattle.task_rules.specs.Progress.{Continues, Progress, Stops, trap_if}
-use Rattle.task_rules.specs.Words.{Stop}
+use Rattle.machine_data.specs.declared.label.CallLabel.TheVariants as call_label
+use Rattle.machine_data.specs.declared.label.Label.TheVariants as label
+use Rattle.machine_data.specs.declared.records.OpProgress.TheVariants as op_progress
+use Rattle.machine_data.specs.declared.records.MadeCounts.{MadeCounts}
+use Rattle.machine_data.specs.declared.records.Subtask.{Subtask}
+use Rattle.machine_data.specs.declared.records.Subtask.TheVariants as subtask
+use Rattle.machine_data.specs.declared.records.WorkCaller.TheVariants as callers
+use Rattle.machine_data.specs.declared.trap.Trap.{Trap}
+use Rattle.machine_data.specs.declared.trap.Trap.TheVariants as trap
+use Rattle.machine_data.specs.declared.words.Status.TheVariants as status
+use Rattle.ops_guests.specs.OpResult.{Implements}
+use Rattle.ops_guests.specs.Stays.{StaysAfter}
+use Rattle.ops_guests.specs.declared.op_result.OpResult.{OpResult}
+use Rattle.ops_guests.specs.declared.op_result.OpResult.TheVariants as op_result
+use Rattle.machine_rules.proofs.PlacingLemmas.{Shifted, placing_shifted, shifted_made, shifts_shifted}
+use Rattle.machine_rules.proofs.WalkMoves.{checked_shifts}
+use Rattle.machine_rules.specs.Calls.{AtOnce, Failing, FirstPoll, Later, call_host_by, call_stops, call_sync_host_by, call_sync_host_stops, host_with_handle, next_work, with_handle, work_queued}
+use Rattle.machine_rules.specs.Finish.{SomeHost}
+use Rattle.machine_rules.specs.Progress.{Continues, Progress, Stops, trap_if}
+use Rattle.machine_rules.specs.Words.{Stop}
 use Rattle.task_store.proofs.HostLemmas.{holds_below, holds_queued, holds_same, holds_told, says}
 use Rattle.task_store.specs.Hosts.{HoldsWorks, WorksNumbered, running, settled}
-use Rattle.task_turns.specs.Turn.{running_of}
-use Rattle.task_words.specs.StateView.{StateView}
-use Rattle.task_ops.specs.declared.op_result.OpAnswer.{OpAnswer}
+use Rattle.ops_turns.specs.Turn.{running_of}
+use Rattle.core_primitives.specs.StateView.{StateView}
+use Rattle.ops_guests.specs.declared.op_result.OpAnswer.{OpAnswer}
 
 -- ---- What is left of a work after its first poll
 

@@ -1,17 +1,17 @@
 -- No thread runs after a poll, and after the entry of a host call was taken.
 use Rattle.std.proofs.Common.{ap, refl, ◌∙◌}
 use Rattle.std.specs.Prelude.{Bool, None, Option, Some, false, true, ℕ, ◌≡◌}
-use Rattle.task_machine.specs.Core.{Core, Main, State}
-use Rattle.task_machine.specs.declared.label.Label.{Label}
-use Rattle.task_machine.specs.declared.records.Turn.TheVariants as turn
-use Rattle.task_rules.specs.Progress.{Stops, may}
-use Rattle.task_rules.specs.Stalled.{Setting}
-use Rattle.task_rules.specs.Step.{FuturesStep, Polled, Progresses, Step}
-use Rattle.task_rules.specs.Turns.{at_turn, queues_are_empty, settled_futures, settled_take}
-use Rattle.task_rules.specs.Works.{Asked, Ends, FailsNow, Poll, StillPends, next_polled, poll_of}
-use Rattle.task_turns.specs.Turn.{Turns, running_of, runs_in, state_at}
-use Rattle.task_turns.specs.declared.made.MadeStep.{MadeStep}
-use Rattle.task_words.specs.StateView.{StateView}
+use Rattle.machine_data.specs.Core.{Core, Main, State}
+use Rattle.machine_data.specs.declared.label.Label.{Label}
+use Rattle.machine_data.specs.declared.records.Turn.TheVariants as turn
+use Rattle.machine_rules.specs.Progress.{Stops, may}
+use Rattle.machine_rules.specs.Stalled.{Setting}
+use Rattle.machine_rules.specs.Step.{FuturesStep, Polled, Progresses, Step}
+use Rattle.machine_rules.specs.Turns.{at_turn, queues_are_empty, settled_futures, settled_take}
+use Rattle.machine_rules.specs.Works.{Asked, Ends, FailsNow, Poll, StillPends, next_polled, poll_of}
+use Rattle.ops_turns.specs.Turn.{Turns, running_of, runs_in, state_at}
+use Rattle.ops_turns.specs.declared.made.MadeStep.{MadeStep}
+use Rattle.core_primitives.specs.StateView.{StateView}
 
 pub main_idle : (s : State) (new : Core) (m : Main) → runs_in (at_turn s new m turn.Main).turn ≡ None
 unfolding at_turn

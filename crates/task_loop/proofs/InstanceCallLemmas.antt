@@ -1,12 +1,12 @@
 -- What a method of an instance does, of what its op resulted in and what was told; and what is so of its answer then.
-use Rattle.group_notices.specs.declared.tells.GroupsBefore.{GroupsBefore}
-use Rattle.host_works.specs.KeptWorks.{HeldWork}
-use Rattle.state_calls.specs.declared.error.TaskError.{TaskError}
+use Rattle.store_notices.specs.declared.tells.GroupsBefore.{GroupsBefore}
+use Rattle.store_works.specs.KeptWorks.{HeldWork}
+use Rattle.ops_state.specs.declared.error.TaskError.{TaskError}
 use Rattle.std.proofs.Common.{ap, inl, inr, refl, subst, sym, ⊎_elim, ◌∙◌}
 use Rattle.std.specs.Prelude.{Bool, Option, Result, false, true, ℕ, ◌≡◌, ◌⊎◌}
-use Rattle.task_calls.specs.Asks.{AnswersOp, IsRunningIn, is_apart, scripted_rule_of}
-use Rattle.op_dispatch.specs.Makes.{takes_memory}
-use Rattle.task_calls.specs.declared.answer_calls.Step.{Step}
+use Rattle.ops_calls.specs.Asks.{AnswersOp, IsRunningIn, is_apart, scripted_rule_of}
+use Rattle.ops_dispatch.specs.Makes.{takes_memory}
+use Rattle.ops_calls.specs.declared.answer_calls.Step.{Step}
 use Rattle.task_group.specs.Listeners.{Listeners}
 use Rattle.task_loop.proofs.AskHoldLemmas.{asked_holds}
 use Rattle.task_loop.proofs.TrackedLemmas.{TracksSame, answers_known}
@@ -15,14 +15,14 @@ use Rattle.task_loop.proofs.ToldLemmas.{told_core}
 use Rattle.task_loop.specs.Hooked.{HookCaused, HookFails}
 use Rattle.task_loop.specs.InstanceCalls.{ComesOf, DoesCall, DoesHostOp, IsTold}
 use Rattle.task_loop.specs.Told.{TellsCall, groups_before_call, refused_by_hook}
-use Rattle.task_machine.specs.Core.{Core}
-use Rattle.task_machine.specs.declared.component.Component.{Component}
-use Rattle.task_machine.specs.declared.op.Op.{Op}
-use Rattle.task_ops.specs.declared.op_result.OpAnswer.{OpAnswer}
+use Rattle.machine_data.specs.Core.{Core}
+use Rattle.machine_data.specs.declared.component.Component.{Component}
+use Rattle.machine_data.specs.declared.op.Op.{Op}
+use Rattle.ops_guests.specs.declared.op_result.OpAnswer.{OpAnswer}
 use Rattle.task_store.specs.Hosts.{HoldsWorks, held_by}
 use Rattle.task_store.specs.declared.store.Store.{Store}
-use Rattle.task_words.specs.Groups.{asked}
-use Rattle.task_words.specs.StateView.{StateView}
+use Rattle.core_primitives.specs.Groups.{asked}
+use Rattle.core_primitives.specs.StateView.{StateView}
 
 -- ---- A call that was told
 

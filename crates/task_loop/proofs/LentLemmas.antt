@@ -1,16 +1,16 @@
 -- An end that is refused as the task still lends something, and one that isn't.
-use Rattle.state_calls.specs.declared.error.TaskError.{TaskError}
-use Rattle.state_calls.specs.declared.error.TaskError.TheVariants as task_error
+use Rattle.ops_state.specs.declared.error.TaskError.{TaskError}
+use Rattle.ops_state.specs.declared.error.TaskError.TheVariants as task_error
 use Rattle.std.proofs.Common.{ap, refl, subst, sym, ◌∙◌}
 use Rattle.std.specs.Prelude.{Bool, Err, IfSome, None, Option, Result, Some, false, option_map, true, ℕ, ◌≡◌}
-use Rattle.task_calls.specs.Asks.{IsRunningIn, turn_for, turn_in}
-use Rattle.task_lends.specs.HeldBorrows.{Comes, UnlessLent}
-use Rattle.task_machine.specs.declared.component.Component.{Component}
-use Rattle.task_machine.specs.declared.trap.Trap.TheVariants as trap
+use Rattle.ops_calls.specs.Asks.{IsRunningIn, turn_for, turn_in}
+use Rattle.task_store.specs.HeldBorrows.{Comes, UnlessLent}
+use Rattle.machine_data.specs.declared.component.Component.{Component}
+use Rattle.machine_data.specs.declared.trap.Trap.TheVariants as trap
 use Rattle.task_table.specs.declared.id.TableId.{TableId}
-use Rattle.task_turns.specs.Turn.{CoreInOrder, running_of}
+use Rattle.ops_turns.specs.Turn.{CoreInOrder, running_of}
 use Rattle.task_wait.specs.declared.keys.ThreadKey.{ThreadKey}
-use Rattle.task_words.specs.StateView.{StateView, thread_of}
+use Rattle.core_primitives.specs.StateView.{StateView, thread_of}
 
 module _ (s : StateView) (id : TableId ThreadKey) (o : Option (TableId ThreadKey)) (asked : o ≡ s.current) (found : o ≡ Some id) where
   -- the thread that is asked for runs

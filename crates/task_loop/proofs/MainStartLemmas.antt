@@ -1,10 +1,10 @@
 -- What the start of a call is as a step of main.
-use Rattle.group_notices.specs.Moves.{finishes}
-use Rattle.state_calls.specs.declared.error.TaskError.{TaskError}
-use Rattle.state_calls.specs.declared.error.TaskError.TheVariants as task_error
+use Rattle.store_notices.specs.Moves.{finishes}
+use Rattle.ops_state.specs.declared.error.TaskError.{TaskError}
+use Rattle.ops_state.specs.declared.error.TaskError.TheVariants as task_error
 use Rattle.std.proofs.Common.{ap, inr, refl, subst, sym, ◌∙◌}
 use Rattle.std.specs.Prelude.{Bool, Err, List, Ok, ℕ, ◌∷◌, ◌≡◌}
-use Rattle.task_calls.specs.MainCalls.{Starts}
+use Rattle.ops_calls.specs.MainCalls.{Starts}
 use Rattle.task_group.specs.Listeners.{ToldListeners}
 use Rattle.task_loop.proofs.CallStartLemmas.{stop_fails}
 use Rattle.task_loop.proofs.MainToldLemmas.{refused_notices, started_notices}
@@ -16,23 +16,23 @@ use Rattle.task_loop.specs.Hooked.{FailsMain}
 use Rattle.task_loop.specs.Says.{Says}
 use Rattle.task_loop.specs.Told.{main_notices}
 use Rattle.task_loop.specs.declared.call.FuncCallConcurrent.{FuncCallConcurrent}
-use Rattle.task_machine.specs.Write.{set_trapped}
-use Rattle.task_machine.specs.declared.component.Callee.{Callee}
-use Rattle.task_machine.specs.declared.component.Component.{Component}
-use Rattle.task_machine.specs.declared.component.HostDef.{HostDef}
-use Rattle.task_machine.specs.declared.label.Label.TheVariants as label
-use Rattle.task_machine.specs.declared.label.MainLabel.TheVariants as main_label
-use Rattle.task_machine.specs.declared.records.Notice.{Notice}
-use Rattle.task_machine.specs.declared.trap.Trap.{Trap}
-use Rattle.task_machine.specs.declared.trap.Trap.TheVariants as trap
-use Rattle.task_rules.specs.MainOps.{start_refusal}
+use Rattle.machine_data.specs.Write.{set_trapped}
+use Rattle.machine_data.specs.declared.component.Callee.{Callee}
+use Rattle.machine_data.specs.declared.component.Component.{Component}
+use Rattle.machine_data.specs.declared.component.HostDef.{HostDef}
+use Rattle.machine_data.specs.declared.label.Label.TheVariants as label
+use Rattle.machine_data.specs.declared.label.MainLabel.TheVariants as main_label
+use Rattle.machine_data.specs.declared.records.Notice.{Notice}
+use Rattle.machine_data.specs.declared.trap.Trap.{Trap}
+use Rattle.machine_data.specs.declared.trap.Trap.TheVariants as trap
+use Rattle.machine_rules.specs.MainOps.{start_refusal}
 use Rattle.task_store.specs.declared.store.Store.{Store}
-use Rattle.task_turns.specs.Main.{Steps}
-use Rattle.task_turns.specs.declared.mains.MainStep.{MainStep}
-use Rattle.task_turns.specs.declared.mains.MainStep.TheVariants as step
-use Rattle.task_turns.specs.Turn.{running_of}
-use Rattle.task_words.specs.Groups.{asked}
-use Rattle.task_words.specs.StateView.{StateView, on_core}
+use Rattle.ops_turns.specs.Main.{Steps}
+use Rattle.ops_turns.specs.declared.mains.MainStep.{MainStep}
+use Rattle.ops_turns.specs.declared.mains.MainStep.TheVariants as step
+use Rattle.ops_turns.specs.Turn.{running_of}
+use Rattle.core_primitives.specs.Groups.{asked}
+use Rattle.core_primitives.specs.StateView.{StateView, on_core}
 
 -- the step that shows the start of the call with this number and thread
 abbrev pub shows_start : (k thread : ℕ) → MainStep

@@ -1,7 +1,7 @@
 -- What main did makes the step that is shown.
-use Rattle.group_laws.specs.Tells.{is_start}
-use Rattle.state_calls.specs.declared.error.TaskError.{TaskError}
-use Rattle.state_calls.specs.declared.error.TaskError.TheVariants as task_error
+use Rattle.laws_labels.specs.Tells.{is_start}
+use Rattle.ops_state.specs.declared.error.TaskError.{TaskError}
+use Rattle.ops_state.specs.declared.error.TaskError.TheVariants as task_error
 use Rattle.std.proofs.Common.{ap, inl, inr, refl, subst, sym, ◌∙◌}
 use Rattle.std.specs.Prelude.{Bool, List, None, Some, false, ◌≡◌}
 use Rattle.task_group.specs.Listeners.{ToldListeners, errors_of}
@@ -14,27 +14,27 @@ use Rattle.task_loop.specs.AnswersOk.{is_refused}
 use Rattle.task_loop.specs.Hooked.{FailsMain, MainFails}
 use Rattle.task_loop.specs.Says.{Says}
 use Rattle.task_loop.specs.Told.{group_running}
-use Rattle.task_machine.specs.Core.{Main}
-use Rattle.task_machine.specs.declared.component.Component.{Component}
-use Rattle.task_machine.specs.declared.component.HostDef.{HostDef}
-use Rattle.task_machine.specs.declared.label.Label.{Label}
-use Rattle.task_machine.specs.declared.records.Notice.{Notice}
-use Rattle.task_machine.specs.declared.records.Turn.TheVariants as turn
-use Rattle.task_machine.specs.declared.trap.Trap.{Trap}
-use Rattle.task_rules.specs.Stalled.{Setting}
-use Rattle.task_words.specs.Groups.{IsAsked}
+use Rattle.machine_data.specs.Core.{Main}
+use Rattle.machine_data.specs.declared.component.Component.{Component}
+use Rattle.machine_data.specs.declared.component.HostDef.{HostDef}
+use Rattle.machine_data.specs.declared.label.Label.{Label}
+use Rattle.machine_data.specs.declared.records.Notice.{Notice}
+use Rattle.machine_data.specs.declared.records.Turn.TheVariants as turn
+use Rattle.machine_data.specs.declared.trap.Trap.{Trap}
+use Rattle.machine_rules.specs.Stalled.{Setting}
+use Rattle.core_primitives.specs.Groups.{IsAsked}
 use Rattle.task_store.specs.Hosts.{HoldsHosts}
 use Rattle.task_store.specs.declared.store.Store.{Store}
-use Rattle.task_turns.proofs.DoesLemmas.{steps_shown}
-use Rattle.task_turns.specs.Does.{label_of_step}
-use Rattle.task_turns.specs.Later.{WorksLast}
-use Rattle.task_turns.specs.Main.{Steps}
-use Rattle.task_turns.specs.StepResult.{Stands}
-use Rattle.task_turns.specs.Turn.{Turns, running_of, setting_of}
-use Rattle.task_turns.specs.declared.made.MadeStep.{MadeStep}
-use Rattle.task_turns.specs.declared.made.StepResult.{StepResult}
-use Rattle.task_turns.specs.declared.mains.MainStep.{MainStep}
-use Rattle.task_words.specs.StateView.{StateView}
+use Rattle.ops_turns.proofs.DoesLemmas.{steps_shown}
+use Rattle.ops_turns.specs.Does.{label_of_step}
+use Rattle.ops_turns.specs.Later.{WorksLast}
+use Rattle.ops_turns.specs.Main.{Steps}
+use Rattle.ops_turns.specs.StepResult.{Stands}
+use Rattle.ops_turns.specs.Turn.{Turns, running_of, setting_of}
+use Rattle.ops_turns.specs.declared.made.MadeStep.{MadeStep}
+use Rattle.ops_turns.specs.declared.made.StepResult.{StepResult}
+use Rattle.ops_turns.specs.declared.mains.MainStep.{MainStep}
+use Rattle.core_primitives.specs.StateView.{StateView}
 
 module _ {M T H G : Type 0} (says : Says M) (course : H → HostDef) (c : Component) where
   -- ---- What a main shows of its own step

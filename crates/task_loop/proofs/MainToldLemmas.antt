@@ -2,36 +2,36 @@
 use Rattle.std.proofs.Common.{ap, arith, inl, inr, refl, subst, sym, ◌∙◌, ◌≡◌}
 use Rattle.std.proofs.lemmas.Bool.Decides.{nat_tests}
 use Rattle.std.specs.Prelude.{Err, IfOk, List, None, Ok, OnOk, Option, Result, Some, [], false, map, not, true, ℕ, ◌++◌, ◌+◌, ◌==◌, ◌∷◌, ◌≤◌}
-use Rattle.group_laws.proofs.ListLemmas.{decide, filter_none, filter_same, finish_every}
-use Rattle.group_laws.specs.Tells.{is_start}
-use Rattle.group_notices.specs.Moves.{finishes}
-use Rattle.state_calls.specs.declared.error.TaskError.{TaskError}
-use Rattle.state_calls.specs.declared.error.TaskError.TheVariants as task_error
-use Rattle.task_calls.specs.MainCalls.{Starts}
+use Rattle.laws_labels.proofs.ListLemmas.{decide, filter_none, filter_same, finish_every}
+use Rattle.laws_labels.specs.Tells.{is_start}
+use Rattle.store_notices.specs.Moves.{finishes}
+use Rattle.ops_state.specs.declared.error.TaskError.{TaskError}
+use Rattle.ops_state.specs.declared.error.TaskError.TheVariants as task_error
+use Rattle.ops_calls.specs.MainCalls.{Starts}
 use Rattle.task_group.proofs.GroupLemmas.{told-none}
 use Rattle.task_group.specs.Listeners.{Listeners, ToldListeners}
 use Rattle.task_loop.proofs.StartLemmas.{start_groups, start_made}
 use Rattle.task_loop.proofs.ToldLemmas.{main_asked, main_quiet}
 use Rattle.task_loop.specs.Told.{main_notices}
-use Rattle.task_machine.specs.Core.{Core, Main, fresh}
-use Rattle.task_machine.specs.Write.{set_trapped}
-use Rattle.task_machine.specs.declared.component.Callee.{Callee}
-use Rattle.task_machine.specs.declared.component.Component.{Component}
-use Rattle.task_machine.specs.declared.label.Label.TheVariants as label
-use Rattle.task_machine.specs.declared.label.MainLabel.TheVariants as main_label
-use Rattle.task_machine.specs.declared.records.Notice.{Notice}
-use Rattle.task_machine.specs.declared.records.NoticeKind.TheVariants as notice
-use Rattle.task_machine.specs.declared.scenario.MainOpDef.{MainOpDef}
-use Rattle.task_machine.specs.declared.trap.Trap.{Trap}
-use Rattle.task_rules.specs.MainOps.{main_started}
-use Rattle.task_rules.specs.Notices.{finish_notices, is_in, told_of}
-use Rattle.task_records.specs.Seen.{nothing}
-use Rattle.task_turns.specs.Does.{label_of_step}
-use Rattle.task_turns.specs.Main.{Steps}
-use Rattle.task_turns.specs.declared.mains.MainStep.{MainStep}
-use Rattle.task_turns.specs.declared.mains.MainStep.TheVariants as step
-use Rattle.task_words.specs.Groups.{IsAsked}
-use Rattle.task_words.specs.StateView.{StateView, with_core}
+use Rattle.machine_data.specs.Core.{Core, Main, fresh}
+use Rattle.machine_data.specs.Write.{set_trapped}
+use Rattle.machine_data.specs.declared.component.Callee.{Callee}
+use Rattle.machine_data.specs.declared.component.Component.{Component}
+use Rattle.machine_data.specs.declared.label.Label.TheVariants as label
+use Rattle.machine_data.specs.declared.label.MainLabel.TheVariants as main_label
+use Rattle.machine_data.specs.declared.records.Notice.{Notice}
+use Rattle.machine_data.specs.declared.records.NoticeKind.TheVariants as notice
+use Rattle.machine_data.specs.declared.scenario.MainOpDef.{MainOpDef}
+use Rattle.machine_data.specs.declared.trap.Trap.{Trap}
+use Rattle.machine_rules.specs.MainOps.{main_started}
+use Rattle.machine_rules.specs.Notices.{finish_notices, is_in, told_of}
+use Rattle.core_records.specs.Seen.{nothing}
+use Rattle.ops_turns.specs.Does.{label_of_step}
+use Rattle.ops_turns.specs.Main.{Steps}
+use Rattle.ops_turns.specs.declared.mains.MainStep.{MainStep}
+use Rattle.ops_turns.specs.declared.mains.MainStep.TheVariants as step
+use Rattle.core_primitives.specs.Groups.{IsAsked}
+use Rattle.core_primitives.specs.StateView.{StateView, with_core}
 
 -- ---- Starts
 

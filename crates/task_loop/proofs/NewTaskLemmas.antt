@@ -1,12 +1,12 @@
 -- What the making of a call comes to whose thread is New, and what is so of it then.
-use Rattle.state_calls.specs.declared.error.TaskError.{TaskError}
-use Rattle.state_calls.specs.declared.error.TaskError.TheVariants as task_error
-use Rattle.state_calls.specs.declared.name_calls.QualifiedThreadId.{QualifiedThreadId}
+use Rattle.ops_state.specs.declared.error.TaskError.{TaskError}
+use Rattle.ops_state.specs.declared.error.TaskError.TheVariants as task_error
+use Rattle.ops_state.specs.declared.name_calls.QualifiedThreadId.{QualifiedThreadId}
 use Rattle.std.proofs.Common.{inl, refl}
 use Rattle.std.specs.Prelude.{Bool, Err, None, Ok, Option, Result, Some, false, is_some, true, ℕ, ◌≡◌}
-use Rattle.task_calls.specs.Tasks.{Begins, task_begun}
+use Rattle.ops_calls.specs.Tasks.{Begins, task_begun}
 use Rattle.task_group.specs.Listeners.{AnsweredErr, Listeners, ToldWithHookOk}
-use Rattle.group_notices.proofs.MoveLemmas.{none_told}
+use Rattle.store_notices.proofs.MoveLemmas.{none_told}
 use Rattle.task_loop.proofs.CallStartLemmas.{reason_heard}
 use Rattle.task_loop.proofs.HookStartLemmas.{unhooked_always}
 use Rattle.task_loop.specs.Begun.{LeavesTask}
@@ -14,11 +14,11 @@ use Rattle.task_loop.specs.CallStarts.{IsReason}
 use Rattle.task_loop.specs.GuestCalls.{has_room, table_refusal}
 use Rattle.task_loop.specs.NewTasks.{MakesCall}
 use Rattle.task_loop.specs.Told.{begun_notices}
-use Rattle.task_machine.specs.declared.component.ExportKind.{ExportKind}
-use Rattle.task_machine.specs.declared.trap.Trap.{Trap}
-use Rattle.task_machine.specs.declared.trap.Trap.TheVariants as trap
+use Rattle.machine_data.specs.declared.component.ExportKind.{ExportKind}
+use Rattle.machine_data.specs.declared.trap.Trap.{Trap}
+use Rattle.machine_data.specs.declared.trap.Trap.TheVariants as trap
 use Rattle.task_store.specs.declared.store.Store.{Store}
-use Rattle.task_words.specs.StateView.{StateView}
+use Rattle.core_primitives.specs.StateView.{StateView}
 
 -- what was answered as an error
 pub err_is : {A : Type 0} (e f : TaskError) → ◌≡◌ {A = Result A TaskError} (Err e) (Err f) → e ≡ f

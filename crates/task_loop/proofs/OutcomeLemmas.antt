@@ -1,25 +1,25 @@
 -- What a run comes to is of the machine's rows: it is no trap 22.
-use Rattle.label_laws.proofs.TrapLemmas.{ends_are_of_rules}
-use Rattle.label_laws.specs.Own.{is_of_rules, is_rule_trap}
-use Rattle.state_calls.specs.declared.error.TaskError.{TaskError}
-use Rattle.state_calls.specs.declared.error.TaskError.TheVariants as task_error
+use Rattle.laws_labels.proofs.TrapLemmas.{ends_are_of_rules}
+use Rattle.laws_labels.specs.Own.{is_of_rules, is_rule_trap}
+use Rattle.ops_state.specs.declared.error.TaskError.{TaskError}
+use Rattle.ops_state.specs.declared.error.TaskError.TheVariants as task_error
 use Rattle.std.proofs.Common.{ap, refl, subst, ◌∙◌, ◌≡◌}
 use Rattle.std.specs.Option.{option_map}
 use Rattle.std.specs.Prelude.{Bool, Err, List, None, Option, Result, Some, [], false, length, true, ℕ, ◌==◌, ◌∷◌}
 use Rattle.task_loop.specs.Hooked.{hook_failed}
 use Rattle.task_loop.specs.RunPolls.{answer_of_label, last_answer, or_paused, poll_answer, run_answer}
 use Rattle.task_loop.specs.declared.poll_methods.RunPoll.{RunPoll}
-use Rattle.task_machine.specs.Core.{State}
-use Rattle.task_machine.specs.declared.label.Label.{Label}
-use Rattle.task_machine.specs.declared.label.Label.TheVariants as label
-use Rattle.task_machine.specs.declared.label.LoopLabel.TheVariants as loop_label
-use Rattle.task_machine.specs.declared.outcome.Outcome.{Outcome}
-use Rattle.task_machine.specs.declared.outcome.Outcome.TheVariants as outcome
-use Rattle.task_machine.specs.declared.trap.Trap.{Trap}
-use Rattle.task_machine.specs.declared.trap.Trap.TheVariants as trap
-use Rattle.task_rules.specs.Outcome.{IsOutcome, is_at_rest, last_outcome, open_outcome, or_open, outcome_of, outcome_of_label}
-use Rattle.task_rules.specs.Run.{Run}
-use Rattle.task_rules.specs.Stalled.{Setting}
+use Rattle.machine_data.specs.Core.{State}
+use Rattle.machine_data.specs.declared.label.Label.{Label}
+use Rattle.machine_data.specs.declared.label.Label.TheVariants as label
+use Rattle.machine_data.specs.declared.label.LoopLabel.TheVariants as loop_label
+use Rattle.machine_data.specs.declared.outcome.Outcome.{Outcome}
+use Rattle.machine_data.specs.declared.outcome.Outcome.TheVariants as outcome
+use Rattle.machine_data.specs.declared.trap.Trap.{Trap}
+use Rattle.machine_data.specs.declared.trap.Trap.TheVariants as trap
+use Rattle.machine_rules.specs.Outcome.{IsOutcome, is_at_rest, last_outcome, open_outcome, or_open, outcome_of, outcome_of_label}
+use Rattle.machine_rules.specs.Run.{Run}
+use Rattle.machine_rules.specs.Stalled.{Setting}
 
 last_of_rules : (x : Setting) (s : State) (ls : List Label) (t : State) → Run x s ls t → (o : Outcome) → last_outcome ls ≡ Some o → is_of_rules o ≡ true
 last_of_rules x s [] t run o e = absurd (cc)

@@ -1,42 +1,42 @@
 -- What a poll has resulted in, where it stops.
-use Rattle.label_laws.specs.Own.{is_data}
-use Rattle.label_laws.proofs.GoingLemmas.{ends_take_none, goings_show_next}
-use Rattle.label_laws.specs.Own.{is_rest, mark_taken, next_mark, rests_by}
-use Rattle.state_calls.specs.declared.error.TaskError.{TaskError}
-use Rattle.state_calls.specs.declared.error.TaskError.TheVariants as task_error
+use Rattle.laws_labels.specs.Own.{is_data}
+use Rattle.laws_labels.proofs.GoingLemmas.{ends_take_none, goings_show_next}
+use Rattle.laws_labels.specs.Own.{is_rest, mark_taken, next_mark, rests_by}
+use Rattle.ops_state.specs.declared.error.TaskError.{TaskError}
+use Rattle.ops_state.specs.declared.error.TaskError.TheVariants as task_error
 use Rattle.std.proofs.Common.{ap, append-nil, append_assoc, arith, length-append, refl, subst, sym, ◌∙◌}
 use Rattle.std.proofs.lemmas.Bool.Decides.{nat_tests}
 use Rattle.std.proofs.lemmas.List.{append_cancel_left}
 use Rattle.std.specs.List.{list_all}
 use Rattle.std.specs.Prelude.{Bool, Err, List, None, Ok, Option, Result, Some, [], false, is_none, length, not, option_map, true, ℕ, ◌&&◌, ◌*◌, ◌++◌, ◌+◌, ◌<◌, ◌==◌, ◌||◌, ◌∷◌, ◌≡◌, ◌≤◌}
 use Rattle.task_loop.proofs.RunPollLemmas.{answer_last, answer_none, data_since, data_unrested, data_unyielded, ends_answer, moves_on, none_rests, passes_more, passes_one, rest_answer, rest_both, rests_none, rests_one, since_both, unyielded_both}
-use Rattle.run_pace.specs.YieldBudget.{counted, is_unyielded, passes_after, since_after, yields_before}
+use Rattle.run_trace.specs.YieldBudget.{counted, is_unyielded, passes_after, since_after, yields_before}
 use Rattle.task_loop.specs.RunPolls.{answer_of_label, is_yielded, last_answer, may_poll, or_paused, poll_answer, rests_last, run_answer, since_left, yields_at}
-use Rattle.run_pace.specs.declared.yield_budget.YieldBudget.{YieldBudget}
+use Rattle.run_trace.specs.declared.yield_budget.YieldBudget.{YieldBudget}
 use Rattle.task_loop.specs.declared.poll_methods.RunPoll.{RunPoll}
 use Rattle.task_loop.specs.declared.poll_methods.RunPoll.TheVariants as poll
-use Rattle.task_machine.specs.Core.{Main, State}
-use Rattle.task_machine.specs.declared.label.Label.{Label}
-use Rattle.task_machine.specs.declared.label.Label.TheVariants as label
-use Rattle.task_machine.specs.declared.label.LoopLabel.TheVariants as loop_label
-use Rattle.task_machine.specs.declared.outcome.Outcome.{Outcome}
-use Rattle.task_machine.specs.declared.outcome.Outcome.TheVariants as outcome
-use Rattle.task_machine.specs.declared.records.Turn.{Turn}
-use Rattle.task_machine.specs.declared.records.Turn.TheVariants as turn
-use Rattle.task_machine.specs.declared.words.Mark.{Mark}
-use Rattle.task_places.proofs.OrderLemmas.{steps_make_few}
-use Rattle.task_rules.specs.Outcome.{is_at_rest, last_outcome, outcome_of_label}
-use Rattle.task_rules.specs.Run.{Run}
-use Rattle.task_rules.specs.Stalled.{Setting}
-use Rattle.task_turns.proofs.DriveLemmas.{Run-more, label_ends}
-use Rattle.task_turns.proofs.KeptLemmas.{core_in_order_after}
-use Rattle.task_turns.proofs.SettleLemmas.{step_settles}
-use Rattle.task_turns.specs.Drive.{IsOn}
-use Rattle.task_turns.specs.StepResult.{Added}
-use Rattle.task_turns.specs.Turn.{IsSettled, PendsIn, CoreInOrder, Turned, Turns, given, goes_on, is_open, running_of, runs_in, state_at}
-use Rattle.task_turns.specs.declared.made.MadeStep.{MadeStep}
-use Rattle.task_turns.specs.declared.made.StepResult.TheVariants as stepped
-use Rattle.task_words.specs.StateView.{StateView}
+use Rattle.machine_data.specs.Core.{Main, State}
+use Rattle.machine_data.specs.declared.label.Label.{Label}
+use Rattle.machine_data.specs.declared.label.Label.TheVariants as label
+use Rattle.machine_data.specs.declared.label.LoopLabel.TheVariants as loop_label
+use Rattle.machine_data.specs.declared.outcome.Outcome.{Outcome}
+use Rattle.machine_data.specs.declared.outcome.Outcome.TheVariants as outcome
+use Rattle.machine_data.specs.declared.records.Turn.{Turn}
+use Rattle.machine_data.specs.declared.records.Turn.TheVariants as turn
+use Rattle.machine_data.specs.declared.words.Mark.{Mark}
+use Rattle.laws_places.proofs.OrderLemmas.{steps_make_few}
+use Rattle.machine_rules.specs.Outcome.{is_at_rest, last_outcome, outcome_of_label}
+use Rattle.machine_rules.specs.Run.{Run}
+use Rattle.machine_rules.specs.Stalled.{Setting}
+use Rattle.ops_turns.proofs.DriveLemmas.{Run-more, label_ends}
+use Rattle.ops_turns.proofs.KeptLemmas.{core_in_order_after}
+use Rattle.ops_turns.proofs.SettleLemmas.{step_settles}
+use Rattle.ops_turns.specs.Drive.{IsOn}
+use Rattle.ops_turns.specs.StepResult.{Added}
+use Rattle.ops_turns.specs.Turn.{IsSettled, PendsIn, CoreInOrder, Turned, Turns, given, goes_on, is_open, running_of, runs_in, state_at}
+use Rattle.ops_turns.specs.declared.made.MadeStep.{MadeStep}
+use Rattle.ops_turns.specs.declared.made.StepResult.TheVariants as stepped
+use Rattle.core_primitives.specs.StateView.{StateView}
 
 -- ---- What the turns of a poll result in
 

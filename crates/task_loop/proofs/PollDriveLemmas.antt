@@ -1,10 +1,10 @@
 -- A drive leaves the pace that its polls leave, one after another.
-use Rattle.label_laws.proofs.GoingLemmas.{goings_show_next}
-use Rattle.label_laws.specs.Own.{mark_taken, next_mark}
-use Rattle.run_pace.proofs.YieldBudgetLemmas.{driven_both, driven_unyielded, past_yielded}
-use Rattle.run_pace.specs.YieldBudget.{is_unyielded, passes_after, since_after, since_driven, yields_before}
-use Rattle.run_pace.specs.declared.yield_budget.YieldBudget.{YieldBudget}
-use Rattle.state_calls.specs.declared.error.TaskError.{TaskError}
+use Rattle.laws_labels.proofs.GoingLemmas.{goings_show_next}
+use Rattle.laws_labels.specs.Own.{mark_taken, next_mark}
+use Rattle.run_trace.proofs.YieldBudgetLemmas.{driven_both, driven_unyielded, past_yielded}
+use Rattle.run_trace.specs.YieldBudget.{is_unyielded, passes_after, since_after, since_driven, yields_before}
+use Rattle.run_trace.specs.declared.yield_budget.YieldBudget.{YieldBudget}
+use Rattle.ops_state.specs.declared.error.TaskError.{TaskError}
 use Rattle.std.proofs.Common.{ap, refl, subst, sym, ◌∙◌}
 use Rattle.std.specs.Prelude.{Bool, Err, List, None, Ok, Option, Result, Some, [], false, length, not, true, ℕ, ◌&&◌, ◌++◌, ◌==◌, ◌||◌, ◌∷◌, ◌≡◌}
 use Rattle.task_loop.proofs.DrivenLemmas.{none_left}
@@ -16,19 +16,19 @@ use Rattle.task_loop.specs.RunPolls.{is_yielded, last_answer, or_paused, since_l
 use Rattle.task_loop.specs.Says.{Says}
 use Rattle.task_loop.specs.declared.poll_methods.RunPoll.{RunPoll}
 use Rattle.task_loop.specs.declared.poll_methods.RunPoll.TheVariants as poll
-use Rattle.task_machine.specs.Core.{State}
-use Rattle.task_machine.specs.declared.component.HostDef.{HostDef}
-use Rattle.task_machine.specs.declared.label.Label.{Label}
-use Rattle.task_machine.specs.declared.outcome.Outcome.{Outcome}
-use Rattle.task_machine.specs.declared.outcome.Outcome.TheVariants as outcome
-use Rattle.task_machine.specs.declared.words.Mark.{Mark}
-use Rattle.task_rules.proofs.LawLemmas.{step_ends, step_over}
-use Rattle.task_rules.specs.Outcome.{IsOutcome, is_at_rest, open_outcome, or_open, outcome_of, outcome_of_label}
-use Rattle.task_rules.specs.Run.{Run}
-use Rattle.task_rules.specs.Stalled.{Setting}
-use Rattle.task_rules.specs.Step.{Step}
-use Rattle.task_turns.proofs.DriveLemmas.{label_ends}
-use Rattle.task_turns.specs.Turn.{goes_on}
+use Rattle.machine_data.specs.Core.{State}
+use Rattle.machine_data.specs.declared.component.HostDef.{HostDef}
+use Rattle.machine_data.specs.declared.label.Label.{Label}
+use Rattle.machine_data.specs.declared.outcome.Outcome.{Outcome}
+use Rattle.machine_data.specs.declared.outcome.Outcome.TheVariants as outcome
+use Rattle.machine_data.specs.declared.words.Mark.{Mark}
+use Rattle.machine_rules.proofs.LawLemmas.{step_ends, step_over}
+use Rattle.machine_rules.specs.Outcome.{IsOutcome, is_at_rest, open_outcome, or_open, outcome_of, outcome_of_label}
+use Rattle.machine_rules.specs.Run.{Run}
+use Rattle.machine_rules.specs.Stalled.{Setting}
+use Rattle.machine_rules.specs.Step.{Step}
+use Rattle.ops_turns.proofs.DriveLemmas.{label_ends}
+use Rattle.ops_turns.specs.Turn.{goes_on}
 
 -- ---- What its answer says of a poll
 

@@ -1,6 +1,6 @@
 -- A poll starts a call, or finishes the one that it has.
 use Rattle.futures.specs.declared.task.Poll.{Poll}
-use Rattle.state_calls.specs.declared.error.TaskError.{TaskError}
+use Rattle.ops_state.specs.declared.error.TaskError.{TaskError}
 use Rattle.std.proofs.Common.{subst, sym}
 use Rattle.std.specs.Prelude.{None, Option, Result, Some, ℕ, ◌≡◌, ◌⊎◌}
 use Rattle.task_loop.specs.InstanceCalls.{DoesOn}

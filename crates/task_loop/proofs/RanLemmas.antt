@@ -1,5 +1,5 @@
 -- A run goes on: what was told in it, and what main did.
-use Rattle.label_laws.specs.Own.{is_data}
+use Rattle.laws_labels.specs.Own.{is_data}
 use Rattle.std.proofs.Common.{ap, append-nil, append_assoc, refl, subst, sym, ◌∙◌}
 use Rattle.std.proofs.lemmas.List.{append_cancel_left}
 use Rattle.std.specs.List.{list_all}
@@ -11,25 +11,25 @@ use Rattle.task_loop.proofs.ToldLemmas.{nothing_computed, stands_turn}
 use Rattle.task_loop.specs.AnswersOk.{AnswersOkAll, AnswersOkMoment}
 use Rattle.task_loop.specs.Ran.{DoesAll, DoesStep, Ran}
 use Rattle.task_loop.specs.Told.{TurnTold, turn_of}
-use Rattle.task_machine.specs.Core.{Core, Main, State}
-use Rattle.task_machine.specs.declared.label.Label.{Label}
-use Rattle.task_machine.specs.declared.label.Label.TheVariants as label
-use Rattle.task_machine.specs.declared.records.Turn.{Turn}
-use Rattle.task_machine.specs.declared.records.Turn.TheVariants as turn
-use Rattle.task_rules.proofs.Machine.{and_parts}
-use Rattle.task_rules.specs.History.{history}
-use Rattle.task_rules.specs.Notices.{notices}
-use Rattle.task_rules.specs.Run.{Run}
-use Rattle.task_rules.specs.Stalled.{Setting}
-use Rattle.task_rules.specs.Step.{Step}
-use Rattle.task_turns.specs.Does.{step_shown}
-use Rattle.task_turns.specs.Drive.{Computes}
-use Rattle.task_turns.specs.StepResult.{Added}
-use Rattle.task_turns.specs.Turn.{runs_in, state_at}
-use Rattle.task_turns.specs.declared.made.MadeStep.{MadeStep}
-use Rattle.task_turns.specs.declared.made.StepResult.{StepResult}
-use Rattle.task_turns.specs.declared.mains.MainStep.{MainStep}
-use Rattle.task_words.specs.StateView.{StateView}
+use Rattle.machine_data.specs.Core.{Core, Main, State}
+use Rattle.machine_data.specs.declared.label.Label.{Label}
+use Rattle.machine_data.specs.declared.label.Label.TheVariants as label
+use Rattle.machine_data.specs.declared.records.Turn.{Turn}
+use Rattle.machine_data.specs.declared.records.Turn.TheVariants as turn
+use Rattle.machine_rules.proofs.Machine.{and_parts}
+use Rattle.machine_rules.specs.History.{history}
+use Rattle.machine_rules.specs.Notices.{notices}
+use Rattle.machine_rules.specs.Run.{Run}
+use Rattle.machine_rules.specs.Stalled.{Setting}
+use Rattle.machine_rules.specs.Step.{Step}
+use Rattle.ops_turns.specs.Does.{step_shown}
+use Rattle.ops_turns.specs.Drive.{Computes}
+use Rattle.ops_turns.specs.StepResult.{Added}
+use Rattle.ops_turns.specs.Turn.{runs_in, state_at}
+use Rattle.ops_turns.specs.declared.made.MadeStep.{MadeStep}
+use Rattle.ops_turns.specs.declared.made.StepResult.{StepResult}
+use Rattle.ops_turns.specs.declared.mains.MainStep.{MainStep}
+use Rattle.core_primitives.specs.StateView.{StateView}
 
 -- ---- What main did
 

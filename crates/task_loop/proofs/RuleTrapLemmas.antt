@@ -1,53 +1,53 @@
 -- No row of the machine traps with 22, so a call that answers it has it of the hook.
-use Rattle.label_laws.proofs.OwnLemmas.{IsDone, IsOwn, direct_exit_own, enter_own, host_own, op_own, ret_bad_own, ret_own, sync_host_polled_own}
-use Rattle.label_laws.proofs.ShowLemmas.{wider}
-use Rattle.label_laws.specs.Own.{Shows, is_data, is_own, is_rule_trap}
-use Rattle.state_calls.specs.declared.error.TaskError.{TaskError}
-use Rattle.state_calls.specs.declared.error.TaskError.TheVariants as task_error
-use Rattle.state_calls.specs.declared.name_calls.QualifiedThreadId.{QualifiedThreadId}
+use Rattle.laws_labels.proofs.OwnLemmas.{IsDone, IsOwn, direct_exit_own, enter_own, host_own, op_own, ret_bad_own, ret_own, sync_host_polled_own}
+use Rattle.laws_labels.proofs.ShowLemmas.{wider}
+use Rattle.laws_labels.specs.Own.{Shows, is_data, is_own, is_rule_trap}
+use Rattle.ops_state.specs.declared.error.TaskError.{TaskError}
+use Rattle.ops_state.specs.declared.error.TaskError.TheVariants as task_error
+use Rattle.ops_state.specs.declared.name_calls.QualifiedThreadId.{QualifiedThreadId}
 use Rattle.std.proofs.Common.{ap, refl, subst}
 use Rattle.std.specs.Prelude.{Bool, Err, IfSome, List, None, Ok, OnErr, Option, Result, Some, false, true, ℕ, ◌==◌, ◌≡◌, not}
-use Rattle.task_calls.specs.OpAnswers.{answered}
-use Rattle.op_dispatch.specs.Makes.{takes_memory}
-use Rattle.task_calls.specs.Asks.{Answers, AnswersHere, AnswersOp, Does, IsRunningIn, row_at, scripted_rule_of, takes_here}
-use Rattle.task_calls.specs.MainCalls.{Returned, Returns}
-use Rattle.task_calls.specs.Directs.{enters_rule, exits_rule}
-use Rattle.task_calls.specs.PolledCalls.{blocks_rule, polls_rule}
-use Rattle.task_calls.specs.Prepared.{Prepares}
-use Rattle.task_calls.specs.Tasks.{Begins}
-use Rattle.task_calls.specs.Resumes.{Resumed, first_in, resumed_by}
-use Rattle.task_calls.specs.declared.answer_calls.Step.{Step}
-use Rattle.task_calls.specs.declared.intrinsics.ResumeThread.{ResumeThread}
-use Rattle.task_calls.specs.declared.intrinsics.ResumeThread.TheVariants as resume
-use Rattle.task_machine.specs.Core.{Core}
-use Rattle.task_machine.specs.Labels.{Choice, choice_of}
-use Rattle.task_machine.specs.Read.{instance_of, thread_at}
-use Rattle.task_machine.specs.declared.component.Callee.{Callee}
-use Rattle.task_machine.specs.declared.component.Component.{Component}
-use Rattle.task_machine.specs.declared.component.ExportKind.{ExportKind}
-use Rattle.task_machine.specs.declared.label.Label.TheVariants as label
-use Rattle.task_machine.specs.declared.label.LoopLabel.TheVariants as loop_label
-use Rattle.task_machine.specs.declared.op.Op.{Op}
-use Rattle.task_machine.specs.declared.op.Op.TheVariants as op
-use Rattle.task_machine.specs.declared.op.Operand.TheVariants as operand
-use Rattle.task_machine.specs.declared.op.ThreadOp.TheVariants as thread_op
-use Rattle.task_machine.specs.declared.records.Goal.{Goal}
-use Rattle.task_machine.specs.declared.trap.Trap.{Trap}
-use Rattle.task_machine.specs.declared.trap.Trap.TheVariants as trap
-use Rattle.task_ops.specs.OpResult.{Implements}
-use Rattle.task_ops.specs.Halting.{First, GoesFirst, Refused, StaysBehind, or_refused, promoted_found, promoted_if, refused_if, resumed_found}
-use Rattle.task_ops.specs.Steps.{label_of}
-use Rattle.task_ops.specs.declared.op_result.OpResult.{OpResult}
-use Rattle.task_ops.specs.declared.op_result.OpResult.TheVariants as op_result
-use Rattle.task_rules.proofs.Machine.{and_parts}
-use Rattle.task_rules.specs.Calls.{FirstPoll}
-use Rattle.task_rules.specs.Finish.{SomeHost}
-use Rattle.task_rules.specs.Progress.{Asks, Fails, Continues, Never, Ordered, Progress, Stops, Traps}
-use Rattle.task_rules.specs.Scripts.{export_kind, op_of}
-use Rattle.task_rules.specs.Threads.{has_yielded, resume_later_rule, resume_why}
-use Rattle.task_turns.specs.Turn.{running_of}
-use Rattle.task_words.specs.StateView.{StateView}
-use Rattle.task_ops.specs.declared.op_result.OpAnswer.{OpAnswer}
+use Rattle.ops_calls.specs.OpAnswers.{answered}
+use Rattle.ops_dispatch.specs.Makes.{takes_memory}
+use Rattle.ops_calls.specs.Asks.{Answers, AnswersHere, AnswersOp, Does, IsRunningIn, row_at, scripted_rule_of, takes_here}
+use Rattle.ops_calls.specs.MainCalls.{Returned, Returns}
+use Rattle.ops_calls.specs.Directs.{enters_rule, exits_rule}
+use Rattle.ops_calls.specs.PolledCalls.{blocks_rule, polls_rule}
+use Rattle.ops_calls.specs.Prepared.{Prepares}
+use Rattle.ops_calls.specs.Tasks.{Begins}
+use Rattle.ops_calls.specs.Resumes.{Resumed, first_in, resumed_by}
+use Rattle.ops_calls.specs.declared.answer_calls.Step.{Step}
+use Rattle.ops_calls.specs.declared.intrinsics.ResumeThread.{ResumeThread}
+use Rattle.ops_calls.specs.declared.intrinsics.ResumeThread.TheVariants as resume
+use Rattle.machine_data.specs.Core.{Core}
+use Rattle.machine_data.specs.Labels.{Choice, choice_of}
+use Rattle.machine_data.specs.Read.{instance_of, thread_at}
+use Rattle.machine_data.specs.declared.component.Callee.{Callee}
+use Rattle.machine_data.specs.declared.component.Component.{Component}
+use Rattle.machine_data.specs.declared.component.ExportKind.{ExportKind}
+use Rattle.machine_data.specs.declared.label.Label.TheVariants as label
+use Rattle.machine_data.specs.declared.label.LoopLabel.TheVariants as loop_label
+use Rattle.machine_data.specs.declared.op.Op.{Op}
+use Rattle.machine_data.specs.declared.op.Op.TheVariants as op
+use Rattle.machine_data.specs.declared.op.Operand.TheVariants as operand
+use Rattle.machine_data.specs.declared.op.ThreadOp.TheVariants as thread_op
+use Rattle.machine_data.specs.declared.records.Goal.{Goal}
+use Rattle.machine_data.specs.declared.trap.Trap.{Trap}
+use Rattle.machine_data.specs.declared.trap.Trap.TheVariants as trap
+use Rattle.ops_guests.specs.OpResult.{Implements}
+use Rattle.ops_guests.specs.Halting.{First, GoesFirst, Refused, StaysBehind, or_refused, promoted_found, promoted_if, refused_if, resumed_found}
+use Rattle.ops_guests.specs.Steps.{label_of}
+use Rattle.ops_guests.specs.declared.op_result.OpResult.{OpResult}
+use Rattle.ops_guests.specs.declared.op_result.OpResult.TheVariants as op_result
+use Rattle.machine_rules.proofs.Machine.{and_parts}
+use Rattle.machine_rules.specs.Calls.{FirstPoll}
+use Rattle.machine_rules.specs.Finish.{SomeHost}
+use Rattle.machine_rules.specs.Progress.{Asks, Fails, Continues, Never, Ordered, Progress, Stops, Traps}
+use Rattle.machine_rules.specs.Scripts.{export_kind, op_of}
+use Rattle.machine_rules.specs.Threads.{has_yielded, resume_later_rule, resume_why}
+use Rattle.ops_turns.specs.Turn.{running_of}
+use Rattle.core_primitives.specs.StateView.{StateView}
+use Rattle.ops_guests.specs.declared.op_result.OpAnswer.{OpAnswer}
 
 abbrev by_hook : Trap
 by_hook = trap.HookFailed

@@ -1,26 +1,26 @@
 -- How far a poll goes, by the labels that it adds.
-use Rattle.label_laws.specs.Own.{is_data}
-use Rattle.label_laws.specs.Own.{is_rest, mark_taken, next_mark}
-use Rattle.state_calls.specs.declared.error.TaskError.TheVariants as task_error
+use Rattle.laws_labels.specs.Own.{is_data}
+use Rattle.laws_labels.specs.Own.{is_rest, mark_taken, next_mark}
+use Rattle.ops_state.specs.declared.error.TaskError.TheVariants as task_error
 use Rattle.std.proofs.Common.{ap, arith, refl, ◌∙◌}
 use Rattle.std.specs.List.{list_all}
 use Rattle.std.specs.Prelude.{Bool, Err, List, None, Ok, Option, Some, [], false, not, option_map, true, ℕ, ◌&&◌, ◌++◌, ◌∷◌, ◌≡◌}
-use Rattle.run_pace.specs.YieldBudget.{counted, is_unyielded, passes_after, since_after, yields_before}
+use Rattle.run_trace.specs.YieldBudget.{counted, is_unyielded, passes_after, since_after, yields_before}
 use Rattle.task_loop.specs.RunPolls.{answer_of_label, last_answer, rests_last, run_answer}
 use Rattle.task_loop.specs.declared.poll_methods.RunPoll.TheVariants as poll
-use Rattle.task_machine.specs.Core.{Core, State}
-use Rattle.task_machine.specs.Read.{next_entry}
-use Rattle.task_machine.specs.declared.label.Label.{Label}
-use Rattle.task_machine.specs.declared.label.Label.TheVariants as label
-use Rattle.task_machine.specs.declared.label.LoopLabel.TheVariants as loop_label
-use Rattle.task_machine.specs.declared.outcome.Outcome.{Outcome}
-use Rattle.task_machine.specs.declared.outcome.Outcome.TheVariants as outcome
-use Rattle.task_machine.specs.declared.records.Entry.{Entry}
-use Rattle.task_machine.specs.declared.records.Turn.{Turn}
-use Rattle.task_machine.specs.declared.records.Turn.TheVariants as turn
-use Rattle.task_machine.specs.declared.words.Mark.{Mark}
-use Rattle.task_rules.specs.Outcome.{is_at_rest, last_outcome, outcome_of_label}
-use Rattle.task_rules.specs.Stalled.{Setting, is_idle, is_stalled}
+use Rattle.machine_data.specs.Core.{Core, State}
+use Rattle.machine_data.specs.Read.{next_entry}
+use Rattle.machine_data.specs.declared.label.Label.{Label}
+use Rattle.machine_data.specs.declared.label.Label.TheVariants as label
+use Rattle.machine_data.specs.declared.label.LoopLabel.TheVariants as loop_label
+use Rattle.machine_data.specs.declared.outcome.Outcome.{Outcome}
+use Rattle.machine_data.specs.declared.outcome.Outcome.TheVariants as outcome
+use Rattle.machine_data.specs.declared.records.Entry.{Entry}
+use Rattle.machine_data.specs.declared.records.Turn.{Turn}
+use Rattle.machine_data.specs.declared.records.Turn.TheVariants as turn
+use Rattle.machine_data.specs.declared.words.Mark.{Mark}
+use Rattle.machine_rules.specs.Outcome.{is_at_rest, last_outcome, outcome_of_label}
+use Rattle.machine_rules.specs.Stalled.{Setting, is_idle, is_stalled}
 
 abbrev pub none_rests : List Label → Bool
 none_rests ls = list_all (λ l. not (is_rest l)) ls

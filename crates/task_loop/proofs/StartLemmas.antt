@@ -4,26 +4,26 @@ use Rattle.futures.specs.declared.task.Poll.TheVariants.{Pending, Ready}
 use Rattle.std.proofs.Common.{ap, arith, refl, subst, sym, ◌∙◌}
 use Rattle.std.specs.Prelude.{Err, List, None, Ok, Option, Result, Some, [], option_map, ℕ, ◌++◌, ◌+◌, ◌∷◌, ◌≡◌, ◌<◌, ◌≤◌}
 use Rattle.task_group.specs.Listeners.{Listeners}
-use Rattle.task_calls.specs.MainCalls.{Finishes, Starts}
-use Rattle.task_words.specs.BecomesRecord.{BecomesRecord}
-use Rattle.task_calls.specs.Untrapped.{StartsUntrapped}
-use Rattle.state_calls.specs.declared.error.TaskError.{TaskError}
-use Rattle.task_machine.specs.Core.{Core}
-use Rattle.task_machine.specs.Moves.{put_high}
-use Rattle.task_machine.specs.Write.{add_call, add_group, add_thread, on_thread, push_high, set_place, set_trapped, take_result}
-use Rattle.task_machine.specs.declared.component.Callee.{Callee}
-use Rattle.task_machine.specs.declared.component.Component.{Component}
-use Rattle.host_works.specs.KeptWorks.{HeldWork}
-use Rattle.task_machine.specs.declared.component.HostDef.{HostDef}
-use Rattle.task_machine.specs.declared.trap.Trap.{Trap}
-use Rattle.task_rules.specs.Calls.{call_made}
-use Rattle.task_rules.specs.MainOps.{main_started}
+use Rattle.ops_calls.specs.MainCalls.{Finishes, Starts}
+use Rattle.core_primitives.specs.BecomesRecord.{BecomesRecord}
+use Rattle.ops_calls.specs.Untrapped.{StartsUntrapped}
+use Rattle.ops_state.specs.declared.error.TaskError.{TaskError}
+use Rattle.machine_data.specs.Core.{Core}
+use Rattle.machine_data.specs.Moves.{put_high}
+use Rattle.machine_data.specs.Write.{add_call, add_group, add_thread, on_thread, push_high, set_place, set_trapped, take_result}
+use Rattle.machine_data.specs.declared.component.Callee.{Callee}
+use Rattle.machine_data.specs.declared.component.Component.{Component}
+use Rattle.store_works.specs.KeptWorks.{HeldWork}
+use Rattle.machine_data.specs.declared.component.HostDef.{HostDef}
+use Rattle.machine_data.specs.declared.trap.Trap.{Trap}
+use Rattle.machine_rules.specs.Calls.{call_made}
+use Rattle.machine_rules.specs.MainOps.{main_started}
 use Rattle.task_store.proofs.HostLemmas.{holds_same}
 use Rattle.task_store.specs.Hosts.{HoldsHosts, HoldsWorks}
 use Rattle.task_store.specs.declared.store.Store.{Store}
-use Rattle.task_turns.specs.Turn.{running_of}
-use Rattle.task_words.specs.Groups.{IsAsked, asked}
-use Rattle.task_words.specs.StateView.{StateView, on_core, thread_of}
+use Rattle.ops_turns.specs.Turn.{running_of}
+use Rattle.core_primitives.specs.Groups.{IsAsked, asked}
+use Rattle.core_primitives.specs.StateView.{StateView, on_core, thread_of}
 
 none_still : {X : Type 0} (f g : X → ℕ) (a b : Option X) → b ≡ a → option_map f a ≡ None → option_map g b ≡ None
 none_still f g None None e none = refl

@@ -1,25 +1,25 @@
 -- Turns in which main has no part, as the loop tells of them.
-use Rattle.group_notices.specs.declared.tells.GroupsBefore.{GroupsBefore}
+use Rattle.store_notices.specs.declared.tells.GroupsBefore.{GroupsBefore}
 use Rattle.std.proofs.Common.{refl, ◌∙◌, ◌≡◌}
 use Rattle.std.specs.Prelude.{[], ◌++◌, ◌∷◌, Bool, Err, IfOk, IfSome, List, None, Ok, OnOk, Option, Result, Some, false, true, ℕ}
 use Rattle.task_group.specs.Listeners.{Listeners, errors_of}
 use Rattle.task_loop.proofs.ToldLemmas.{current_is, none_told, other_told, turns_asked, turns_runs}
 use Rattle.task_loop.proofs.TurnTellLemmas.{turns_part}
 use Rattle.task_loop.specs.Told.{TellsPart, TellsTurn, TurnTold, current_group, group_running, turn_of}
-use Rattle.task_machine.specs.Core.{Core, Main, Unscripted}
-use Rattle.task_machine.specs.declared.label.Label.{Label}
-use Rattle.task_machine.specs.declared.records.Turn.{Turn}
-use Rattle.task_machine.specs.declared.records.Turn.TheVariants as turn
-use Rattle.task_rules.specs.Stalled.{Setting}
-use Rattle.task_machine.specs.declared.component.Component.{Component}
-use Rattle.task_words.specs.Groups.{IsAsked, asked}
-use Rattle.task_turns.proofs.SteppedLemmas.{none_as}
-use Rattle.task_turns.specs.StepResult.{Added, AddedOrNone, Stands}
-use Rattle.task_turns.specs.Turn.{PendsIn, Turned, TurnedBeside, Turns, idle_line_of, setting_of}
-use Rattle.task_turns.specs.declared.made.MadeStep.{MadeStep}
-use Rattle.task_turns.specs.declared.made.StepResult.{StepResult}
-use Rattle.task_turns.specs.declared.made.StepResult.TheVariants as stepped
-use Rattle.task_words.specs.StateView.{StateView}
+use Rattle.machine_data.specs.Core.{Core, Main, Unscripted}
+use Rattle.machine_data.specs.declared.label.Label.{Label}
+use Rattle.machine_data.specs.declared.records.Turn.{Turn}
+use Rattle.machine_data.specs.declared.records.Turn.TheVariants as turn
+use Rattle.machine_rules.specs.Stalled.{Setting}
+use Rattle.machine_data.specs.declared.component.Component.{Component}
+use Rattle.core_primitives.specs.Groups.{IsAsked, asked}
+use Rattle.ops_turns.proofs.SteppedLemmas.{none_as}
+use Rattle.ops_turns.specs.StepResult.{Added, AddedOrNone, Stands}
+use Rattle.ops_turns.specs.Turn.{PendsIn, Turned, TurnedBeside, Turns, idle_line_of, setting_of}
+use Rattle.ops_turns.specs.declared.made.MadeStep.{MadeStep}
+use Rattle.ops_turns.specs.declared.made.StepResult.{StepResult}
+use Rattle.ops_turns.specs.declared.made.StepResult.TheVariants as stepped
+use Rattle.core_primitives.specs.StateView.{StateView}
 
 -- the label of what was made was added
 pub stands_adds : (q : StepResult) (before : List Label) (made : MadeStep) (after : List Label) → Stands q before made after → after ≡ before ++ made.label ∷ []

@@ -1,19 +1,19 @@
 -- What the loop tells after a step, from part to part.
 use Rattle.std.proofs.Common.{ap, append-nil, arith, inl, inr, refl, subst, sym, ◌∙◌}
-use Rattle.task_machine.specs.Read.{is_nil}
+use Rattle.machine_data.specs.Read.{is_nil}
 use Rattle.std.specs.Prelude.{Err, IsErr, List, None, Ok, Option, Result, Some, [], false, is_some, not, ℕ, ◌++◌, ◌<◌, ◌∷◌, ◌≡◌}
-use Rattle.group_notices.proofs.MoveLemmas.{unhooked_hook_is_ok}
-use Rattle.group_notices.specs.Moves.{StopsAt, finishes, moved}
-use Rattle.group_notices.specs.declared.tells.GroupsBefore.{GroupsBefore}
+use Rattle.store_notices.proofs.MoveLemmas.{unhooked_hook_is_ok}
+use Rattle.store_notices.specs.Moves.{StopsAt, finishes, moved}
+use Rattle.store_notices.specs.declared.tells.GroupsBefore.{GroupsBefore}
 use Rattle.task_group.proofs.GroupLemmas.{told-append}
 use Rattle.task_loop.proofs.ToldLemmas.{asked_same}
 use Rattle.std.specs.Option.{option_map_or}
 use Rattle.task_group.specs.Heard.{Heard}
 use Rattle.task_group.specs.Listeners.{AnsweredErr, Listeners, ToldListeners, ToldWithHookOk, errors_of}
 use Rattle.task_loop.specs.Told.{TellsOut, TellsPart, TellsWhole, current_group, told_by}
-use Rattle.task_machine.specs.declared.records.Notice.{Notice}
-use Rattle.task_words.specs.Groups.{IsAsked, asked, ended_groups}
-use Rattle.task_words.specs.StateView.{StateView}
+use Rattle.machine_data.specs.declared.records.Notice.{Notice}
+use Rattle.core_primitives.specs.Groups.{IsAsked, asked, ended_groups}
+use Rattle.core_primitives.specs.StateView.{StateView}
 
 pub stops_failed : (ns : List Notice) (l m : Listeners) → StopsAt ns l m → AnsweredErr l m
 stops_failed ns l m q = let hook_is_ok = q.hook_is_ok.hook_is_ok in let more = q.answered in omega (arith, hook_is_ok, more)

@@ -1,59 +1,59 @@
 -- What the loop tells of groups.
 use Rattle.task_loop.specs.AnswersOk.{FewerGroups}
-use Rattle.group_laws.proofs.GroupLemmas.{group_stays}
-use Rattle.group_laws.proofs.ListLemmas.{finish_none}
-use Rattle.group_laws.proofs.DataGroups.{Mild, mild_group, mild_same}
-use Rattle.group_laws.proofs.RunTells.{data_runs_mild}
-use Rattle.group_laws.proofs.MainGroups.{mains_spare}
-use Rattle.label_laws.specs.Own.{is_main_turn}
-use Rattle.group_laws.specs.Tells.{is_start}
-use Rattle.group_notices.proofs.RunLemmas.{other_turns_told, main_told}
-use Rattle.group_notices.specs.Moves.{finishes, moved}
-use Rattle.group_notices.specs.Runs.{AreGroupsBefore, moment, running_in}
-use Rattle.group_notices.specs.declared.tells.GroupsBefore.{GroupsBefore}
+use Rattle.laws_labels.proofs.GroupLemmas.{group_stays}
+use Rattle.laws_labels.proofs.ListLemmas.{finish_none}
+use Rattle.laws_labels.proofs.DataGroups.{Mild, mild_group, mild_same}
+use Rattle.laws_labels.proofs.RunTells.{data_runs_mild}
+use Rattle.laws_labels.proofs.MainGroups.{mains_spare}
+use Rattle.laws_labels.specs.Own.{is_main_turn}
+use Rattle.laws_labels.specs.Tells.{is_start}
+use Rattle.store_notices.proofs.RunLemmas.{other_turns_told, main_told}
+use Rattle.store_notices.specs.Moves.{finishes, moved}
+use Rattle.store_notices.specs.Runs.{AreGroupsBefore, moment, running_in}
+use Rattle.store_notices.specs.declared.tells.GroupsBefore.{GroupsBefore}
 use Rattle.std.proofs.Common.{ap, append-nil, arith, filter, length, not, refl, subst, sym, ⊎_elim, ◌∙◌, ◌≡◌, map}
 use Rattle.std.proofs.lemmas.Bool.Decides.{nat_tests}
 use Rattle.std.specs.Prelude.{Bool, List, None, Option, Result, Some, [], false, is_some, option_map, true, ℕ, ◌++◌, ◌∷◌, ◌+◌}
 use Rattle.std.specs.Option.{option_map_or}
 use Rattle.task_group.proofs.GroupLemmas.{told-none}
 use Rattle.task_group.specs.Listeners.{Listeners, ToldListeners, errors_of}
-use Rattle.state_calls.specs.declared.error.TaskError.{TaskError}
-use Rattle.task_calls.specs.Asks.{turn_for, turn_in}
+use Rattle.ops_state.specs.declared.error.TaskError.{TaskError}
+use Rattle.ops_calls.specs.Asks.{turn_for, turn_in}
 use Rattle.task_loop.specs.Told.{RunTold, TellsCall, TellsTurn, TurnTold, current_group, group_running, main_notices, runs_on, told_by, turn_of}
-use Rattle.task_machine.specs.Core.{Core, Main, State, Unscripted}
-use Rattle.task_machine.specs.Maps.{get}
-use Rattle.task_machine.specs.Read.{thread_group}
-use Rattle.task_machine.specs.declared.component.Component.{Component}
-use Rattle.task_machine.specs.declared.label.Label.{Label}
-use Rattle.task_machine.specs.declared.label.Label.TheVariants as label
-use Rattle.task_machine.specs.declared.label.MainLabel.TheVariants as main_label
-use Rattle.task_machine.specs.declared.records.Notice.{Notice}
-use Rattle.task_machine.specs.declared.records.NoticeKind.TheVariants as notice
-use Rattle.task_machine.specs.declared.records.Place.TheVariants as place
-use Rattle.task_machine.specs.declared.records.Thread.{Thread}
-use Rattle.task_machine.specs.declared.records.Turn.{Turn}
-use Rattle.task_machine.specs.declared.records.Turn.TheVariants as turn
-use Rattle.task_machine.specs.declared.scenario.MainOpDef.{MainOpDef}
-use Rattle.task_rules.proofs.LawLemmas.{steady}
-use Rattle.task_rules.specs.Laws.{Steady}
-use Rattle.task_rules.specs.Notices.{finish_notices, is_in, moment_notices, notices, running_group, start_notices, told_of, work_notices}
-use Rattle.task_rules.specs.Run.{Run}
-use Rattle.task_rules.specs.Stalled.{Setting}
-use Rattle.task_rules.specs.Step.{Step}
-use Rattle.task_turns.proofs.IdleLemmas.{makes_turns}
-use Rattle.task_turns.proofs.KeptLemmas.{core_in_order_after}
-use Rattle.task_turns.specs.Does.{label_of_step}
-use Rattle.task_turns.specs.Drive.{Computes}
-use Rattle.task_turns.specs.Main.{IsOpOfMain, Steps, main_setting}
-use Rattle.task_turns.specs.StepResult.{Added, AddedOrNone, Stands}
-use Rattle.task_turns.specs.Turn.{IsFree, MakesStep, PendsIn, CoreInOrder, Turned, Turns, running_of, runs_in, setting_of, state_at}
-use Rattle.task_turns.specs.declared.made.MadeStep.{MadeStep}
-use Rattle.task_turns.specs.declared.made.StepResult.{StepResult}
-use Rattle.task_turns.specs.declared.made.StepResult.TheVariants as stepped
-use Rattle.task_turns.specs.declared.mains.MainStep.{MainStep}
-use Rattle.task_turns.specs.declared.mains.MainStep.TheVariants as step
-use Rattle.task_words.specs.Groups.{IsAsked, asked, ended_groups, if_tracked, tracked_group, CountsEnded}
-use Rattle.task_words.specs.StateView.{StateView, thread_number}
+use Rattle.machine_data.specs.Core.{Core, Main, State, Unscripted}
+use Rattle.machine_data.specs.Maps.{get}
+use Rattle.machine_data.specs.Read.{thread_group}
+use Rattle.machine_data.specs.declared.component.Component.{Component}
+use Rattle.machine_data.specs.declared.label.Label.{Label}
+use Rattle.machine_data.specs.declared.label.Label.TheVariants as label
+use Rattle.machine_data.specs.declared.label.MainLabel.TheVariants as main_label
+use Rattle.machine_data.specs.declared.records.Notice.{Notice}
+use Rattle.machine_data.specs.declared.records.NoticeKind.TheVariants as notice
+use Rattle.machine_data.specs.declared.records.Place.TheVariants as place
+use Rattle.machine_data.specs.declared.records.Thread.{Thread}
+use Rattle.machine_data.specs.declared.records.Turn.{Turn}
+use Rattle.machine_data.specs.declared.records.Turn.TheVariants as turn
+use Rattle.machine_data.specs.declared.scenario.MainOpDef.{MainOpDef}
+use Rattle.machine_rules.proofs.LawLemmas.{steady}
+use Rattle.machine_rules.specs.Laws.{Steady}
+use Rattle.machine_rules.specs.Notices.{finish_notices, is_in, moment_notices, notices, running_group, start_notices, told_of, work_notices}
+use Rattle.machine_rules.specs.Run.{Run}
+use Rattle.machine_rules.specs.Stalled.{Setting}
+use Rattle.machine_rules.specs.Step.{Step}
+use Rattle.ops_turns.proofs.IdleLemmas.{makes_turns}
+use Rattle.ops_turns.proofs.KeptLemmas.{core_in_order_after}
+use Rattle.ops_turns.specs.Does.{label_of_step}
+use Rattle.ops_turns.specs.Drive.{Computes}
+use Rattle.ops_turns.specs.Main.{IsOpOfMain, Steps, main_setting}
+use Rattle.ops_turns.specs.StepResult.{Added, AddedOrNone, Stands}
+use Rattle.ops_turns.specs.Turn.{IsFree, MakesStep, PendsIn, CoreInOrder, Turned, Turns, running_of, runs_in, setting_of, state_at}
+use Rattle.ops_turns.specs.declared.made.MadeStep.{MadeStep}
+use Rattle.ops_turns.specs.declared.made.StepResult.{StepResult}
+use Rattle.ops_turns.specs.declared.made.StepResult.TheVariants as stepped
+use Rattle.ops_turns.specs.declared.mains.MainStep.{MainStep}
+use Rattle.ops_turns.specs.declared.mains.MainStep.TheVariants as step
+use Rattle.core_primitives.specs.Groups.{IsAsked, asked, ended_groups, if_tracked, tracked_group, CountsEnded}
+use Rattle.core_primitives.specs.StateView.{StateView, thread_number}
 
 -- ---- Main's step
 

@@ -1,26 +1,26 @@
 -- A call tracks the groups that were tracked before it.
-use Rattle.state_calls.specs.declared.error.TaskError.{TaskError}
-use Rattle.state_calls.specs.declared.error.TaskError.TheVariants as task_error
-use Rattle.state_calls.specs.declared.name_calls.QualifiedThreadId.{QualifiedThreadId}
+use Rattle.ops_state.specs.declared.error.TaskError.{TaskError}
+use Rattle.ops_state.specs.declared.error.TaskError.TheVariants as task_error
+use Rattle.ops_state.specs.declared.name_calls.QualifiedThreadId.{QualifiedThreadId}
 use Rattle.std.proofs.Common.{ap, subst}
 use Rattle.std.specs.Prelude.{Bool, Err, IfSome, IsSome, List, None, Ok, Option, Result, Some, false, true, ℕ, ◌≡◌}
-use Rattle.task_calls.specs.Asks.{Answers, Does}
-use Rattle.task_calls.specs.MainCalls.{Returned, Returns}
-use Rattle.task_calls.specs.Prepared.{Prepares, starts_in}
-use Rattle.task_calls.specs.Resumes.{Resumed}
-use Rattle.task_ops.specs.Halting.{First, GoesFirst, Refused, StaysBehind}
-use Rattle.task_calls.specs.declared.answer_calls.Step.{Step}
-use Rattle.task_machine.specs.Labels.{Choice}
-use Rattle.task_machine.specs.declared.component.Callee.{Callee}
-use Rattle.task_machine.specs.declared.component.Component.{Component}
-use Rattle.task_machine.specs.declared.records.Goal.{Goal}
-use Rattle.task_ops.specs.declared.op_result.OpResult.{OpResult}
-use Rattle.task_ops.specs.declared.op_result.OpAnswer.{OpAnswer}
-use Rattle.task_rules.specs.Finish.{SomeHost}
-use Rattle.task_rules.specs.Progress.{Continues, Progress, Traps}
-use Rattle.task_rules.specs.Task.{ret_bad_rule, ret_rule}
-use Rattle.task_turns.specs.Turn.{running_of}
-use Rattle.task_words.specs.StateView.{StateView, with_core, with_current}
+use Rattle.ops_calls.specs.Asks.{Answers, Does}
+use Rattle.ops_calls.specs.MainCalls.{Returned, Returns}
+use Rattle.ops_calls.specs.Prepared.{Prepares, starts_in}
+use Rattle.ops_calls.specs.Resumes.{Resumed}
+use Rattle.ops_guests.specs.Halting.{First, GoesFirst, Refused, StaysBehind}
+use Rattle.ops_calls.specs.declared.answer_calls.Step.{Step}
+use Rattle.machine_data.specs.Labels.{Choice}
+use Rattle.machine_data.specs.declared.component.Callee.{Callee}
+use Rattle.machine_data.specs.declared.component.Component.{Component}
+use Rattle.machine_data.specs.declared.records.Goal.{Goal}
+use Rattle.ops_guests.specs.declared.op_result.OpResult.{OpResult}
+use Rattle.ops_guests.specs.declared.op_result.OpAnswer.{OpAnswer}
+use Rattle.machine_rules.specs.Finish.{SomeHost}
+use Rattle.machine_rules.specs.Progress.{Continues, Progress, Traps}
+use Rattle.machine_rules.specs.Task.{ret_bad_rule, ret_rule}
+use Rattle.ops_turns.specs.Turn.{running_of}
+use Rattle.core_primitives.specs.StateView.{StateView, with_core, with_current}
 
 -- the same groups are tracked
 abbrev pub TracksSame : StateView → StateView → Type 0

@@ -15,23 +15,23 @@ use Rattle.task_loop.specs.Told.{TellsTurn, current_group}
 use Rattle.task_loop.specs.declared.run.Halt.{Halt}
 use Rattle.task_loop.specs.declared.run.Halt.TheVariants as halt
 use Rattle.task_loop.specs.declared.run.Halted.{Halted}
-use Rattle.task_machine.specs.Core.{Main}
-use Rattle.task_machine.specs.declared.component.Component.{Component}
-use Rattle.task_machine.specs.declared.component.HostDef.{HostDef}
-use Rattle.task_machine.specs.declared.label.Label.{Label}
-use Rattle.task_machine.specs.declared.records.Turn.{Turn}
-use Rattle.task_machine.specs.declared.records.Turn.TheVariants as turn
-use Rattle.task_ops.specs.Works.{KeepsWorks}
-use Rattle.task_rules.specs.Stalled.{Setting}
+use Rattle.machine_data.specs.Core.{Main}
+use Rattle.machine_data.specs.declared.component.Component.{Component}
+use Rattle.machine_data.specs.declared.component.HostDef.{HostDef}
+use Rattle.machine_data.specs.declared.label.Label.{Label}
+use Rattle.machine_data.specs.declared.records.Turn.{Turn}
+use Rattle.machine_data.specs.declared.records.Turn.TheVariants as turn
+use Rattle.ops_guests.specs.Works.{KeepsWorks}
+use Rattle.machine_rules.specs.Stalled.{Setting}
 use Rattle.task_store.specs.Hosts.{HoldsHosts, held_by}
 use Rattle.task_store.specs.declared.store.Store.{Store}
-use Rattle.task_turns.specs.Later.{WorksLast}
-use Rattle.task_turns.specs.StepResult.{AddedOrNone}
-use Rattle.task_turns.specs.Turn.{PendsIn, CoreInOrder, TurnedBeside, setting_of}
-use Rattle.task_turns.specs.declared.made.MadeStep.{MadeStep}
-use Rattle.task_turns.specs.declared.made.StepResult.{StepResult}
-use Rattle.task_words.specs.Groups.{IsAsked}
-use Rattle.task_words.specs.StateView.{StateView}
+use Rattle.ops_turns.specs.Later.{WorksLast}
+use Rattle.ops_turns.specs.StepResult.{AddedOrNone}
+use Rattle.ops_turns.specs.Turn.{PendsIn, CoreInOrder, TurnedBeside, setting_of}
+use Rattle.ops_turns.specs.declared.made.MadeStep.{MadeStep}
+use Rattle.ops_turns.specs.declared.made.StepResult.{StepResult}
+use Rattle.core_primitives.specs.Groups.{IsAsked}
+use Rattle.core_primitives.specs.StateView.{StateView}
 
 module _ {M T H G : Type 0} (says : Says M) (course : H → HostDef) (c : Component) (m : M) (b ended : Bool) (q : Turn) (is : q ≡ turn.Take ended) (s t : Store T H G) (before after : List Label) (running : ℕ) (why : Halt) (own : ℕ) (first : Halt)
     (may : MayTurn says course c own first (record { turn = q; idle = b; main = m; store = s; trace = before }))

@@ -1,24 +1,24 @@
 -- What a turn has told, and what is so of the state once it was told.
-use Rattle.group_laws.specs.Tells.{worked_group}
-use Rattle.group_notices.specs.Runs.{AreGroupsBefore, running_in}
-use Rattle.group_notices.specs.declared.tells.GroupsBefore.{GroupsBefore}
+use Rattle.laws_labels.specs.Tells.{worked_group}
+use Rattle.store_notices.specs.Runs.{AreGroupsBefore, running_in}
+use Rattle.store_notices.specs.declared.tells.GroupsBefore.{GroupsBefore}
 use Rattle.std.proofs.Common.{ap, refl, subst, sym, ⊎_elim, ◌∙◌}
 use Rattle.std.specs.Prelude.{List, false, option_and_then, ℕ, ◌≡◌}
 use Rattle.task_group.specs.Listeners.{AnsweredErr, Listeners}
 use Rattle.task_loop.proofs.ToldLemmas.{makes_asked, turns_asked}
 use Rattle.task_loop.specs.Hooked.{TellsInPart}
 use Rattle.task_loop.specs.Told.{TellsPart, TellsTurn, TellsWhole, group_running}
-use Rattle.task_machine.specs.Core.{Main}
-use Rattle.task_machine.specs.declared.component.Component.{Component}
-use Rattle.task_machine.specs.declared.records.Turn.{Turn}
-use Rattle.task_ops.specs.Works.{KeepsWorks, NamesWorks}
-use Rattle.task_rules.specs.Notices.{is_in}
-use Rattle.task_rules.specs.Stalled.{Setting}
-use Rattle.task_turns.specs.Turn.{MakesStep, Turns}
-use Rattle.task_turns.specs.Worked.{tracked_worked_group}
-use Rattle.task_turns.specs.declared.made.MadeStep.{MadeStep}
-use Rattle.task_words.specs.Groups.{IsAsked, asked, some_if_tracked, CountsEnded}
-use Rattle.task_words.specs.StateView.{StateView, work_number}
+use Rattle.machine_data.specs.Core.{Main}
+use Rattle.machine_data.specs.declared.component.Component.{Component}
+use Rattle.machine_data.specs.declared.records.Turn.{Turn}
+use Rattle.ops_guests.specs.Works.{KeepsWorks, NamesWorks}
+use Rattle.machine_rules.specs.Notices.{is_in}
+use Rattle.machine_rules.specs.Stalled.{Setting}
+use Rattle.ops_turns.specs.Turn.{MakesStep, Turns}
+use Rattle.ops_turns.specs.Worked.{tracked_worked_group}
+use Rattle.ops_turns.specs.declared.made.MadeStep.{MadeStep}
+use Rattle.core_primitives.specs.Groups.{IsAsked, asked, some_if_tracked, CountsEnded}
+use Rattle.core_primitives.specs.StateView.{StateView, work_number}
 
 -- ---- The groups before the step of the turn
 

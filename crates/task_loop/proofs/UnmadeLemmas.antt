@@ -1,7 +1,7 @@
 -- What is told of a group that isn't made.
-use Rattle.group_notices.proofs.MoveLemmas.{hook_is_ok_then, with_hook_ok, stops_single, stops_then, stops_within}
-use Rattle.state_calls.specs.declared.error.TaskError.{TaskError}
-use Rattle.state_calls.specs.declared.error.TaskError.TheVariants as task_error
+use Rattle.store_notices.proofs.MoveLemmas.{hook_is_ok_then, with_hook_ok, stops_single, stops_then, stops_within}
+use Rattle.ops_state.specs.declared.error.TaskError.{TaskError}
+use Rattle.ops_state.specs.declared.error.TaskError.TheVariants as task_error
 use Rattle.std.proofs.Common.{ap, arith, inl, inr, refl, subst, ◌∙◌}
 use Rattle.std.specs.Prelude.{Bool, [], ℕ, ◌+◌, ◌∷◌, ◌≡◌, ◌⊎◌}
 use Rattle.task_group.specs.Listeners.{AnsweredErr, Listeners, ToldListeners, ToldWithHookOk, errors_of}
@@ -9,11 +9,11 @@ use Rattle.task_loop.proofs.HookStartLemmas.{heard_or_not, unheard_at}
 use Rattle.task_loop.specs.Begun.{HookIsReason, TellsUnmade}
 use Rattle.task_loop.specs.Hooked.{Unheard}
 use Rattle.task_loop.specs.Told.{finish_of_group, start_of_group}
-use Rattle.task_machine.specs.Core.{Core}
-use Rattle.task_machine.specs.declared.records.Notice.{Notice}
-use Rattle.task_machine.specs.declared.records.NoticeKind.TheVariants as notice
-use Rattle.task_machine.specs.declared.trap.Trap.TheVariants as trap
-use Rattle.task_rules.specs.Notices.{told_of}
+use Rattle.machine_data.specs.Core.{Core}
+use Rattle.machine_data.specs.declared.records.Notice.{Notice}
+use Rattle.machine_data.specs.declared.records.NoticeKind.TheVariants as notice
+use Rattle.machine_data.specs.declared.trap.Trap.TheVariants as trap
+use Rattle.machine_rules.specs.Notices.{told_of}
 
 pub hook_is_reason : HookIsReason
 hook_is_reason (task_error.Trap trap.HookFailed) s old new left err = refl

@@ -1,15 +1,15 @@
 -- What the hook that is told of groups answers in a run.
-use Rattle.task_machine.specs.declared.records.Turn.{Turn}
-use Rattle.task_machine.specs.Core.{Core}
-use Rattle.label_laws.specs.Own.{is_main_turn}
+use Rattle.machine_data.specs.declared.records.Turn.{Turn}
+use Rattle.machine_data.specs.Core.{Core}
+use Rattle.laws_labels.specs.Own.{is_main_turn}
 use Rattle.std.specs.Prelude.{Bool, List, None, Option, Some, [], false, true, ◌∷◌, ◌≡◌, length, ◌+◌, ◌≤◌}
 use Rattle.task_group.specs.Listeners.{Listeners, ToldListeners, ToldWithHookOk, errors_of}
-use Rattle.task_machine.specs.declared.label.Label.{Label}
-use Rattle.task_machine.specs.declared.label.Label.TheVariants as label
-use Rattle.task_machine.specs.declared.label.MainLabel.TheVariants as main_label
-use Rattle.task_rules.specs.History.{Moment}
-use Rattle.task_rules.specs.Notices.{finish_notices, moment_notices}
-use Rattle.task_turns.specs.declared.made.MadeStep.{MadeStep}
+use Rattle.machine_data.specs.declared.label.Label.{Label}
+use Rattle.machine_data.specs.declared.label.Label.TheVariants as label
+use Rattle.machine_data.specs.declared.label.MainLabel.TheVariants as main_label
+use Rattle.machine_rules.specs.History.{Moment}
+use Rattle.machine_rules.specs.Notices.{finish_notices, moment_notices}
+use Rattle.ops_turns.specs.declared.made.MadeStep.{MadeStep}
 
 -- a start of main that is refused traps the store, and errors of what the hook is told then are passed over
 abbrev pub is_refused : Label → Bool

@@ -1,18 +1,18 @@
 -- What a call that begins a group, for a start or for a new task, tells where it isn't made.
-use Rattle.group_notices.specs.Moves.{StopsAt, finishes}
-use Rattle.state_calls.specs.declared.error.TaskError.{TaskError}
-use Rattle.state_calls.specs.declared.error.TaskError.TheVariants as task_error
-use Rattle.state_calls.specs.declared.name_calls.QualifiedThreadId.{QualifiedThreadId}
+use Rattle.store_notices.specs.Moves.{StopsAt, finishes}
+use Rattle.ops_state.specs.declared.error.TaskError.{TaskError}
+use Rattle.ops_state.specs.declared.error.TaskError.TheVariants as task_error
+use Rattle.ops_state.specs.declared.name_calls.QualifiedThreadId.{QualifiedThreadId}
 use Rattle.std.specs.Prelude.{Bool, List, None, Ok, Option, Some, [], false, true, ℕ, ◌∷◌, ◌≡◌, ◌≢◌, ◌⊎◌}
-use Rattle.task_calls.specs.Tasks.{Begins}
+use Rattle.ops_calls.specs.Tasks.{Begins}
 use Rattle.task_group.specs.Listeners.{AnsweredErr, Listeners, ToldListeners, ToldWithHookOk}
 use Rattle.task_loop.specs.Told.{begun_notices, finish_of_group, start_of_group}
-use Rattle.task_machine.specs.Core.{Core}
-use Rattle.task_machine.specs.declared.component.ExportKind.{ExportKind}
-use Rattle.task_machine.specs.declared.records.Notice.{Notice}
-use Rattle.task_machine.specs.declared.trap.Trap.TheVariants as trap
-use Rattle.task_words.specs.Groups.{asked, ended_groups}
-use Rattle.task_words.specs.StateView.{StateView}
+use Rattle.machine_data.specs.Core.{Core}
+use Rattle.machine_data.specs.declared.component.ExportKind.{ExportKind}
+use Rattle.machine_data.specs.declared.records.Notice.{Notice}
+use Rattle.machine_data.specs.declared.trap.Trap.TheVariants as trap
+use Rattle.core_primitives.specs.Groups.{asked, ended_groups}
+use Rattle.core_primitives.specs.StateView.{StateView}
 
 -- the next group starts, and finishes again
 abbrev pub start_and_finish : Core → List Notice

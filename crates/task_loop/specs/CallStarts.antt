@@ -1,29 +1,29 @@
 -- What the start of a call by the host results in, on a store whose groups are told of it.
-use Rattle.state_calls.specs.declared.error.TaskError.{TaskError}
-use Rattle.state_calls.specs.declared.error.TaskError.TheVariants as task_error
-use Rattle.state_calls.specs.declared.name_calls.QualifiedThreadId.{QualifiedThreadId}
+use Rattle.ops_state.specs.declared.error.TaskError.{TaskError}
+use Rattle.ops_state.specs.declared.error.TaskError.TheVariants as task_error
+use Rattle.ops_state.specs.declared.name_calls.QualifiedThreadId.{QualifiedThreadId}
 use Rattle.std.specs.Prelude.{Bool, Err, List, None, Ok, Option, Some, is_some, true, ℕ, ◌+◌, ◌≡◌, ◌⊎◌}
-use Rattle.task_calls.specs.MainCalls.{Starts}
-use Rattle.group_notices.specs.Moves.{finishes}
+use Rattle.ops_calls.specs.MainCalls.{Starts}
+use Rattle.store_notices.specs.Moves.{finishes}
 use Rattle.task_group.specs.Listeners.{AnsweredErr, Listeners, ToldListeners, ToldWithHookOk}
 use Rattle.task_loop.specs.Begun.{LeavesTask, TellsStopped}
 use Rattle.task_loop.specs.Hooked.{Unhooked}
 use Rattle.task_loop.specs.InstanceCalls.{DoesOn}
 use Rattle.task_loop.specs.Told.{begun_notices}
 use Rattle.task_loop.specs.declared.call.FuncCallConcurrent.{FuncCallConcurrent}
-use Rattle.task_machine.specs.Write.{set_trapped}
-use Rattle.task_machine.specs.declared.component.Callee.{Callee}
-use Rattle.task_machine.specs.declared.component.Component.{Component}
-use Rattle.task_machine.specs.declared.component.HostDef.{HostDef}
-use Rattle.task_machine.specs.declared.records.Turn.{Turn}
-use Rattle.task_machine.specs.declared.trap.Trap.{Trap}
-use Rattle.task_machine.specs.declared.trap.Trap.TheVariants as trap
-use Rattle.task_rules.specs.MainOps.{start_refusal}
+use Rattle.machine_data.specs.Write.{set_trapped}
+use Rattle.machine_data.specs.declared.component.Callee.{Callee}
+use Rattle.machine_data.specs.declared.component.Component.{Component}
+use Rattle.machine_data.specs.declared.component.HostDef.{HostDef}
+use Rattle.machine_data.specs.declared.records.Turn.{Turn}
+use Rattle.machine_data.specs.declared.trap.Trap.{Trap}
+use Rattle.machine_data.specs.declared.trap.Trap.TheVariants as trap
+use Rattle.machine_rules.specs.MainOps.{start_refusal}
 use Rattle.task_store.specs.Hosts.{HoldsHosts}
 use Rattle.task_store.specs.declared.store.Store.{Store}
-use Rattle.task_turns.specs.Turn.{CoreInOrder}
-use Rattle.task_words.specs.Groups.{IsAsked, asked}
-use Rattle.task_words.specs.StateView.{on_core}
+use Rattle.ops_turns.specs.Turn.{CoreInOrder}
+use Rattle.core_primitives.specs.Groups.{IsAsked, asked}
+use Rattle.core_primitives.specs.StateView.{on_core}
 
 -- What stays of a store, whatever a call by the host comes to.
 pub record KeepsStore {T H G : Type 0} (c : Component) (s t : Store T H G) : Type 0 where

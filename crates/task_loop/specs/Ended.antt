@@ -1,18 +1,18 @@
 -- What the end of a thread between runs leaves of a store where it is refused.
-use Rattle.group_notices.specs.Moves.{StopsAt, finishes, moved}
-use Rattle.state_calls.specs.declared.error.TaskError.{TaskError}
-use Rattle.state_calls.specs.declared.error.TaskError.TheVariants as task_error
+use Rattle.store_notices.specs.Moves.{StopsAt, finishes, moved}
+use Rattle.ops_state.specs.declared.error.TaskError.{TaskError}
+use Rattle.ops_state.specs.declared.error.TaskError.TheVariants as task_error
 use Rattle.std.specs.Option.{option_map_or}
 use Rattle.std.specs.Prelude.{List, false, if◌then◌else◌, true, ℕ, ◌++◌, ◌==◌, ◌≡◌, ◌⊎◌}
 use Rattle.task_group.specs.Listeners.{AnsweredErr, Listeners, ToldListeners, ToldWithHookOk}
 use Rattle.task_loop.specs.Told.{groups_before_call}
-use Rattle.task_machine.specs.declared.records.Notice.{Notice}
-use Rattle.task_machine.specs.declared.trap.Trap.TheVariants as trap
-use Rattle.task_moves.specs.Gone.{HasEnded}
-use Rattle.task_rules.specs.Ends.{leaves_no_result}
-use Rattle.task_turns.specs.Turn.{running_of}
-use Rattle.task_words.specs.Groups.{asked, ended_groups, tracked_group}
-use Rattle.task_words.specs.StateView.{StateView}
+use Rattle.machine_data.specs.declared.records.Notice.{Notice}
+use Rattle.machine_data.specs.declared.trap.Trap.TheVariants as trap
+use Rattle.ops_moves.specs.Gone.{HasEnded}
+use Rattle.machine_rules.specs.Ends.{leaves_no_result}
+use Rattle.ops_turns.specs.Turn.{running_of}
+use Rattle.core_primitives.specs.Groups.{asked, ended_groups, tracked_group}
+use Rattle.core_primitives.specs.StateView.{StateView}
 
 -- the group of the thread that runs once this one has ended, as long as it is tracked; default: 0
 abbrev pub group_left : ℕ → StateView → ℕ

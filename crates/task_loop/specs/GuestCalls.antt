@@ -1,12 +1,12 @@
 -- What the calls of a store come to that have another thread run, end a thread or begin a task, of which its groups are told.
-use Rattle.group_notices.specs.Moves.{StopsAt, moved}
-use Rattle.order_laws.specs.KeptOrder.{LeavesInOrder, TurnsInOrder}
-use Rattle.state_calls.specs.Currents.{IsCurrent, LosesNoWake, now_runs, number_in, runner}
-use Rattle.state_calls.specs.declared.currents.CurrentThread.{CurrentThread}
-use Rattle.state_calls.specs.declared.error.TaskError.{TaskError}
-use Rattle.state_calls.specs.declared.name_calls.QualifiedThreadId.{QualifiedThreadId}
+use Rattle.store_notices.specs.Moves.{StopsAt, moved}
+use Rattle.laws_order.specs.KeptOrder.{LeavesInOrder, TurnsInOrder}
+use Rattle.ops_state.specs.Currents.{IsCurrent, LosesNoWake, now_runs, number_in, runner}
+use Rattle.ops_state.specs.declared.currents.CurrentThread.{CurrentThread}
+use Rattle.ops_state.specs.declared.error.TaskError.{TaskError}
+use Rattle.ops_state.specs.declared.name_calls.QualifiedThreadId.{QualifiedThreadId}
 use Rattle.std.specs.Prelude.{Bool, Err, List, None, Ok, OnErr, Option, Result, Some, false, true, ℕ, ◌≡◌, ◌⊎◌}
-use Rattle.task_calls.specs.Tasks.{entries_of, first_export}
+use Rattle.ops_calls.specs.Tasks.{entries_of, first_export}
 use Rattle.task_group.specs.Listeners.{AnsweredErr, ToldWithHookOk}
 use Rattle.task_loop.specs.Begun.{EndsUnmade, MakesTold}
 use Rattle.task_loop.specs.CallStarts.{IsReason}
@@ -14,21 +14,21 @@ use Rattle.task_loop.specs.Ended.{EndsTold, RefusesEnd}
 use Rattle.task_loop.specs.Hooked.{Unhooked}
 use Rattle.task_loop.specs.InstanceCalls.{DoesOn}
 use Rattle.task_loop.specs.Told.{groups_before_call, current_group, refused_by_hook}
-use Rattle.task_machine.specs.Read.{fits}
-use Rattle.task_machine.specs.declared.component.Component.{Component}
-use Rattle.task_machine.specs.declared.component.ExportKind.{ExportKind}
-use Rattle.task_machine.specs.declared.component.HostDef.{HostDef}
-use Rattle.task_machine.specs.declared.records.Notice.{Notice}
-use Rattle.task_machine.specs.declared.records.Turn.{Turn}
-use Rattle.task_machine.specs.declared.trap.Trap.{Trap}
-use Rattle.task_machine.specs.declared.trap.Trap.TheVariants as trap
-use Rattle.task_rules.specs.Ends.{leaves_no_result}
-use Rattle.task_rules.specs.Scripts.{export_kind}
+use Rattle.machine_data.specs.Read.{fits}
+use Rattle.machine_data.specs.declared.component.Component.{Component}
+use Rattle.machine_data.specs.declared.component.ExportKind.{ExportKind}
+use Rattle.machine_data.specs.declared.component.HostDef.{HostDef}
+use Rattle.machine_data.specs.declared.records.Notice.{Notice}
+use Rattle.machine_data.specs.declared.records.Turn.{Turn}
+use Rattle.machine_data.specs.declared.trap.Trap.{Trap}
+use Rattle.machine_data.specs.declared.trap.Trap.TheVariants as trap
+use Rattle.machine_rules.specs.Ends.{leaves_no_result}
+use Rattle.machine_rules.specs.Scripts.{export_kind}
 use Rattle.task_store.specs.Hosts.{HoldsHosts}
 use Rattle.task_store.specs.declared.store.Store.{Store}
-use Rattle.task_turns.specs.Turn.{CoreInOrder}
-use Rattle.task_words.specs.StateView.{StateView}
-use Rattle.wake_laws.specs.Stands.{MayLeave, NoWakeLost}
+use Rattle.ops_turns.specs.Turn.{CoreInOrder}
+use Rattle.core_primitives.specs.StateView.{StateView}
+use Rattle.laws_order.specs.Stands.{MayLeave, NoWakeLost}
 
 -- ---- Another thread runs
 

@@ -1,9 +1,9 @@
 -- What a call on a run asks, and what it gives.
-use Rattle.group_notices.specs.Moves.{finishes}
-use Rattle.run_pace.specs.YieldBudget.{is_unyielded, since_after, since_driven}
-use Rattle.run_pace.specs.declared.yield_budget.YieldBudget.{YieldBudget}
-use Rattle.state_calls.specs.declared.error.TaskError.{TaskError}
-use Rattle.state_calls.specs.declared.error.TaskError.TheVariants as task_error
+use Rattle.store_notices.specs.Moves.{finishes}
+use Rattle.run_trace.specs.YieldBudget.{is_unyielded, since_after, since_driven}
+use Rattle.run_trace.specs.declared.yield_budget.YieldBudget.{YieldBudget}
+use Rattle.ops_state.specs.declared.error.TaskError.{TaskError}
+use Rattle.ops_state.specs.declared.error.TaskError.TheVariants as task_error
 use Rattle.std.specs.Prelude.{Bool, Err, IfSome, List, None, Ok, Option, Result, Some, [], false, is_some, length, not, true, ℕ, ◌&&◌, ◌*◌, ◌++◌, ◌+◌, ◌<◌, ◌==◌, ◌∷◌, ◌≡◌, ◌≤◌, ◌^◌, ◌⊎◌}
 use Rattle.task_group.specs.Listeners.{AnsweredErr, Listeners, ToldListeners, errors_of}
 use Rattle.task_loop.specs.AnswersOk.{is_refused}
@@ -20,33 +20,33 @@ use Rattle.task_loop.specs.declared.run.Halted.{Halted}
 use Rattle.task_loop.specs.declared.run.RunConcurrent.{RunConcurrent}
 use Rattle.task_loop.specs.declared.run.Stop.{Stop}
 use Rattle.task_loop.specs.declared.run.Stop.TheVariants as stop
-use Rattle.task_machine.specs.Core.{State}
-use Rattle.task_machine.specs.Write.{set_trapped}
-use Rattle.task_machine.specs.declared.component.Component.{Component}
-use Rattle.task_machine.specs.declared.component.HostDef.{HostDef}
-use Rattle.task_machine.specs.declared.label.Label.{Label}
-use Rattle.task_machine.specs.declared.memory.NoMemory.{NoMemory}
-use Rattle.task_machine.specs.declared.outcome.Outcome.{Outcome}
-use Rattle.task_machine.specs.declared.outcome.Outcome.TheVariants as outcome
-use Rattle.task_machine.specs.declared.records.Turn.{Turn}
-use Rattle.task_machine.specs.declared.records.Turn.TheVariants as turn
-use Rattle.task_machine.specs.declared.trap.Trap.TheVariants as trap
-use Rattle.task_rules.specs.Outcome.{IsOutcome, last_outcome}
-use Rattle.task_rules.specs.Run.{Run}
-use Rattle.task_rules.specs.Stalled.{Setting}
-use Rattle.task_rules.specs.Step.{Step}
+use Rattle.machine_data.specs.Core.{State}
+use Rattle.machine_data.specs.Write.{set_trapped}
+use Rattle.machine_data.specs.declared.component.Component.{Component}
+use Rattle.machine_data.specs.declared.component.HostDef.{HostDef}
+use Rattle.machine_data.specs.declared.label.Label.{Label}
+use Rattle.machine_data.specs.declared.memory.NoMemory.{NoMemory}
+use Rattle.machine_data.specs.declared.outcome.Outcome.{Outcome}
+use Rattle.machine_data.specs.declared.outcome.Outcome.TheVariants as outcome
+use Rattle.machine_data.specs.declared.records.Turn.{Turn}
+use Rattle.machine_data.specs.declared.records.Turn.TheVariants as turn
+use Rattle.machine_data.specs.declared.trap.Trap.TheVariants as trap
+use Rattle.machine_rules.specs.Outcome.{IsOutcome, last_outcome}
+use Rattle.machine_rules.specs.Run.{Run}
+use Rattle.machine_rules.specs.Stalled.{Setting}
+use Rattle.machine_rules.specs.Step.{Step}
 use Rattle.task_store.specs.Hosts.{HoldsHosts}
 use Rattle.task_store.specs.declared.store.Store.{Store}
-use Rattle.task_turns.specs.Does.{label_of_step, step_of, step_shown}
-use Rattle.task_turns.specs.Drive.{WasGoing}
-use Rattle.task_turns.specs.Main.{Steps}
-use Rattle.task_turns.specs.StepResult.{AddedOrNone}
-use Rattle.task_turns.specs.Turn.{IsSettled, PendsIn, CoreInOrder, given, goes_on, is_open, running_of, runs_in, setting_of, state_at}
-use Rattle.task_turns.specs.WellFormed.{IsWellFormed}
-use Rattle.task_turns.specs.declared.mains.MainStep.{MainStep}
-use Rattle.task_turns.specs.declared.made.StepResult.{StepResult}
-use Rattle.task_words.specs.Groups.{IsAsked, asked}
-use Rattle.task_words.specs.StateView.{StateView, on_core}
+use Rattle.ops_turns.specs.Does.{label_of_step, step_of, step_shown}
+use Rattle.ops_turns.specs.Drive.{WasGoing}
+use Rattle.ops_turns.specs.Main.{Steps}
+use Rattle.ops_turns.specs.StepResult.{AddedOrNone}
+use Rattle.ops_turns.specs.Turn.{IsSettled, PendsIn, CoreInOrder, given, goes_on, is_open, running_of, runs_in, setting_of, state_at}
+use Rattle.ops_turns.specs.WellFormed.{IsWellFormed}
+use Rattle.ops_turns.specs.declared.mains.MainStep.{MainStep}
+use Rattle.ops_turns.specs.declared.made.StepResult.{StepResult}
+use Rattle.core_primitives.specs.Groups.{IsAsked, asked}
+use Rattle.core_primitives.specs.StateView.{StateView, on_core}
 
 -- Where a run is before a call or after it: whose turn it is, what the idle line says, main, the store, and the labels so far.
 pub record At (M T H G : Type 0) : Type 0 where

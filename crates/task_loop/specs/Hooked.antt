@@ -1,28 +1,28 @@
 -- What a run results in where the hook that is told of groups answers an error.
-use Rattle.group_notices.specs.Runs.{AreGroupsBefore}
-use Rattle.group_notices.specs.declared.tells.GroupsBefore.{GroupsBefore}
-use Rattle.state_calls.specs.declared.error.TaskError.{TaskError}
-use Rattle.state_calls.specs.declared.error.TaskError.TheVariants as task_error
+use Rattle.store_notices.specs.Runs.{AreGroupsBefore}
+use Rattle.store_notices.specs.declared.tells.GroupsBefore.{GroupsBefore}
+use Rattle.ops_state.specs.declared.error.TaskError.{TaskError}
+use Rattle.ops_state.specs.declared.error.TaskError.TheVariants as task_error
 use Rattle.std.specs.Prelude.{Bool, Err, List, Result, false, is_some, true, ◌≡◌, ◌≢◌, ◌⊎◌}
 use Rattle.task_group.specs.Listeners.{AnsweredErr, Listeners}
 use Rattle.task_loop.specs.Told.{StartFails, TellsPart}
-use Rattle.task_machine.specs.Core.{Core, Main}
-use Rattle.task_machine.specs.Write.{set_trapped}
-use Rattle.task_machine.specs.declared.component.HostDef.{HostDef}
-use Rattle.task_machine.specs.declared.label.Label.{Label}
-use Rattle.task_machine.specs.declared.outcome.Outcome.{Outcome}
-use Rattle.task_machine.specs.declared.outcome.Outcome.TheVariants as outcome
-use Rattle.task_machine.specs.declared.records.Turn.{Turn}
-use Rattle.task_machine.specs.declared.records.Turn.TheVariants as turn
-use Rattle.task_machine.specs.declared.trap.Trap.TheVariants as trap
-use Rattle.task_rules.specs.Stalled.{Setting}
+use Rattle.machine_data.specs.Core.{Core, Main}
+use Rattle.machine_data.specs.Write.{set_trapped}
+use Rattle.machine_data.specs.declared.component.HostDef.{HostDef}
+use Rattle.machine_data.specs.declared.label.Label.{Label}
+use Rattle.machine_data.specs.declared.outcome.Outcome.{Outcome}
+use Rattle.machine_data.specs.declared.outcome.Outcome.TheVariants as outcome
+use Rattle.machine_data.specs.declared.records.Turn.{Turn}
+use Rattle.machine_data.specs.declared.records.Turn.TheVariants as turn
+use Rattle.machine_data.specs.declared.trap.Trap.TheVariants as trap
+use Rattle.machine_rules.specs.Stalled.{Setting}
 use Rattle.task_store.specs.Hosts.{HoldsHosts}
 use Rattle.task_store.specs.declared.store.Store.{Store}
-use Rattle.task_turns.specs.StepResult.{Added}
-use Rattle.task_turns.specs.Turn.{Turns}
-use Rattle.task_turns.specs.declared.made.StepResult.{StepResult}
-use Rattle.task_words.specs.Groups.{asked}
-use Rattle.task_words.specs.StateView.{StateView, on_core}
+use Rattle.ops_turns.specs.StepResult.{Added}
+use Rattle.ops_turns.specs.Turn.{Turns}
+use Rattle.ops_turns.specs.declared.made.StepResult.{StepResult}
+use Rattle.core_primitives.specs.Groups.{asked}
+use Rattle.core_primitives.specs.StateView.{StateView, on_core}
 
 -- The hook answered an error to a start by main. Main is as it was, and so is the store, but trapped, and all its groups are finished.
 pub record MainFails {M T H G : Type 0} (course : H → HostDef) (m n : M) (s t : Store T H G) : Type 0 where

@@ -1,52 +1,52 @@
 -- What a call between runs comes to on a store, which is told of its groups, and what a method of an instance does: it has the running
 -- thread do an op in place of the one at its place, or a part of one.
-use Rattle.state_calls.specs.declared.error.TaskError.{TaskError}
-use Rattle.state_calls.specs.declared.error.TaskError.TheVariants as task_error
-use Rattle.state_calls.specs.Named.{IsLive}
-use Rattle.state_calls.specs.declared.name_calls.QualifiedThreadId.{QualifiedThreadId}
+use Rattle.ops_state.specs.declared.error.TaskError.{TaskError}
+use Rattle.ops_state.specs.declared.error.TaskError.TheVariants as task_error
+use Rattle.ops_state.specs.Named.{IsLive}
+use Rattle.ops_state.specs.declared.name_calls.QualifiedThreadId.{QualifiedThreadId}
 use Rattle.std.specs.Prelude.{Bool, IfOk, IfSome, IsSome, List, None, Ok, Result, Some, cond, length, min, true, ℕ, ◌<◌, ◌==◌, ◌≡◌, ◌≢◌, ◌⊎◌}
-use Rattle.task_calls.specs.OpAnswers.{whole_answer, at_once, number_answered, value_answered}
-use Rattle.task_calls.specs.Asks.{Answers, AnswersHere, AnswersOp, scripted_rule_of, turn_in}
-use Rattle.task_calls.specs.MainCalls.{Returns}
-use Rattle.task_calls.specs.Directs.{entered, enters_rule, exits_rule, thread_entered}
-use Rattle.task_calls.specs.PolledCalls.{blocks_rule, polls_rule}
-use Rattle.task_calls.specs.Prepared.{Prepared, Prepares, goal_for, starts_in}
-use Rattle.task_calls.specs.Resumes.{Resumed, resumed_by}
-use Rattle.task_calls.specs.declared.answer_calls.Answer.{Answer}
-use Rattle.task_calls.specs.declared.answer_calls.Step.{Step}
-use Rattle.task_calls.specs.declared.answer_calls.Step.TheVariants as step
-use Rattle.task_calls.specs.declared.intrinsics.ResumeThread.{ResumeThread}
-use Rattle.task_calls.specs.declared.intrinsics.ResumeThread.TheVariants as resume
-use Rattle.task_lends.specs.HeldBorrows.{Comes, UnlessLent, cancel_holds_borrows, exit_holds_borrows, return_holds_borrows}
+use Rattle.ops_calls.specs.OpAnswers.{whole_answer, at_once, number_answered, value_answered}
+use Rattle.ops_calls.specs.Asks.{Answers, AnswersHere, AnswersOp, scripted_rule_of, turn_in}
+use Rattle.ops_calls.specs.MainCalls.{Returns}
+use Rattle.ops_calls.specs.Directs.{entered, enters_rule, exits_rule, thread_entered}
+use Rattle.ops_calls.specs.PolledCalls.{blocks_rule, polls_rule}
+use Rattle.ops_calls.specs.Prepared.{Prepared, Prepares, goal_for, starts_in}
+use Rattle.ops_calls.specs.Resumes.{Resumed, resumed_by}
+use Rattle.ops_calls.specs.declared.answer_calls.Answer.{Answer}
+use Rattle.ops_calls.specs.declared.answer_calls.Step.{Step}
+use Rattle.ops_calls.specs.declared.answer_calls.Step.TheVariants as step
+use Rattle.ops_calls.specs.declared.intrinsics.ResumeThread.{ResumeThread}
+use Rattle.ops_calls.specs.declared.intrinsics.ResumeThread.TheVariants as resume
+use Rattle.task_store.specs.HeldBorrows.{Comes, UnlessLent, cancel_holds_borrows, exit_holds_borrows, return_holds_borrows}
 use Rattle.task_loop.specs.Lent.{RuleAnswers}
 use Rattle.task_loop.specs.Told.{TellsCall, groups_before_call, refused_by_hook}
-use Rattle.task_machine.specs.Core.{Core}
-use Rattle.task_machine.specs.Labels.{Choice}
-use Rattle.task_machine.specs.Read.{fits}
-use Rattle.task_machine.specs.declared.component.Callee.{Callee}
-use Rattle.task_machine.specs.declared.component.Component.{Component}
-use Rattle.host_works.specs.Course.{MayTell}
-use Rattle.subtask_ops.specs.First.{first_heard}
-use Rattle.task_machine.specs.declared.component.HostDef.{HostDef}
-use Rattle.task_machine.specs.declared.words.HostPoll.{HostPoll}
-use Rattle.task_machine.specs.declared.op.CallOp.TheVariants as call_op
-use Rattle.task_machine.specs.declared.op.Op.{Op}
-use Rattle.task_machine.specs.declared.op.Op.TheVariants as op
-use Rattle.task_machine.specs.declared.op.Operand.TheVariants as operand
-use Rattle.task_machine.specs.declared.op.SetOp.TheVariants as set_op
-use Rattle.task_machine.specs.declared.op.TaskOp.TheVariants as task_op
-use Rattle.task_machine.specs.declared.op.ThreadOp.TheVariants as thread_op
-use Rattle.task_machine.specs.declared.records.Goal.{Goal}
-use Rattle.task_machine.specs.declared.records.Turn.TheVariants as turn
-use Rattle.task_machine.specs.declared.trap.Trap.TheVariants as trap
-use Rattle.task_rules.specs.Calls.{call_queues}
-use Rattle.task_rules.specs.Progress.{Progress}
-use Rattle.task_rules.specs.Scripts.{export_at, export_kind}
+use Rattle.machine_data.specs.Core.{Core}
+use Rattle.machine_data.specs.Labels.{Choice}
+use Rattle.machine_data.specs.Read.{fits}
+use Rattle.machine_data.specs.declared.component.Callee.{Callee}
+use Rattle.machine_data.specs.declared.component.Component.{Component}
+use Rattle.store_works.specs.Course.{MayTell}
+use Rattle.ops_subtasks.specs.First.{first_heard}
+use Rattle.machine_data.specs.declared.component.HostDef.{HostDef}
+use Rattle.machine_data.specs.declared.words.HostPoll.{HostPoll}
+use Rattle.machine_data.specs.declared.op.CallOp.TheVariants as call_op
+use Rattle.machine_data.specs.declared.op.Op.{Op}
+use Rattle.machine_data.specs.declared.op.Op.TheVariants as op
+use Rattle.machine_data.specs.declared.op.Operand.TheVariants as operand
+use Rattle.machine_data.specs.declared.op.SetOp.TheVariants as set_op
+use Rattle.machine_data.specs.declared.op.TaskOp.TheVariants as task_op
+use Rattle.machine_data.specs.declared.op.ThreadOp.TheVariants as thread_op
+use Rattle.machine_data.specs.declared.records.Goal.{Goal}
+use Rattle.machine_data.specs.declared.records.Turn.TheVariants as turn
+use Rattle.machine_data.specs.declared.trap.Trap.TheVariants as trap
+use Rattle.machine_rules.specs.Calls.{call_queues}
+use Rattle.machine_rules.specs.Progress.{Progress}
+use Rattle.machine_rules.specs.Scripts.{export_at, export_kind}
 use Rattle.task_store.specs.Hosts.{HoldsHosts, held_by}
 use Rattle.task_store.specs.declared.store.Store.{Store}
-use Rattle.task_turns.specs.Turn.{CoreInOrder, running_of}
-use Rattle.task_words.specs.StateView.{StateView, with_core, with_current}
-use Rattle.task_ops.specs.declared.op_result.OpAnswer.{OpAnswer}
+use Rattle.ops_turns.specs.Turn.{CoreInOrder, running_of}
+use Rattle.core_primitives.specs.StateView.{StateView, with_core, with_current}
+use Rattle.ops_guests.specs.declared.op_result.OpAnswer.{OpAnswer}
 
 -- ---- What a call does
 

@@ -1,10 +1,10 @@
 -- What comes of an end of a task that lends nothing.
 use Rattle.std.specs.Prelude.{false, ℕ}
-use Rattle.task_calls.specs.OpAnswers.{at_once, nothing_answered}
-use Rattle.task_calls.specs.Asks.{Answers}
-use Rattle.task_lends.specs.HeldBorrows.{Comes}
-use Rattle.task_machine.specs.Labels.{Choice}
-use Rattle.task_rules.specs.Progress.{Progress}
+use Rattle.ops_calls.specs.OpAnswers.{at_once, nothing_answered}
+use Rattle.ops_calls.specs.Asks.{Answers}
+use Rattle.task_store.specs.HeldBorrows.{Comes}
+use Rattle.machine_data.specs.Labels.{Choice}
+use Rattle.machine_rules.specs.Progress.{Progress}
 
 -- the running thread did its rule, which takes no memory, and nothing is answered
 abbrev pub RuleAnswers : (ℕ → Choice → Progress) → Comes

@@ -1,13 +1,13 @@
 -- What a call whose thread is New results in before the groups that have ended are told of.
-use Rattle.state_calls.specs.declared.name_calls.QualifiedThreadId.{QualifiedThreadId}
+use Rattle.ops_state.specs.declared.name_calls.QualifiedThreadId.{QualifiedThreadId}
 use Rattle.std.specs.Prelude.{Bool, Err, Ok, Option, ℕ}
-use Rattle.task_calls.specs.Tasks.{Begins}
+use Rattle.ops_calls.specs.Tasks.{Begins}
 use Rattle.task_group.specs.Listeners.{ToldWithHookOk}
 use Rattle.task_loop.specs.CallStarts.{LeavesUnmade}
 use Rattle.task_loop.specs.GuestCalls.{has_room, table_refusal}
 use Rattle.task_loop.specs.InstanceCalls.{DoesOn}
 use Rattle.task_loop.specs.Told.{begun_notices}
-use Rattle.task_machine.specs.declared.component.ExportKind.{ExportKind}
+use Rattle.machine_data.specs.declared.component.ExportKind.{ExportKind}
 use Rattle.task_store.specs.declared.store.Store.{Store}
 
 -- The call was made, and a group was begun if it has no caller.

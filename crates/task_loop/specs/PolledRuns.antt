@@ -1,15 +1,15 @@
 -- Calls that are polled: started first, and then waited for.
 use Rattle.futures.specs.declared.task.Poll.{Poll}
 use Rattle.futures.specs.declared.task.Poll.TheVariants.{Pending, Ready}
-use Rattle.state_calls.specs.declared.error.TaskError.{TaskError}
+use Rattle.ops_state.specs.declared.error.TaskError.{TaskError}
 use Rattle.std.specs.Prelude.{Bool, Err, None, Ok, Option, Result, Some, ℕ, ◌≡◌, ◌⊎◌}
-use Rattle.task_calls.specs.MainCalls.{Finishes}
+use Rattle.ops_calls.specs.MainCalls.{Finishes}
 use Rattle.task_loop.specs.CallStarts.{StartsOrStops}
 use Rattle.task_loop.specs.LoopCalls.{callee_of}
 use Rattle.task_loop.specs.InstanceCalls.{DoesOn}
 use Rattle.task_loop.specs.declared.call.FuncCallConcurrent.{FuncCallConcurrent}
 use Rattle.task_loop.specs.declared.call_concurrent.CallConcurrent.{CallConcurrent}
-use Rattle.task_machine.specs.declared.component.Component.{Component}
+use Rattle.machine_data.specs.declared.component.Component.{Component}
 use Rattle.task_store.specs.declared.store.Store.{Store}
 
 -- what is made of the word that a call returned, if it has

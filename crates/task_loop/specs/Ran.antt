@@ -2,13 +2,13 @@
 use Rattle.std.specs.Prelude.{List, None, Option, Some, [], ◌++◌, ◌∷◌, ◌≡◌}
 use Rattle.task_group.specs.Listeners.{Listeners}
 use Rattle.task_loop.specs.AnswersOk.{AnswersOkAll}
-use Rattle.task_machine.specs.Core.{Core, State}
-use Rattle.task_machine.specs.declared.label.Label.{Label}
-use Rattle.task_rules.specs.History.{Moment, history}
-use Rattle.task_rules.specs.Run.{Run}
-use Rattle.task_rules.specs.Stalled.{Setting}
-use Rattle.task_turns.specs.Does.{step_shown}
-use Rattle.task_turns.specs.declared.mains.MainStep.{MainStep}
+use Rattle.machine_data.specs.Core.{Core, State}
+use Rattle.machine_data.specs.declared.label.Label.{Label}
+use Rattle.machine_rules.specs.History.{Moment, history}
+use Rattle.machine_rules.specs.Run.{Run}
+use Rattle.machine_rules.specs.Stalled.{Setting}
+use Rattle.ops_turns.specs.Does.{step_shown}
+use Rattle.ops_turns.specs.declared.mains.MainStep.{MainStep}
 
 module _ {M : Type 0} (does : M → Core → MainStep → M → Core → Type 0) where
   -- main did this step, or none

@@ -1,21 +1,21 @@
 -- What a poll of a run adds and answers.
-use Rattle.state_calls.specs.declared.error.TaskError.{TaskError}
-use Rattle.state_calls.specs.declared.error.TaskError.TheVariants as task_error
+use Rattle.ops_state.specs.declared.error.TaskError.{TaskError}
+use Rattle.ops_state.specs.declared.error.TaskError.TheVariants as task_error
 use Rattle.std.specs.Prelude.{Bool, Err, List, None, Ok, Option, Result, Some, [], false, length, option_map, true, ℕ, ◌==◌, ◌||◌, ◌∷◌}
-use Rattle.label_laws.specs.Own.{next_mark}
-use Rattle.run_pace.specs.YieldBudget.{passes_after, since_after, yields_before}
+use Rattle.laws_labels.specs.Own.{next_mark}
+use Rattle.run_trace.specs.YieldBudget.{passes_after, since_after, yields_before}
 use Rattle.task_loop.specs.declared.poll_methods.RunPoll.{RunPoll}
 use Rattle.task_loop.specs.declared.poll_methods.RunPoll.TheVariants as poll
 use Rattle.task_loop.specs.declared.run.Stop.{Stop}
 use Rattle.task_loop.specs.declared.run.Stop.TheVariants as stop
-use Rattle.task_machine.specs.Core.{State}
-use Rattle.task_machine.specs.declared.label.Label.{Label}
-use Rattle.task_machine.specs.declared.label.Label.TheVariants as label
-use Rattle.task_machine.specs.declared.label.LoopLabel.TheVariants as loop_label
-use Rattle.task_machine.specs.declared.outcome.Outcome.{Outcome}
-use Rattle.task_machine.specs.declared.outcome.Outcome.TheVariants as outcome
-use Rattle.task_rules.specs.Outcome.{is_at_rest, outcome_of_label}
-use Rattle.task_rules.specs.Stalled.{Setting}
+use Rattle.machine_data.specs.Core.{State}
+use Rattle.machine_data.specs.declared.label.Label.{Label}
+use Rattle.machine_data.specs.declared.label.Label.TheVariants as label
+use Rattle.machine_data.specs.declared.label.LoopLabel.TheVariants as loop_label
+use Rattle.machine_data.specs.declared.outcome.Outcome.{Outcome}
+use Rattle.machine_data.specs.declared.outcome.Outcome.TheVariants as outcome
+use Rattle.machine_rules.specs.Outcome.{is_at_rest, outcome_of_label}
+use Rattle.machine_rules.specs.Stalled.{Setting}
 
 -- ---- What a poll answers
 

@@ -1,10 +1,10 @@
 -- What a main says of itself.
 use Rattle.std.specs.Prelude.{List, []}
-use Rattle.task_machine.specs.Core.{Core, Main, Unscripted}
-use Rattle.task_machine.specs.declared.component.Component.{Component}
-use Rattle.task_machine.specs.declared.scenario.MainOpDef.{MainOpDef}
-use Rattle.task_turns.specs.declared.mains.MainStep.{MainStep}
-use Rattle.task_words.specs.StateView.{StateView}
+use Rattle.machine_data.specs.Core.{Core, Main, Unscripted}
+use Rattle.machine_data.specs.declared.component.Component.{Component}
+use Rattle.machine_data.specs.declared.scenario.MainOpDef.{MainOpDef}
+use Rattle.ops_turns.specs.declared.mains.MainStep.{MainStep}
+use Rattle.core_primitives.specs.StateView.{StateView}
 
 pub record Says (M : Type 0) : Type 1 where
   -- its part of the machine's state

@@ -3,22 +3,22 @@ use Rattle.std.specs.Prelude.{Bool, List, Option, Some, is_some, ℕ, ◌+◌, �
 use Rattle.task_group.specs.Listeners.{Listeners, errors_of}
 use Rattle.task_loop.specs.Hooked.{TellsInPart}
 use Rattle.task_loop.specs.Told.{RunTold, TellsTurn, current_group, group_running, turn_of}
-use Rattle.task_machine.specs.Core.{Core, Main}
-use Rattle.task_machine.specs.declared.component.Component.{Component}
-use Rattle.task_machine.specs.declared.component.HostDef.{HostDef}
-use Rattle.task_machine.specs.declared.label.Label.{Label}
-use Rattle.task_machine.specs.declared.records.Turn.{Turn}
-use Rattle.task_machine.specs.declared.records.Turn.TheVariants as turn
-use Rattle.task_ops.specs.Works.{KeepsWorks, NamesTold, NamesWorks}
-use Rattle.task_rules.specs.Stalled.{Setting}
+use Rattle.machine_data.specs.Core.{Core, Main}
+use Rattle.machine_data.specs.declared.component.Component.{Component}
+use Rattle.machine_data.specs.declared.component.HostDef.{HostDef}
+use Rattle.machine_data.specs.declared.label.Label.{Label}
+use Rattle.machine_data.specs.declared.records.Turn.{Turn}
+use Rattle.machine_data.specs.declared.records.Turn.TheVariants as turn
+use Rattle.ops_guests.specs.Works.{KeepsWorks, NamesTold, NamesWorks}
+use Rattle.machine_rules.specs.Stalled.{Setting}
 use Rattle.task_store.specs.Hosts.{HoldsHosts}
 use Rattle.task_store.specs.declared.store.Store.{Store}
-use Rattle.task_turns.specs.StepResult.{Added, AddedOrNone}
-use Rattle.task_turns.specs.Turn.{IsFree, MakesStep, PendsIn, CoreInOrder, TurnedBeside, Turns, given, running_of}
-use Rattle.task_turns.specs.WellFormed.{IsWellFormed}
-use Rattle.task_turns.specs.declared.made.StepResult.{StepResult}
-use Rattle.task_words.specs.Groups.{IsAsked}
-use Rattle.task_words.specs.StateView.{StateView}
+use Rattle.ops_turns.specs.StepResult.{Added, AddedOrNone}
+use Rattle.ops_turns.specs.Turn.{IsFree, MakesStep, PendsIn, CoreInOrder, TurnedBeside, Turns, given, running_of}
+use Rattle.ops_turns.specs.WellFormed.{IsWellFormed}
+use Rattle.ops_turns.specs.declared.made.StepResult.{StepResult}
+use Rattle.core_primitives.specs.Groups.{IsAsked}
+use Rattle.core_primitives.specs.StateView.{StateView}
 
 -- The thread runs in a store that is in order and holds the works of its hosts.
 pub record RunsThread {T H G : Type 0} (course : H → HostDef) (c : Component) (n : ℕ) (s : Store T H G) : Type 0 where

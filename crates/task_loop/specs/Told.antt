@@ -1,31 +1,31 @@
 -- What the steps of a run, and the calls between runs, tell of groups.
-use Rattle.group_notices.specs.Moves.{AnswersAsHook, StopsAt, finishes, moved}
-use Rattle.group_notices.specs.Runs.{AreGroupsBefore, moment, running_in}
-use Rattle.group_notices.specs.declared.tells.GroupsBefore.{GroupsBefore}
-use Rattle.state_calls.specs.declared.error.TaskError.{TaskError}
-use Rattle.state_calls.specs.declared.error.TaskError.TheVariants as task_error
-use Rattle.state_calls.specs.declared.name_calls.QualifiedThreadId.{QualifiedThreadId}
+use Rattle.store_notices.specs.Moves.{AnswersAsHook, StopsAt, finishes, moved}
+use Rattle.store_notices.specs.Runs.{AreGroupsBefore, moment, running_in}
+use Rattle.store_notices.specs.declared.tells.GroupsBefore.{GroupsBefore}
+use Rattle.ops_state.specs.declared.error.TaskError.{TaskError}
+use Rattle.ops_state.specs.declared.error.TaskError.TheVariants as task_error
+use Rattle.ops_state.specs.declared.name_calls.QualifiedThreadId.{QualifiedThreadId}
 use Rattle.std.specs.Option.{option_map_or}
 use Rattle.std.specs.Prelude.{Bool, Err, List, None, OnErr, OnOk, Option, Result, Some, [], false, true, ℕ, ◌++◌, ◌+◌, ◌==◌, ◌∷◌, ◌≡◌, ◌⊎◌}
 use Rattle.task_group.specs.Listeners.{AnsweredErr, Listeners, ToldListeners, ToldWithHookOk}
 use Rattle.task_loop.specs.AnswersOk.{IsHookIsOk, FewerIn}
-use Rattle.task_machine.specs.Core.{Core, Main}
-use Rattle.task_machine.specs.declared.component.Component.{Component}
-use Rattle.task_machine.specs.declared.records.Notice.{Notice}
-use Rattle.task_machine.specs.declared.records.NoticeKind.TheVariants as notice
-use Rattle.task_machine.specs.declared.records.Turn.{Turn}
-use Rattle.task_machine.specs.declared.records.Turn.TheVariants as turn
-use Rattle.task_machine.specs.declared.trap.Trap.TheVariants as trap
-use Rattle.task_rules.specs.Notices.{finish_notices, is_in, moment_notices, start_notices, told_of}
-use Rattle.task_rules.specs.Stalled.{Setting}
-use Rattle.task_turns.specs.Turn.{Turned, running_of, state_at}
-use Rattle.task_turns.specs.declared.made.MadeStep.{MadeStep}
-use Rattle.task_turns.specs.declared.made.StepResult.{StepResult}
-use Rattle.task_turns.specs.declared.made.StepResult.TheVariants as stepped
-use Rattle.task_turns.specs.declared.mains.MainStep.{MainStep}
-use Rattle.task_turns.specs.declared.mains.MainStep.TheVariants as step
-use Rattle.task_words.specs.Groups.{asked, ended_groups, tracked_group, CountsEnded}
-use Rattle.task_words.specs.StateView.{StateView}
+use Rattle.machine_data.specs.Core.{Core, Main}
+use Rattle.machine_data.specs.declared.component.Component.{Component}
+use Rattle.machine_data.specs.declared.records.Notice.{Notice}
+use Rattle.machine_data.specs.declared.records.NoticeKind.TheVariants as notice
+use Rattle.machine_data.specs.declared.records.Turn.{Turn}
+use Rattle.machine_data.specs.declared.records.Turn.TheVariants as turn
+use Rattle.machine_data.specs.declared.trap.Trap.TheVariants as trap
+use Rattle.machine_rules.specs.Notices.{finish_notices, is_in, moment_notices, start_notices, told_of}
+use Rattle.machine_rules.specs.Stalled.{Setting}
+use Rattle.ops_turns.specs.Turn.{Turned, running_of, state_at}
+use Rattle.ops_turns.specs.declared.made.MadeStep.{MadeStep}
+use Rattle.ops_turns.specs.declared.made.StepResult.{StepResult}
+use Rattle.ops_turns.specs.declared.made.StepResult.TheVariants as stepped
+use Rattle.ops_turns.specs.declared.mains.MainStep.{MainStep}
+use Rattle.ops_turns.specs.declared.mains.MainStep.TheVariants as step
+use Rattle.core_primitives.specs.Groups.{asked, ended_groups, tracked_group, CountsEnded}
+use Rattle.core_primitives.specs.StateView.{StateView}
 
 -- main's op tells of the group that it made, and of those that it finished
 abbrev pub main_notices : MainStep → Core → Core → List Notice

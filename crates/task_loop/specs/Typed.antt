@@ -1,9 +1,9 @@
 -- Calls with typed parameters and results.
 use Rattle.futures.specs.declared.task.Poll.{Poll}
 use Rattle.futures.specs.declared.task.Poll.TheVariants.{Pending, Ready}
-use Rattle.state_calls.specs.declared.error.TaskError.{TaskError}
+use Rattle.ops_state.specs.declared.error.TaskError.{TaskError}
 use Rattle.std.specs.Prelude.{Bool, Err, List, Ok, Option, Result, option_map, ℕ, ◌≡◌}
-use Rattle.task_calls.specs.MainCalls.{Finishes}
+use Rattle.ops_calls.specs.MainCalls.{Finishes}
 use Rattle.task_loop.specs.CallStarts.{StartsOrLeaves}
 use Rattle.task_loop.specs.LoopCalls.{callee_of}
 use Rattle.task_loop.specs.InstanceCalls.{DoesOn}
@@ -11,10 +11,10 @@ use Rattle.task_loop.specs.PolledRuns.{PollsCall}
 use Rattle.task_loop.specs.declared.call.FuncCallConcurrent.{FuncCallConcurrent}
 use Rattle.task_loop.specs.declared.typed.TypedCallConcurrent.{TypedCallConcurrent}
 use Rattle.task_loop.specs.declared.typed.TypedFuncCallConcurrent.{TypedFuncCallConcurrent}
-use Rattle.task_machine.specs.declared.component.Callee.{Callee}
-use Rattle.task_machine.specs.declared.component.Component.{Component}
+use Rattle.machine_data.specs.declared.component.Callee.{Callee}
+use Rattle.machine_data.specs.declared.component.Component.{Component}
 use Rattle.task_store.specs.declared.store.Store.{Store}
-use Rattle.task_words.specs.StateView.{StateView}
+use Rattle.core_primitives.specs.StateView.{StateView}
 
 -- the call without its types, that was started or not
 abbrev pub untyped : {P R : Type 0} → Result (TypedFuncCallConcurrent P R) TaskError → Result FuncCallConcurrent TaskError

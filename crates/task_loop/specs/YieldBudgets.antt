@@ -1,18 +1,18 @@
 -- A drive by its polls: how far the run has come since it last yielded.
-use Rattle.run_pace.specs.YieldBudget.{since_driven}
-use Rattle.run_pace.specs.declared.yield_budget.YieldBudget.{YieldBudget}
-use Rattle.state_calls.specs.declared.error.TaskError.{TaskError}
+use Rattle.run_trace.specs.YieldBudget.{since_driven}
+use Rattle.run_trace.specs.declared.yield_budget.YieldBudget.{YieldBudget}
+use Rattle.ops_state.specs.declared.error.TaskError.{TaskError}
 use Rattle.std.specs.Prelude.{Bool, List, Ok, Result, false, length, not, true, ℕ, ◌++◌, ◌==◌, ◌≡◌}
 use Rattle.task_loop.specs.HasRun.{At, HasDriven, HasPolled}
 use Rattle.task_loop.specs.RunPolls.{run_answer, since_left_by}
 use Rattle.task_loop.specs.Says.{Says}
 use Rattle.task_loop.specs.declared.poll_methods.RunPoll.{RunPoll}
 use Rattle.task_loop.specs.declared.poll_methods.RunPoll.TheVariants as poll
-use Rattle.task_machine.specs.declared.component.Component.{Component}
-use Rattle.task_machine.specs.declared.component.HostDef.{HostDef}
-use Rattle.task_machine.specs.declared.label.Label.{Label}
-use Rattle.task_machine.specs.declared.outcome.Outcome.{Outcome}
-use Rattle.task_turns.specs.Turn.{goes_on}
+use Rattle.machine_data.specs.declared.component.Component.{Component}
+use Rattle.machine_data.specs.declared.component.HostDef.{HostDef}
+use Rattle.machine_data.specs.declared.label.Label.{Label}
+use Rattle.machine_data.specs.declared.outcome.Outcome.{Outcome}
+use Rattle.ops_turns.specs.Turn.{goes_on}
 
 -- What a drive leaves that resulted in this with these labels: it yielded wherever a poll does, and was polled on.
 pub record LeavesYieldBudget (yield_budget : YieldBudget) (added : List Label) (o : Outcome) (yield_budget' : YieldBudget) : Type 0 where

@@ -1,22 +1,22 @@
 ghost use Rattle.std.specs.Prelude.{◌≡◌, ◌<◌, ◌^◌, IfSome, IsSome, None, is_some, length, true};
-ghost use Rattle.task_calls.specs.MainCalls.{Finishes};
+ghost use Rattle.ops_calls.specs.MainCalls.{Finishes};
 ghost use Rattle.task_loop.specs.CallStarts.{KeepsStore, StartsOrLeaves, StartsOrStops};
 ghost use Rattle.task_loop.specs.LoopCalls.{callee_of};
-ghost use Rattle.task_machine.specs.declared.records.Turn.{Turn};
-ghost use Rattle.task_rules.specs.MainOps.{start_refusal};
-ghost use Rattle.task_rules.specs.Scripts.{export_at};
-ghost use Rattle.task_turns.specs.WellFormed.{IsWellFormed};
-ghost use Rattle.task_turns.specs.Turn.{CoreInOrder, given};
+ghost use Rattle.machine_data.specs.declared.records.Turn.{Turn};
+ghost use Rattle.machine_rules.specs.MainOps.{start_refusal};
+ghost use Rattle.machine_rules.specs.Scripts.{export_at};
+ghost use Rattle.ops_turns.specs.WellFormed.{IsWellFormed};
+ghost use Rattle.ops_turns.specs.Turn.{CoreInOrder, given};
 
 use crate::call_tells::take_back;
 use crate::guest_tasks::next_group;
 use crate::instance::Instance;
 use futures::task::Poll;
-use task_calls::{TaskError, finish_call, start_refusal, start_untrapped};
+use machine_data::{Callee, Component, NoticeKind, Trap};
+use ops_calls::{TaskError, finish_call, start_refusal, start_untrapped};
+use ops_turns::export_def;
 use task_group::{TaskGroupHook, TaskGroupId};
-use task_machine::{Callee, Component, NoticeKind, Trap};
 use task_store::Store;
-use task_turns::export_def;
 
 /// Names an export by its instance and its place there, from 0.
 #[derive(Clone, Copy, PartialEq, Eq)]

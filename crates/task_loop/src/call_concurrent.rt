@@ -3,18 +3,18 @@ ghost use Rattle.std.specs.Prelude.{◌≡◌, ◌<◌, ◌^◌, IfOk, IfSome, I
 ghost use Rattle.task_loop.specs.CallStarts.{KeepsStore};
 ghost use Rattle.task_loop.specs.LoopCalls.{callee_of};
 ghost use Rattle.task_loop.specs.PolledRuns.{FinishesAs, Polls};
-ghost use Rattle.task_machine.specs.declared.component.Component.{Component as Shape};
-ghost use Rattle.task_machine.specs.declared.records.Turn.{Turn};
-ghost use Rattle.task_rules.specs.Scripts.{export_at};
-ghost use Rattle.task_turns.specs.Turn.{CoreInOrder, given};
-ghost use Rattle.task_turns.specs.WellFormed.{IsWellFormed};
+ghost use Rattle.machine_data.specs.declared.component.Component.{Component as Shape};
+ghost use Rattle.machine_data.specs.declared.records.Turn.{Turn};
+ghost use Rattle.machine_rules.specs.Scripts.{export_at};
+ghost use Rattle.ops_turns.specs.Turn.{CoreInOrder, given};
+ghost use Rattle.ops_turns.specs.WellFormed.{IsWellFormed};
 
 use crate::call::{Func, FuncCallConcurrent};
 use futures::task::Poll;
+use machine_data::{Component, NoMemory};
+use ops_calls::TaskError;
 use std::alloc::Global;
-use task_calls::TaskError;
 use task_group::TaskGroupHook;
-use task_machine::{Component, NoMemory};
 use task_store::Store;
 
 /// A call of an export with these words, from its start to its result.
@@ -40,6 +40,7 @@ impl Func {
         ensures words { IfOk result (λ call. call.params.items ≡ params.now) }
         ensures fresh { IfOk result (λ call. call.call ≡ None) }
     {
+        // only the contract speaks of `component`
         let _component = component;
         let mut words = Vec::new(alloc);
         match words.extend_from_slice(params) {

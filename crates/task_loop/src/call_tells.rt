@@ -6,11 +6,11 @@ ghost use Rattle.task_loop.specs.Hooked.{Unheard};
 ghost use Rattle.task_loop.specs.Told.{TellsCall, groups_before_call};
 
 use crate::tells::{group_now, tell_all};
-use group_notices::GroupsBefore;
-use record_core::TaskCore;
-use task_calls::TaskError;
+use core_state::TaskCore;
+use machine_data::{NoticeKind, Trap};
+use ops_calls::TaskError;
+use store_notices::GroupsBefore;
 use task_group::{Listeners, TaskGroupHook, TaskGroupId};
-use task_machine::{NoticeKind, Trap};
 
 /// Returns what is asked before a call.
 pub(crate) fn asked(core: &TaskCore) -> GroupsBefore
@@ -33,6 +33,7 @@ pub(crate) fn tell_call<G: TaskGroupHook, A: Drop>(
 ) -> Result<A, TaskError>
     ensures { TellsCall G.listens asked.now answer result core.old core.new listeners.old listeners.new }
 {
+    // read so that the proof knows the invariant of `listeners`
     let _hooked = listeners.is_hooked();
     let Ok(_) = tell_all(core, listeners, asked) else {
         return Err(TaskError::Trap(Trap::HookFailed));
@@ -63,6 +64,7 @@ pub(crate) fn take_back<G: TaskGroupHook>(
     ensures answer { Unheard G.listens listeners.old listeners.new (result ≡ why) }
     ensures failed { AnsweredErr listeners.old listeners.new → result ≡ TaskError.Trap Trap.HookFailed }
 {
+    // read so that the proof knows the invariant of `listeners`
     let _hooked = listeners.is_hooked();
     if listeners.tell(NoticeKind::Finish, group).is_err() {
         return TaskError::Trap(Trap::HookFailed);

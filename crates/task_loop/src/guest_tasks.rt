@@ -1,8 +1,8 @@
 //! The calls of a store's state that begin or end a task, or have another thread run. What that gives of groups is told.
 ghost use Rattle.std.specs.Prelude.{Err, IfSome, IsSome, None, Ok, false, is_some, true, ◌+◌, ◌<◌, ◌^◌, ◌≡◌};
-ghost use Rattle.state_calls.specs.Currents.{LeavesNobody, MayRun, now_runs, number_in, runner};
-ghost use Rattle.state_calls.specs.Ends.{MayEnd};
-ghost use Rattle.state_calls.specs.Named.{IsLive};
+ghost use Rattle.ops_state.specs.Currents.{LeavesNobody, MayRun, now_runs, number_in, runner};
+ghost use Rattle.ops_state.specs.Ends.{MayEnd};
+ghost use Rattle.ops_state.specs.Named.{IsLive};
 ghost use Rattle.task_group.specs.Listeners.{AnsweredErr};
 ghost use Rattle.task_loop.specs.Begun.{SettlesGroups};
 ghost use Rattle.task_loop.specs.Ended.{group_left};
@@ -10,19 +10,19 @@ ghost use Rattle.task_loop.specs.GuestCalls.{EndsThread, MakesTask, SetsThread};
 ghost use Rattle.task_loop.specs.Hooked.{Unheard};
 ghost use Rattle.task_loop.specs.NewTasks.{MakesCall};
 ghost use Rattle.task_loop.specs.Told.{current_group};
-ghost use Rattle.task_machine.specs.Maps.{get};
-ghost use Rattle.task_turns.specs.Turn.{given};
-ghost use Rattle.task_words.specs.StateView.{thread_of};
+ghost use Rattle.machine_data.specs.Maps.{get};
+ghost use Rattle.ops_turns.specs.Turn.{given};
+ghost use Rattle.core_primitives.specs.StateView.{thread_of};
 
 use crate::call_tells::{asked, take_back};
-use group_notices::tell_moves;
-use record_core::TaskCore;
-use state_calls::CurrentThread;
-use task_calls::{QualifiedThreadId, TaskError};
+use core_primitives::{CallPrimitives, ResultPrimitives, ThreadId, ThreadPrimitives, View};
+use core_state::TaskCore;
+use machine_data::{ExportKind, NoticeKind, Trap};
+use ops_calls::{QualifiedThreadId, TaskError};
+use ops_state::CurrentThread;
+use store_notices::tell_moves;
 use task_group::{Listeners, TaskGroupHook, TaskGroupId};
-use task_machine::{ExportKind, NoticeKind, Trap};
 use task_store::{Store, finish_ended};
-use task_words::{CallPrimitives, ResultPrimitives, ThreadId, ThreadPrimitives, View};
 
 // The group that is made next.
 pub(crate) fn next_group(core: &TaskCore) -> TaskGroupId
@@ -47,7 +47,7 @@ fn make_with_group<T, H, G: TaskGroupHook>(
     ensures rest { store.new ≡ record store.old { state = store.new.state; listeners = store.new.listeners } }
 {
     let group = next_group(&store.state);
-    let id = task_calls::new_guest_task(&mut store.state, kind, instance, None)?;
+    let id = ops_calls::new_guest_task(&mut store.state, kind, instance, None)?;
     let _told = store.listeners.tell(NoticeKind::Start, group);
     Ok(id)
 }
@@ -73,7 +73,7 @@ fn make_hooked<T, H, G: TaskGroupHook>(
     if store.listeners.tell(NoticeKind::Start, group).is_err() {
         return Err(TaskError::Trap(Trap::HookFailed));
     }
-    match task_calls::new_guest_task(&mut store.state, kind, instance, None) {
+    match ops_calls::new_guest_task(&mut store.state, kind, instance, None) {
         Ok(id) => Ok(id),
         Err(e) => Err(take_back(&mut store.listeners, group, e)),
     }
@@ -110,7 +110,7 @@ fn make<T, H, G: TaskGroupHook>(
     ensures rest { store.new ≡ record store.old { state = store.new.state; listeners = store.new.listeners } }
 {
     match caller {
-        Some(_) => task_calls::new_guest_task(&mut store.state, kind, instance, caller),
+        Some(_) => ops_calls::new_guest_task(&mut store.state, kind, instance, caller),
         None => make_grouped(store, kind, instance),
     }
 }
@@ -129,6 +129,7 @@ fn settle<G: TaskGroupHook>(
     if !core.trapped() {
         return Ok(id);
     }
+    // read so that the proof knows the invariant of `listeners`
     let _hooked = listeners.is_hooked();
     let Ok(()) = finish_ended(core, listeners) else {
         return Err(TaskError::Trap(Trap::HookFailed));
@@ -182,13 +183,14 @@ pub fn set_thread<T, H, G: TaskGroupHook>(
     requires leaves { LeavesNobody (runner store.old.state) (number_in store.old.state thread) store.old.state.core }
     ensures does { SetsThread G.listens thread store.old result store.new }
 {
+    // read so that the proof knows the invariant of `store`
     let _hooked = store.listeners.is_hooked();
     let before = asked(&store.state);
     let group = group_to_run(&store.state, thread);
     let Ok(()) = tell_moves(&mut store.listeners, &before, group) else {
         return Err(TaskError::Trap(Trap::HookFailed));
     };
-    state_calls::set_thread(&mut store.state, thread)
+    ops_state::set_thread(&mut store.state, thread)
 }
 
 // The group of the thread that runs once this one has ended, 0 if none does.
@@ -223,6 +225,7 @@ pub fn cleanup_thread<T, H, G: TaskGroupHook>(
     if last && end.is_none() {
         return Err(TaskError::Trap(Trap::NoAsyncResult));
     }
+    // read so that the proof knows the invariant of `store`
     let _hooked = store.listeners.is_hooked();
     store.state.none_is_zero();
     let before = asked(&store.state);
@@ -230,7 +233,7 @@ pub fn cleanup_thread<T, H, G: TaskGroupHook>(
     let Ok(()) = tell_moves(&mut store.listeners, &before, after) else {
         return Err(TaskError::Trap(Trap::HookFailed));
     };
-    let answer = state_calls::cleanup_thread(&mut store.state, thread);
+    let answer = ops_state::cleanup_thread(&mut store.state, thread);
     let Ok(()) = finish_ended(&mut store.state, &mut store.listeners) else {
         return Err(TaskError::Trap(Trap::HookFailed));
     };

@@ -1,15 +1,15 @@
 //! Calls of hosts by an instance, of works that the host makes.
 ghost use Rattle.std.specs.Prelude.{◌≡◌, ◌<◌, is_ok, ◌^◌};
-ghost use Rattle.task_calls.specs.Asks.{CanAsk, IsRunningIn};
+ghost use Rattle.ops_calls.specs.Asks.{CanAsk, IsRunningIn};
 ghost use Rattle.task_store.specs.Hosts.{HoldsHosts};
-ghost use Rattle.task_turns.specs.Turn.{given};
+ghost use Rattle.ops_turns.specs.Turn.{given};
 ghost use Rattle.task_loop.specs.InstanceCalls.{PollsHost, SettlesWork, WaitsForHost};
 
 use crate::call_tells::{asked, tell_call, tell_refused};
 use crate::instance::Instance;
-use task_calls::{Step, TaskError, block_on_host, poll_host};
+use machine_data::Component;
+use ops_calls::{Step, TaskError, block_on_host, poll_host};
 use task_group::TaskGroupHook;
-use task_machine::Component;
 use task_store::{AccessorTask, Store};
 
 // The work was polled before its call. Where that was refused the work is let go.

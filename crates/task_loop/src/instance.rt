@@ -1,20 +1,19 @@
 ghost use Rattle.std.specs.Prelude.{◌≡◌, IfSome, IsSome};
-ghost use Rattle.task_calls.specs.OpAnswers.{at_once, nothing_answered};
-ghost use Rattle.task_calls.specs.Asks.{CanAsk, IsRunningIn};
-ghost use Rattle.task_calls.specs.MainCalls.{is_own_type};
-ghost use Rattle.task_calls.specs.Intrinsics.{pressure_op};
-ghost use Rattle.task_machine.specs.Read.{instance_of};
-ghost use Rattle.task_turns.specs.WellFormed.{IsWellFormed};
-ghost use Rattle.task_turns.specs.Turn.{CoreInOrder, running_of};
+ghost use Rattle.ops_calls.specs.OpAnswers.{at_once, nothing_answered};
+ghost use Rattle.ops_calls.specs.Asks.{CanAsk, IsRunningIn};
+ghost use Rattle.ops_calls.specs.MainCalls.{is_own_type};
+ghost use Rattle.ops_calls.specs.Intrinsics.{pressure_op};
+ghost use Rattle.machine_data.specs.Read.{instance_of};
+ghost use Rattle.ops_turns.specs.WellFormed.{IsWellFormed};
+ghost use Rattle.ops_turns.specs.Turn.{CoreInOrder, running_of};
 ghost use Rattle.task_loop.specs.InstanceCalls.{DoesCancel, DoesHostOp, DoesReturn};
 
 use crate::call_tells::{asked, tell_call, tell_refused};
-use task_calls::{TaskError, ask_nothing, is_own_type, pressure_op, task_return};
+use core_primitives::{ThreadPrimitives, View};
+use machine_data::{Component, Op, TaskOp, Trap, Turn};
+use ops_calls::{TaskError, ask_nothing, is_own_type, pressure_op, task_return};
 use task_group::TaskGroupHook;
-use task_lends::{cancel_holds_borrows, return_holds_borrows};
-use task_machine::{Component, Op, TaskOp, Trap, Turn};
-use task_store::Store;
-use task_words::{ThreadPrimitives, View};
+use task_store::{Store, cancel_holds_borrows, return_holds_borrows};
 
 /// Names an instance by its place, from 0.
 #[derive(Clone, Copy, PartialEq, Eq)]
@@ -102,6 +101,7 @@ impl Instance {
         requires caller { caller ≡ self.index }
         ensures does { DoesHostOp G.listens component.now (pressure_op up) at_once nothing_answered store.old result store.new }
     {
+        // only the contract speaks of `caller`
         let _caller = caller;
         let before = asked(&store.state);
         let answer = ask_nothing(component, &mut store.state, pressure_op(up));

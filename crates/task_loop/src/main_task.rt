@@ -2,14 +2,14 @@ ghost use Rattle.std.specs.Prelude.{◌≡◌};
 ghost use Rattle.task_loop.specs.HasRun.{MayStep, StepsTo};
 ghost use Rattle.task_loop.specs.Says.{Says};
 ghost use Rattle.task_loop.specs.Standing.{standing};
-ghost use Rattle.task_turns.specs.Later.{WorksLast};
-ghost use Rattle.task_words.specs.StateView.{StateView};
+ghost use Rattle.ops_turns.specs.Later.{WorksLast};
+ghost use Rattle.core_primitives.specs.StateView.{StateView};
 
-use task_calls::TaskError;
+use machine_data::Component;
+use ops_calls::TaskError;
+use ops_turns::MainStep;
 use task_group::TaskGroupHook;
-use task_machine::Component;
 use task_store::{Access, HostWork, Whole};
-use task_turns::MainStep;
 
 /// The host's own task, which starts calls and waits for them. It is a script, or any other
 /// program: then its part says so, and its labels need only be lawful in the store.

@@ -6,10 +6,10 @@ ghost use Rattle.task_loop.specs.RunPolls.{stop_answer};
 use crate::main_task::MainTask;
 use crate::run::{Halt, RunConcurrent, Stop};
 use crate::trace::Trace;
-use run_pace::Polled;
-use task_calls::TaskError;
+use machine_data::{Component, Outcome, Trap, Turn};
+use ops_calls::TaskError;
+use run_trace::Polled;
 use task_group::TaskGroupHook;
-use task_machine::{Component, Outcome, Trap, Turn};
 use task_store::{AccessorTask, FromHost, Store};
 
 /// What a poll of a run has resulted in, where the run has neither trapped nor failed.
@@ -64,6 +64,7 @@ impl RunConcurrent {
         ensures polls { PollsTo M.says H.course component.now G.listens steps result self.old.yield_budget
             (at self.old main.old store.old trace.old) (at self.new main.new store.new trace.new) self.new.yield_budget }
     {
+        // read so that the proof knows the invariant of `store`
         let _hooked = store.listeners.is_hooked();
         match self.go_on::<Polled, T, H, G, M>(component, store, main, steps, &mut trace.labels) {
             Ok(stop) => return answer_of(stop),

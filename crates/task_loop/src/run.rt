@@ -1,32 +1,33 @@
 ghost use Rattle.std.specs.Prelude.{◌≡◌, Bool, Err, IfErr, IfOk, IfSome, None, Ok, OnErr, OnOk, Some, false, true};
-ghost use Rattle.label_laws.specs.Own.{next_mark};
-ghost use Rattle.op_dispatch.specs.Fits.{calls_host};
-ghost use Rattle.run_pace.specs.YieldBudget.{unless_yielded};
+ghost use Rattle.laws_labels.specs.Own.{next_mark};
+ghost use Rattle.ops_dispatch.specs.Fits.{calls_host};
+ghost use Rattle.run_trace.specs.YieldBudget.{unless_yielded};
 ghost use Rattle.task_loop.specs.HasRun.{DrivesTo, GoesTo, HasHalted, HasTurned, IsLost, IsStopped, Keeps, MayRun, MayStep};
 ghost use Rattle.task_loop.specs.HasRun.{MayTurn, StepsTo, TurnsTo, at, at_main};
 ghost use Rattle.task_loop.specs.Standing.{standing};
 ghost use Rattle.task_loop.specs.Threads.{FailsPoll, FailsTake, FailsThread, PollsTold, RanThread, RunsThread};
 ghost use Rattle.task_loop.specs.Threads.{StepsUntold, Takes, ToldBeside};
 ghost use Rattle.task_loop.specs.Told.{group_running};
-ghost use Rattle.task_ops.specs.Works.{KeepsWorks};
-ghost use Rattle.task_rules.specs.Scripts.{op_of};
+ghost use Rattle.ops_guests.specs.Works.{KeepsWorks};
+ghost use Rattle.machine_rules.specs.Scripts.{op_of};
 ghost use Rattle.task_store.specs.Hosts.{HoldsHosts};
-ghost use Rattle.task_turns.specs.Turn.{IsAtTurn};
-ghost use Rattle.task_words.specs.Groups.{IsAsked};
+ghost use Rattle.ops_turns.specs.Turn.{IsAtTurn};
+ghost use Rattle.core_primitives.specs.Groups.{IsAsked};
 
 use crate::main_task::MainTask;
 use crate::tells::{group_now, tell_poll, tell_run, tell_work};
 use crate::trace::Trace;
-use label_trace::PackedLabels;
-use run_pace::{Driven, YieldBudget, Policy, ended_by, paced_by, rests_with, yields_by};
-use task_calls::{TaskError, host_called};
-use task_group::TaskGroupHook;
-use task_machine::{Component, Mark, NoMemory, Outcome, Trap, Turn};
-use task_store::{Access, AccessorTask, FromHost, HostWork, ActiveRun, Store};
-use task_turns::{
+use core_primitives::{QueuePrimitives, View};
+use machine_data::{Component, Mark, NoMemory, Outcome, Trap, Turn};
+use ops_calls::{TaskError, host_called};
+use ops_turns::{
     MainStep, RunStep, StepResult, compute, is_idle, made_by_main, put, step_call, step_run, take,
 };
-use task_words::{QueuePrimitives, View};
+use run_trace::{
+    Driven, PackedLabels, Policy, YieldBudget, ended_by, paced_by, rests_with, yields_by,
+};
+use task_group::TaskGroupHook;
+use task_store::{Access, AccessorTask, ActiveRun, FromHost, HostWork, Store};
 
 /// A run of the event loop on a store.
 #[derive(Drop)]
@@ -276,6 +277,7 @@ fn poll_work<T, H: AccessorTask<T> + FromHost, G: TaskGroupHook>(
     ensures failed { OnErr result (why.new ≡ Halt.HookFailed →
         FailsPoll (Turn.Futures polled) store.old store.new trace.old trace.new) }
 {
+    // only the contract speaks of `component`
     let _component = component;
     store.state.none_is_zero();
     let mut worked = None;
@@ -397,6 +399,7 @@ impl RunConcurrent {
         ensures drives { DrivesTo M.says H.course component.now G.listens steps result self.old.yield_budget
             (at self.old main.old store.old trace.old) (at self.new main.new store.new trace.new) self.new.yield_budget }
     {
+        // read so that the proof knows the invariant of `store`
         let _hooked = store.listeners.is_hooked();
         let labels = &mut trace.labels;
         let from = labels.len();

@@ -1,28 +1,27 @@
 //! Calls of other instances and their subtasks, as an instance's calls begin, cancel and drop them.
 ghost use Rattle.std.specs.Prelude.{◌≡◌, ◌<◌, IfSome, IsSome, false, true, ◌^◌};
-ghost use Rattle.task_calls.specs.OpAnswers.{at_once, nothing_answered, number_answered};
-ghost use Rattle.task_calls.specs.Asks.{CanAsk, IsRunningIn};
-ghost use Rattle.task_calls.specs.Directs.{IsDirect};
-ghost use Rattle.task_calls.specs.Intrinsics.{cancel_op};
-ghost use Rattle.task_calls.specs.Prepared.{CanStart};
+ghost use Rattle.ops_calls.specs.OpAnswers.{at_once, nothing_answered, number_answered};
+ghost use Rattle.ops_calls.specs.Asks.{CanAsk, IsRunningIn};
+ghost use Rattle.ops_calls.specs.Directs.{IsDirect};
+ghost use Rattle.ops_calls.specs.Intrinsics.{cancel_op};
+ghost use Rattle.ops_calls.specs.Prepared.{CanStart};
 ghost use Rattle.task_loop.specs.LoopCalls.{callee_of};
-ghost use Rattle.task_machine.specs.Read.{is_async_lifted};
-ghost use Rattle.task_rules.specs.Scripts.{export_kind};
-ghost use Rattle.task_turns.specs.Turn.{running_of, given};
+ghost use Rattle.machine_data.specs.Read.{is_async_lifted};
+ghost use Rattle.machine_rules.specs.Scripts.{export_kind};
+ghost use Rattle.ops_turns.specs.Turn.{running_of, given};
 ghost use Rattle.task_loop.specs.InstanceCalls.{BeginsWhole, CanCall, DoesHostOp, EntersCall, ExitsCall, PreparesCall, StartsCall, drop_subtask_op, may_pause};
 
 use crate::call::Func;
 use crate::call_tells::{asked, tell_call, tell_refused};
 use crate::instance::Instance;
-use task_calls::{
+use core_primitives::View;
+use machine_data::{CallOp, Component, Op, Operand, Trap};
+use ops_calls::{
     QualifiedThreadId, Step, TaskError, ask_nothing, begin_number, cancel_op, enter_call,
     exit_call, prepare_call, start_prepared,
 };
 use task_group::TaskGroupHook;
-use task_lends::exit_holds_borrows;
-use task_machine::{CallOp, Component, Op, Operand, Trap};
-use task_store::Store;
-use task_words::View;
+use task_store::{Store, exit_holds_borrows};
 
 impl Instance {
     /// Asks a subtask to end, and answers its end: 2 or 4, 3 for a call whose start was withdrawn, or 4294967295 if it hasn't ended
@@ -41,6 +40,7 @@ impl Instance {
         requires caller { caller ≡ self.index }
         ensures does { DoesHostOp G.listens component.now (cancel_op async_ subtask) may_pause number_answered store.old result store.new }
     {
+        // only the contract speaks of `caller`
         let _caller = caller;
         let before = asked(&store.state);
         let answer = begin_number(component, &mut store.state, cancel_op(async_, subtask));
@@ -61,6 +61,7 @@ impl Instance {
         requires caller { caller ≡ self.index }
         ensures does { DoesHostOp G.listens component.now (drop_subtask_op subtask) at_once nothing_answered store.old result store.new }
     {
+        // only the contract speaks of `caller`
         let _caller = caller;
         let op = Op::Call(CallOp::Drop {
             subtask: Operand::Number(u64::from(subtask)),
@@ -169,6 +170,7 @@ impl Instance {
         ensures does { StartsCall G.listens callee store.old result store.new }
         ensures whole { BeginsWhole callee store.old.state store.new.state }
     {
+        // only the contract speaks of `component`
         let _component = component;
         let before = asked(&store.state);
         let answer = start_prepared(&mut store.state, callee);

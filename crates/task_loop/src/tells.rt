@@ -1,17 +1,17 @@
 //! What the loop tells of groups after a step.
 ghost use Rattle.std.specs.Prelude.{◌≡◌, IfOk, None, Some, false, is_some, true};
 ghost use Rattle.task_loop.specs.Told.{TellsOut, TellsWhole, groups_before_work, groups_before_run, current_group, runs_on, turn_of};
-ghost use Rattle.task_machine.specs.declared.records.Turn.TheVariants as turns;
-ghost use Rattle.task_turns.specs.Turn.{RunnerThere, running_of};
-ghost use Rattle.task_words.specs.Groups.{asked};
+ghost use Rattle.machine_data.specs.declared.records.Turn.TheVariants as turns;
+ghost use Rattle.ops_turns.specs.Turn.{RunnerThere, running_of};
+ghost use Rattle.core_primitives.specs.Groups.{asked};
 
-use group_notices::{GroupsBefore, tell_at_once, tell_moves};
-use record_core::TaskCore;
+use core_primitives::{ThreadPrimitives, View};
+use core_state::TaskCore;
+use machine_data::Turn;
+use ops_turns::StepResult;
+use store_notices::{GroupsBefore, tell_at_once, tell_moves};
 use task_group::{HookError, Listeners, TaskGroupHook};
-use task_machine::Turn;
 use task_store::finish_ended;
-use task_turns::StepResult;
-use task_words::{ThreadPrimitives, View};
 
 /// Returns the group of the thread that runs, as long as it is tracked; 0 if none runs.
 #[inline(always)]

@@ -1,19 +1,19 @@
 //! Threads, as an instance's calls make, suspend and resume them.
 ghost use Rattle.std.specs.Prelude.{◌≡◌, ◌<◌, ◌^◌};
-ghost use Rattle.task_calls.specs.OpAnswers.{at_once, nothing_answered, number_answered};
-ghost use Rattle.task_calls.specs.Asks.{CanAsk, HasPaused, IsRunningIn};
-ghost use Rattle.task_calls.specs.Intrinsics.{suspension_op};
-ghost use Rattle.task_turns.specs.Turn.{given};
+ghost use Rattle.ops_calls.specs.OpAnswers.{at_once, nothing_answered, number_answered};
+ghost use Rattle.ops_calls.specs.Asks.{CanAsk, HasPaused, IsRunningIn};
+ghost use Rattle.ops_calls.specs.Intrinsics.{suspension_op};
+ghost use Rattle.ops_turns.specs.Turn.{given};
 ghost use Rattle.task_loop.specs.InstanceCalls.{DoesHostOp, GoesOn, ResumesThread, index_op, may_pause, new_thread_op};
 
 use crate::call_tells::{asked, tell_call};
 use crate::instance::Instance;
-use task_calls::{
+use machine_data::{Component, Op, Operand, ThreadOp};
+use ops_calls::{
     Answer, ResumeThread, Step, SuspensionTarget, TaskError, ask_number, begin_nothing, go_on,
     resume_thread, suspension_op,
 };
 use task_group::TaskGroupHook;
-use task_machine::{Component, Op, Operand, ThreadOp};
 use task_store::Store;
 
 impl Instance {
@@ -53,6 +53,7 @@ impl Instance {
         requires caller { caller ≡ self.index }
         ensures does { DoesHostOp G.listens component.now (new_thread_op slot context) at_once number_answered store.old result store.new }
     {
+        // only the contract speaks of `caller`
         let _caller = caller;
         let before = asked(&store.state);
         let answer = ask_number(
@@ -84,6 +85,7 @@ impl Instance {
         requires caller { caller ≡ self.index }
         ensures does { DoesHostOp G.listens component.now (suspension_op yielding target) may_pause nothing_answered store.old result store.new }
     {
+        // only the contract speaks of `caller`
         let _caller = caller;
         let before = asked(&store.state);
         let answer = begin_nothing(component, &mut store.state, suspension_op(yielding, target));
@@ -108,6 +110,7 @@ impl Instance {
         requires caller { caller ≡ self.index }
         ensures does { ResumesThread G.listens component.now how thread store.old result store.new }
     {
+        // only the contract speaks of `caller`
         let _caller = caller;
         let before = asked(&store.state);
         let answer = resume_thread(component, &mut store.state, thread, how);

@@ -1,7 +1,7 @@
 //! The trace of runs, as hosts see it.
 ghost use Rattle.std.specs.Prelude.{◌≡◌, []};
 
-use label_trace::{Labels, PackedLabels};
+use run_trace::{Labels, PackedLabels};
 use std::alloc::Global;
 use std::marker::Model;
 
@@ -14,7 +14,7 @@ pub struct Trace {
 
 impl Model for Trace {
     ghost use Rattle.std.specs.Prelude.{List};
-    ghost use Rattle.task_machine.specs.declared.label.Label.{Label};
+    ghost use Rattle.machine_data.specs.declared.label.Label.{Label};
 
     ghost Value = { List Label };
 

@@ -4,18 +4,18 @@ ghost use Rattle.task_loop.specs.CallStarts.{KeepsStore};
 ghost use Rattle.task_loop.specs.LoopCalls.{callee_of};
 ghost use Rattle.task_loop.specs.PolledRuns.{FinishesAs};
 ghost use Rattle.task_loop.specs.Typed.{FinishesTyped, PollsTyped, StartsTyped};
-ghost use Rattle.task_machine.specs.declared.component.Component.{Component as Shape};
-ghost use Rattle.task_machine.specs.declared.records.Turn.{Turn};
-ghost use Rattle.task_rules.specs.Scripts.{export_at};
-ghost use Rattle.task_turns.specs.Turn.{CoreInOrder, given};
-ghost use Rattle.task_turns.specs.WellFormed.{IsWellFormed};
+ghost use Rattle.machine_data.specs.declared.component.Component.{Component as Shape};
+ghost use Rattle.machine_data.specs.declared.records.Turn.{Turn};
+ghost use Rattle.machine_rules.specs.Scripts.{export_at};
+ghost use Rattle.ops_turns.specs.Turn.{CoreInOrder, given};
+ghost use Rattle.ops_turns.specs.WellFormed.{IsWellFormed};
 
 use crate::call::{Func, FuncCallConcurrent};
 use futures::task::Poll;
+use machine_data::Component;
+use ops_calls::TaskError;
 use std::marker::PhantomData;
-use task_calls::TaskError;
 use task_group::{TaskGroupHook, TaskGroupId};
-use task_machine::Component;
 use task_store::Store;
 
 /// Parameters that are handed to a call as words of 64 bits.
@@ -244,6 +244,7 @@ impl Words for u64 {
     ghost count = { λ word. refl };
 
     fn word(&self, i: u32) -> u64 {
+        // only the contract speaks of `i`
         let _i = i;
         *self
     }

@@ -1,15 +1,15 @@
 //! Waitable sets, as an instance's calls change them.
 ghost use Rattle.std.specs.Prelude.{◌≡◌, ◌<◌, ◌^◌};
-ghost use Rattle.task_calls.specs.OpAnswers.{at_once, event_answered, nothing_answered, number_answered};
-ghost use Rattle.task_calls.specs.Asks.{CanAsk, IsRunningIn};
-ghost use Rattle.task_turns.specs.Turn.{given};
+ghost use Rattle.ops_calls.specs.OpAnswers.{at_once, event_answered, nothing_answered, number_answered};
+ghost use Rattle.ops_calls.specs.Asks.{CanAsk, IsRunningIn};
+ghost use Rattle.ops_turns.specs.Turn.{given};
 ghost use Rattle.task_loop.specs.InstanceCalls.{DoesHostOp, drop_set_op, join_op, may_pause, new_set_op, poll_set_op, wait_set_op};
 
 use crate::call_tells::{asked, tell_call};
 use crate::instance::Instance;
-use task_calls::{Step, TaskError, ask_event, ask_nothing, ask_number, begin_event};
+use machine_data::{Component, Op, Operand, SetOp};
+use ops_calls::{Step, TaskError, ask_event, ask_nothing, ask_number, begin_event};
 use task_group::TaskGroupHook;
-use task_machine::{Component, Op, Operand, SetOp};
 use task_store::Store;
 
 impl Instance {
@@ -27,6 +27,7 @@ impl Instance {
         requires caller { caller ≡ self.index }
         ensures does { DoesHostOp G.listens component.now new_set_op at_once number_answered store.old result store.new }
     {
+        // only the contract speaks of `caller`
         let _caller = caller;
         let before = asked(&store.state);
         let answer = ask_number(component, &mut store.state, Op::Set(SetOp::New { to: 0 }));
@@ -47,6 +48,7 @@ impl Instance {
         requires caller { caller ≡ self.index }
         ensures does { DoesHostOp G.listens component.now (drop_set_op set) at_once nothing_answered store.old result store.new }
     {
+        // only the contract speaks of `caller`
         let _caller = caller;
         let before = asked(&store.state);
         let answer = ask_nothing(
@@ -59,7 +61,7 @@ impl Instance {
         tell_call(&mut store.state, &mut store.listeners, &before, answer)
     }
 
-    /// Returns the task event, else that of a ready member of the set (the least one, as `first_ready` of `place_words` picks it),
+    /// Returns the task event, else that of a ready member of the set (the least one, as `first_ready` of `core_places` picks it),
     /// is taken: its code, handle and result; 0, 0, 0 where nothing is there. Refused with trap 16 if the handle names no set.
     pub fn waitable_set_poll<T, H, G: TaskGroupHook>(
         self,
@@ -73,6 +75,7 @@ impl Instance {
         requires caller { caller ≡ self.index }
         ensures does { DoesHostOp G.listens component.now (poll_set_op set) at_once event_answered store.old result store.new }
     {
+        // only the contract speaks of `caller`
         let _caller = caller;
         let before = asked(&store.state);
         let answer = ask_event(
@@ -100,6 +103,7 @@ impl Instance {
         requires caller { caller ≡ self.index }
         ensures does { DoesHostOp G.listens component.now (wait_set_op set) may_pause event_answered store.old result store.new }
     {
+        // only the contract speaks of `caller`
         let _caller = caller;
         let before = asked(&store.state);
         let answer = begin_event(
@@ -129,6 +133,7 @@ impl Instance {
         requires caller { caller ≡ self.index }
         ensures does { DoesHostOp G.listens component.now (join_op waitable set) at_once nothing_answered store.old result store.new }
     {
+        // only the contract speaks of `caller`
         let _caller = caller;
         let before = asked(&store.state);
         let answer = ask_nothing(

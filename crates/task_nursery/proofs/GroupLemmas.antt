@@ -1,15 +1,15 @@
 -- A spawn and aborts leave the groups.
 use Rattle.std.proofs.Common.{refl, ◌∙◌}
 use Rattle.std.specs.Prelude.{List, None, Option, Some, [], ℕ, ◌∷◌, ◌≡◌}
-use Rattle.task_machine.specs.Core.{Core}
-use Rattle.task_machine.specs.Write.{add_work, count_work, on_work, push_high, set_phase}
-use Rattle.task_machine.specs.declared.component.HostDef.{HostDef}
-use Rattle.task_machine.specs.declared.records.WorkCaller.TheVariants as callers
+use Rattle.machine_data.specs.Core.{Core}
+use Rattle.machine_data.specs.Write.{add_work, count_work, on_work, push_high, set_phase}
+use Rattle.machine_data.specs.declared.component.HostDef.{HostDef}
+use Rattle.machine_data.specs.declared.records.WorkCaller.TheVariants as callers
 use Rattle.task_nursery.specs.Scope.{aborted_at, those_aborted}
 use Rattle.task_nursery.specs.declared.children.Kept.{Kept}
 use Rattle.task_nursery.specs.declared.children.Kept.TheVariants as kept
-use Rattle.task_rules.specs.Calls.{work_queued}
-use Rattle.task_rules.specs.MainOps.{main_aborted}
+use Rattle.machine_rules.specs.Calls.{work_queued}
+use Rattle.machine_rules.specs.MainOps.{main_aborted}
 
 pub groups_queued : (d : HostDef) (s : Core) → (work_queued callers.Spawn d None s).groups ≡ s.groups
 unfolding work_queued push_high add_work count_work

@@ -1,18 +1,18 @@
 -- What stays of children.
 use Rattle.std.proofs.Common.{ap, arith, drop, drop-cons, get_or, inl, inr, refl, subst, sym, ⊎_elim, ◌∙◌, ◌<◌, ◌≤◌}
 use Rattle.std.specs.Prelude.{List, None, Option, Some, [], false, if◌then◌else◌, length, slice_get, slice_set, suc, true, zero, ℕ, ◌+◌, ◌++◌, ◌-◌, ◌∷◌, ◌≡◌, ◌⊎◌}
-use Rattle.task_machine.specs.Core.{Core}
+use Rattle.machine_data.specs.Core.{Core}
 use Rattle.task_nursery.specs.Children.{WasSpawned, aborted_by, ended, has_ended, is_open, is_open_call, left_by}
 use Rattle.task_nursery.specs.Later.{was_later}
 use Rattle.task_nursery.specs.Numbers.{numbered, numbers_where}
 use Rattle.task_nursery.specs.Scope.{AreOf, all_aborted, aborted_at, those_aborted}
 use Rattle.task_nursery.specs.declared.children.Kept.{Kept}
 use Rattle.task_nursery.specs.declared.children.Kept.TheVariants as kept
-use Rattle.task_turns.specs.Later.{WorksLast}
-use Rattle.task_words.specs.StateView.{StateView, on_core}
+use Rattle.ops_turns.specs.Later.{WorksLast}
+use Rattle.core_primitives.specs.StateView.{StateView, on_core}
 use Rattle.task_nursery.proofs.LastLemmas.{abort_last, finish_last}
 use Rattle.task_nursery.proofs.NumberLemmas.{numbered_from}
-use Rattle.task_turns.proofs.LaterLemmas.{last_same}
+use Rattle.ops_turns.proofs.LaterLemmas.{last_same}
 
 pub ended_is_open : (s : Core) (k : Kept) → has_ended s k ≡ true → is_open k ≡ true
 ended_is_open s (kept.Call f call) h = refl

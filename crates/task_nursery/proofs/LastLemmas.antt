@@ -3,25 +3,25 @@ use Rattle.std.proofs.Common.{ap, arith, inl, le_refl, refl, subst, sym, ◌∙�
 use Rattle.std.proofs.lemmas.Bool.Decides.{nat_tests}
 use Rattle.std.specs.Option.{option_map_or}
 use Rattle.std.specs.Prelude.{Err, List, None, Ok, Option, Result, Some, ℕ, ◌+◌, ◌≡◌}
-use Rattle.state_calls.specs.declared.error.TaskError.{TaskError}
-use Rattle.task_calls.specs.MainCalls.{Starts}
-use Rattle.task_machine.proofs.CommuteLemmas.{get-change}
-use Rattle.task_machine.specs.Core.{Core}
-use Rattle.task_machine.specs.Maps.{Records, change, get, get-insert}
-use Rattle.task_machine.specs.Moves.{put_high}
-use Rattle.task_machine.specs.Read.{work_caller_of}
-use Rattle.task_machine.specs.Write.{add_call, add_group, add_thread, add_work, count_work, on_thread, on_work, push_high, set_phase, set_place, set_trapped, take_result}
-use Rattle.task_machine.specs.declared.component.Callee.{Callee}
-use Rattle.task_machine.specs.declared.component.Component.{Component}
-use Rattle.task_machine.specs.declared.component.HostDef.{HostDef}
-use Rattle.task_machine.specs.declared.records.Work.{Work}
-use Rattle.task_machine.specs.declared.records.WorkCaller.TheVariants as callers
-use Rattle.task_machine.specs.declared.trap.Trap.{Trap}
-use Rattle.task_ops.specs.Works.{KeepsWorks}
-use Rattle.task_rules.specs.Calls.{call_made, next_work, work_queued}
-use Rattle.task_rules.specs.MainOps.{main_aborted, main_started}
-use Rattle.task_turns.specs.Later.{WorksLast}
-use Rattle.task_words.specs.StateView.{Keeps, StateView, on_core}
+use Rattle.ops_state.specs.declared.error.TaskError.{TaskError}
+use Rattle.ops_calls.specs.MainCalls.{Starts}
+use Rattle.machine_data.proofs.CommuteLemmas.{get-change}
+use Rattle.machine_data.specs.Core.{Core}
+use Rattle.machine_data.specs.Maps.{Records, change, get, get-insert}
+use Rattle.machine_data.specs.Moves.{put_high}
+use Rattle.machine_data.specs.Read.{work_caller_of}
+use Rattle.machine_data.specs.Write.{add_call, add_group, add_thread, add_work, count_work, on_thread, on_work, push_high, set_phase, set_place, set_trapped, take_result}
+use Rattle.machine_data.specs.declared.component.Callee.{Callee}
+use Rattle.machine_data.specs.declared.component.Component.{Component}
+use Rattle.machine_data.specs.declared.component.HostDef.{HostDef}
+use Rattle.machine_data.specs.declared.records.Work.{Work}
+use Rattle.machine_data.specs.declared.records.WorkCaller.TheVariants as callers
+use Rattle.machine_data.specs.declared.trap.Trap.{Trap}
+use Rattle.ops_guests.specs.Works.{KeepsWorks}
+use Rattle.machine_rules.specs.Calls.{call_made, next_work, work_queued}
+use Rattle.machine_rules.specs.MainOps.{main_aborted, main_started}
+use Rattle.ops_turns.specs.Later.{WorksLast}
+use Rattle.core_primitives.specs.StateView.{Keeps, StateView, on_core}
 
 same_last : (s t : StateView) → t.core.works ≡ s.core.works → t.core.made.works ≡ s.core.made.works → KeepsWorks s t → WorksLast s t
 same_last s t works made names = record {

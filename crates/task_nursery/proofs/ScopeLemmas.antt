@@ -4,8 +4,8 @@ use Rattle.std.specs.Option.{option_and_then}
 use Rattle.std.specs.Prelude.{Bool, Err, List, Option, Result, Some, [], false, length, suc, true, zero, ℕ, ◌++◌, ◌<◌, ◌∷◌, ◌≡◌, ◌≤◌, ◌⊎◌}
 use Rattle.task_loop.specs.declared.call.Func.{Func}
 use Rattle.task_loop.specs.declared.call.FuncCallConcurrent.{FuncCallConcurrent}
-use Rattle.task_machine.specs.declared.component.Component.{Component}
-use Rattle.task_machine.specs.declared.trap.Trap.{Trap}
+use Rattle.machine_data.specs.declared.component.Component.{Component}
+use Rattle.machine_data.specs.declared.trap.Trap.{Trap}
 use Rattle.task_nursery.specs.Children.{is_open_call, thread_in}
 use Rattle.task_nursery.specs.Numbers.{count_where, numbered}
 use Rattle.task_nursery.specs.Scope.{ScopeBegins, Refuses, Scope, with_child}

@@ -1,21 +1,21 @@
 -- A start that was refused.
 use Rattle.std.proofs.Common.{inr, refl}
 use Rattle.std.specs.Prelude.{Err, List, None, Ok, Option, Result, Some, ℕ, ◌≡◌}
-use Rattle.state_calls.specs.declared.error.TaskError.{TaskError}
-use Rattle.state_calls.specs.declared.error.TaskError.TheVariants as faults
-use Rattle.task_calls.specs.MainCalls.{Starts}
-use Rattle.group_notices.specs.Moves.{finishes}
+use Rattle.ops_state.specs.declared.error.TaskError.{TaskError}
+use Rattle.ops_state.specs.declared.error.TaskError.TheVariants as faults
+use Rattle.ops_calls.specs.MainCalls.{Starts}
+use Rattle.store_notices.specs.Moves.{finishes}
 use Rattle.task_group.specs.Listeners.{ToldListeners}
 use Rattle.task_loop.specs.LoopCalls.{callee_of}
 use Rattle.task_loop.specs.declared.call.Func.{Func}
-use Rattle.task_machine.specs.Write.{set_trapped}
-use Rattle.task_machine.specs.declared.component.Callee.{Callee}
-use Rattle.task_machine.specs.declared.component.Component.{Component}
-use Rattle.task_machine.specs.declared.trap.Trap.{Trap}
+use Rattle.machine_data.specs.Write.{set_trapped}
+use Rattle.machine_data.specs.declared.component.Callee.{Callee}
+use Rattle.machine_data.specs.declared.component.Component.{Component}
+use Rattle.machine_data.specs.declared.trap.Trap.{Trap}
 use Rattle.task_nursery.specs.Scope.{ScopeBegins, Scope, StopsCall, TellsStart, refusal_of}
-use Rattle.task_rules.specs.MainOps.{start_refusal}
+use Rattle.machine_rules.specs.MainOps.{start_refusal}
 use Rattle.task_store.specs.declared.store.Store.{Store}
-use Rattle.task_words.specs.StateView.{StateView, on_core}
+use Rattle.core_primitives.specs.StateView.{StateView, on_core}
 
 -- no host fails by a start
 no_failure : (c : Component) (e : Callee) (words : List ℕ) (s t : StateView) (o : Option Trap) (i : ℕ) → Starts c e words s o (Err (faults.HostFailed i)) t → ⊥

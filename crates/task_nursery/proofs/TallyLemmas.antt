@@ -4,8 +4,8 @@ use Rattle.std.proofs.lemmas.List.{length-set}
 use Rattle.std.proofs.lemmas.Option.{slice_get-get_or}
 use Rattle.std.specs.List.{remove}
 use Rattle.std.specs.Prelude.{Bool, List, None, Option, Some, [], false, if◌then◌else◌, is_some, length, slice_get, slice_set, suc, true, zero, ℕ, ◌+◌, ◌++◌, ◌-◌, ◌∷◌, ◌≡◌}
-use Rattle.task_machine.specs.Core.{Core}
-use Rattle.task_machine.specs.Maps.{get}
+use Rattle.machine_data.specs.Core.{Core}
+use Rattle.machine_data.specs.Maps.{get}
 use Rattle.task_nursery.proofs.KeptLemmas.{ended_is_closed, ended_is_no_call, ended_is_open}
 use Rattle.task_nursery.proofs.NumberLemmas.{count_grown, count_same, counted, first_is_least, first_is_so, grown, numbers_there, removed, uncounted}
 use Rattle.task_nursery.specs.Children.{ended, has_ended, is_open, is_open_call}

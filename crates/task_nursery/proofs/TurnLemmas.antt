@@ -2,11 +2,11 @@
 use Rattle.futures.specs.declared.task.Poll.TheVariants.{Ready}
 use Rattle.std.proofs.Common.{ap, arith, refl, subst, sym, ◌∙◌}
 use Rattle.std.specs.Prelude.{List, None, Option, Some, [], is_some, option_and_then, slice_get, slice_set, suc, true, unwrap_or, zero, ℕ, ◌-◌, ◌∷◌, ◌≡◌}
-use Rattle.task_calls.specs.MainCalls.{Finishes}
+use Rattle.ops_calls.specs.MainCalls.{Finishes}
 use Rattle.task_loop.specs.declared.call.Func.{Func}
 use Rattle.task_loop.specs.declared.call.FuncCallConcurrent.{FuncCallConcurrent}
-use Rattle.task_machine.specs.Core.{Core}
-use Rattle.task_machine.specs.Maps.{get}
+use Rattle.machine_data.specs.Core.{Core}
+use Rattle.machine_data.specs.Maps.{get}
 use Rattle.task_nursery.proofs.KeptLemmas.{ended_is_open}
 use Rattle.task_nursery.proofs.NumberLemmas.{first_is_least, first_is_so}
 use Rattle.task_nursery.specs.Children.{ended, has_ended, is_open, left_by, value_in}
@@ -14,7 +14,7 @@ use Rattle.task_nursery.specs.Numbers.{first_where, numbered, numbers_where}
 use Rattle.task_nursery.specs.Scope.{Scope, after_end, ended_at, left_at, with_ended}
 use Rattle.task_nursery.specs.declared.children.Kept.{Kept}
 use Rattle.task_nursery.specs.declared.children.Kept.TheVariants as kept
-use Rattle.task_words.specs.StateView.{StateView, on_core}
+use Rattle.core_primitives.specs.StateView.{StateView, on_core}
 
 got_set : {A : Type 0} (xs : List A) (i : ℕ) (x y : A) → slice_get xs i ≡ Some x → slice_get (slice_set xs i y) i ≡ Some y
 got_set [] i x y at = absurd (cc)

@@ -1,14 +1,14 @@
 -- What a nursery keeps of its children.
 use Rattle.std.specs.Prelude.{Bool, None, Option, Some, false, is_some, true, unwrap_or, ℕ}
-use Rattle.task_machine.specs.Core.{Core}
-use Rattle.task_machine.specs.Maps.{get}
-use Rattle.task_machine.specs.Read.{phase_of}
-use Rattle.task_machine.specs.Write.{take_result}
+use Rattle.machine_data.specs.Core.{Core}
+use Rattle.machine_data.specs.Maps.{get}
+use Rattle.machine_data.specs.Read.{phase_of}
+use Rattle.machine_data.specs.Write.{take_result}
 use Rattle.task_nursery.specs.declared.children.Kept.{Kept}
 use Rattle.task_nursery.specs.declared.children.Kept.TheVariants as kept
-use Rattle.task_rules.specs.MainOps.{is_complete, main_aborted}
+use Rattle.machine_rules.specs.MainOps.{is_complete, main_aborted}
 use Rattle.task_store.specs.Spawned.{IsSpawnedIn}
-use Rattle.task_words.specs.StateView.{StateView}
+use Rattle.core_primitives.specs.StateView.{StateView}
 
 abbrev pub is_open_call : Kept → Bool
 is_open_call (kept.Call f call) = true

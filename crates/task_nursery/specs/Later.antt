@@ -4,8 +4,8 @@ use Rattle.task_nursery.specs.Scope.{IsOf, Scope}
 use Rattle.task_nursery.specs.declared.children.Kept.{Kept}
 use Rattle.task_nursery.specs.declared.children.Kept.TheVariants as kept
 use Rattle.task_store.specs.Spawned.{spawned_later}
-use Rattle.task_turns.specs.Later.{WorksLast}
-use Rattle.task_words.specs.StateView.{StateView}
+use Rattle.ops_turns.specs.Later.{WorksLast}
+use Rattle.core_primitives.specs.StateView.{StateView}
 
 pub was_later : (k : Kept) (s t : StateView) → WorksLast s t → WasSpawned k s → WasSpawned k t
 was_later (kept.Work work) s t last was = spawned_later work s t last was

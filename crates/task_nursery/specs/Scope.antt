@@ -1,18 +1,18 @@
 -- A nursery as its callers see it, and what its calls result in.
 use Rattle.std.specs.Prelude.{Bool, Err, IfSome, IsSome, List, None, Ok, OnErr, Option, Result, Some, [], false, length, slice_get, slice_set, true, ℕ, ◌++◌, ◌+◌, ◌-◌, ◌<◌, ◌^◌, ◌∷◌, ◌≡◌, ◌≤◌, ◌⊎◌}
-use Rattle.state_calls.specs.declared.error.TaskError.{TaskError}
-use Rattle.state_calls.specs.declared.error.TaskError.TheVariants as faults
-use Rattle.task_calls.specs.MainCalls.{Starts}
-use Rattle.group_notices.specs.Moves.{finishes}
+use Rattle.ops_state.specs.declared.error.TaskError.{TaskError}
+use Rattle.ops_state.specs.declared.error.TaskError.TheVariants as faults
+use Rattle.ops_calls.specs.MainCalls.{Starts}
+use Rattle.store_notices.specs.Moves.{finishes}
 use Rattle.task_group.specs.Listeners.{AnsweredErr, ToldListeners}
 use Rattle.task_loop.specs.LoopCalls.{callee_of}
 use Rattle.task_loop.specs.declared.call.Func.{Func}
 use Rattle.task_loop.specs.declared.call.FuncCallConcurrent.{FuncCallConcurrent}
-use Rattle.task_machine.specs.Core.{Core}
-use Rattle.task_machine.specs.Write.{set_trapped}
-use Rattle.task_machine.specs.declared.component.Component.{Component}
-use Rattle.task_machine.specs.declared.component.HostDef.{HostDef}
-use Rattle.task_machine.specs.declared.records.NoticeKind.TheVariants as notice
+use Rattle.machine_data.specs.Core.{Core}
+use Rattle.machine_data.specs.Write.{set_trapped}
+use Rattle.machine_data.specs.declared.component.Component.{Component}
+use Rattle.machine_data.specs.declared.component.HostDef.{HostDef}
+use Rattle.machine_data.specs.declared.records.NoticeKind.TheVariants as notice
 use Rattle.task_nursery.specs.Children.{WasSpawned, aborted_by, ended, is_open, is_open_call, left_by}
 use Rattle.task_nursery.specs.Numbers.{count_where, numbered, numbers_where}
 use Rattle.task_nursery.specs.declared.children.Child.{Child}
@@ -20,16 +20,16 @@ use Rattle.task_nursery.specs.declared.children.Kept.{Kept}
 use Rattle.task_nursery.specs.declared.children.Kept.TheVariants as kept
 use Rattle.task_nursery.specs.declared.nursery.NurseryError.{NurseryError}
 use Rattle.task_nursery.specs.declared.nursery.NurseryError.TheVariants as errors
-use Rattle.task_rules.specs.MainOps.{start_refusal}
-use Rattle.task_rules.specs.Notices.{told_of}
-use Rattle.task_rules.specs.Scripts.{export_at}
-use Rattle.task_machine.specs.declared.records.Turn.{Turn}
-use Rattle.task_words.specs.Groups.{IsAsked, asked}
-use Rattle.task_turns.specs.Turn.{CoreInOrder}
+use Rattle.machine_rules.specs.MainOps.{start_refusal}
+use Rattle.machine_rules.specs.Notices.{told_of}
+use Rattle.machine_rules.specs.Scripts.{export_at}
+use Rattle.machine_data.specs.declared.records.Turn.{Turn}
+use Rattle.core_primitives.specs.Groups.{IsAsked, asked}
+use Rattle.ops_turns.specs.Turn.{CoreInOrder}
 use Rattle.task_store.specs.Spawns.{Spawns}
 use Rattle.task_store.specs.declared.spawn.SpawnHandle.{SpawnHandle}
 use Rattle.task_store.specs.declared.store.Store.{Store}
-use Rattle.task_words.specs.StateView.{StateView, on_core}
+use Rattle.core_primitives.specs.StateView.{StateView, on_core}
 
 -- how many calls may be open at once, whether it is closed, and its children, whose numbers count from 1
 pub record Scope : Type 0 where

@@ -1,19 +1,19 @@
 //! What a nursery keeps of its children.
 ghost use Rattle.std.specs.Prelude.{◌≡◌, true};
-ghost use Rattle.task_machine.specs.declared.component.Component.{Component};
-ghost use Rattle.task_machine.specs.declared.component.HostDef.{HostDef};
-ghost use Rattle.task_machine.specs.declared.records.Turn.{Turn};
+ghost use Rattle.machine_data.specs.declared.component.Component.{Component};
+ghost use Rattle.machine_data.specs.declared.component.HostDef.{HostDef};
+ghost use Rattle.machine_data.specs.declared.records.Turn.{Turn};
 ghost use Rattle.task_nursery.specs.Children.{WasSpawned, aborted_by, ended, has_ended, is_open_call, left_by, thread_in, value_in};
 ghost use Rattle.task_store.specs.Changes.{ChangesCore};
-ghost use Rattle.task_words.specs.Groups.{IsAsked};
+ghost use Rattle.core_primitives.specs.Groups.{IsAsked};
 ghost use Rattle.task_store.specs.Hosts.{HoldsHosts};
-ghost use Rattle.task_turns.specs.Turn.{CoreInOrder};
-ghost use Rattle.task_words.specs.StateView.{on_core};
+ghost use Rattle.ops_turns.specs.Turn.{CoreInOrder};
+ghost use Rattle.core_primitives.specs.StateView.{on_core};
 
+use core_primitives::ResultPrimitives;
 use futures::task::Poll;
 use task_loop::{Func, FuncCallConcurrent};
 use task_store::{HostWork, SpawnHandle, Store};
-use task_words::ResultPrimitives;
 
 /// A child of a nursery, by its number, from 1 in the order in which they were made.
 #[derive(Clone, Copy)]

@@ -3,25 +3,25 @@ ghost use Rattle.std.specs.Option.{option_and_then, option_copied, option_map, o
 ghost use Rattle.futures.specs.declared.task.Poll.TheVariants as polls;
 ghost use Rattle.std.specs.Prelude.{◌≡◌, ◌↔◌, Err, ◌+◌, ◌<◌, ◌≤◌, ◌^◌, ◌++◌, ◌∷◌, [], IfNone, IfSome, OnOk, false, length, slice_get, true, vec_capacity, vec_len};
 ghost use Rattle.task_loop.specs.CallStarts.{KeepsStore};
-ghost use Rattle.task_machine.specs.declared.component.Component.{Component};
-ghost use Rattle.task_machine.specs.declared.records.Turn.{Turn};
+ghost use Rattle.machine_data.specs.declared.component.Component.{Component};
+ghost use Rattle.machine_data.specs.declared.records.Turn.{Turn};
 ghost use Rattle.task_nursery.specs.Children.{has_ended, is_open, is_open_call, thread_in, value_in};
 ghost use Rattle.task_nursery.specs.Numbers.{first_among, first_where, numbered, numbers_where};
 ghost use Rattle.task_nursery.specs.Scope.{AreOf, BeginsChild, EndsChild, IsOf, KeepsRest, SpawnsChild, Tallies, TakesWords, aborted_at, all_aborted, refusal_of, those_aborted};
 ghost use Rattle.task_store.specs.Changes.{ChangesCore};
 ghost use Rattle.task_store.specs.Hosts.{HoldsHosts, WorksNumbered};
-ghost use Rattle.task_turns.specs.Turn.{CoreInOrder, given};
-ghost use Rattle.task_turns.specs.WellFormed.{IsWellFormed};
-ghost use Rattle.task_words.specs.Groups.{IsAsked};
+ghost use Rattle.ops_turns.specs.Turn.{CoreInOrder, given};
+ghost use Rattle.ops_turns.specs.WellFormed.{IsWellFormed};
+ghost use Rattle.core_primitives.specs.Groups.{IsAsked};
 
 use crate::children::{Child, Kept};
+use core_primitives::ResultPrimitives;
 use futures::task::Poll;
+use machine_data::Trap;
 use std::alloc::{AllocError, Global};
 use std::marker::Model;
 use task_loop::{Component, Func, TaskError};
-use task_machine::Trap;
 use task_store::{AccessorTask, HostWork, Store};
-use task_words::ResultPrimitives;
 
 /// Why a nursery takes no further child.
 #[derive(Clone, Copy)]

@@ -2,13 +2,13 @@
 use Rattle.std.proofs.Common.{◌≡◌, ℕ, ◌++◌, List, [], sym, ap, ap₂, ◌∙◌, append_assoc, append-nil, drop, refl, take}
 use Rattle.std.proofs.lemmas.List.{take-append-drop}
 use Rattle.std.specs.Prelude.{Option}
-use Rattle.task_machine.specs.declared.label.Label.{Label}
-use Rattle.task_machine.specs.declared.outcome.Outcome.{Outcome}
-use Rattle.task_rules.specs.Texts.{text, line_text, outcome_text}
-use Rattle.report_text.specs.Lines.{lines_of}
-use Rattle.byte_streams.specs.Outside.{Appends}
-use Rattle.byte_streams.specs.Pump.{IsFront}
-use Rattle.byte_streams.proofs.Appending.{behind}
+use Rattle.machine_data.specs.declared.label.Label.{Label}
+use Rattle.machine_data.specs.declared.outcome.Outcome.{Outcome}
+use Rattle.machine_rules.specs.Texts.{text, line_text, outcome_text}
+use Rattle.text_report.specs.Lines.{lines_of}
+use Rattle.text_bytes.specs.Outside.{Appends}
+use Rattle.text_bytes.specs.Pump.{IsFront}
+use Rattle.text_bytes.proofs.Appending.{behind}
 
 -- what was written, a page and the lines that are left, before and after the page was filled
 pub filled : (rest left : List Label) (front old new all : List ℕ) → front ++ (old ++ lines_of rest) ≡ all → new ++ lines_of left ≡ old ++ lines_of rest → front ++ (new ++ lines_of left) ≡ all

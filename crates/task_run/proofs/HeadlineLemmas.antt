@@ -1,23 +1,23 @@
 -- A driven script is a run of its scenario.
 use Rattle.std.proofs.Common.{◌≡◌, ◌∙◌, ◌++◌, ◌-◌, ◌+◌, ◌*◌, ◌∷◌, ap, arith, ℕ, zero, suc, List, [], refl, sym, subst, take}
 use Rattle.std.specs.Prelude.{◌≤◌, length}
-use Rattle.task_machine.specs.declared.label.Label.{Label}
-use Rattle.task_machine.specs.declared.outcome.Outcome.{Outcome}
-use Rattle.task_machine.specs.declared.records.Turn.TheVariants as turn
-use Rattle.task_machine.specs.declared.scenario.ScenarioDef.{ScenarioDef}
-use Rattle.task_machine.specs.Core.{Core, State, Scripted, fresh}
-use Rattle.task_rules.specs.History.{history}
+use Rattle.machine_data.specs.declared.label.Label.{Label}
+use Rattle.machine_data.specs.declared.outcome.Outcome.{Outcome}
+use Rattle.machine_data.specs.declared.records.Turn.TheVariants as turn
+use Rattle.machine_data.specs.declared.scenario.ScenarioDef.{ScenarioDef}
+use Rattle.machine_data.specs.Core.{Core, State, Scripted, fresh}
+use Rattle.machine_rules.specs.History.{history}
 use Rattle.task_group.specs.Listeners.{Listeners, nobody}
 use Rattle.task_loop.proofs.HeedLemmas.{all_told}
 use Rattle.task_loop.specs.AnswersOk.{AnswersOkAll}
-use Rattle.task_rules.specs.Notices.{notices}
-use Rattle.task_rules.specs.Once.{EndsOnce, OneHolder}
-use Rattle.task_rules.specs.Outcome.{IsOutcome}
-use Rattle.task_rules.specs.Run.{Run, main_opening, opens}
-use Rattle.task_rules.specs.Stalled.{Setting, setting_of}
-use Rattle.task_turns.specs.Drive.{Drives}
-use Rattle.task_turns.specs.Turn.{state_at}
-use Rattle.task_machine.specs.declared.records.Notice.{Notice}
+use Rattle.machine_rules.specs.Notices.{notices}
+use Rattle.machine_rules.specs.Once.{EndsOnce, OneHolder}
+use Rattle.machine_rules.specs.Outcome.{IsOutcome}
+use Rattle.machine_rules.specs.Run.{Run, main_opening, opens}
+use Rattle.machine_rules.specs.Stalled.{Setting, setting_of}
+use Rattle.ops_turns.specs.Drive.{Drives}
+use Rattle.ops_turns.specs.Turn.{state_at}
+use Rattle.machine_data.specs.declared.records.Notice.{Notice}
 use Rattle.task_run.proofs.RoomLemmas.{run_room}
 use Rattle.task_run.specs.Runnable.{IsRunnable}
 use Rattle.task_run.specs.Lower.{Reads}

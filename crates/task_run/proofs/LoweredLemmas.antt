@@ -4,28 +4,28 @@ use Rattle.std.specs.Prelude.{replicate, slice_set, unwrap_or, nat_lt}
 use Rattle.std.specs.Option.{option_map, option_and_then, option_map_or}
 use Rattle.std.proofs.lemmas.List.{length_push}
 use Rattle.std.proofs.lemmas.Option.{slice_get-map}
-use Rattle.scenario_text.specs.declared.tree.HostText.{HostText}
-use Rattle.scenario_text.specs.declared.tree.ExportText.{ExportText}
-use Rattle.scenario_text.specs.declared.tree.InstanceText.{InstanceText}
-use Rattle.scenario_text.specs.declared.tree.PartText.{PartText}
-use Rattle.scenario_text.specs.declared.tree.PartText.TheVariants as part
-use Rattle.scenario_text.specs.declared.tree.ScenarioText.{ScenarioText}
-use Rattle.scenario_text.specs.Spelling.{exports_in, exports_of}
-use Rattle.scenario_text.specs.Placement.{EachStands, ExportStands, InstanceStands, IsWellFormed, OpStands, PartStands, ReactStands, ScriptStands, params_of}
-use Rattle.scenario_text.proofs.ExportLaws.{export_stands}
-use Rattle.scenario_text.proofs.StandingLaws.{some_map, stands_at}
-use Rattle.task_machine.specs.Read.{is_callback}
-use Rattle.task_machine.specs.declared.component.Callee.{Callee}
-use Rattle.task_machine.specs.declared.component.Component.{Component}
-use Rattle.task_machine.specs.declared.component.ExportDef.{ExportDef}
-use Rattle.task_machine.specs.declared.component.ExportKind.{ExportKind}
-use Rattle.task_machine.specs.declared.component.InstanceDef.{InstanceDef}
-use Rattle.task_machine.specs.declared.component.Slot.{Slot}
-use Rattle.task_machine.specs.declared.component.Slot.TheVariants as slot
-use Rattle.task_machine.specs.declared.op.Op.{Op}
-use Rattle.task_machine.specs.declared.records.Script.{Script}
-use Rattle.task_machine.specs.declared.records.Script.TheVariants as script
-use Rattle.task_rules.specs.Scripts.{export_at, script_in, slot_at, slot_script}
+use Rattle.text_scenario.specs.declared.tree.HostText.{HostText}
+use Rattle.text_scenario.specs.declared.tree.ExportText.{ExportText}
+use Rattle.text_scenario.specs.declared.tree.InstanceText.{InstanceText}
+use Rattle.text_scenario.specs.declared.tree.PartText.{PartText}
+use Rattle.text_scenario.specs.declared.tree.PartText.TheVariants as part
+use Rattle.text_scenario.specs.declared.tree.ScenarioText.{ScenarioText}
+use Rattle.text_scenario.specs.Spelling.{exports_in, exports_of}
+use Rattle.text_scenario.specs.Placement.{EachStands, ExportStands, InstanceStands, IsWellFormed, OpStands, PartStands, ReactStands, ScriptStands, params_of}
+use Rattle.text_scenario.proofs.ExportLaws.{export_stands}
+use Rattle.text_scenario.proofs.StandingLaws.{some_map, stands_at}
+use Rattle.machine_data.specs.Read.{is_callback}
+use Rattle.machine_data.specs.declared.component.Callee.{Callee}
+use Rattle.machine_data.specs.declared.component.Component.{Component}
+use Rattle.machine_data.specs.declared.component.ExportDef.{ExportDef}
+use Rattle.machine_data.specs.declared.component.ExportKind.{ExportKind}
+use Rattle.machine_data.specs.declared.component.InstanceDef.{InstanceDef}
+use Rattle.machine_data.specs.declared.component.Slot.{Slot}
+use Rattle.machine_data.specs.declared.component.Slot.TheVariants as slot
+use Rattle.machine_data.specs.declared.op.Op.{Op}
+use Rattle.machine_data.specs.declared.records.Script.{Script}
+use Rattle.machine_data.specs.declared.records.Script.TheVariants as script
+use Rattle.machine_rules.specs.Scripts.{export_at, script_in, slot_at, slot_script}
 use Rattle.task_run.specs.Lower.{export_def, instance_def, scenario_of, slots_after}
 
 -- each op had room

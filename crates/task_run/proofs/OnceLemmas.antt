@@ -4,29 +4,29 @@ use Rattle.std.proofs.lemmas.Bool.{and_parts}
 use Rattle.std.proofs.lemmas.Option.{same_Some, slice_get-map, slice_get_within}
 use Rattle.std.specs.Option.{option_map_or}
 use Rattle.std.specs.Prelude.{length, nat_le, option_and_then, slice_get, ◌==◌}
-use Rattle.op_dispatch.specs.Fits.{op_fits}
-use Rattle.task_laws.specs.Settings.{CalleesAre}
+use Rattle.ops_dispatch.specs.Fits.{op_fits}
+use Rattle.laws_states.specs.Settings.{CalleesAre}
 use Rattle.task_loop.specs.LoopCalls.{callee_of}
-use Rattle.task_machine.specs.Core.{Scripted, State}
-use Rattle.task_machine.specs.declared.component.Callee.{Callee}
-use Rattle.task_machine.specs.declared.component.Component.{Component}
-use Rattle.task_machine.specs.declared.component.ExportDef.{ExportDef}
-use Rattle.task_machine.specs.declared.component.InstanceDef.{InstanceDef}
-use Rattle.task_machine.specs.declared.label.Label.{Label}
-use Rattle.task_machine.specs.declared.op.CallOp.TheVariants as call_op
-use Rattle.task_machine.specs.declared.op.Op.{Op}
-use Rattle.task_machine.specs.declared.op.Op.TheVariants as op
-use Rattle.task_machine.specs.declared.scenario.MainOpDef.{MainOpDef}
-use Rattle.task_places.proofs.HoldLemmas.{scripts_hold_one}
-use Rattle.task_places.proofs.OnceSteps.{runs_are_once}
-use Rattle.task_places.specs.Once.{RunsAreOnce, ScriptsHoldOne}
-use Rattle.task_rules.specs.History.{history}
-use Rattle.task_rules.specs.MainOps.{takes_words}
-use Rattle.task_rules.specs.Once.{EndsOnce, OneHolder}
-use Rattle.task_rules.specs.OpParts.{callee_of_main_op, callee_of_op}
-use Rattle.task_rules.specs.Run.{Run, main_opening, opens}
-use Rattle.task_rules.specs.Scripts.{export_at}
-use Rattle.task_rules.specs.Stalled.{setting_of}
+use Rattle.machine_data.specs.Core.{Scripted, State}
+use Rattle.machine_data.specs.declared.component.Callee.{Callee}
+use Rattle.machine_data.specs.declared.component.Component.{Component}
+use Rattle.machine_data.specs.declared.component.ExportDef.{ExportDef}
+use Rattle.machine_data.specs.declared.component.InstanceDef.{InstanceDef}
+use Rattle.machine_data.specs.declared.label.Label.{Label}
+use Rattle.machine_data.specs.declared.op.CallOp.TheVariants as call_op
+use Rattle.machine_data.specs.declared.op.Op.{Op}
+use Rattle.machine_data.specs.declared.op.Op.TheVariants as op
+use Rattle.machine_data.specs.declared.scenario.MainOpDef.{MainOpDef}
+use Rattle.laws_places.proofs.HoldLemmas.{scripts_hold_one}
+use Rattle.laws_places.proofs.OnceSteps.{runs_are_once}
+use Rattle.laws_places.specs.Once.{RunsAreOnce, ScriptsHoldOne}
+use Rattle.machine_rules.specs.History.{history}
+use Rattle.machine_rules.specs.MainOps.{takes_words}
+use Rattle.machine_rules.specs.Once.{EndsOnce, OneHolder}
+use Rattle.machine_rules.specs.OpParts.{callee_of_main_op, callee_of_op}
+use Rattle.machine_rules.specs.Run.{Run, main_opening, opens}
+use Rattle.machine_rules.specs.Scripts.{export_at}
+use Rattle.machine_rules.specs.Stalled.{setting_of}
 use Rattle.task_run.proofs.HeadlineLemmas.{Keeps}
 use Rattle.task_run.specs.Headline.{machine_scenario}
 use Rattle.task_run.specs.Runnable.{IsRunnable}

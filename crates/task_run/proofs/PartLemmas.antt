@@ -1,11 +1,11 @@
 -- What the parts of an instance represent, part by part.
 use Rattle.std.proofs.Common.{◌≡◌, List, [], ◌∷◌, ◌++◌, map, refl, ap, ◌∙◌}
 use Rattle.std.proofs.lemmas.List.{map-append}
-use Rattle.task_machine.specs.declared.component.Slot.{Slot}
-use Rattle.scenario_text.specs.declared.tree.ExportText.{ExportText}
-use Rattle.scenario_text.specs.declared.tree.PartText.{PartText}
-use Rattle.scenario_text.specs.Spelling.{exports_in}
-use Rattle.scenario_text.proofs.ExportLaws.{exports_append}
+use Rattle.machine_data.specs.declared.component.Slot.{Slot}
+use Rattle.text_scenario.specs.declared.tree.ExportText.{ExportText}
+use Rattle.text_scenario.specs.declared.tree.PartText.{PartText}
+use Rattle.text_scenario.specs.Spelling.{exports_in}
+use Rattle.text_scenario.proofs.ExportLaws.{exports_append}
 use Rattle.task_run.specs.Lower.{slots_with, slots_after}
 
 -- one part more

@@ -1,49 +1,49 @@
 -- The room for notices suffices: a step gives at most two, beside those of groups that finish, which their starts pay for.
 use Rattle.std.proofs.Common.{ap, arith, length, length-append, refl, subst, sym, ◌∙◌, ◌≡◌, ◌⊎◌, inl, inr}
 use Rattle.std.specs.Prelude.{Bool, List, None, Option, Some, [], cond, false, map, not, true, ℕ, ◌++◌, ◌+◌, ◌*◌, ◌==◌, ◌∷◌, ◌≤◌, ◌&&◌}
-use Rattle.group_laws.proofs.ListLemmas.{finish_every, finish_none}
-use Rattle.group_laws.proofs.StepTells.{notices_told}
-use Rattle.group_laws.specs.Tells.{entry_group, worked_group}
-use Rattle.label_laws.specs.Own.{is_main_turn}
-use Rattle.group_notices.proofs.RunLemmas.{main_told}
-use Rattle.group_notices.specs.Runs.{moment}
+use Rattle.laws_labels.proofs.ListLemmas.{finish_every, finish_none}
+use Rattle.laws_labels.proofs.StepTells.{notices_told}
+use Rattle.laws_labels.specs.Tells.{entry_group, worked_group}
+use Rattle.laws_labels.specs.Own.{is_main_turn}
+use Rattle.store_notices.proofs.RunLemmas.{main_told}
+use Rattle.store_notices.specs.Runs.{moment}
 use Rattle.task_loop.proofs.IdleLemmas.{futures_idle, idle_by, main_idle, over_idle, stop_idle, works_idle}
 use Rattle.task_loop.proofs.MainToldLemmas.{finish_more, trapped_groups}
 use Rattle.task_group.specs.Listeners.{Listeners}
 use Rattle.task_loop.proofs.StartLemmas.{start_groups}
 use Rattle.task_loop.proofs.ToldLemmas.{idle_at}
 use Rattle.task_loop.specs.AnswersOk.{FewerGroups, FewerIn, AnswersOkAll}
-use Rattle.task_machine.specs.Core.{Began, Core, Main, MainPlace, Refused, Scripted, Started, State, Unscripted}
-use Rattle.task_machine.specs.Maps.{get}
-use Rattle.task_machine.specs.Read.{next_entry, phase_of}
-use Rattle.task_machine.specs.Write.{add_work, count_work, on_work, push_high, set_phase, take_result}
-use Rattle.task_machine.specs.declared.component.Callee.{Callee}
-use Rattle.task_machine.specs.declared.component.Component.{Component}
-use Rattle.task_machine.specs.declared.label.Label.{Label}
-use Rattle.task_machine.specs.declared.label.Label.TheVariants as label
-use Rattle.task_machine.specs.declared.label.LoopLabel.TheVariants as loop_label
-use Rattle.task_machine.specs.declared.label.MainLabel.{MainLabel}
-use Rattle.task_machine.specs.declared.label.MainLabel.TheVariants as main_label
-use Rattle.task_machine.specs.declared.records.Entry.{Entry}
-use Rattle.task_machine.specs.declared.records.Entry.TheVariants as entry
-use Rattle.task_machine.specs.declared.records.Notice.{Notice}
-use Rattle.task_machine.specs.declared.records.NoticeKind.{NoticeKind}
-use Rattle.task_machine.specs.declared.records.NoticeKind.TheVariants as notice
-use Rattle.task_machine.specs.declared.records.Turn.{Turn}
-use Rattle.task_machine.specs.declared.records.Turn.TheVariants as turn
-use Rattle.task_machine.specs.declared.scenario.MainOpDef.{MainOpDef}
-use Rattle.task_machine.specs.declared.trap.Trap.{Trap}
-use Rattle.task_machine.specs.declared.words.Mark.{Mark}
-use Rattle.task_rules.specs.Calls.{work_queued}
-use Rattle.task_rules.specs.History.{history}
-use Rattle.task_rules.specs.MainOps.{Abort, Answer, Answers, Await, Does, Finish, MainAct, MainProgress, Pends, Quiet, Ready, Spawn, SpawnOpen, Start, act_of, finish_act, finish_result, has_interesting, is_complete, is_ready_for_call, line_of, main_aborted, main_rule, main_spawned, open_spawned, op_at, start_act, start_refusal, unless_pending}
-use Rattle.task_rules.specs.Notices.{around, finish_notices, group_notice, is_in, moment_notices, notices, of_live, running_group, same_group, start_notices, switch_notices, told_of, work_notices}
-use Rattle.task_rules.specs.Run.{Run}
-use Rattle.task_rules.specs.Stalled.{Setting}
-use Rattle.task_rules.specs.Step.{MainProgresses, MainStep, OpenAct, OpenProgresses, OpenStep, ScriptStep, Step, TakeStep, TurnStep}
-use Rattle.task_rules.specs.Turns.{at_turn, goes_to}
-use Rattle.task_rules.specs.Works.{next_polled}
-use Rattle.task_turns.specs.Turn.{runs_in}
+use Rattle.machine_data.specs.Core.{Began, Core, Main, MainPlace, Refused, Scripted, Started, State, Unscripted}
+use Rattle.machine_data.specs.Maps.{get}
+use Rattle.machine_data.specs.Read.{next_entry, phase_of}
+use Rattle.machine_data.specs.Write.{add_work, count_work, on_work, push_high, set_phase, take_result}
+use Rattle.machine_data.specs.declared.component.Callee.{Callee}
+use Rattle.machine_data.specs.declared.component.Component.{Component}
+use Rattle.machine_data.specs.declared.label.Label.{Label}
+use Rattle.machine_data.specs.declared.label.Label.TheVariants as label
+use Rattle.machine_data.specs.declared.label.LoopLabel.TheVariants as loop_label
+use Rattle.machine_data.specs.declared.label.MainLabel.{MainLabel}
+use Rattle.machine_data.specs.declared.label.MainLabel.TheVariants as main_label
+use Rattle.machine_data.specs.declared.records.Entry.{Entry}
+use Rattle.machine_data.specs.declared.records.Entry.TheVariants as entry
+use Rattle.machine_data.specs.declared.records.Notice.{Notice}
+use Rattle.machine_data.specs.declared.records.NoticeKind.{NoticeKind}
+use Rattle.machine_data.specs.declared.records.NoticeKind.TheVariants as notice
+use Rattle.machine_data.specs.declared.records.Turn.{Turn}
+use Rattle.machine_data.specs.declared.records.Turn.TheVariants as turn
+use Rattle.machine_data.specs.declared.scenario.MainOpDef.{MainOpDef}
+use Rattle.machine_data.specs.declared.trap.Trap.{Trap}
+use Rattle.machine_data.specs.declared.words.Mark.{Mark}
+use Rattle.machine_rules.specs.Calls.{work_queued}
+use Rattle.machine_rules.specs.History.{history}
+use Rattle.machine_rules.specs.MainOps.{Abort, Answer, Answers, Await, Does, Finish, MainAct, MainProgress, Pends, Quiet, Ready, Spawn, SpawnOpen, Start, act_of, finish_act, finish_result, has_interesting, is_complete, is_ready_for_call, line_of, main_aborted, main_rule, main_spawned, open_spawned, op_at, start_act, start_refusal, unless_pending}
+use Rattle.machine_rules.specs.Notices.{around, finish_notices, group_notice, is_in, moment_notices, notices, of_live, running_group, same_group, start_notices, switch_notices, told_of, work_notices}
+use Rattle.machine_rules.specs.Run.{Run}
+use Rattle.machine_rules.specs.Stalled.{Setting}
+use Rattle.machine_rules.specs.Step.{MainProgresses, MainStep, OpenAct, OpenProgresses, OpenStep, ScriptStep, Step, TakeStep, TurnStep}
+use Rattle.machine_rules.specs.Turns.{at_turn, goes_to}
+use Rattle.machine_rules.specs.Works.{next_polled}
+use Rattle.ops_turns.specs.Turn.{runs_in}
 
 -- ---- How many notices there are of each kind
 

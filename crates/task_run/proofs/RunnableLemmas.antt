@@ -5,35 +5,35 @@ use Rattle.std.specs.Option.{option_map, option_map_or}
 use Rattle.std.proofs.lemmas.Bool.{and_from, and_parts, eq-eqb, le-leb, leb-true, not-true}
 use Rattle.std.proofs.lemmas.List.{length_push, length-map}
 use Rattle.std.proofs.lemmas.Option.{same_Some, slice_get-map}
-use Rattle.op_dispatch.specs.Fits.{call_op_fits, op_fits, set_op_fits}
-use Rattle.scenario_text.specs.declared.tree.HostText.{HostText}
-use Rattle.scenario_text.specs.declared.tree.InstanceText.{InstanceText}
-use Rattle.scenario_text.specs.declared.tree.MainOpText.{MainOpText}
-use Rattle.scenario_text.specs.declared.tree.MainOpText.TheVariants as text
-use Rattle.scenario_text.specs.declared.tree.ScenarioText.{ScenarioText}
-use Rattle.scenario_text.specs.Placement.{CallStands, EachStands, InstanceStands, IsWellFormed, MainOpStands, OpFits, OpStands, ReactStands, ScriptStands, finish_opens, is_callback_end, main_has_room, op_suits, params_of}
-use Rattle.scenario_text.proofs.CalleeLaws.{some_at}
-use Rattle.scenario_text.proofs.StandingLaws.{stands_at}
-use Rattle.task_laws.specs.Settings.{CodesInCallbacks, HasNoCode}
+use Rattle.ops_dispatch.specs.Fits.{call_op_fits, op_fits, set_op_fits}
+use Rattle.text_scenario.specs.declared.tree.HostText.{HostText}
+use Rattle.text_scenario.specs.declared.tree.InstanceText.{InstanceText}
+use Rattle.text_scenario.specs.declared.tree.MainOpText.{MainOpText}
+use Rattle.text_scenario.specs.declared.tree.MainOpText.TheVariants as text
+use Rattle.text_scenario.specs.declared.tree.ScenarioText.{ScenarioText}
+use Rattle.text_scenario.specs.Placement.{CallStands, EachStands, InstanceStands, IsWellFormed, MainOpStands, OpFits, OpStands, ReactStands, ScriptStands, finish_opens, is_callback_end, main_has_room, op_suits, params_of}
+use Rattle.text_scenario.proofs.CalleeLaws.{some_at}
+use Rattle.text_scenario.proofs.StandingLaws.{stands_at}
+use Rattle.laws_states.specs.Settings.{CodesInCallbacks, HasNoCode}
 use Rattle.task_loop.specs.LoopCalls.{callee_of}
 use Rattle.task_loop.specs.declared.call.Func.{Func}
-use Rattle.task_machine.specs.Read.{is_callback}
-use Rattle.task_machine.specs.declared.component.Callee.{Callee}
-use Rattle.task_machine.specs.declared.component.ExportDef.{ExportDef}
-use Rattle.task_machine.specs.declared.component.ExportKind.{ExportKind}
-use Rattle.task_machine.specs.declared.component.HostDef.{HostDef}
-use Rattle.task_machine.specs.declared.op.CallOp.{CallOp}
-use Rattle.task_machine.specs.declared.op.CallOp.TheVariants as call_op
-use Rattle.task_machine.specs.declared.op.Op.{Op}
-use Rattle.task_machine.specs.declared.op.Op.TheVariants as op
-use Rattle.task_machine.specs.declared.op.Operand.{Operand}
-use Rattle.task_machine.specs.declared.op.SetOp.{SetOp}
-use Rattle.task_machine.specs.declared.op.SetOp.TheVariants as set_op
-use Rattle.task_machine.specs.declared.op.TaskOp.{TaskOp}
-use Rattle.task_machine.specs.declared.op.TaskOp.TheVariants as task_op
-use Rattle.task_rules.specs.MainOps.{takes_words}
-use Rattle.task_rules.specs.OpParts.{ends_activation}
-use Rattle.task_rules.specs.Scripts.{export_at, script_in, slot_at, slot_script}
+use Rattle.machine_data.specs.Read.{is_callback}
+use Rattle.machine_data.specs.declared.component.Callee.{Callee}
+use Rattle.machine_data.specs.declared.component.ExportDef.{ExportDef}
+use Rattle.machine_data.specs.declared.component.ExportKind.{ExportKind}
+use Rattle.machine_data.specs.declared.component.HostDef.{HostDef}
+use Rattle.machine_data.specs.declared.op.CallOp.{CallOp}
+use Rattle.machine_data.specs.declared.op.CallOp.TheVariants as call_op
+use Rattle.machine_data.specs.declared.op.Op.{Op}
+use Rattle.machine_data.specs.declared.op.Op.TheVariants as op
+use Rattle.machine_data.specs.declared.op.Operand.{Operand}
+use Rattle.machine_data.specs.declared.op.SetOp.{SetOp}
+use Rattle.machine_data.specs.declared.op.SetOp.TheVariants as set_op
+use Rattle.machine_data.specs.declared.op.TaskOp.{TaskOp}
+use Rattle.machine_data.specs.declared.op.TaskOp.TheVariants as task_op
+use Rattle.machine_rules.specs.MainOps.{takes_words}
+use Rattle.machine_rules.specs.OpParts.{ends_activation}
+use Rattle.machine_rules.specs.Scripts.{export_at, script_in, slot_at, slot_script}
 use Rattle.task_run.proofs.LoweredLemmas.{at_lowered, export_params, exported, lowered, params_later, script_known, short, slot_stands}
 use Rattle.task_run.specs.Runnable.{IsRunnable}
 use Rattle.task_run.specs.Script.{SuitsOps}
@@ -41,7 +41,7 @@ use Rattle.task_run.specs.Lower as lower
 use Rattle.task_run.specs.Lower.{host_def, instance_def, scenario_of}
 use Rattle.task_run.specs.declared.scenario.MainOp.{MainOp}
 use Rattle.task_run.specs.declared.scenario.MainOp.TheVariants as main_op
-use Rattle.task_turns.specs.WellFormed as fit
+use Rattle.ops_turns.specs.WellFormed as fit
 use Rattle.text_lines.specs.Fits.{operand_fits}
 use Rattle.text_lines.specs.Fits as line
 

@@ -1,36 +1,36 @@
 -- The steps of a main that is a script, by the rows of its ops.
 use Rattle.std.proofs.Common.{◌≡◌, ℕ, List, Option, Some, None, refl, sym, ap, subst, ◌∙◌}
 use Rattle.std.specs.Prelude.{slice_get}
-use Rattle.task_ops.specs.Works.{KeepsWorks}
-use Rattle.task_machine.specs.declared.component.Component.{Component}
-use Rattle.task_machine.specs.declared.label.Label.TheVariants as label
-use Rattle.task_machine.specs.declared.label.MainLabel.{MainLabel}
-use Rattle.task_machine.specs.declared.label.MainLabel.TheVariants as main_label
-use Rattle.task_machine.specs.declared.records.Turn.TheVariants as turn
-use Rattle.task_machine.specs.declared.scenario.MainOpDef.{MainOpDef}
-use Rattle.task_machine.specs.Core.{Core, MainPlace, Scripted}
-use Rattle.task_rules.specs.MainOps.{Answers, Does, Pends, act_of, advanced_main, line_of, main_rule, op_at}
-use Rattle.task_rules.specs.Step.{MainProgresses, ScriptStep}
-use Rattle.task_rules.specs.Stalled.{is_pending, pends_at}
-use Rattle.task_rules.specs.Turns.{at_turn}
+use Rattle.ops_guests.specs.Works.{KeepsWorks}
+use Rattle.machine_data.specs.declared.component.Component.{Component}
+use Rattle.machine_data.specs.declared.label.Label.TheVariants as label
+use Rattle.machine_data.specs.declared.label.MainLabel.{MainLabel}
+use Rattle.machine_data.specs.declared.label.MainLabel.TheVariants as main_label
+use Rattle.machine_data.specs.declared.records.Turn.TheVariants as turn
+use Rattle.machine_data.specs.declared.scenario.MainOpDef.{MainOpDef}
+use Rattle.machine_data.specs.Core.{Core, MainPlace, Scripted}
+use Rattle.machine_rules.specs.MainOps.{Answers, Does, Pends, act_of, advanced_main, line_of, main_rule, op_at}
+use Rattle.machine_rules.specs.Step.{MainProgresses, ScriptStep}
+use Rattle.machine_rules.specs.Stalled.{is_pending, pends_at}
+use Rattle.machine_rules.specs.Turns.{at_turn}
 use Rattle.std.proofs.Common.{ap₂, Result, Ok, Err}
-use Rattle.state_calls.specs.declared.error.TaskError.{TaskError}
-use Rattle.state_calls.specs.declared.error.TaskError.TheVariants as task_error
-use Rattle.task_machine.specs.declared.component.Callee.{Callee}
-use Rattle.task_machine.specs.declared.trap.Trap.{Trap}
-use Rattle.task_rules.specs.MainOps.{start_act}
-use Rattle.task_calls.specs.MainCalls.{Starts}
-use Rattle.task_words.specs.Groups.{asked}
-use Rattle.task_words.specs.StateView.{StateView, work_number}
-use Rattle.task_turns.specs.Main as main
-use Rattle.task_turns.specs.Main.{IsOpOfMain, main_setting}
-use Rattle.task_turns.specs.Turn.{state_at}
+use Rattle.ops_state.specs.declared.error.TaskError.{TaskError}
+use Rattle.ops_state.specs.declared.error.TaskError.TheVariants as task_error
+use Rattle.machine_data.specs.declared.component.Callee.{Callee}
+use Rattle.machine_data.specs.declared.trap.Trap.{Trap}
+use Rattle.machine_rules.specs.MainOps.{start_act}
+use Rattle.ops_calls.specs.MainCalls.{Starts}
+use Rattle.core_primitives.specs.Groups.{asked}
+use Rattle.core_primitives.specs.StateView.{StateView, work_number}
+use Rattle.ops_turns.specs.Main as main
+use Rattle.ops_turns.specs.Main.{IsOpOfMain, main_setting}
+use Rattle.ops_turns.specs.Turn.{state_at}
 use Rattle.std.specs.Prelude.{unwrap_or}
-use Rattle.task_machine.specs.declared.component.HostDef.{HostDef}
-use Rattle.task_machine.specs.declared.records.WorkCaller.TheVariants as work_caller
-use Rattle.task_rules.specs.Calls.{next_work, work_queued}
-use Rattle.task_rules.specs.MainOps.{main_spawned}
-use Rattle.task_rules.specs.Scripts.{host_at, never_host}
+use Rattle.machine_data.specs.declared.component.HostDef.{HostDef}
+use Rattle.machine_data.specs.declared.records.WorkCaller.TheVariants as work_caller
+use Rattle.machine_rules.specs.Calls.{next_work, work_queued}
+use Rattle.machine_rules.specs.MainOps.{main_spawned}
+use Rattle.machine_rules.specs.Scripts.{host_at, never_host}
 
 module _ (c : Component) (ops : List MainOpDef) (p : MainPlace) (s : Core) (o : MainOpDef) (at : op_at ops p ≡ Some o) where
   -- the op is done

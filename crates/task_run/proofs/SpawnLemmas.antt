@@ -2,33 +2,33 @@
 use Rattle.std.proofs.Common.{IfSome, ap, ap₂, inl, inr, refl, subst, sym, ⊎_elim, ◌∙◌}
 use Rattle.std.specs.Option.{unwrap_or}
 use Rattle.std.specs.Prelude.{[], Err, List, None, Ok, OnOk, IfOk, Option, Result, Some, map, slice_get, suc, zero, ℕ, ◌+◌, ◌++◌, ◌∷◌, ◌≡◌, ◌⊎◌}
-use Rattle.task_calls.specs.MainCalls.{Starts}
-use Rattle.state_calls.specs.declared.error.TaskError.{TaskError}
-use Rattle.task_machine.specs.Core.{Core, Main}
-use Rattle.task_machine.specs.Read.{phase_of}
-use Rattle.task_machine.specs.declared.component.Callee.{Callee}
-use Rattle.task_machine.specs.declared.component.Component.{Component}
-use Rattle.task_machine.specs.declared.label.Label.{Label}
-use Rattle.task_machine.specs.declared.label.MainLabel.TheVariants as main_label
-use Rattle.task_machine.specs.declared.records.Turn.TheVariants as turn
-use Rattle.task_machine.specs.declared.scenario.MainOpDef.{MainOpDef}
-use Rattle.task_machine.specs.declared.trap.Trap.{Trap}
-use Rattle.task_machine.specs.declared.words.Phase.{Phase}
-use Rattle.task_ops.specs.Works.{KeepsWorks}
-use Rattle.task_rules.specs.MainOps.{Does, main_aborted}
-use Rattle.task_rules.specs.Step.{Step}
+use Rattle.ops_calls.specs.MainCalls.{Starts}
+use Rattle.ops_state.specs.declared.error.TaskError.{TaskError}
+use Rattle.machine_data.specs.Core.{Core, Main}
+use Rattle.machine_data.specs.Read.{phase_of}
+use Rattle.machine_data.specs.declared.component.Callee.{Callee}
+use Rattle.machine_data.specs.declared.component.Component.{Component}
+use Rattle.machine_data.specs.declared.label.Label.{Label}
+use Rattle.machine_data.specs.declared.label.MainLabel.TheVariants as main_label
+use Rattle.machine_data.specs.declared.records.Turn.TheVariants as turn
+use Rattle.machine_data.specs.declared.scenario.MainOpDef.{MainOpDef}
+use Rattle.machine_data.specs.declared.trap.Trap.{Trap}
+use Rattle.machine_data.specs.declared.words.Phase.{Phase}
+use Rattle.ops_guests.specs.Works.{KeepsWorks}
+use Rattle.machine_rules.specs.MainOps.{Does, main_aborted}
+use Rattle.machine_rules.specs.Step.{Step}
 use Rattle.task_run.specs.Knows.{knows_later}
 use Rattle.task_run.specs.Script.{part_of}
 use Rattle.task_run.specs.Spawns.{KnowsSpawns, number_in}
 use Rattle.task_store.specs.Spawned.{IsSpawnedIn}
 use Rattle.task_run.specs.declared.script.ScriptMain.{ScriptMain}
 use Rattle.task_store.specs.declared.spawn.SpawnHandle.{SpawnHandle}
-use Rattle.task_turns.proofs.LaterLemmas.{last_by_core, last_by_step}
-use Rattle.task_turns.specs.Later.{WorksLast}
-use Rattle.task_turns.specs.Main.{Steps, main_setting}
-use Rattle.task_turns.specs.declared.mains.MainStep.{MainStep}
-use Rattle.task_turns.specs.declared.mains.MainStep.TheVariants as step
-use Rattle.task_words.specs.StateView.{StateView}
+use Rattle.ops_turns.proofs.LaterLemmas.{last_by_core, last_by_step}
+use Rattle.ops_turns.specs.Later.{WorksLast}
+use Rattle.ops_turns.specs.Main.{Steps, main_setting}
+use Rattle.ops_turns.specs.declared.mains.MainStep.{MainStep}
+use Rattle.ops_turns.specs.declared.mains.MainStep.TheVariants as step
+use Rattle.core_primitives.specs.StateView.{StateView}
 
 -- ---- Rows
 

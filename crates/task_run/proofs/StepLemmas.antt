@@ -1,12 +1,12 @@
 -- The steps of a main that is a script, as the loop takes them.
-use Rattle.group_laws.specs.Tells.{is_start}
+use Rattle.laws_labels.specs.Tells.{is_start}
 use Rattle.std.proofs.Common.{ap, subst, sym}
 use Rattle.std.specs.Prelude.{List, false, ◌≡◌}
 use Rattle.task_loop.proofs.MainStepLemmas.{stepped_quietly}
 use Rattle.task_loop.specs.HasRun.{HasStepResult, MayStep}
-use Rattle.task_machine.specs.declared.component.Component.{Component}
-use Rattle.task_machine.specs.declared.component.HostDef.{HostDef}
-use Rattle.task_ops.specs.Works.{KeepsWorks}
+use Rattle.machine_data.specs.declared.component.Component.{Component}
+use Rattle.machine_data.specs.declared.component.HostDef.{HostDef}
+use Rattle.ops_guests.specs.Works.{KeepsWorks}
 use Rattle.task_run.proofs.SpawnLemmas.{knows_still}
 use Rattle.task_run.specs.Says.{script_says}
 use Rattle.task_run.specs.Script.{Suits, SuitsOps, part_of, script_of}
@@ -14,10 +14,10 @@ use Rattle.task_run.specs.declared.scenario.MainOp.{MainOp}
 use Rattle.task_run.specs.declared.script.ScriptMain.{ScriptMain}
 use Rattle.task_store.specs.Hosts.{HoldsHosts}
 use Rattle.task_store.specs.declared.store.Store.{Store}
-use Rattle.task_turns.specs.Does.{label_of_step}
-use Rattle.task_turns.specs.Main.{Steps}
-use Rattle.task_turns.specs.Turn.{running_of}
-use Rattle.task_turns.specs.declared.mains.MainStep.{MainStep}
+use Rattle.ops_turns.specs.Does.{label_of_step}
+use Rattle.ops_turns.specs.Main.{Steps}
+use Rattle.ops_turns.specs.Turn.{running_of}
+use Rattle.ops_turns.specs.declared.mains.MainStep.{MainStep}
 
 -- the script is the same
 pub suits_still : (c : Component) (m n : ScriptMain) → n.ops ≡ m.ops → Suits m c → Suits n c

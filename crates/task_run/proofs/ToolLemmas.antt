@@ -4,15 +4,15 @@ use Rattle.std.proofs.Common.{Some, None}
 use Rattle.std.specs.Prelude.{Option}
 use Rattle.task_run.specs.declared.program.End.{End}
 use Rattle.task_run.specs.declared.program.End.TheVariants as ends
-use Rattle.task_rules.specs.Texts.{text}
+use Rattle.machine_rules.specs.Texts.{text}
 use Rattle.task_run.specs.declared.program.ToolEnd.{ToolEnd}
 use Rattle.task_run.specs.declared.report.Report.{Report}
 use Rattle.task_run.specs.Headline.{IsReportOf}
-use Rattle.scenario_text.specs.Grammar.{IsBadLine}
-use Rattle.byte_streams.specs.Outside.{Appends}
-use Rattle.byte_streams.specs.Pump.{IsFront, IsTooLong}
-use Rattle.generated_scenario.specs.Generated.{gen}
-use Rattle.generated_scenario.specs.Summary.{summary}
+use Rattle.text_scenario.specs.Grammar.{IsBadLine}
+use Rattle.text_bytes.specs.Outside.{Appends}
+use Rattle.text_bytes.specs.Pump.{IsFront, IsTooLong}
+use Rattle.text_report.specs.Generated.{gen}
+use Rattle.text_report.specs.Summary.{summary}
 use Rattle.task_run.specs.Tool.{BadLineCut, Generated, GeneratedCut, NoneReported, ReadWhole, ReportCut, Reported, SaidBadLine, SaidTooLong, Summed, SummaryCut, TooLongCut, Unread, BigEnded, EndsAt, IsDue, MakeEnded, RunEnded, SaysOrFails, TextEnded, bad_line_text, status_of}
 
 -- all was said, or a front of it

@@ -1,17 +1,17 @@
 -- What a report says of a scenario: the printed steps are a run of the component machine.
 use Rattle.std.specs.Prelude.{◌≡◌, ℕ, ◌≤◌, List, false, length, map, true}
-use Rattle.task_machine.specs.declared.label.Label.{Label}
-use Rattle.task_machine.specs.declared.outcome.Outcome.{Outcome}
-use Rattle.task_machine.specs.declared.records.Notice.{Notice}
-use Rattle.task_machine.specs.declared.scenario.NamesDef.{NamesDef}
-use Rattle.task_machine.specs.declared.scenario.ScenarioDef.{ScenarioDef}
-use Rattle.task_machine.specs.Core.{Core, State}
-use Rattle.task_rules.specs.History.{history}
-use Rattle.task_rules.specs.Notices.{notices}
-use Rattle.task_rules.specs.Once.{EndsOnce, OneHolder}
-use Rattle.task_rules.specs.Outcome.{IsOutcome}
-use Rattle.task_rules.specs.Run.{Run, opens}
-use Rattle.task_rules.specs.Stalled.{setting_of}
+use Rattle.machine_data.specs.declared.label.Label.{Label}
+use Rattle.machine_data.specs.declared.outcome.Outcome.{Outcome}
+use Rattle.machine_data.specs.declared.records.Notice.{Notice}
+use Rattle.machine_data.specs.declared.scenario.NamesDef.{NamesDef}
+use Rattle.machine_data.specs.declared.scenario.ScenarioDef.{ScenarioDef}
+use Rattle.machine_data.specs.Core.{Core, State}
+use Rattle.machine_rules.specs.History.{history}
+use Rattle.machine_rules.specs.Notices.{notices}
+use Rattle.machine_rules.specs.Once.{EndsOnce, OneHolder}
+use Rattle.machine_rules.specs.Outcome.{IsOutcome}
+use Rattle.machine_rules.specs.Run.{Run, opens}
+use Rattle.machine_rules.specs.Stalled.{setting_of}
 use Rattle.task_run.specs.declared.report.Report.{Report}
 use Rattle.task_run.specs.declared.scenario.InstanceNames.{InstanceNames}
 use Rattle.task_run.specs.declared.scenario.Scenario.{Scenario}

@@ -2,30 +2,30 @@
 use Rattle.std.specs.Prelude.{◌≡◌, ℕ, List, [], ◌∷◌, ◌++◌, map, replicate, slice_set, unwrap_or, Some, None, Result, Ok, Err}
 use Rattle.text_lines.specs.declared.line.HostWork.{HostWork}
 use Rattle.text_lines.specs.declared.line.HostWork.TheVariants as work
-use Rattle.scenario_text.specs.declared.tree.HostText.{HostText}
-use Rattle.scenario_text.specs.declared.tree.PartText.{PartText}
-use Rattle.scenario_text.specs.declared.tree.PartText.TheVariants as part
-use Rattle.scenario_text.specs.Spelling.{exports_in}
-use Rattle.task_machine.specs.declared.component.HostDef.{HostDef}
-use Rattle.task_machine.specs.declared.component.Slot.{Slot}
-use Rattle.scenario_text.specs.declared.tree.ExportText.{ExportText}
-use Rattle.scenario_text.specs.declared.tree.InstanceText.{InstanceText}
-use Rattle.scenario_text.specs.declared.tree.MainOpText.{MainOpText}
-use Rattle.scenario_text.specs.declared.tree.MainOpText.TheVariants as text
-use Rattle.scenario_text.specs.declared.tree.ScenarioText.{ScenarioText}
-use Rattle.scenario_text.specs.Grammar.{IsTextOf}
-use Rattle.task_machine.specs.declared.component.Callee.{Callee}
-use Rattle.task_machine.specs.declared.component.ExportDef.{ExportDef}
-use Rattle.task_machine.specs.declared.component.InstanceDef.{InstanceDef}
-use Rattle.task_machine.specs.declared.component.HostDef.TheVariants as host_line
-use Rattle.task_machine.specs.declared.component.Slot.TheVariants as slot
+use Rattle.text_scenario.specs.declared.tree.HostText.{HostText}
+use Rattle.text_scenario.specs.declared.tree.PartText.{PartText}
+use Rattle.text_scenario.specs.declared.tree.PartText.TheVariants as part
+use Rattle.text_scenario.specs.Spelling.{exports_in}
+use Rattle.machine_data.specs.declared.component.HostDef.{HostDef}
+use Rattle.machine_data.specs.declared.component.Slot.{Slot}
+use Rattle.text_scenario.specs.declared.tree.ExportText.{ExportText}
+use Rattle.text_scenario.specs.declared.tree.InstanceText.{InstanceText}
+use Rattle.text_scenario.specs.declared.tree.MainOpText.{MainOpText}
+use Rattle.text_scenario.specs.declared.tree.MainOpText.TheVariants as text
+use Rattle.text_scenario.specs.declared.tree.ScenarioText.{ScenarioText}
+use Rattle.text_scenario.specs.Grammar.{IsTextOf}
+use Rattle.machine_data.specs.declared.component.Callee.{Callee}
+use Rattle.machine_data.specs.declared.component.ExportDef.{ExportDef}
+use Rattle.machine_data.specs.declared.component.InstanceDef.{InstanceDef}
+use Rattle.machine_data.specs.declared.component.HostDef.TheVariants as host_line
+use Rattle.machine_data.specs.declared.component.Slot.TheVariants as slot
 use Rattle.task_loop.specs.declared.call.Func.{Func}
 use Rattle.task_run.specs.declared.scenario.InstanceNames.{InstanceNames}
 use Rattle.task_run.specs.declared.scenario.MainOp.{MainOp}
 use Rattle.task_run.specs.declared.scenario.MainOp.TheVariants as op
 use Rattle.task_run.specs.declared.scenario.Scenario.{Scenario}
-use Rattle.scenario_reader.specs.declared.error.RunError.{RunError}
-use Rattle.scenario_reader.specs.Trees.{RefusedAs}
+use Rattle.text_reader.specs.declared.error.RunError.{RunError}
+use Rattle.text_reader.specs.Trees.{RefusedAs}
 
 abbrev pub work_def : HostWork → HostDef
 work_def (work.Value n v) = host_line.Settled (Some n) (Some v)

@@ -1,8 +1,8 @@
 -- What a run needs of a scenario.
 use Rattle.std.specs.Prelude.{◌≤◌, length}
 use Rattle.task_run.specs.declared.scenario.Scenario.{Scenario}
-use Rattle.task_laws.specs.Settings.{CodesInCallbacks}
-use Rattle.task_turns.specs.WellFormed.{IsWellFormed}
+use Rattle.laws_states.specs.Settings.{CodesInCallbacks}
+use Rattle.ops_turns.specs.WellFormed.{IsWellFormed}
 use Rattle.task_run.specs.Script.{SuitsOps}
 
 pub record IsRunnable (x : Scenario) : Type 0 where

@@ -1,13 +1,13 @@
 -- Main as a script.
 use Rattle.std.specs.Prelude.{◌≡◌, ◌<◌, ◌^◌, ℕ, IsSome, List, Some, Result, Ok, Err, map, length, slice_get}
-use Rattle.task_machine.specs.declared.component.Component.{Component}
-use Rattle.task_machine.specs.declared.scenario.MainOpDef.{MainOpDef}
-use Rattle.task_machine.specs.declared.scenario.MainOpDef.TheVariants as machine
-use Rattle.task_machine.specs.declared.component.ExportDef.{ExportDef}
-use Rattle.task_machine.specs.declared.op.Operand.{Operand}
-use Rattle.task_machine.specs.declared.trap.Trap.{Trap}
-use Rattle.task_machine.specs.Core.{Began, Main, MainPlace, Refused, Scripted, Started}
-use Rattle.task_rules.specs.Scripts.{export_at}
+use Rattle.machine_data.specs.declared.component.Component.{Component}
+use Rattle.machine_data.specs.declared.scenario.MainOpDef.{MainOpDef}
+use Rattle.machine_data.specs.declared.scenario.MainOpDef.TheVariants as machine
+use Rattle.machine_data.specs.declared.component.ExportDef.{ExportDef}
+use Rattle.machine_data.specs.declared.op.Operand.{Operand}
+use Rattle.machine_data.specs.declared.trap.Trap.{Trap}
+use Rattle.machine_data.specs.Core.{Began, Main, MainPlace, Refused, Scripted, Started}
+use Rattle.machine_rules.specs.Scripts.{export_at}
 use Rattle.task_run.specs.declared.scenario.MainOp.{MainOp}
 use Rattle.task_run.specs.declared.scenario.MainOp.TheVariants as op
 use Rattle.task_loop.specs.declared.call.Func.{Func}

@@ -3,7 +3,7 @@ use Rattle.std.specs.Prelude.{◌≡◌, ℕ, None, Option, Some, slice_get}
 use Rattle.task_run.specs.declared.script.ScriptMain.{ScriptMain}
 use Rattle.task_store.specs.Spawned.{IsSpawnedIn}
 use Rattle.task_store.specs.declared.spawn.SpawnHandle.{SpawnHandle}
-use Rattle.task_words.specs.StateView.{StateView}
+use Rattle.core_primitives.specs.StateView.{StateView}
 
 -- the number of the spawn's work, 0 if there is no such spawn
 abbrev pub number_in : Option SpawnHandle → ℕ

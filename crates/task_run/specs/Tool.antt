@@ -4,17 +4,17 @@ use Rattle.task_run.specs.declared.program.Form.{Form}
 use Rattle.task_run.specs.declared.program.Form.TheVariants as forms
 use Rattle.task_run.specs.declared.program.End.{End}
 use Rattle.task_run.specs.declared.program.End.TheVariants as ends
-use Rattle.scenario_text.specs.Grammar.{IsBadLine}
-use Rattle.task_rules.specs.Texts as texts
+use Rattle.text_scenario.specs.Grammar.{IsBadLine}
+use Rattle.machine_rules.specs.Texts as texts
 use Rattle.task_run.specs.declared.program.ToolEnd.{ToolEnd}
 use Rattle.task_run.specs.declared.report.Report.{Report}
 use Rattle.task_run.specs.declared.scenario.Scenario.{Scenario}
 use Rattle.task_run.specs.Headline.{IsReportOf}
 use Rattle.task_run.specs.Lower.{Reads}
-use Rattle.byte_streams.specs.Outside.{Appends}
-use Rattle.byte_streams.specs.Pump.{IsFront, IsTaken, IsTooLong, IsWhole}
-use Rattle.generated_scenario.specs.Generated.{gen}
-use Rattle.generated_scenario.specs.Summary.{summary}
+use Rattle.text_bytes.specs.Outside.{Appends}
+use Rattle.text_bytes.specs.Pump.{IsFront, IsTaken, IsTooLong, IsWhole}
+use Rattle.text_report.specs.Generated.{gen}
+use Rattle.text_report.specs.Summary.{summary}
 
 -- the words are `run N`, N from 1 to 1,000,000 in decimal without leading zeros
 abbrev pub IsRun : List (List ℕ) → ℕ → Type 0

@@ -1,8 +1,8 @@
 //! Copies of components.
 ghost use Rattle.std.specs.Prelude.{◌≡◌, IfOk};
 
+use machine_data::{CallOp, Component, ExportDef, HostDef, InstanceDef, Op, Operand, Seq, Slot};
 use std::alloc::{AllocError, Global};
-use task_machine::{CallOp, Component, ExportDef, HostDef, InstanceDef, Op, Operand, Seq, Slot};
 
 fn copy_operands(alloc: Global, operands: &Seq<Operand>) -> Result<Seq<Operand>, AllocError>
     ensures { IfOk result (λ c. c ≡ operands.now) }

@@ -5,14 +5,14 @@ ghost use Rattle.task_run.specs.declared.scenario.Scenario.{Scenario};
 
 use crate::copy::copy_component;
 use crate::scenario::{InstanceNames, MainOp, Scenario};
-use scenario_reader::{RunError, read_tree};
-use scenario_text::{
-    ExportText, HostText, HostWork, InstanceText, MainOpText, PartText, ScenarioText,
+use machine_data::{
+    Callee, Component, ExportDef, HostDef, InstanceDef, NoMemory, Op, Operand, Seq, Slot,
 };
 use std::alloc::{AllocError, Global};
 use task_loop::{Func, Instance};
-use task_machine::{
-    Callee, Component, ExportDef, HostDef, InstanceDef, NoMemory, Op, Operand, Seq, Slot,
+use text_reader::{RunError, read_tree};
+use text_scenario::{
+    ExportText, HostText, HostWork, InstanceText, MainOpText, PartText, ScenarioText,
 };
 
 fn empty_slots(alloc: Global) -> Result<Vec<Slot>, AllocError>
@@ -95,7 +95,7 @@ struct ScenarioParts {
 }
 
 impl ScenarioParts {
-    ghost use Rattle.scenario_text.specs.Spelling.{exports_in};
+    ghost use Rattle.text_scenario.specs.Spelling.{exports_in};
     ghost use Rattle.task_run.specs.Lower.{slots_with};
 
     fn new(alloc: Global) -> Result<ScenarioParts, AllocError>

@@ -1,10 +1,10 @@
 ghost use Rattle.std.specs.Prelude.{◌≡◌, ◌+◌, ◌<◌, ◌^◌, ◌-◌, ◌++◌, ◌∷◌, [], length, option_copied, IfOk, IfSome, None, OnOk, Some, slice_get, slice_set};
 ghost use Rattle.task_loop.specs.HasRun.{HasStepResult, MayStep, StepsTo};
 ghost use Rattle.task_loop.specs.Standing.{standing};
-ghost use Rattle.task_machine.specs.Read.{phase_of};
-ghost use Rattle.task_rules.specs.MainOps.{is_complete, is_ready_for_call, main_aborted, spawned_at, started_at};
-ghost use Rattle.task_rules.specs.Run.{main_opening};
-ghost use Rattle.task_rules.specs.Scripts.{values_in};
+ghost use Rattle.machine_data.specs.Read.{phase_of};
+ghost use Rattle.machine_rules.specs.MainOps.{is_complete, is_ready_for_call, main_aborted, spawned_at, started_at};
+ghost use Rattle.machine_rules.specs.Run.{main_opening};
+ghost use Rattle.machine_rules.specs.Scripts.{values_in};
 ghost use Rattle.task_run.specs.declared.scenario.MainOp.TheVariants as main_op;
 ghost use Rattle.task_run.specs.Knows.{knows_later};
 ghost use Rattle.task_run.specs.Says.{script_says};
@@ -13,18 +13,18 @@ ghost use Rattle.task_run.specs.Spawns.{KnowsSpawns, number_in};
 ghost use Rattle.task_store.specs.Changes.{ChangesCore};
 ghost use Rattle.task_store.specs.Hosts.{HoldsHosts};
 ghost use Rattle.task_store.specs.Spawned.{IsSpawnedIn};
-ghost use Rattle.task_words.specs.StateView.{StateView};
+ghost use Rattle.core_primitives.specs.StateView.{StateView};
 
 use crate::scenario::MainOp;
 use crate::script::{ScriptMain, Start};
+use core_primitives::{InstancePrimitives, ResultPrimitives, View};
 use futures::task::Poll;
+use machine_data::{Component, HostDef, Label, MainLabel, Operand, Phase, Trap};
+use ops_calls::finish_call as take_result;
 use std::alloc::{AllocError, Global};
-use task_calls::finish_call as take_result;
 use task_group::TaskGroupHook;
 use task_loop::{Func, MainStep, MainTask, TaskError, operand_value};
-use task_machine::{Component, HostDef, Label, MainLabel, Operand, Phase, Trap};
 use task_store::{Access, AccessorTask, FromHost, HostWork, SpawnHandle, Whole};
-use task_words::{InstancePrimitives, ResultPrimitives, View};
 
 // The values of these operands.
 fn words_of(
@@ -73,6 +73,7 @@ impl<'a> ScriptMain<'a> {
         requires { self.now.at < length self.now.ops.now }
         ensures { result ≡ self.now.at + 1 }
     {
+        // read so that the proof knows the invariant of `self`
         let _count = self.ops.len();
         self.at + 1
     }
@@ -204,6 +205,7 @@ fn finish_call<T, H: HostWork, G: TaskGroupHook>(
     ensures ops { main.new.ops ≡ main.old.ops }
     ensures steps { StepsTo script_says H.course component.now result main.old access.old.store.now main.new access.new.store.now }
 {
+    // only the contract speaks of `component`
     let _component = component;
     let at = main.next_place();
     match main.call_at(start) {
@@ -290,6 +292,7 @@ fn abort_work<T, H: HostWork, G: TaskGroupHook>(
     ensures ops { main.new.ops ≡ main.old.ops }
     ensures step { HasStepResult script_says H.course component.now result main.old access.old.store.now main.new access.new.store.now }
 {
+    // only the contract speaks of `component`
     let _component = component;
     let at = main.next_place();
     let work = main.spawned(spawn);
@@ -332,6 +335,7 @@ fn await_work<T, H: HostWork, G: TaskGroupHook>(
     ensures ops { main.new.ops ≡ main.old.ops }
     ensures step { HasStepResult script_says H.course component.now result main.old access.old.store.now main.new access.new.store.now }
 {
+    // only the contract speaks of `component`
     let _component = component;
     let at = main.next_place();
     let work = main.spawned(spawn);
@@ -354,6 +358,7 @@ fn await_quiet<T, H: HostWork, G: TaskGroupHook>(
     ensures ops { main.new.ops ≡ main.old.ops }
     ensures step { HasStepResult script_says H.course component.now result main.old access.now.store.now main.new access.now.store.now }
 {
+    // only the contract speaks of `component`
     let _component = component;
     let at = main.next_place();
     if access.store.state.has_interesting() {
@@ -364,7 +369,7 @@ fn await_quiet<T, H: HostWork, G: TaskGroupHook>(
 }
 
 // Whether an instance takes calls.
-#[tactic(auto, unfolding(task_rules::specs::MainOps::is_ready_for_call))]
+#[tactic(auto, unfolding(machine_rules::specs::MainOps::is_ready_for_call))]
 fn is_ready<T, H, G: TaskGroupHook>(access: &Access<'_, T, Whole, H, G>, instance: u32) -> bool
     ensures { result ≡ is_ready_for_call instance access.now.store.now.state.core }
 {
@@ -384,6 +389,7 @@ fn await_ready<T, H: HostWork, G: TaskGroupHook>(
     ensures ops { main.new.ops ≡ main.old.ops }
     ensures step { HasStepResult script_says H.course component.now result main.old access.now.store.now main.new access.now.store.now }
 {
+    // only the contract speaks of `component`
     let _component = component;
     let at = main.next_place();
     if !is_ready(access, func.instance.index) {

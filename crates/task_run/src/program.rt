@@ -1,20 +1,19 @@
 ghost use Rattle.std.specs.Prelude.{◌≡◌, ◌≢◌, ◌⊎◌, ◌<◌, ◌≤◌, ℕ, List, None, Some, decimal, length, map, string_bytes, [], ◌∷◌, IfOk, IfErr, IsErrOf, OnOk, MatchOption};
-ghost use Rattle.byte_streams.specs.Outside.{Appends, HasRisen};
-ghost use Rattle.byte_streams.specs.Pump.{IsFront};
-ghost use Rattle.task_rules.specs.Texts.{text};
-ghost use Rattle.generated_scenario.specs.Generated.{gen};
+ghost use Rattle.text_bytes.specs.Outside.{Appends, HasRisen};
+ghost use Rattle.text_bytes.specs.Pump.{IsFront};
+ghost use Rattle.machine_rules.specs.Texts.{text};
+ghost use Rattle.text_report.specs.Generated.{gen};
 ghost use Rattle.task_run.specs.declared.program.Form.{Form};
 ghost use Rattle.task_run.specs.Headline.{IsReportOf};
 ghost use Rattle.task_run.specs.Tool.{BigEnded, Ended, EndsAt, IsDue, IsForm, IsNoForm, IsRun, MakeEnded, PutsOrFails, RunEnded, SaysOrFails, TextEnded, bad_line_text, status_of};
 
 use crate::report::{Report, run_scenario};
-use byte_streams::{ReadFault, Sink, Source, read_all, write_all};
-use generated_scenario::{make_scenario, print_summary};
-use report_text::Page;
-use scenario_reader::RunError;
-use scenario_text::number_up_to;
+use machine_data::NoMemory;
 use std::alloc::{AllocError, Global};
-use task_machine::NoMemory;
+use text_bytes::{ReadFault, Sink, Source, read_all, write_all};
+use text_reader::RunError;
+use text_report::{Page, make_scenario, print_summary};
+use text_scenario::number_up_to;
 
 /// What the program says of wrong words.
 pub const USAGE: &[u8] = b"usage: run STEPS, make NUMBER, big NUMBER STEPS, beside STEPS\n";

@@ -1,26 +1,26 @@
 ghost use Rattle.std.specs.Prelude.{◌≡◌, ◌<◌, ◌≤◌, ℕ, false, length, true, IfOk, IsOk, IsErrOf, IsOkUnless};
-ghost use Rattle.host_works.specs.KeptWorks.{HoldsNone};
-ghost use Rattle.scenario_text.specs.Grammar.{IsBadLine};
+ghost use Rattle.store_works.specs.KeptWorks.{HoldsNone};
+ghost use Rattle.text_scenario.specs.Grammar.{IsBadLine};
 ghost use Rattle.task_group.specs.Listeners.{nobody};
-ghost use Rattle.task_machine.specs.Core.{fresh};
-ghost use Rattle.task_records.specs.Seen.{nothing};
-ghost use Rattle.task_turns.specs.Turn.{idle_line_of};
-ghost use Rattle.task_words.specs.StateView.{with_core};
+ghost use Rattle.machine_data.specs.Core.{fresh};
+ghost use Rattle.core_records.specs.Seen.{nothing};
+ghost use Rattle.ops_turns.specs.Turn.{idle_line_of};
+ghost use Rattle.core_primitives.specs.StateView.{with_core};
 ghost use Rattle.task_run.specs.Runnable.{IsRunnable};
 ghost use Rattle.task_run.specs.Headline.{IsReportOf, IsRunOf, machine_scenario};
 ghost use Rattle.task_run.specs.Lower.{Reads};
 ghost use Rattle.task_run.specs.declared.scenario.Scenario.{Scenario};
-ghost use Rattle.task_rules.specs.Texts.{text};
+ghost use Rattle.machine_rules.specs.Texts.{text};
 
 use crate::lower::read_scenario;
 use crate::scenario::Scenario;
 use crate::script::ScriptMain;
-use report_text::Page;
-use scenario_reader::RunError;
+use machine_data::{IdleLine, NoMemory};
 use std::alloc::{AllocError, Global};
 use task_loop::{NoticeList, Outcome, Trace, run_concurrent};
-use task_machine::{IdleLine, NoMemory};
 use task_store::{ScriptedHost, Store};
+use text_reader::RunError;
+use text_report::Page;
 
 /// What a run resulted in: its steps, its end, and the store that it left.
 #[derive(Drop)]

@@ -1,5 +1,5 @@
+use machine_data::{Component, IdleLine, Operand, Seq};
 use task_loop::Func;
-use task_machine::{Component, IdleLine, Operand, Seq};
 
 /// The names that a text gives to an instance and its exports.
 #[derive(Drop)]

@@ -2,8 +2,8 @@
 ghost use Rattle.std.specs.Prelude.{◌≤◌, length};
 
 use crate::scenario::MainOp;
+use machine_data::Trap;
 use std::alloc::Global;
-use task_machine::Trap;
 use task_store::SpawnHandle;
 
 // A start by main: the number of its call, or why it was refused.

@@ -1,12 +1,12 @@
 -- The first states of a store: its limits, and its instances one by one.
 use Rattle.std.proofs.Common.{arith, refl, suc, zero, ℕ, ◌≡◌, ◌≤◌, ◌∙◌}
 use Rattle.std.specs.Prelude.{None}
-use Rattle.make_words.specs.Instances.{with_instance}
-use Rattle.count_words.specs.Limits.{with_capacity, with_handle_limit}
-use Rattle.task_machine.proofs.MapLemmas.{get-insert_other}
-use Rattle.task_machine.proofs.SizeLemmas.{size-empty, size-insert_new}
-use Rattle.task_machine.specs.Core.{filled, fresh, untouched}
-use Rattle.task_machine.specs.Maps.{get, get-empty, size}
+use Rattle.core_makes.specs.Instances.{with_instance}
+use Rattle.core_counts.specs.Limits.{with_capacity, with_handle_limit}
+use Rattle.machine_data.proofs.MapLemmas.{get-insert_other}
+use Rattle.machine_data.proofs.SizeLemmas.{size-empty, size-insert_new}
+use Rattle.machine_data.specs.Core.{filled, fresh, untouched}
+use Rattle.machine_data.specs.Maps.{get, get-empty, size}
 
 module _ {X : Type 0} (x : X) where
   past_filled : (n q : ℕ) → n ≤ q → get (filled x n) q ≡ None

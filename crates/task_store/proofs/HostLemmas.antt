@@ -3,53 +3,53 @@ use Rattle.std.proofs.Common.{ap, arith, inl, inr, refl, subst, sym, ⊎_elim, �
 use Rattle.std.proofs.lemmas.Bool.Decides.{nat_tests}
 use Rattle.std.specs.Option.{option_map, option_map_or}
 use Rattle.std.specs.Prelude.{Bool, None, Option, Some, cond, false, is_some, suc, true, zero, ℕ, ◌+◌, ◌-◌, ◌==◌, ◌||◌, ◌≡◌, ◌⊎◌}
-use Rattle.cell_laws.proofs.StayLemmas.{works_stay_running, works_stay_taken, works_stay_walked}
-use Rattle.cell_laws.specs.Cells.{IsInside, Runs, RunsWorks, SpawnedNothing, StaysWork, Takes, WorksStayRunning, WorksStayTaken, WorksStayWalked, is_spawned, phase_told}
-use Rattle.host_works.specs.Course.{MayTell}
-use Rattle.host_works.specs.KeptWorks.{Found, HeldWork, HoldsNone, MayAnswer, after_abort, after_poll, found_phase, held}
-use Rattle.host_works.specs.declared.kept.HostWorks.{HostWorks}
-use Rattle.task_machine.specs.declared.words.HostPoll.{HostPoll}
-use Rattle.task_machine.specs.declared.words.HostPoll.TheVariants as host_poll
-use Rattle.task_laws.proofs.CourseLemmas.{courses_stay, works_are_called}
-use Rattle.task_laws.specs.Courses.{CoursesStay, MakesWork, SameCourse, WorksAreCalled}
-use Rattle.task_laws.specs.Order.{InOrder}
-use Rattle.task_machine.proofs.CommuteLemmas.{get-change}
-use Rattle.task_rules.proofs.StandLemmas.{is_eq_of}
-use Rattle.task_machine.specs.Core.{Core, State, Unscripted, fresh}
-use Rattle.task_machine.specs.Maps.{Records, get, get-empty, get-insert}
-use Rattle.task_machine.specs.Moves.{put_high, unblocked}
-use Rattle.task_machine.specs.Read.{blocked_on, course_of, is_aborted, phase_of, work_caller_of}
-use Rattle.task_machine.specs.Write.{add_work, count_work, on_thread, on_work, push_high, set_course, set_phase, set_place, set_stage, set_trapped}
-use Rattle.task_machine.specs.declared.component.Component.{Component}
-use Rattle.task_machine.specs.declared.component.HostDef.{HostDef}
-use Rattle.task_machine.specs.declared.component.HostDef.TheVariants as host_def
-use Rattle.task_machine.specs.declared.label.Label.{Label}
-use Rattle.task_machine.specs.declared.op.Op.{Op}
-use Rattle.task_machine.specs.declared.records.Course.{Course}
-use Rattle.task_machine.specs.declared.records.Course.TheVariants as courses
-use Rattle.task_machine.specs.declared.records.Stage.TheVariants as stages
-use Rattle.task_machine.specs.declared.records.Subtask.TheVariants as subtasks
-use Rattle.task_machine.specs.declared.records.Turn.{Turn}
-use Rattle.task_machine.specs.declared.records.Turn.TheVariants as turn
-use Rattle.task_machine.specs.declared.records.Work.{Work}
-use Rattle.task_machine.specs.declared.records.WorkCaller.{WorkCaller}
-use Rattle.task_machine.specs.declared.records.WorkCaller.TheVariants as callers
-use Rattle.task_machine.specs.declared.words.Phase.{Phase}
-use Rattle.task_machine.specs.declared.words.Phase.TheVariants as phases
-use Rattle.task_ops.specs.PolledWorks.{PolledTo, TellsPoll}
-use Rattle.task_ops.specs.declared.work_ops.PollNews.{PollNews}
-use Rattle.task_rules.specs.Calls.{new_work, work_queued}
-use Rattle.task_rules.specs.Cancels.{aborted_phase}
-use Rattle.task_rules.specs.Chains.{WalkedAs}
-use Rattle.task_rules.specs.Laws.{LaterBy}
-use Rattle.task_rules.specs.MainOps.{is_complete, main_aborted}
-use Rattle.task_rules.specs.Stalled.{Setting}
-use Rattle.task_rules.specs.Step.{Step}
-use Rattle.task_rules.specs.Works.{Asked, heard, Ends, FailsNow, Poll, StillPends, course_for, followed, has_end, poll_ends, poll_of, poll_pends, polled_again, polled_course, polled_in}
+use Rattle.laws_order.proofs.StayLemmasCells.{works_stay_running, works_stay_taken, works_stay_walked}
+use Rattle.laws_order.specs.Cells.{IsInside, Runs, RunsWorks, SpawnedNothing, StaysWork, Takes, WorksStayRunning, WorksStayTaken, WorksStayWalked, is_spawned, phase_told}
+use Rattle.store_works.specs.Course.{MayTell}
+use Rattle.store_works.specs.KeptWorks.{Found, HeldWork, HoldsNone, MayAnswer, after_abort, after_poll, found_phase, held}
+use Rattle.store_works.specs.declared.kept.HostWorks.{HostWorks}
+use Rattle.machine_data.specs.declared.words.HostPoll.{HostPoll}
+use Rattle.machine_data.specs.declared.words.HostPoll.TheVariants as host_poll
+use Rattle.laws_states.proofs.CourseLemmas.{courses_stay, works_are_called}
+use Rattle.laws_states.specs.Courses.{CoursesStay, MakesWork, SameCourse, WorksAreCalled}
+use Rattle.laws_states.specs.Order.{InOrder}
+use Rattle.machine_data.proofs.CommuteLemmas.{get-change}
+use Rattle.machine_rules.proofs.StandLemmas.{is_eq_of}
+use Rattle.machine_data.specs.Core.{Core, State, Unscripted, fresh}
+use Rattle.machine_data.specs.Maps.{Records, get, get-empty, get-insert}
+use Rattle.machine_data.specs.Moves.{put_high, unblocked}
+use Rattle.machine_data.specs.Read.{blocked_on, course_of, is_aborted, phase_of, work_caller_of}
+use Rattle.machine_data.specs.Write.{add_work, count_work, on_thread, on_work, push_high, set_course, set_phase, set_place, set_stage, set_trapped}
+use Rattle.machine_data.specs.declared.component.Component.{Component}
+use Rattle.machine_data.specs.declared.component.HostDef.{HostDef}
+use Rattle.machine_data.specs.declared.component.HostDef.TheVariants as host_def
+use Rattle.machine_data.specs.declared.label.Label.{Label}
+use Rattle.machine_data.specs.declared.op.Op.{Op}
+use Rattle.machine_data.specs.declared.records.Course.{Course}
+use Rattle.machine_data.specs.declared.records.Course.TheVariants as courses
+use Rattle.machine_data.specs.declared.records.Stage.TheVariants as stages
+use Rattle.machine_data.specs.declared.records.Subtask.TheVariants as subtasks
+use Rattle.machine_data.specs.declared.records.Turn.{Turn}
+use Rattle.machine_data.specs.declared.records.Turn.TheVariants as turn
+use Rattle.machine_data.specs.declared.records.Work.{Work}
+use Rattle.machine_data.specs.declared.records.WorkCaller.{WorkCaller}
+use Rattle.machine_data.specs.declared.records.WorkCaller.TheVariants as callers
+use Rattle.machine_data.specs.declared.words.Phase.{Phase}
+use Rattle.machine_data.specs.declared.words.Phase.TheVariants as phases
+use Rattle.ops_guests.specs.PolledWorks.{PolledTo, TellsPoll}
+use Rattle.ops_guests.specs.declared.work_ops.PollNews.{PollNews}
+use Rattle.machine_rules.specs.Calls.{new_work, work_queued}
+use Rattle.machine_rules.specs.Cancels.{aborted_phase}
+use Rattle.machine_rules.specs.Chains.{WalkedAs}
+use Rattle.machine_rules.specs.Laws.{LaterBy}
+use Rattle.machine_rules.specs.MainOps.{is_complete, main_aborted}
+use Rattle.machine_rules.specs.Stalled.{Setting}
+use Rattle.machine_rules.specs.Step.{Step}
+use Rattle.machine_rules.specs.Works.{Asked, heard, Ends, FailsNow, Poll, StillPends, course_for, followed, has_end, poll_ends, poll_of, poll_pends, polled_again, polled_course, polled_in}
 use Rattle.task_store.specs.Hosts.{HoldsAt, HoldsHosts, HoldsWork, HoldsWorks, WorksNumbered, held_by, held_of, running}
 use Rattle.task_store.specs.PolledStore.{HoldsPolled, is_over, polled_core, told_of}
 use Rattle.task_store.specs.declared.store.Store.{Store}
-use Rattle.task_turns.specs.Turn.{state_at}
+use Rattle.ops_turns.specs.Turn.{state_at}
 
 -- ---- What of a record says what is held
 

@@ -1,21 +1,21 @@
 -- Order stays with an instance more: whose number wasn't given, so that nothing names it, nobody is held in it, and no handle is
 -- there.
-use Rattle.make_words.specs.Instances.{with_instance}
-use Rattle.order_laws.proofs.StayLemmas.{beside_in_order}
+use Rattle.core_makes.specs.Instances.{with_instance}
+use Rattle.laws_order.proofs.StayLemmas.{beside_in_order}
 use Rattle.std.proofs.Common.{ap, arith, refl, subst, sym, ◌∙◌}
 use Rattle.std.specs.Option.{option_map_or}
 use Rattle.std.specs.Prelude.{Bool, Option, false, if◌then◌else◌, is_some, None, option_and_then, Some, true, ℕ, ◌==◌, ◌≡◌, ◌≤◌}
-use Rattle.task_laws.specs.Order.{is_open, InOrder, TableKept}
-use Rattle.task_machine.proofs.MapLemmas.{get-insert_same}
-use Rattle.task_machine.specs.Core.{Core, Main, NameTable, no_handles, untouched}
-use Rattle.task_machine.specs.Maps.{Records, get, get-empty, get-insert, insert, size}
-use Rattle.task_machine.specs.Read.{named_by}
-use Rattle.task_machine.specs.declared.component.Component.{Component}
-use Rattle.task_machine.specs.declared.records.Instance.{Instance}
-use Rattle.task_machine.specs.declared.records.Named.{Named}
-use Rattle.task_machine.specs.declared.records.Turn.{Turn}
-use Rattle.task_rules.proofs.StandLemmas.{by_number}
-use Rattle.task_turns.specs.Turn.{CoreInOrder, state_at}
+use Rattle.laws_states.specs.Order.{is_open, InOrder, TableKept}
+use Rattle.machine_data.proofs.MapLemmas.{get-insert_same}
+use Rattle.machine_data.specs.Core.{Core, Main, NameTable, no_handles, untouched}
+use Rattle.machine_data.specs.Maps.{Records, get, get-empty, get-insert, insert, size}
+use Rattle.machine_data.specs.Read.{named_by}
+use Rattle.machine_data.specs.declared.component.Component.{Component}
+use Rattle.machine_data.specs.declared.records.Instance.{Instance}
+use Rattle.machine_data.specs.declared.records.Named.{Named}
+use Rattle.machine_data.specs.declared.records.Turn.{Turn}
+use Rattle.machine_rules.proofs.StandLemmas.{by_number}
+use Rattle.ops_turns.specs.Turn.{CoreInOrder, state_at}
 
 module _ (s : Core) (fresh : get s.instances (size s.instances) ≡ None) (unnamed : get s.handles (size s.instances) ≡ None) where
   abbrev n : ℕ

@@ -3,28 +3,28 @@ use Rattle.std.proofs.Common.{ap, ap₂, arith, inl, le_refl, refl, subst, sym, 
 use Rattle.std.proofs.lemmas.Bool.Decides.{nat_tests}
 use Rattle.std.specs.Option.{option_map_or}
 use Rattle.std.specs.Prelude.{None, Option, Some, false, true, ℕ, ◌↔◌, ◌+◌, ◌<◌, ◌≡◌, ◌≤◌}
-use Rattle.task_machine.proofs.CommuteLemmas.{get-change}
-use Rattle.task_machine.specs.Core.{Core}
-use Rattle.task_machine.specs.Maps.{Records, change, get, get-insert, same_map}
-use Rattle.task_machine.specs.Read.{phase_of, work_caller_of}
-use Rattle.task_machine.specs.Write.{add_work, count_work, on_work, push_high, set_phase}
-use Rattle.task_machine.specs.declared.component.Component.{Component}
-use Rattle.task_machine.specs.declared.component.HostDef.{HostDef}
-use Rattle.task_machine.specs.declared.records.Turn.{Turn}
-use Rattle.task_machine.specs.declared.records.Work.{Work}
-use Rattle.task_machine.specs.declared.records.WorkCaller.TheVariants as callers
-use Rattle.task_machine.specs.declared.words.Phase.TheVariants as phases
-use Rattle.task_rules.specs.Calls.{next_work, work_queued}
-use Rattle.task_rules.specs.Cancels.{aborted_phase}
-use Rattle.task_rules.specs.MainOps.{is_spawn, is_spawn_caller, main_aborted}
+use Rattle.machine_data.proofs.CommuteLemmas.{get-change}
+use Rattle.machine_data.specs.Core.{Core}
+use Rattle.machine_data.specs.Maps.{Records, change, get, get-insert, same_map}
+use Rattle.machine_data.specs.Read.{phase_of, work_caller_of}
+use Rattle.machine_data.specs.Write.{add_work, count_work, on_work, push_high, set_phase}
+use Rattle.machine_data.specs.declared.component.Component.{Component}
+use Rattle.machine_data.specs.declared.component.HostDef.{HostDef}
+use Rattle.machine_data.specs.declared.records.Turn.{Turn}
+use Rattle.machine_data.specs.declared.records.Work.{Work}
+use Rattle.machine_data.specs.declared.records.WorkCaller.TheVariants as callers
+use Rattle.machine_data.specs.declared.words.Phase.TheVariants as phases
+use Rattle.machine_rules.specs.Calls.{next_work, work_queued}
+use Rattle.machine_rules.specs.Cancels.{aborted_phase}
+use Rattle.machine_rules.specs.MainOps.{is_spawn, is_spawn_caller, main_aborted}
 use Rattle.futures.specs.declared.task.Poll.{Poll}
 use Rattle.futures.specs.declared.task.Poll.TheVariants as polls
-use Rattle.task_machine.specs.declared.words.Phase.{Phase}
+use Rattle.machine_data.specs.declared.words.Phase.{Phase}
 use Rattle.task_store.specs.Spawned.{IsSpawnedIn, poll_of_phase}
 use Rattle.task_store.specs.declared.spawn.SpawnHandle.{SpawnHandle}
-use Rattle.task_turns.proofs.SpawnLemmas.{abort_in_order}
-use Rattle.task_turns.specs.Turn.{CoreInOrder}
-use Rattle.task_words.specs.StateView.{StateView, work_of}
+use Rattle.ops_turns.proofs.SpawnLemmas.{abort_in_order}
+use Rattle.ops_turns.specs.Turn.{CoreInOrder}
+use Rattle.core_primitives.specs.StateView.{StateView, work_of}
 
 -- a write of what isn't there changes nothing
 absent : {X : Type 0} (m : Records X) (i : ℕ) (f : X → X) → get m i ≡ None → change i f m ≡ m

@@ -1,8 +1,8 @@
 -- What a host reads of a store.
 use Rattle.std.specs.Prelude.{Bool, is_none, not, ◌&&◌, ◌==◌}
-use Rattle.task_machine.specs.Read.{live_count, next_entry, table_use}
-use Rattle.task_rules.specs.Works.{has_live_work}
-use Rattle.task_words.specs.StateView.{StateView}
+use Rattle.machine_data.specs.Read.{live_count, next_entry, table_use}
+use Rattle.machine_rules.specs.Works.{has_live_work}
+use Rattle.core_primitives.specs.StateView.{StateView}
 
 -- No entry is in the table, so no thread is there to be held; no handle is live, no entry is at a mark, no thread runs, no work is
 -- live.

@@ -1,12 +1,12 @@
 -- What is let go with a store.
-use Rattle.group_notices.specs.Moves.{finishes}
-use Rattle.host_works.specs.KeptWorks.{HoldsNone}
+use Rattle.store_notices.specs.Moves.{finishes}
+use Rattle.store_works.specs.KeptWorks.{HoldsNone}
 use Rattle.std.specs.Prelude.{◌≡◌}
 use Rattle.task_group.specs.Listeners.{ToldListeners}
-use Rattle.task_machine.specs.Write.{set_trapped}
+use Rattle.machine_data.specs.Write.{set_trapped}
 use Rattle.task_store.specs.declared.store.Store.{Store}
-use Rattle.task_words.specs.Groups.{asked}
-use Rattle.task_words.specs.StateView.{on_core}
+use Rattle.core_primitives.specs.Groups.{asked}
+use Rattle.core_primitives.specs.StateView.{on_core}
 
 -- All groups are finished, which is told, the store is trapped, and no host work is held.
 pub record LetsGo {T H G : Type 0} (s t : Store T H G) : Type 0 where

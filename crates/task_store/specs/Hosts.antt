@@ -1,19 +1,19 @@
 -- The host works that a store holds.
-use Rattle.cell_laws.specs.Cells.{is_spawned, phase_told}
-use Rattle.host_works.specs.KeptWorks.{Found, HeldWork, after_poll, held}
+use Rattle.laws_order.specs.Cells.{is_spawned, phase_told}
+use Rattle.store_works.specs.KeptWorks.{Found, HeldWork, after_poll, held}
 use Rattle.std.specs.Prelude.{◌==◌, ◌≡◌, ◌≤◌, Bool, None, Option, Some, cond, false, is_some, true, ℕ}
-use Rattle.task_machine.specs.Core.{Core}
-use Rattle.task_machine.specs.Maps.{get}
-use Rattle.task_machine.specs.declared.component.HostDef.{HostDef}
-use Rattle.task_machine.specs.declared.records.Course.{Course}
-use Rattle.task_machine.specs.declared.records.Course.TheVariants as courses
-use Rattle.task_machine.specs.declared.records.Work.{Work}
-use Rattle.task_machine.specs.declared.records.WorkCaller.{WorkCaller}
-use Rattle.task_machine.specs.declared.words.HostPoll.{HostPoll}
-use Rattle.task_machine.specs.declared.words.Phase.{Phase}
-use Rattle.task_machine.specs.declared.words.Phase.TheVariants as phases
-use Rattle.task_rules.specs.MainOps.{is_complete}
-use Rattle.task_rules.specs.Works.{has_end}
+use Rattle.machine_data.specs.Core.{Core}
+use Rattle.machine_data.specs.Maps.{get}
+use Rattle.machine_data.specs.declared.component.HostDef.{HostDef}
+use Rattle.machine_data.specs.declared.records.Course.{Course}
+use Rattle.machine_data.specs.declared.records.Course.TheVariants as courses
+use Rattle.machine_data.specs.declared.records.Work.{Work}
+use Rattle.machine_data.specs.declared.records.WorkCaller.{WorkCaller}
+use Rattle.machine_data.specs.declared.words.HostPoll.{HostPoll}
+use Rattle.machine_data.specs.declared.words.Phase.{Phase}
+use Rattle.machine_data.specs.declared.words.Phase.TheVariants as phases
+use Rattle.machine_rules.specs.MainOps.{is_complete}
+use Rattle.machine_rules.specs.Works.{has_end}
 use Rattle.task_store.specs.declared.store.Store.{Store}
 
 -- one that has ended isn't held

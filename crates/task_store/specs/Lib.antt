@@ -1,3 +1,4 @@
+pub mod HeldBorrows
 pub mod Called
 pub mod Changes
 pub mod Data

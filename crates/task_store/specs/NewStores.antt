@@ -1,8 +1,8 @@
 -- A store as it is made.
-use Rattle.host_works.specs.KeptWorks.{HoldsNone}
+use Rattle.store_works.specs.KeptWorks.{HoldsNone}
 use Rattle.std.specs.Prelude.{Bool, [], false, ℕ, ◌≡◌}
 use Rattle.task_group.specs.Listeners.{nobody}
-use Rattle.task_records.specs.Seen.{nothing}
+use Rattle.core_records.specs.Seen.{nothing}
 use Rattle.task_store.specs.declared.store.Store.{Store}
 
 -- Nothing was made in it: it has this value, and the host knows it by this number.

@@ -1,16 +1,16 @@
 -- A poll of a host work by the loop.
 use Rattle.std.specs.Prelude.{◌||◌, Bool, Option, Some, ℕ}
-use Rattle.task_machine.specs.declared.words.HostPoll.{HostPoll}
-use Rattle.task_machine.specs.declared.words.HostPoll.TheVariants as answers
-use Rattle.task_machine.specs.Core.{Core}
-use Rattle.task_machine.specs.Read.{course_of, is_aborted, phase_of}
-use Rattle.task_machine.specs.Write.{set_trapped}
-use Rattle.task_ops.specs.declared.work_ops.PollNews.{PollNews}
-use Rattle.task_ops.specs.declared.work_ops.PollNews.TheVariants as told
-use Rattle.task_ops.specs.PolledWorks.{PolledTo}
+use Rattle.machine_data.specs.declared.words.HostPoll.{HostPoll}
+use Rattle.machine_data.specs.declared.words.HostPoll.TheVariants as answers
+use Rattle.machine_data.specs.Core.{Core}
+use Rattle.machine_data.specs.Read.{course_of, is_aborted, phase_of}
+use Rattle.machine_data.specs.Write.{set_trapped}
+use Rattle.ops_guests.specs.declared.work_ops.PollNews.{PollNews}
+use Rattle.ops_guests.specs.declared.work_ops.PollNews.TheVariants as told
+use Rattle.ops_guests.specs.PolledWorks.{PolledTo}
 use Rattle.task_store.specs.Hosts.{HoldsWorks}
-use Rattle.host_works.specs.KeptWorks.{HeldWork}
-use Rattle.task_rules.specs.Works.{Asked, Ends, FailsNow, Poll, StillPends, has_end, poll_ends, poll_of, poll_pends}
+use Rattle.store_works.specs.KeptWorks.{HeldWork}
+use Rattle.machine_rules.specs.Works.{Asked, Ends, FailsNow, Poll, StillPends, has_end, poll_ends, poll_of, poll_pends}
 
 -- what a work tells that answers this
 abbrev pub told_of : HostPoll → PollNews

@@ -8,8 +8,8 @@ use Rattle.task_store.specs.declared.slot.SlotError.TheVariants as errors
 use Rattle.task_store.specs.declared.slot.StoreSlot.{StoreSlot}
 use Rattle.task_store.specs.declared.slot.TryGet.{TryGet}
 use Rattle.task_store.specs.declared.slot.TryGet.TheVariants as founds
-use Rattle.task_machine.specs.declared.trap.Trap.{Trap}
-use Rattle.task_machine.specs.declared.trap.Trap.TheVariants as traps
+use Rattle.machine_data.specs.declared.trap.Trap.{Trap}
+use Rattle.machine_data.specs.declared.trap.Trap.TheVariants as traps
 use Rattle.task_group.specs.declared.hook.NoHook.{NoHook}
 use Rattle.task_store.specs.declared.store.Store.{Store}
 

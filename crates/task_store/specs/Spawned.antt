@@ -3,14 +3,14 @@ use Rattle.futures.specs.declared.task.Poll.{Poll}
 use Rattle.futures.specs.declared.task.Poll.TheVariants as polls
 use Rattle.std.proofs.Common.{inl, inr, le_trans, subst, sym, ⊎_elim, ◌∙◌}
 use Rattle.std.specs.Prelude.{◌≡◌, ◌<◌, ◌≤◌, ◌⊎◌, ℕ, None}
-use Rattle.task_machine.specs.Maps.{get}
-use Rattle.task_machine.specs.Read.{work_caller_of}
-use Rattle.task_machine.specs.declared.records.WorkCaller.TheVariants as callers
-use Rattle.task_machine.specs.declared.words.Phase.{Phase}
-use Rattle.task_machine.specs.declared.words.Phase.TheVariants as phases
+use Rattle.machine_data.specs.Maps.{get}
+use Rattle.machine_data.specs.Read.{work_caller_of}
+use Rattle.machine_data.specs.declared.records.WorkCaller.TheVariants as callers
+use Rattle.machine_data.specs.declared.words.Phase.{Phase}
+use Rattle.machine_data.specs.declared.words.Phase.TheVariants as phases
 use Rattle.task_store.specs.declared.spawn.SpawnHandle.{SpawnHandle}
-use Rattle.task_turns.specs.Later.{WorksLast}
-use Rattle.task_words.specs.StateView.{StateView, work_of}
+use Rattle.ops_turns.specs.Later.{WorksLast}
+use Rattle.core_primitives.specs.StateView.{StateView, work_of}
 
 -- The spawn was made in the state: its number is that of a spawned work, and its id names that, or it is gone.
 pub record IsSpawnedIn (h : SpawnHandle) (s : StateView) : Type 0 where

@@ -1,24 +1,24 @@
 -- A spawn of a work in a store, and in the store of a slot.
 use Rattle.std.specs.Prelude.{Err, IfErr, IfOk, None, Ok, OnErr, OnOk, Result, ◌≡◌}
-use Rattle.state_calls.specs.declared.error.TaskError.{TaskError}
-use Rattle.state_calls.specs.declared.error.TaskError.TheVariants as faults
+use Rattle.ops_state.specs.declared.error.TaskError.{TaskError}
+use Rattle.ops_state.specs.declared.error.TaskError.TheVariants as faults
 use Rattle.task_store.specs.Slots.{Stays}
 use Rattle.task_store.specs.declared.accessor.SpawnError.{SpawnError}
 use Rattle.task_store.specs.declared.accessor.SpawnError.TheVariants as refusals
 use Rattle.task_store.specs.declared.slot.Held.{Held}
 use Rattle.task_store.specs.declared.slot.Held.TheVariants as helds
 use Rattle.task_store.specs.declared.slot.SlotError.TheVariants as errors
-use Rattle.task_machine.specs.declared.component.Component.{Component}
-use Rattle.task_machine.specs.declared.component.HostDef.{HostDef}
-use Rattle.task_machine.specs.declared.records.Turn.{Turn}
-use Rattle.task_machine.specs.declared.records.WorkCaller.TheVariants as work_callers
-use Rattle.task_rules.specs.Calls.{next_work, work_queued}
+use Rattle.machine_data.specs.declared.component.Component.{Component}
+use Rattle.machine_data.specs.declared.component.HostDef.{HostDef}
+use Rattle.machine_data.specs.declared.records.Turn.{Turn}
+use Rattle.machine_data.specs.declared.records.WorkCaller.TheVariants as work_callers
+use Rattle.machine_rules.specs.Calls.{next_work, work_queued}
 use Rattle.task_store.specs.Hosts.{HoldsHosts, WorksNumbered}
 use Rattle.task_store.specs.Spawned.{IsSpawnedIn}
 use Rattle.task_store.specs.declared.spawn.SpawnHandle.{SpawnHandle}
 use Rattle.task_store.specs.declared.store.Store.{Store}
-use Rattle.task_turns.specs.Turn.{CoreInOrder}
-use Rattle.task_words.specs.StateView.{Keeps, work_of}
+use Rattle.ops_turns.specs.Turn.{CoreInOrder}
+use Rattle.core_primitives.specs.StateView.{Keeps, work_of}
 
 -- what a slot's spawn answers, where the store's answers this
 abbrev pub of_task : {H : Type 0} → Result SpawnHandle TaskError → Result SpawnHandle (SpawnError H)

@@ -2,13 +2,13 @@ ghost use Rattle.std.specs.Prelude.{◌≡◌, ◌<◌, ◌^◌};
 ghost use Rattle.std.specs.Borrow.{Lends, sem};
 ghost use Rattle.task_store.specs.PartLending.{LendsPart, LendsStore};
 ghost use Rattle.task_store.specs.Spawns.{Spawns};
-ghost use Rattle.task_turns.specs.Turn.{given};
+ghost use Rattle.ops_turns.specs.Turn.{given};
 
 use crate::spawn::SpawnHandle;
 use crate::store::Store;
-use host_works::AccessorTask;
-use state_calls::TaskError;
+use ops_state::TaskError;
 use std::marker::PhantomData;
+use store_works::AccessorTask;
 use task_group::{NoHook, TaskGroupHook};
 
 /// A part of a host's value.

@@ -3,19 +3,19 @@ ghost use Rattle.std.specs.Prelude.{◌≡◌, ◌<◌, ◌^◌, not};
 ghost use Rattle.task_store.specs.Called.{CalledAtAccess, TakesAccess};
 ghost use Rattle.task_store.specs.Slots.{Gets, OnStore, told_by};
 ghost use Rattle.task_store.specs.Spawns.{SpawnsIn};
-ghost use Rattle.task_rules.specs.MainOps.{has_interesting, is_ready_for_call};
+ghost use Rattle.machine_rules.specs.MainOps.{has_interesting, is_ready_for_call};
 ghost use Rattle.task_store.specs.Polls.{ready_if};
-ghost use Rattle.task_turns.specs.Turn.{given};
+ghost use Rattle.ops_turns.specs.Turn.{given};
 
 use crate::access::Access;
 use crate::data::RuntimeInstance;
 use crate::slot::{Held, SlotError, StoreSlot};
 use crate::spawn::SpawnHandle;
 use futures::task::Poll;
-use host_works::AccessorTask;
-use state_calls::TaskError;
+use ops_state::TaskError;
 use std::marker::PhantomData;
 use std::mem;
+use store_works::AccessorTask;
 
 /// Reaches the store that a slot has, and the part `P` of its host's value.
 #[derive(Clone, Copy)]

@@ -1,12 +1,12 @@
 //! What a host reads of a store, and sets.
 ghost use Rattle.std.specs.Prelude.{◌≡◌, ◌-◌, ◌==◌, ◌≤◌, min, true};
-ghost use Rattle.task_machine.specs.Maps.{size};
-ghost use Rattle.task_machine.specs.Read.{table_use};
+ghost use Rattle.machine_data.specs.Maps.{size};
+ghost use Rattle.machine_data.specs.Read.{table_use};
 ghost use Rattle.task_store.specs.Data.{is_empty_state};
 
 use crate::store::{ComponentInstanceId, Store};
+use core_primitives::{QueuePrimitives, View, WorkPrimitives};
 use task_group::TaskGroupHook;
-use task_words::{QueuePrimitives, View, WorkPrimitives};
 
 /// An instance of a store, as a host names it: its place in the component is 0, since each instance
 /// here is a component's instance of its own.

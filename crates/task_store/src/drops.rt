@@ -3,8 +3,8 @@ ghost use Rattle.std.specs.Prelude.{◌≡◌, false, true};
 ghost use Rattle.task_store.specs.Drops.{LetsGo};
 
 use crate::store::Store;
-use host_works::HostWorks;
 use std::alloc::Global;
+use store_works::HostWorks;
 use task_group::TaskGroupHook;
 
 /// Lets go what a store holds for calls that are under way, for its owner to call before the store

@@ -1,34 +1,34 @@
 //! The host works of a store: those of guests' calls, and those that a host spawns.
 ghost use Rattle.std.specs.Prelude.{◌==◌, ◌≡◌, ◌<◌, ◌^◌, ℕ, IfOk, None, OnErr, OnOk, Some, cond, option_map, true};
-ghost use Rattle.task_laws.specs.Order.{WorksQueued};
-ghost use Rattle.task_machine.specs.Core.{Main};
-ghost use Rattle.task_machine.specs.Read.{is_aborted};
-ghost use Rattle.task_machine.specs.declared.records.Turn.{Turn};
-ghost use Rattle.task_ops.specs.PolledWorks.{TellsPoll};
-ghost use Rattle.task_ops.specs.Works.{KeepsTold};
-ghost use Rattle.task_rules.specs.Calls.{next_work};
-ghost use Rattle.task_rules.specs.Places.{Placed};
-ghost use Rattle.task_rules.specs.Stalled.{Setting};
-ghost use Rattle.task_rules.specs.Works.{has_end, poll_of, polled_course};
-ghost use Rattle.host_works.specs.Course.{one_fewer};
-ghost use Rattle.host_works.specs.KeptWorks.{MayAnswer, after_poll};
-ghost use Rattle.task_machine.specs.declared.component.HostDef.{HostDef};
+ghost use Rattle.laws_states.specs.Order.{WorksQueued};
+ghost use Rattle.machine_data.specs.Core.{Main};
+ghost use Rattle.machine_data.specs.Read.{is_aborted};
+ghost use Rattle.machine_data.specs.declared.records.Turn.{Turn};
+ghost use Rattle.ops_guests.specs.PolledWorks.{TellsPoll};
+ghost use Rattle.ops_guests.specs.Works.{KeepsTold};
+ghost use Rattle.machine_rules.specs.Calls.{next_work};
+ghost use Rattle.machine_rules.specs.Places.{Placed};
+ghost use Rattle.machine_rules.specs.Stalled.{Setting};
+ghost use Rattle.machine_rules.specs.Works.{has_end, poll_of, polled_course};
+ghost use Rattle.store_works.specs.Course.{one_fewer};
+ghost use Rattle.store_works.specs.KeptWorks.{MayAnswer, after_poll};
+ghost use Rattle.machine_data.specs.declared.component.HostDef.{HostDef};
 ghost use Rattle.task_store.specs.Hosts.{HoldsHosts, held_after_call, held_by, running};
 ghost use Rattle.task_store.specs.PolledStore.{HoldsPolled, told_of};
 ghost use Rattle.task_store.specs.Spawns.{Spawns};
-ghost use Rattle.task_turns.specs.Turn.{IsSettled, PendsIn, Turns, given};
-ghost use Rattle.task_turns.specs.Worked.{tracked_worked_group};
-ghost use Rattle.task_words.specs.StateView.{work_of};
+ghost use Rattle.ops_turns.specs.Turn.{IsSettled, PendsIn, Turns, given};
+ghost use Rattle.ops_turns.specs.Worked.{tracked_worked_group};
+ghost use Rattle.core_primitives.specs.StateView.{work_of};
 
 use crate::spawn::SpawnHandle;
 use crate::store::Store;
-use host_works::{AccessorTask, FromHost, HostPoll};
-use state_calls::TaskError;
+use core_primitives::{ResultPrimitives, WorkId, WorkPrimitives};
+use machine_data::{Course, HostDef, NoMemory, Phase};
+use ops_guests::PollNews;
+use ops_state::TaskError;
+use ops_turns::{MadeStep, poll};
+use store_works::{AccessorTask, FromHost, HostPoll};
 use task_group::TaskGroupHook;
-use task_machine::{Course, HostDef, NoMemory, Phase};
-use task_ops::PollNews;
-use task_turns::{MadeStep, poll};
-use task_words::{ResultPrimitives, WorkId, WorkPrimitives};
 
 // Whether an abort was asked for.
 fn is_aborted(phase: Phase) -> bool

@@ -2,10 +2,10 @@
 ghost use Rattle.std.specs.Prelude.{◌≡◌, ◌<◌, ◌↔◌, ◌++◌, ◌∷◌, [], IsTrue, OnErr, OnOk, false, length, option_map, slice_get, slice_set, true, ℕ};
 ghost use Rattle.task_store.specs.Scopes.{one_fewer};
 
-use record_core::CallContext;
+use core_state::CallContext;
+use machine_data::NoMemory;
 use std::alloc::Global;
 use std::marker::Model;
-use task_machine::NoMemory;
 
 /// The calls of a store that isn't concurrent, which are one above the other: how many borrows each holds, the outermost first.
 /// They are numbered from 0.

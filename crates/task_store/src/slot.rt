@@ -4,8 +4,8 @@ ghost use Rattle.task_store.specs.Called.{CalledAtTwo, TakesTwo};
 ghost use Rattle.task_store.specs.Slots.{Gets, MayTry, OnStore, Tries, held_store, taken, trap_of};
 
 use crate::store::Store;
+use machine_data::Trap;
 use std::mem;
-use task_machine::Trap;
 
 /// Why a slot gives no store.
 #[derive(Clone, Copy, PartialEq, Eq)]
@@ -58,6 +58,7 @@ pub enum TryGet<'a, T, H> {
 fn without_store<'a, T, H>(slot: &StoreSlot<'a, T, H>, taken: bool) -> TryGet<'a, T, H>
     ensures { result ≡ cond taken TryGet.Taken TryGet.None }
 {
+    // only the contract speaks of `slot`
     let _slot = slot;
     if taken { TryGet::Taken } else { TryGet::None }
 }

@@ -1,22 +1,22 @@
 //! Works that a host spawns: they run beside its calls, and can be aborted and waited for.
 ghost use Rattle.std.specs.Prelude.{◌≡◌, IfNone, IfSome, None};
-ghost use Rattle.task_machine.specs.Maps.{get};
-ghost use Rattle.task_machine.specs.Read.{phase_of};
-ghost use Rattle.task_machine.specs.declared.component.Component.{Component};
-ghost use Rattle.task_machine.specs.declared.records.Turn.{Turn};
-ghost use Rattle.task_rules.specs.Cancels.{aborted_phase};
-ghost use Rattle.task_rules.specs.MainOps.{main_aborted};
+ghost use Rattle.machine_data.specs.Maps.{get};
+ghost use Rattle.machine_data.specs.Read.{phase_of};
+ghost use Rattle.machine_data.specs.declared.component.Component.{Component};
+ghost use Rattle.machine_data.specs.declared.records.Turn.{Turn};
+ghost use Rattle.machine_rules.specs.Cancels.{aborted_phase};
+ghost use Rattle.machine_rules.specs.MainOps.{main_aborted};
 ghost use Rattle.task_store.specs.Hosts.{HoldsHosts};
 ghost use Rattle.task_store.specs.Spawned.{IsSpawnedIn, poll_of_phase};
-ghost use Rattle.task_turns.specs.Turn.{CoreInOrder};
-ghost use Rattle.task_words.specs.StateView.{on_core, work_of};
+ghost use Rattle.ops_turns.specs.Turn.{CoreInOrder};
+ghost use Rattle.core_primitives.specs.StateView.{on_core, work_of};
 
 use crate::store::Store;
+use core_primitives::{WorkId, WorkPrimitives};
 use futures::task::Poll;
-use host_works::HostWork;
+use machine_data::Phase;
+use store_works::HostWork;
 use task_group::TaskGroupHook;
-use task_machine::Phase;
-use task_words::{WorkId, WorkPrimitives};
 
 /// A work that was spawned in a store.
 #[derive(Clone, Copy)]

@@ -1,28 +1,28 @@
 ghost use Rattle.std.specs.Prelude.{◌≡◌, ◌-◌, ◌<◌, ◌≤◌, ◌^◌, ◌↔◌, cond, false, min, true, IfErr, IfOk, IfSome, IsSome, OnErr, OnOk, Some};
 ghost use Rattle.std.specs.Borrow.{sem};
-ghost use Rattle.group_notices.specs.Moves.{AnswersAsHook, finishes};
-ghost use Rattle.make_words.specs.Instances.{with_instance};
-ghost use Rattle.count_words.specs.Limits.{with_capacity, with_handle_limit};
-ghost use Rattle.task_machine.specs.Maps.{size};
-ghost use Rattle.task_machine.specs.Read.{table_use};
-ghost use Rattle.task_machine.specs.Write.{set_trapped};
+ghost use Rattle.store_notices.specs.Moves.{AnswersAsHook, finishes};
+ghost use Rattle.core_makes.specs.Instances.{with_instance};
+ghost use Rattle.core_counts.specs.Limits.{with_capacity, with_handle_limit};
+ghost use Rattle.machine_data.specs.Maps.{size};
+ghost use Rattle.machine_data.specs.Read.{table_use};
+ghost use Rattle.machine_data.specs.Write.{set_trapped};
 ghost use Rattle.task_store.specs.Lending.{LendsValue};
 ghost use Rattle.task_store.specs.NewStores.{IsNewStore};
-ghost use Rattle.task_machine.specs.declared.component.Component.{Component};
-ghost use Rattle.task_machine.specs.declared.records.Turn.{Turn};
-ghost use Rattle.task_turns.specs.Turn.{CoreInOrder, given};
+ghost use Rattle.machine_data.specs.declared.component.Component.{Component};
+ghost use Rattle.machine_data.specs.declared.records.Turn.{Turn};
+ghost use Rattle.ops_turns.specs.Turn.{CoreInOrder, given};
 ghost use Rattle.task_group.specs.Listeners.{ToldListeners};
-ghost use Rattle.task_words.specs.Groups.{asked, ended_groups};
-ghost use Rattle.task_words.specs.StateView.{on_core};
+ghost use Rattle.core_primitives.specs.Groups.{asked, ended_groups};
+ghost use Rattle.core_primitives.specs.StateView.{on_core};
 
 use crate::scopes::ComponentTasksNotConcurrent;
-use group_notices::tell_finishes;
-use host_works::HostWorks;
-use record_core::TaskCore;
+use core_primitives::ResultPrimitives;
+use core_state::TaskCore;
+use machine_data::{NoMemory, Trap};
 use std::alloc::Global;
+use store_notices::tell_finishes;
+use store_works::HostWorks;
 use task_group::{HookError, Listeners, NoHook, NoticeList, Notices, TaskGroupHook};
-use task_machine::{NoMemory, Trap};
-use task_words::ResultPrimitives;
 
 /// Names an instance by its number, from 0.
 #[derive(Clone, Copy, PartialEq, Eq)]

@@ -5,5 +5,5 @@ mod frame;
 mod strand;
 
 pub use frame::{Frame, Half, StoreFiberYield};
+pub use machine_data::NoMemory;
 pub use strand::{MAX_FRAMES, Strand};
-pub use task_machine::NoMemory;

@@ -4,9 +4,9 @@ ghost use Rattle.std.specs.Borrow.{sem};
 ghost use Rattle.task_strand.specs.Strand.{top_of, foot_of};
 
 use crate::frame::Frame;
+use machine_data::NoMemory;
 use std::alloc::Global;
 use std::marker::Model;
-use task_machine::NoMemory;
 
 /// How many frames a strand may have.
 pub const MAX_FRAMES: u32 = 4_294_967_295;

@@ -1,6 +1,6 @@
 -- The items that a table's calls give, as records of their kinds. The premises are as the calls' contracts say them.
 use Rattle.std.proofs.Common.{◌≡◌, ℕ, ◌<◌, zero, suc, Option, Some, None, Result, Ok, Err, ok_or, refl, sym, ap, subst, ◌∙◌, arith}
-use Rattle.task_machine.specs.Maps.{get}
+use Rattle.machine_data.specs.Maps.{get}
 use Rattle.task_table.specs.declared.error.ResourceTableError.{ResourceTableError}
 use Rattle.task_table.specs.declared.error.ResourceTableError.TheVariants.{WrongType}
 use Rattle.task_table.specs.Table.{Table, Placed, found, children_of}

@@ -1,7 +1,7 @@
 -- The number of the entry that an id finds: what it names, and that it stays.
 use Rattle.std.proofs.Common.{◌≡◌, ◌≢◌, ℕ, ◌<◌, ◌≤◌, ◌==◌, ◌&&◌, ◌⊎◌, inl, inr, Bool, true, false, cond, Option, Some, None, refl, sym, ap, ap₂, subst, ◌∙◌, arith}
 use Rattle.std.proofs.lemmas.Bool.{cases_eq, cases_lt, cases_Bool, eq-eqb, eqb-true, and_from, and_parts, false_from_ne_true}
-use Rattle.task_machine.specs.Maps.{get}
+use Rattle.machine_data.specs.Maps.{get}
 use Rattle.task_table.specs.Table.{Table, Placed, IsTable, found}
 use Rattle.task_table.specs.Changes.{pushed, next_place, deleted, with_entry, entry_put, with_parent, parent_put, with_capacity, Adds, Removes}
 use Rattle.task_table.specs.Records.{key_in, record_at, records, found_record, number_in, number_of, SameNumber, AreApart, Names, NumberFound}

@@ -1,8 +1,8 @@
 -- What each change of a table does to the records of a kind.
 use Rattle.std.proofs.Common.{◌≡◌, ℕ, ◌==◌, inl, inr, cond, List, Option, Some, None, refl, sym, ap, ◌∙◌}
 use Rattle.std.proofs.lemmas.Bool.{cases_eq}
-use Rattle.task_machine.specs.Maps.{change}
-use Rattle.task_machine.proofs.MapLemmas.{insert_is_change}
+use Rattle.machine_data.specs.Maps.{change}
+use Rattle.machine_data.proofs.MapLemmas.{insert_is_change}
 use Rattle.task_table.specs.Table.{Table, Placed, IsTable, place_at, new_table}
 use Rattle.task_table.specs.Changes.{pushed, next_place, deleted, with_entry, entry_put, with_parent, parent_put, with_capacity}
 use Rattle.task_table.specs.Records.{key_in, record_at, with_record, without_record, records, or_record, but_record, found_record, IsNew, SameNumber, AreApart, KeepsRecords, PutsRecord, TakesRecord}

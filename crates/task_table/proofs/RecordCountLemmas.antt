@@ -1,9 +1,9 @@
 -- How many records of a kind there are, by what is in the table.
 use Rattle.std.proofs.Common.{◌≡◌, ℕ, ◌+◌, ◌≤◌, Bool, true, false, List, [], ◌∷◌, count_by, sum_by, Option, Some, None, is_some, refl, sym, ◌∙◌, arith}
 use Rattle.std.proofs.lemmas.List.Sums.{sum_by-cons}
-use Rattle.task_machine.specs.Maps.{size, empty}
-use Rattle.task_machine.proofs.SizeLemmas.{size-empty, size-insert_new}
-use Rattle.task_machine.proofs.SumLemmas.{count_by-insert_new}
+use Rattle.machine_data.specs.Maps.{size, empty}
+use Rattle.machine_data.proofs.SizeLemmas.{size-empty, size-insert_new}
+use Rattle.machine_data.proofs.SumLemmas.{count_by-insert_new}
 use Rattle.task_table.specs.Table.{Table, Placed, table_len}
 use Rattle.task_table.specs.Records.{key_in, is_of, with_record, records, AreApart}
 use Rattle.task_table.proofs.TableLemmas.{one_if}

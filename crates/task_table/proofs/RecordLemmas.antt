@@ -2,7 +2,7 @@
 use Rattle.std.proofs.Common.{◌≡◌, ℕ, zero, suc, ◌==◌, inl, inr, cond, List, [], ◌∷◌, Option, Some, None, refl, sym, ap, ap₂, ◌∙◌, arith}
 use Rattle.std.proofs.lemmas.Bool.{cases_eq, eq-eqb, ne_eqb}
 use Rattle.std.proofs.lemmas.Option.{same_Some, some_pair_parts}
-use Rattle.task_machine.specs.Maps.{Records, get, get-empty, get-insert, get-remove, same_map}
+use Rattle.machine_data.specs.Maps.{Records, get, get-empty, get-insert, get-remove, same_map}
 use Rattle.task_table.specs.Table.{Placed}
 use Rattle.task_table.specs.Records.{key_in, record_at, with_record, records, or_record, found_record, AreApart, KeepsRecords, PutsRecord, TakesRecord}
 

@@ -4,7 +4,7 @@
 --     found_record key n places          the record of number n
 --     number_of key t rep serial         the number of the entry that an id finds
 use Rattle.std.specs.Prelude.{◌≡◌, ℕ, ◌==◌, if◌then◌else◌, Bool, List, [], ◌∷◌, Option, Some, None, is_some, slice_get}
-use Rattle.task_machine.specs.Maps.{Records, get, empty, insert, remove}
+use Rattle.machine_data.specs.Maps.{Records, get, empty, insert, remove}
 use Rattle.task_table.specs.Table.{Table, Placed, found, standing}
 
 module _ {X : Type 0} where

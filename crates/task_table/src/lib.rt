@@ -1,6 +1,6 @@
 //! The resource table: entries of several kinds in one table, each named by an id whose place is given again and whose serial is not.
 //!
-//! It rests on `task_machine` alone, and the crates above know it by its contracts and its laws.
+//! It rests on `machine_data` alone, and the crates above know it by its contracts and its laws.
 #![tactic(auto)]
 
 mod error;
@@ -14,5 +14,5 @@ pub use error::{PushError, ResourceTableError};
 pub use id::TableId;
 pub use iter::TableIter;
 pub use kind::Kind;
+pub use machine_data::Trap;
 pub use table::ResourceTable;
-pub use task_machine::Trap;

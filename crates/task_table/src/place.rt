@@ -137,7 +137,10 @@ pub(crate) fn vacate<E>(places: &mut Vec<TableCell<E>>, rep: u32) -> TakenCell<E
 
 /// Makes room for one place more, and for freeing it, where no place is free.
 #[inline(always)]
-pub(crate) fn reserve<E>(places: &mut Vec<TableCell<E>>, free: &mut Vec<u32>) -> Result<(), AllocError>
+pub(crate) fn reserve<E>(
+    places: &mut Vec<TableCell<E>>,
+    free: &mut Vec<u32>,
+) -> Result<(), AllocError>
     requires { length places.old.items < 2 ^ 32 }
     ensures places { places.new.items ≡ places.old.items }
     ensures free { free.new.items ≡ free.old.items }
@@ -152,7 +155,11 @@ pub(crate) fn reserve<E>(places: &mut Vec<TableCell<E>>, free: &mut Vec<u32>) ->
 }
 
 /// Puts a slot at the place freed last, else at a new one.
-pub(crate) fn fill<E>(places: &mut Vec<TableCell<E>>, free: &mut Vec<u32>, slot: TakenCell<E>) -> u32
+pub(crate) fn fill<E>(
+    places: &mut Vec<TableCell<E>>,
+    free: &mut Vec<u32>,
+    slot: TakenCell<E>,
+) -> u32
     requires room { HasRoom places.old free.old }
     requires free { NextIsFree (reverse free.old.items) places.old.items }
     requires few { free.old.items ≡ [] → length places.old.items + 1 < 2 ^ 32 }

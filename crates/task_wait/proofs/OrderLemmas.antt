@@ -7,9 +7,9 @@ use Rattle.std.specs.List.{list_any}
 use Rattle.std.specs.Ordering.{is_lt}
 use Rattle.std.proofs.lemmas.Bool.{eq-eqb, eqb-true, ne_eqb, or_from, or_parts}
 use Rattle.std.proofs.lemmas.Cmp.{tied_itself}
-use Rattle.task_links.specs.Links.{Spot, In, Apart, entries, head_of, link_of, list_of, put_before, removed_by, unlinked, without}
+use Rattle.table_links.specs.Links.{Spot, In, Apart, entries, head_of, link_of, list_of, put_before, removed_by, unlinked, without}
 use Rattle.task_wait.specs.Sets.{IsAscending, IsLeast, is_to, place_of, placed, placed_at, taken_out}
-use Rattle.task_links.proofs.ReadLemmas.{entries-unlinked_same, made_linked}
+use Rattle.table_links.proofs.ReadLemmas.{entries-unlinked_same, made_linked}
 use Rattle.task_wait.proofs.WalkLemmas.{place_in}
 
 pub is_less : (o : Ordering) → is_lt o ≡ true → o ≡ Less

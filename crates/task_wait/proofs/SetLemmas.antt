@@ -1,9 +1,9 @@
 -- Laws of the first of a chain.
 use Rattle.std.proofs.Common.{◌≡◌, ℕ, inl, true, cond, List, [], ◌∷◌, drop, Option, Some, None, IsSome, refl, sym, ap, subst, ◌∙◌}
 use Rattle.std.proofs.lemmas.Bool.{eq-eqb}
-use Rattle.task_links.specs.Links.{Spot, In, IsLinks, entries, list_of, head_of, is_made, without, removed_by}
+use Rattle.table_links.specs.Links.{Spot, In, IsLinks, entries, list_of, head_of, is_made, without, removed_by}
 use Rattle.task_wait.specs.Sets.{without_first, without_entry}
-use Rattle.task_links.proofs.ReadLemmas.{made_linked, entries-unlinked_same}
+use Rattle.table_links.proofs.ReadLemmas.{made_linked, entries-unlinked_same}
 
 module _ {P : Type 0} where
   -- without its first, a chain has the rest of its list

@@ -2,12 +2,12 @@
 use Rattle.std.proofs.Common.{◌≡◌, ℕ, ◌+◌, ◌<◌, ◌||◌, inl, inr, Bool, true, false, cond, List, [], ◌∷◌, ◌++◌, length, Option, Some, None, refl, sym, ap, subst, ◌∙◌, arith, option_map}
 use Rattle.std.specs.List.{list_any}
 use Rattle.std.proofs.lemmas.Bool.{eq-eqb, ne_eqb, or_left, or_right}
-use Rattle.task_links.specs.Links.{Spot, In, Apart, IsLinks, entries, link_of, head_of, last_of, last_or, before, preceding, in_list}
+use Rattle.table_links.specs.Links.{Spot, In, Apart, IsLinks, entries, link_of, head_of, last_of, last_or, before, preceding, in_list}
 use Rattle.std.proofs.lemmas.Option.{same_Some}
 use Rattle.task_wait.specs.Sets.{place_of}
 use Rattle.task_wait.specs.Walks.{IsWalk, position_of, up_to}
-use Rattle.task_links.proofs.Paths.{In-here, before-at}
-use Rattle.task_links.proofs.Sounds.{nil_end}
+use Rattle.table_links.proofs.Paths.{In-here, before-at}
+use Rattle.table_links.proofs.Sounds.{nil_end}
 
 module _ {P : Type 0} where
   append_parts : (a b d : List (ℕ × P)) → (a ++ b) ++ d ≡ a ++ (b ++ d)

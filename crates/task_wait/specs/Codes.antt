@@ -1,6 +1,6 @@
 -- The numbers under which an event is handed to a guest.
 use Rattle.std.specs.Prelude.{ℕ, ◌%◌, ◌/◌}
-use Rattle.task_machine.specs.Statuses.{status_code}
+use Rattle.machine_data.specs.Statuses.{status_code}
 use Rattle.task_wait.specs.declared.codes.Event.{Event}
 use Rattle.task_wait.specs.declared.codes.Event.TheVariants as event
 

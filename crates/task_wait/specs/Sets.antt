@@ -4,7 +4,7 @@ use Rattle.std.specs.declared.cmp.Ordering.{Ordering}
 use Rattle.std.specs.List.{list_any}
 use Rattle.std.specs.Ordering.{is_lt}
 use Rattle.task_wait.specs.declared.set.WaitableSet.{WaitableSet}
-use Rattle.task_links.specs.Links.{Spot, entries, head_of, link_of, put_before, removed}
+use Rattle.table_links.specs.Links.{Spot, entries, head_of, link_of, put_before, removed}
 
 -- the chains of the ready members and of the waiters, and the flag
 abbrev pub ready_chain : WaitableSet → ℕ

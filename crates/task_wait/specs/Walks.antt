@@ -1,7 +1,7 @@
 -- A walk from the end of a list to the place of a new entry. No public clause cites this module.
 use Rattle.std.specs.Prelude.{◌≡◌, ℕ, ◌+◌, ◌==◌, if◌then◌else◌, Bool, false, List, [], ◌∷◌, ◌++◌, Option, Some, None, option_map}
 use Rattle.std.specs.List.{list_any}
-use Rattle.task_links.specs.Links.{head_of, last_of}
+use Rattle.table_links.specs.Links.{head_of, last_of}
 
 -- what is behind was found not to be less, and the last entry before it is the next to be looked at
 pub record IsWalk {P : Type 0} (less : P → Bool) (list : List (ℕ × P)) (last : Option (ℕ × P)) (place : Option ℕ) : Type 0 where

@@ -1,7 +1,7 @@
 ghost use Rattle.std.specs.Prelude.{◌≡◌};
 ghost use Rattle.task_wait.specs.Codes.{parts_of, unpacked};
 
-use task_machine::Status;
+use machine_data::Status;
 
 /// The code of a callback whose task is over.
 pub const EXIT: u32 = 0;

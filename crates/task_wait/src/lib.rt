@@ -5,18 +5,18 @@
 
 mod codes;
 mod keys;
-mod wait_laws;
 mod set;
+mod wait_laws;
 
 pub use codes::{BLOCKED, EXIT, Event, WAIT, YIELD, unpack_callback_code};
 pub use keys::{
     GroupKey, GuestTaskKey, HostTaskKey, SetKey, ThreadKey, TransmitKey, Waitable, WaitableCommon,
     WaiterKey,
 };
+pub use machine_data::{NoMemory, Status};
+pub use set::{WaitableSet, put_in_order};
+pub use table_links::{Links, Node, others_stay};
 pub use wait_laws::{
     callback_code_unpacks, packed_status_unpacks, waitables_by_kind_and_id,
     waiters_by_task_and_thread,
 };
-pub use set::{WaitableSet, put_in_order};
-pub use task_links::{Links, Node, others_stay};
-pub use task_machine::{NoMemory, Status};

@@ -1,12 +1,12 @@
 ghost use Rattle.std.specs.Prelude.{◌≡◌, ◌↔◌, ◌++◌, ◌∷◌, [], true, Some, None, IsSome, is_some, drop, IfSome, OnErr, IfOk};
 ghost use Rattle.std.specs.Option.{option_map};
-ghost use Rattle.task_links.specs.Links.{IsLinks, Renames, NamesSame, Unmade, ChainOf, entries, head_of, is_free, is_made, list_of, linked};
+ghost use Rattle.table_links.specs.Links.{IsLinks, Renames, NamesSame, Unmade, ChainOf, entries, head_of, is_free, is_made, list_of, linked};
 ghost use Rattle.task_wait.specs.Sets.{IsAscending, IsLeast, is_in, placed, place_of, ready_chain, ready_list, sync_flag, taken_out, waiter_chain, waiter_list, without_first};
 ghost use Rattle.std.specs.Ordering.{is_lt};
 
 use crate::keys::{Waitable, WaiterKey};
-use task_links::{Links, Node};
-use task_machine::NoMemory;
+use machine_data::NoMemory;
+use table_links::{Links, Node};
 
 /// A waitable set: the members that are ready, the threads that wait at it, and whether it is a sync one.
 ///

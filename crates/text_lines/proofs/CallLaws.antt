@@ -7,7 +7,7 @@ use Rattle.std.proofs.lemmas.Bool.{and_parts, and_from, eqb-true, ne_eqb}
 use Rattle.std.proofs.lemmas.Bool.Decides.{nat_tests}
 use Rattle.std.proofs.lemmas.List.{take-append-drop, drop_more, take_at, drop_at, drop-drop}
 use Rattle.std.proofs.lemmas.List.Quantifiers.{position-Some}
-use Rattle.task_machine.specs.declared.op.Operand.{Operand}
+use Rattle.machine_data.specs.declared.op.Operand.{Operand}
 use Rattle.text_lines.specs.declared.keyword.MainWord.{MainWord}
 use Rattle.text_lines.specs.declared.keyword.MainWord.TheVariants as main
 use Rattle.text_lines.specs.declared.line.CalleeName.{CalleeName}

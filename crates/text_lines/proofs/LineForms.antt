@@ -6,7 +6,7 @@ use Rattle.std.specs.Str.{bytes_eq}
 use Rattle.std.proofs.lemmas.Bool.{and_parts, and_from, eqb-true}
 use Rattle.std.proofs.lemmas.List.{nil_from_length}
 use Rattle.std.proofs.lemmas.Slice.Eq.{bytes_eq-Decides}
-use Rattle.task_machine.specs.declared.op.Operand.{Operand}
+use Rattle.machine_data.specs.declared.op.Operand.{Operand}
 use Rattle.text_lines.specs.Words.{◌>>=◌, one_of, two_of, three_of, four_of, each_at}
 use Rattle.text_lines.specs.LineWords.{register_word, operand_word}
 use Rattle.text_lines.specs.Fits.{register_fits, operand_fits}

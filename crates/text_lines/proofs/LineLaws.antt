@@ -5,11 +5,11 @@ use Rattle.std.specs.List.{list_all}
 use Rattle.std.specs.Str.{bytes_eq}
 use Rattle.std.proofs.lemmas.Bool.{and_parts, and_from}
 use Rattle.std.proofs.lemmas.Slice.Eq.{bytes_eq-Decides}
-use Rattle.task_machine.specs.declared.op.Operand.{Operand}
-use Rattle.task_machine.specs.declared.op.Operand.TheVariants.{Number}
-use Rattle.task_machine.specs.declared.op.Op.TheVariants as op
-use Rattle.task_machine.specs.declared.op.CallOp.TheVariants as call_op
-use Rattle.task_machine.specs.declared.component.ExportKind.{ExportKind}
+use Rattle.machine_data.specs.declared.op.Operand.{Operand}
+use Rattle.machine_data.specs.declared.op.Operand.TheVariants.{Number}
+use Rattle.machine_data.specs.declared.op.Op.TheVariants as op
+use Rattle.machine_data.specs.declared.op.CallOp.TheVariants as call_op
+use Rattle.machine_data.specs.declared.component.ExportKind.{ExportKind}
 use Rattle.text_lines.specs.declared.keyword.HeadWord.{HeadWord}
 use Rattle.text_lines.specs.declared.keyword.HeadWord.TheVariants as head
 use Rattle.text_lines.specs.declared.keyword.PartWord.{PartWord}

@@ -6,12 +6,12 @@ use Rattle.std.specs.Str.{all_ascii_digits, bytes_eq}
 use Rattle.std.proofs.lemmas.Fmt.{digits_decimal}
 use Rattle.std.proofs.lemmas.Bool.{and_parts, eqb-true, ne_eqb, le-leb, leb-true, lt-ltb, ltb-true}
 use Rattle.std.proofs.lemmas.Slice.Eq.{bytes_eq-Decides}
-use Rattle.task_machine.specs.declared.op.Operand.{Operand}
-use Rattle.task_machine.specs.declared.op.Operand.TheVariants.{Number, Register}
-use Rattle.task_machine.specs.declared.scenario.IdleLine.{IdleLine}
-use Rattle.task_machine.specs.declared.scenario.IdleLine.TheVariants as idle
-use Rattle.task_machine.specs.declared.component.ExportKind.{ExportKind}
-use Rattle.task_machine.specs.declared.component.ExportKind.TheVariants as kind
+use Rattle.machine_data.specs.declared.op.Operand.{Operand}
+use Rattle.machine_data.specs.declared.op.Operand.TheVariants.{Number, Register}
+use Rattle.machine_data.specs.declared.scenario.IdleLine.{IdleLine}
+use Rattle.machine_data.specs.declared.scenario.IdleLine.TheVariants as idle
+use Rattle.machine_data.specs.declared.component.ExportKind.{ExportKind}
+use Rattle.machine_data.specs.declared.component.ExportKind.TheVariants as kind
 use Rattle.text_lines.specs.Words.{◌>>=◌, number_at, bounded_at, register_up_to, register_at, operand_at, or_number, idle_at, kind_at}
 use Rattle.text_lines.specs.LineWords.{register_word, operand_word, idle_word, kind_word}
 use Rattle.text_lines.specs.Fits.{number_fits, register_fits, operand_fits}

@@ -1,17 +1,17 @@
 -- A line as it is read, apart from where it is.
 use Rattle.std.specs.Prelude.{ℕ, List, [], ◌∷◌, Option, Some, None, length, take, drop, ◌+◌, position, codes, ◌==◌, ◌&&◌, if◌then◌else◌}
 use Rattle.std.specs.Str.{bytes_eq}
-use Rattle.task_machine.specs.declared.op.Operand.{Operand}
-use Rattle.task_machine.specs.declared.op.Op.TheVariants as op
-use Rattle.task_machine.specs.declared.op.DataOp.{DataOp}
-use Rattle.task_machine.specs.declared.op.DataOp.TheVariants as data_op
-use Rattle.task_machine.specs.declared.op.TaskOp.{TaskOp}
-use Rattle.task_machine.specs.declared.op.TaskOp.TheVariants as task_op
-use Rattle.task_machine.specs.declared.op.SetOp.{SetOp}
-use Rattle.task_machine.specs.declared.op.SetOp.TheVariants as set_op
-use Rattle.task_machine.specs.declared.op.CallOp.TheVariants as call_op
-use Rattle.task_machine.specs.declared.op.ThreadOp.{ThreadOp}
-use Rattle.task_machine.specs.declared.op.ThreadOp.TheVariants as thread_op
+use Rattle.machine_data.specs.declared.op.Operand.{Operand}
+use Rattle.machine_data.specs.declared.op.Op.TheVariants as op
+use Rattle.machine_data.specs.declared.op.DataOp.{DataOp}
+use Rattle.machine_data.specs.declared.op.DataOp.TheVariants as data_op
+use Rattle.machine_data.specs.declared.op.TaskOp.{TaskOp}
+use Rattle.machine_data.specs.declared.op.TaskOp.TheVariants as task_op
+use Rattle.machine_data.specs.declared.op.SetOp.{SetOp}
+use Rattle.machine_data.specs.declared.op.SetOp.TheVariants as set_op
+use Rattle.machine_data.specs.declared.op.CallOp.TheVariants as call_op
+use Rattle.machine_data.specs.declared.op.ThreadOp.{ThreadOp}
+use Rattle.machine_data.specs.declared.op.ThreadOp.TheVariants as thread_op
 use Rattle.text_lines.specs.declared.keyword.HeadWord.{HeadWord}
 use Rattle.text_lines.specs.declared.keyword.HeadWord.TheVariants as head
 use Rattle.text_lines.specs.declared.keyword.PartWord.{PartWord}

@@ -1,23 +1,23 @@
 -- The words that spell each value and each line, one spelling for each. A word is a list of bytes.
 use Rattle.std.specs.Prelude.{ℕ, List, [], ◌∷◌, ◌++◌, map, decimal, codes}
-use Rattle.task_machine.specs.declared.component.ExportKind.{ExportKind}
-use Rattle.task_machine.specs.declared.component.ExportKind.TheVariants as kind
-use Rattle.task_machine.specs.declared.op.Operand.{Operand}
-use Rattle.task_machine.specs.declared.op.Operand.TheVariants.{Number, Register}
-use Rattle.task_machine.specs.declared.op.Op.{Op}
-use Rattle.task_machine.specs.declared.op.Op.TheVariants as op
-use Rattle.task_machine.specs.declared.op.DataOp.{DataOp}
-use Rattle.task_machine.specs.declared.op.DataOp.TheVariants as data_op
-use Rattle.task_machine.specs.declared.op.TaskOp.{TaskOp}
-use Rattle.task_machine.specs.declared.op.TaskOp.TheVariants as task_op
-use Rattle.task_machine.specs.declared.op.SetOp.{SetOp}
-use Rattle.task_machine.specs.declared.op.SetOp.TheVariants as set_op
-use Rattle.task_machine.specs.declared.op.CallOp.{CallOp}
-use Rattle.task_machine.specs.declared.op.CallOp.TheVariants as call_op
-use Rattle.task_machine.specs.declared.op.ThreadOp.{ThreadOp}
-use Rattle.task_machine.specs.declared.op.ThreadOp.TheVariants as thread_op
-use Rattle.task_machine.specs.declared.scenario.IdleLine.{IdleLine}
-use Rattle.task_machine.specs.declared.scenario.IdleLine.TheVariants as idle
+use Rattle.machine_data.specs.declared.component.ExportKind.{ExportKind}
+use Rattle.machine_data.specs.declared.component.ExportKind.TheVariants as kind
+use Rattle.machine_data.specs.declared.op.Operand.{Operand}
+use Rattle.machine_data.specs.declared.op.Operand.TheVariants.{Number, Register}
+use Rattle.machine_data.specs.declared.op.Op.{Op}
+use Rattle.machine_data.specs.declared.op.Op.TheVariants as op
+use Rattle.machine_data.specs.declared.op.DataOp.{DataOp}
+use Rattle.machine_data.specs.declared.op.DataOp.TheVariants as data_op
+use Rattle.machine_data.specs.declared.op.TaskOp.{TaskOp}
+use Rattle.machine_data.specs.declared.op.TaskOp.TheVariants as task_op
+use Rattle.machine_data.specs.declared.op.SetOp.{SetOp}
+use Rattle.machine_data.specs.declared.op.SetOp.TheVariants as set_op
+use Rattle.machine_data.specs.declared.op.CallOp.{CallOp}
+use Rattle.machine_data.specs.declared.op.CallOp.TheVariants as call_op
+use Rattle.machine_data.specs.declared.op.ThreadOp.{ThreadOp}
+use Rattle.machine_data.specs.declared.op.ThreadOp.TheVariants as thread_op
+use Rattle.machine_data.specs.declared.scenario.IdleLine.{IdleLine}
+use Rattle.machine_data.specs.declared.scenario.IdleLine.TheVariants as idle
 use Rattle.text_lines.specs.declared.line.HostWork.{HostWork}
 use Rattle.text_lines.specs.declared.line.HostWork.TheVariants as work
 

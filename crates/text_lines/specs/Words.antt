@@ -4,12 +4,12 @@ use Rattle.std.specs.List.{list_all}
 use Rattle.std.specs.Char.{is_ascii_digit, is_ascii_lowercase}
 use Rattle.std.specs.Str.{bytes_eq}
 use Rattle.std.specs.Str.Parse.{digits_value}
-use Rattle.task_machine.specs.declared.op.Operand.{Operand}
-use Rattle.task_machine.specs.declared.op.Operand.TheVariants.{Number, Register}
-use Rattle.task_machine.specs.declared.scenario.IdleLine.{IdleLine}
-use Rattle.task_machine.specs.declared.scenario.IdleLine.TheVariants as idle
-use Rattle.task_machine.specs.declared.component.ExportKind.{ExportKind}
-use Rattle.task_machine.specs.declared.component.ExportKind.TheVariants as kind
+use Rattle.machine_data.specs.declared.op.Operand.{Operand}
+use Rattle.machine_data.specs.declared.op.Operand.TheVariants.{Number, Register}
+use Rattle.machine_data.specs.declared.scenario.IdleLine.{IdleLine}
+use Rattle.machine_data.specs.declared.scenario.IdleLine.TheVariants as idle
+use Rattle.machine_data.specs.declared.component.ExportKind.{ExportKind}
+use Rattle.machine_data.specs.declared.component.ExportKind.TheVariants as kind
 
 infixl 10 ◌>>=◌
 abbrev pub ◌>>=◌ : {A B : Type 0} → Option A → (A → Option B) → Option B

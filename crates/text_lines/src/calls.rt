@@ -12,8 +12,8 @@ use crate::line::{CalleeName, Line, LineError, NamedCall, NamedOp};
 use crate::ops::{operand_after, target};
 use crate::parts::copied;
 use crate::words::{Name, bounded, is_name, register};
+use machine_data::{CallOp, Op, Operand, Seq};
 use std::alloc::Global;
-use task_machine::{CallOp, Op, Operand, Seq};
 
 fn dot(word: &[u8]) -> Option<usize>
     ensures place { result ≡ position (λ b. b == 46) word.now }

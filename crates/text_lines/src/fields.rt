@@ -7,8 +7,8 @@ ghost use Rattle.text_lines.specs.Gives.{Gives};
 
 use crate::line::LineError;
 use crate::words::{bounded, operand};
+use machine_data::{Operand, Seq};
 use std::alloc::Global;
-use task_machine::{Operand, Seq};
 
 pub fn one<'a>(words: &[&'a [u8]]) -> Option<&'a [u8]>
     ensures { option_map (λ a. a.now) result ≡ one_of (map (λ w. w.now) words.now) }

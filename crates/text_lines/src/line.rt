@@ -9,8 +9,8 @@ use crate::keyword::{FrameWord, Keyword};
 use crate::ops::{data_op_after, operand_after, set_op_after, task_op_after, thread_op_after};
 use crate::parts::{head_after, part_after};
 use crate::words::Name;
+use machine_data::{ExportKind, IdleLine, Op, Operand, Seq};
 use std::alloc::{AllocError, Global};
-use task_machine::{ExportKind, IdleLine, Op, Operand, Seq};
 
 /// A line of the text's head.
 #[derive(Drop)]

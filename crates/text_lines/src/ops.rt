@@ -5,7 +5,7 @@ ghost use Rattle.text_lines.specs.Line.{register_after, operand_after, target_af
 use crate::fields::{one, three, two};
 use crate::keyword::{DataWord, SetWord, TaskWord, ThreadWord};
 use crate::words::{bounded, event_register, operand, register};
-use task_machine::{DataOp, Operand, SetOp, TaskOp, ThreadOp};
+use machine_data::{DataOp, Operand, SetOp, TaskOp, ThreadOp};
 
 #[tactic(auto, unfolding(crate::specs::Line::register_after))]
 fn register_after(words: &[&[u8]]) -> Option<u8>

@@ -7,8 +7,8 @@ use crate::fields::{four, one, three};
 use crate::keyword::{HeadWord, PartWord};
 use crate::line::{HeadLine, HostWork, LineError, PartLine};
 use crate::words::{Name, bounded, export_kind, idle_line, is_name, number};
+use machine_data::Seq;
 use std::alloc::{AllocError, Global};
-use task_machine::Seq;
 
 pub fn copied(alloc: Global, name: &[u8]) -> Result<Name, AllocError>
     ensures { IfOk result (λ s. s ≡ name.now) }

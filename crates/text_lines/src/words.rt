@@ -4,7 +4,7 @@ ghost use Rattle.std.specs.Char.{is_ascii_digit};
 ghost use Rattle.std.specs.List.{list_all};
 ghost use Rattle.text_lines.specs.Words.{digits_at, number_at, bounded_at, register_up_to, register_at, operand_at, idle_at, kind_at, is_name_byte, is_name};
 
-use task_machine::{ExportKind, IdleLine, Operand, Seq};
+use machine_data::{ExportKind, IdleLine, Operand, Seq};
 
 /// A name: 1 to 16 of `a` to `z`, `0` to `9` and `_`, a letter first.
 pub type Name = Seq<u8>;

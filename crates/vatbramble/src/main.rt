@@ -1,7 +1,7 @@
 //! Runs scenarios of component calls: see the repository's README.
 #![tactic(auto)]
 
-use request_server::serve_tool;
+use serve_main::serve_tool;
 use std::alloc::AllocError;
 use std::process::ExitCode;
 use std::{env, io};

@@ -1,2 +1,4 @@
+pub mod OpenMainLemmas
+pub mod AskLemmas
 mod OpenLemmas
 mod RunLemmas

@@ -1,19 +1,19 @@
 -- A component with an open host has the scripts that it had.
-use Rattle.op_dispatch.specs.Fits.{call_op_fits, op_fits}
+use Rattle.ops_dispatch.specs.Fits.{call_op_fits, op_fits}
 use Rattle.std.proofs.Common.{ap, refl, subst, sym, ◌∙◌}
 use Rattle.std.specs.Prelude.{List, length, slice_get, ◌≡◌, ◌≤◌}
-use Rattle.task_laws.specs.Settings.{CodesInCallbacks}
-use Rattle.task_machine.specs.declared.component.Callee.{Callee}
-use Rattle.task_machine.specs.declared.component.Component.{Component}
-use Rattle.task_machine.specs.declared.component.HostDef.{HostDef}
-use Rattle.task_machine.specs.declared.op.CallOp.{CallOp}
-use Rattle.task_machine.specs.declared.op.CallOp.TheVariants as call_op
-use Rattle.task_machine.specs.declared.op.Op.{Op}
-use Rattle.task_machine.specs.declared.op.Op.TheVariants as op
-use Rattle.task_machine.specs.declared.records.Script.{Script}
-use Rattle.task_machine.specs.declared.records.Script.TheVariants as script
-use Rattle.task_rules.specs.Scripts.{script_in}
-use Rattle.task_turns.specs.WellFormed.{IsWellFormed}
+use Rattle.laws_states.specs.Settings.{CodesInCallbacks}
+use Rattle.machine_data.specs.declared.component.Callee.{Callee}
+use Rattle.machine_data.specs.declared.component.Component.{Component}
+use Rattle.machine_data.specs.declared.component.HostDef.{HostDef}
+use Rattle.machine_data.specs.declared.op.CallOp.{CallOp}
+use Rattle.machine_data.specs.declared.op.CallOp.TheVariants as call_op
+use Rattle.machine_data.specs.declared.op.Op.{Op}
+use Rattle.machine_data.specs.declared.op.Op.TheVariants as op
+use Rattle.machine_data.specs.declared.records.Script.{Script}
+use Rattle.machine_data.specs.declared.records.Script.TheVariants as script
+use Rattle.machine_rules.specs.Scripts.{script_in}
+use Rattle.ops_turns.specs.WellFormed.{IsWellFormed}
 
 module _ (c : Component) (hosts : List HostDef) where
   abbrev opened : Component

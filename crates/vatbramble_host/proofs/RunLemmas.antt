@@ -1,19 +1,19 @@
 -- What was driven is a run of the host.
 use Rattle.std.proofs.Common.{ap, refl, subst, sym, ◌∙◌}
 use Rattle.std.specs.Prelude.{List, [], length, ℕ, ◌≡◌, ◌≤◌}
-use Rattle.task_laws.specs.Settings.{CodesInCallbacks}
-use Rattle.task_machine.specs.Core.{State, Unscripted}
-use Rattle.task_machine.specs.declared.label.Label.{Label}
-use Rattle.task_machine.specs.declared.outcome.Outcome.{Outcome}
-use Rattle.task_places.proofs.OnceSteps.{runs_are_once}
-use Rattle.task_places.specs.Once.{RunsAreOnce}
-use Rattle.task_rules.specs.History.{history}
-use Rattle.task_rules.specs.Once.{EndsOnce}
-use Rattle.task_rules.specs.Outcome.{IsOutcome}
-use Rattle.task_rules.specs.Run.{Run}
-use Rattle.task_rules.specs.Stalled.{Setting}
+use Rattle.laws_states.specs.Settings.{CodesInCallbacks}
+use Rattle.machine_data.specs.Core.{State, Unscripted}
+use Rattle.machine_data.specs.declared.label.Label.{Label}
+use Rattle.machine_data.specs.declared.outcome.Outcome.{Outcome}
+use Rattle.laws_places.proofs.OnceSteps.{runs_are_once}
+use Rattle.laws_places.specs.Once.{RunsAreOnce}
+use Rattle.machine_rules.specs.History.{history}
+use Rattle.machine_rules.specs.Once.{EndsOnce}
+use Rattle.machine_rules.specs.Outcome.{IsOutcome}
+use Rattle.machine_rules.specs.Run.{Run}
+use Rattle.machine_rules.specs.Stalled.{Setting}
 use Rattle.task_run.specs.declared.scenario.Scenario.{Scenario}
-use Rattle.task_turns.specs.Drive.{Drives}
+use Rattle.ops_turns.specs.Drive.{Drives}
 use Rattle.vatbramble_host.specs.HostRuns.{IsHostRunOf, host_opening, host_setting}
 
 module _ (x : Scenario) (codes : CodesInCallbacks x.component) where

@@ -1,17 +1,17 @@
 -- What the run of a host is.
 use Rattle.std.specs.Prelude.{List, [], length, slice_set, ℕ, ◌≤◌}
-use Rattle.task_machine.specs.Core.{State, Unscripted, fresh}
-use Rattle.task_machine.specs.declared.component.HostDef.TheVariants as host_def
-use Rattle.task_machine.specs.declared.label.Label.{Label}
-use Rattle.task_machine.specs.declared.outcome.Outcome.{Outcome}
-use Rattle.task_machine.specs.declared.records.Turn.TheVariants as turn
-use Rattle.task_rules.specs.History.{history}
-use Rattle.task_rules.specs.Once.{EndsOnce}
-use Rattle.task_rules.specs.Outcome.{IsOutcome}
-use Rattle.task_rules.specs.Run.{Run}
-use Rattle.task_rules.specs.Stalled.{Setting}
+use Rattle.machine_data.specs.Core.{State, Unscripted, fresh}
+use Rattle.machine_data.specs.declared.component.HostDef.TheVariants as host_def
+use Rattle.machine_data.specs.declared.label.Label.{Label}
+use Rattle.machine_data.specs.declared.outcome.Outcome.{Outcome}
+use Rattle.machine_data.specs.declared.records.Turn.TheVariants as turn
+use Rattle.machine_rules.specs.History.{history}
+use Rattle.machine_rules.specs.Once.{EndsOnce}
+use Rattle.machine_rules.specs.Outcome.{IsOutcome}
+use Rattle.machine_rules.specs.Run.{Run}
+use Rattle.machine_rules.specs.Stalled.{Setting}
 use Rattle.task_run.specs.declared.scenario.Scenario.{Scenario}
-use Rattle.task_turns.specs.Turn.{state_at}
+use Rattle.ops_turns.specs.Turn.{state_at}
 
 -- the scenario whose host at this place is open
 abbrev pub with_open_host : ℕ → Scenario → Scenario

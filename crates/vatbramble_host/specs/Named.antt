@@ -1,5 +1,5 @@
 -- The exports that a text gives names to.
-use Rattle.scenario_text.specs.State.{small}
+use Rattle.text_scenario.specs.State.{small}
 use Rattle.std.specs.Option.{option_map}
 use Rattle.std.specs.Prelude.{List, Option, Some, [], position, slice_get, unwrap_or, ℕ}
 use Rattle.std.specs.Str.{bytes_eq}

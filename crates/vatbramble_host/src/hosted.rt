@@ -1,20 +1,19 @@
 //! A component with the limits of its store, and the run of a host over it.
 ghost use Rattle.std.specs.Prelude.{◌≡◌, ◌<◌, ◌≤◌, ◌↔◌, Err, IfErr, IfOk, IsOk, IsSome, None, OnErr, OnOk, Some, length, slice_get, ℕ};
-ghost use Rattle.scenario_text.specs.Grammar.{IsBadLine};
-ghost use Rattle.task_laws.specs.Settings.{CodesInCallbacks};
-ghost use Rattle.task_rules.specs.Texts.{text};
+ghost use Rattle.text_scenario.specs.Grammar.{IsBadLine};
+ghost use Rattle.laws_states.specs.Settings.{CodesInCallbacks};
+ghost use Rattle.machine_rules.specs.Texts.{text};
 ghost use Rattle.task_run.specs.Lower.{Reads};
-ghost use Rattle.task_turns.specs.WellFormed.{IsWellFormed};
+ghost use Rattle.ops_turns.specs.WellFormed.{IsWellFormed};
 ghost use Rattle.vatbramble_host.specs.HostRuns.{IsHostRunOf, with_open_host};
 ghost use Rattle.vatbramble_host.specs.Named.{func_named};
 
 use crate::error::HostError;
-use crate::names;
-use asking_main::{AskingMain, HostMain};
-use host_works::{AccessorTask, CalledTask, FromHost, OpenTask, OpenWork, ScriptedHost};
+use crate::{AskingMain, HostMain, names};
+use machine_data::{Component, HostDef, Seq};
 use std::alloc::Global;
+use store_works::{AccessorTask, CalledTask, FromHost, OpenTask, OpenWork, ScriptedHost};
 use task_loop::{Func, NoMemory, Outcome, Trace, run_concurrent};
-use task_machine::{Component, HostDef, Seq};
 use task_run::{RunError, Scenario, new_store, print_run, read_scenario, traps_on_idle};
 use task_store::Store;
 

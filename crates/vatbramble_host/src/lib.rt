@@ -1,16 +1,18 @@
-//! What a host of one's own imports: a component that is read from a scenario's text, a main without proofs, and its run.
-//!
-//! A host is a type with one method, `HostMain::next`: it says what it wants next by what came of the last ask. `Hosted::run` drives
-//! it, and the trace that it gives is a run of the component machine, whatever the host asks for.
+//! What a host without proofs imports: a main that says what it wants next and is answered what came of that, a component read
+//! from a text, its run, and the types of asks and answers.
 #![tactic(auto)]
 
+mod ask;
+mod asking;
 mod error;
 mod hosted;
 mod names;
+mod steps;
 
-pub use asking_main::{Answer, Ask, CallId, CallWords, HostMain, Refusal};
+pub use ask::{Answer, Ask, CallId, CallWords, HostMain, Refusal};
+pub use asking::AskingMain;
 pub use error::HostError;
-pub use host_works::{CalledTask, HostPoll, OpenTask};
 pub use hosted::{HostRun, Hosted};
+pub use machine_data::Trap;
+pub use store_works::{CalledTask, HostPoll, OpenTask};
 pub use task_loop::{Func, Instance, Outcome, Trace};
-pub use task_machine::Trap;

@@ -3,8 +3,8 @@ ghost use Rattle.std.specs.Prelude.{◌≡◌, position};
 ghost use Rattle.std.specs.Str.{bytes_eq};
 ghost use Rattle.vatbramble_host.specs.Named.{exports_named, func_named, instance_place, name_place};
 
+use machine_data::Seq;
 use task_loop::{Func, Instance};
-use task_machine::Seq;
 use task_run::InstanceNames;
 
 fn instance_position(names: &[InstanceNames], name: &[u8]) -> Option<usize>

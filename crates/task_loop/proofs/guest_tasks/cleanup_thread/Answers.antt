@@ -1,9 +1,9 @@
 -- The exit is told before the thread ends, and the finish after it.
-use Rattle.group_notices.specs.Moves.{StopsAt, moved}
-use Rattle.group_notices.specs.declared.tells.GroupsBefore.{GroupsBefore}
+use Rattle.store_notices.specs.Moves.{StopsAt, moved}
+use Rattle.store_notices.specs.declared.tells.GroupsBefore.{GroupsBefore}
 use Rattle.std.proofs.Common.{ap, arith, inl, inr, refl, subst, sym, ◌∙◌}
 use Rattle.std.specs.Prelude.{false, not, true, ℕ, ◌≡◌}
-use Rattle.order_laws.specs.KeptOrder.{LeavesInOrder}
+use Rattle.laws_order.specs.KeptOrder.{LeavesInOrder}
 use Rattle.task_group.specs.Listeners.{AnsweredErr, ToldWithHookOk}
 use Rattle.task_loop.proofs.EndedLemmas.{came_ok, ends_so, leaves_none, leaves_some}
 use Rattle.task_loop.proofs.GuestCallLemmas.{hears}
@@ -13,11 +13,11 @@ use Rattle.task_loop.proofs.guest_tasks.cleanup_thread.Goals as goal
 use Rattle.task_loop.proofs.guest_tasks.cleanup_thread.Goals.{else-last-via-else-last, else-last-via-then-last+else-is_none}
 use Rattle.task_loop.specs.Ended.{EndsTold, left_notices}
 use Rattle.task_loop.specs.Told.{groups_before_call}
-use Rattle.task_machine.specs.Core.{Core}
-use Rattle.task_machine.specs.Read.{end_of}
+use Rattle.machine_data.specs.Core.{Core}
+use Rattle.machine_data.specs.Read.{end_of}
 use Rattle.task_store.specs.Hosts.{HoldsWorks, held_by}
-use Rattle.task_words.specs.StateView.{thread_of}
-use Rattle.wake_laws.specs.Stands.{NoWakeLost}
+use Rattle.core_primitives.specs.StateView.{thread_of}
+use Rattle.laws_order.specs.Stands.{NoWakeLost}
 
 -- ---- No thread would be left
 

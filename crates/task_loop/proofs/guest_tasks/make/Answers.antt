@@ -1,5 +1,5 @@
 -- A call with a caller makes no group; one without makes one.
-use Rattle.state_calls.specs.declared.name_calls.QualifiedThreadId.{QualifiedThreadId}
+use Rattle.ops_state.specs.declared.name_calls.QualifiedThreadId.{QualifiedThreadId}
 use Rattle.std.proofs.Common.{ap, refl, subst, sym}
 use Rattle.std.specs.Prelude.{Option, is_some}
 use Rattle.task_loop.proofs.NewTaskLemmas.{called_makes}

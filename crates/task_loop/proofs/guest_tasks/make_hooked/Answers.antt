@@ -1,8 +1,8 @@
 -- A task in a new group, which the hook is told of before it is made.
-use Rattle.state_calls.specs.declared.error.TaskError.TheVariants as task_error
+use Rattle.ops_state.specs.declared.error.TaskError.TheVariants as task_error
 use Rattle.std.proofs.Common.{ap, refl, subst, sym, ◌∙◌, ◌≡◌}
 use Rattle.std.specs.Prelude.{None, ℕ, [], ◌∷◌}
-use Rattle.group_notices.proofs.MoveLemmas.{hook_is_ok_told}
+use Rattle.store_notices.proofs.MoveLemmas.{hook_is_ok_told}
 use Rattle.task_group.specs.Listeners.{ToldWithHookOk}
 use Rattle.task_loop.proofs.CallStartLemmas.{leaves_told_none, reason_back, reason_hook, reason_refused, unhooked_never}
 use Rattle.task_loop.proofs.GuestTaskLemmas.{begins_wants}
@@ -11,9 +11,9 @@ use Rattle.task_loop.proofs.NewTaskLemmas.{begins_still}
 use Rattle.task_loop.proofs.UnmadeLemmas.{unmade_back, unmade_refused}
 use Rattle.task_loop.proofs.guest_tasks.make_hooked.Goals as goal
 use Rattle.task_loop.specs.GuestCalls.{has_room, table_refusal}
-use Rattle.task_machine.specs.declared.records.NoticeKind.TheVariants as notice
-use Rattle.task_machine.specs.declared.trap.Trap.TheVariants as trap
-use Rattle.task_rules.specs.Notices.{told_of}
+use Rattle.machine_data.specs.declared.records.NoticeKind.TheVariants as notice
+use Rattle.machine_data.specs.declared.trap.Trap.TheVariants as trap
+use Rattle.machine_rules.specs.Notices.{told_of}
 
 pub returns-then-not-fits : goal.returns-then-not-fits
 returns-then-not-fits g c =

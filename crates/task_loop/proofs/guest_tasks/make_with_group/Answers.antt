@@ -2,14 +2,14 @@
 use Rattle.std.proofs.Common.{refl, subst, ◌∙◌}
 use Rattle.std.proofs.lemmas.Result.{err_from_is_err_and}
 use Rattle.std.specs.Prelude.{None, ℕ, [], ◌∷◌}
-use Rattle.group_notices.proofs.MoveLemmas.{unhooked_hook_is_ok}
+use Rattle.store_notices.proofs.MoveLemmas.{unhooked_hook_is_ok}
 use Rattle.task_group.specs.Listeners.{ToldWithHookOk}
 use Rattle.task_loop.proofs.CallStartLemmas.{leaves_told_none}
 use Rattle.task_loop.proofs.NewTaskLemmas.{begins_other, begins_reason, begins_still}
 use Rattle.task_loop.proofs.guest_tasks.make_with_group.Goals as goal
 use Rattle.task_loop.specs.GuestCalls.{has_room, table_refusal}
-use Rattle.task_machine.specs.declared.records.NoticeKind.TheVariants as notice
-use Rattle.task_rules.specs.Notices.{told_of}
+use Rattle.machine_data.specs.declared.records.NoticeKind.TheVariants as notice
+use Rattle.machine_rules.specs.Notices.{told_of}
 
 pub returns : goal.returns
 returns g c =

@@ -1,7 +1,7 @@
 -- The call is made, and in a trapped store all groups are finished then.
 use Rattle.std.proofs.Common.{ap, arith, inl, le_refl, subst, sym, ◌∙◌}
 use Rattle.std.specs.Prelude.{Bool, Ok, is_some, ◌≡◌, ◌≤◌, false, true}
-use Rattle.task_calls.proofs.TaskLemmas.{begun_in_order}
+use Rattle.ops_calls.proofs.TaskLemmas.{begun_in_order}
 use Rattle.task_group.specs.Listeners.{Listeners, errors_of}
 use Rattle.task_loop.proofs.GuestCallLemmas.{hears_of, makes_on, on_ok_of, rest_with, settled_ok}
 use Rattle.task_loop.proofs.GuestTaskLemmas.{begun_hosts, begun_open, still_hosts}
@@ -10,12 +10,12 @@ use Rattle.task_loop.proofs.NewTaskLemmas.{begins_core, err_is, unmade_heard}
 use Rattle.task_loop.proofs.guest_tasks.new_guest_task.Goals as goal
 use Rattle.task_loop.specs.Begun.{MakesTold, SettlesGroups}
 use Rattle.task_loop.specs.GuestCalls.{has_room}
-use Rattle.task_machine.specs.Core.{Core}
-use Rattle.task_machine.specs.declared.trap.Trap.TheVariants as trap
-use Rattle.state_calls.specs.declared.error.TaskError.TheVariants as task_error
+use Rattle.machine_data.specs.Core.{Core}
+use Rattle.machine_data.specs.declared.trap.Trap.TheVariants as trap
+use Rattle.ops_state.specs.declared.error.TaskError.TheVariants as task_error
 use Rattle.task_store.specs.Hosts.{HoldsWorks, held_by}
-use Rattle.task_turns.specs.Turn.{CoreInOrder}
-use Rattle.task_words.specs.StateView.{StateView}
+use Rattle.ops_turns.specs.Turn.{CoreInOrder}
+use Rattle.core_primitives.specs.StateView.{StateView}
 
 settles_core : (b : Bool) (left t : StateView) (old new : Listeners) → SettlesGroups b left t old new → t.core ≡ left.core
 settles_core true left t old new q = ap (λ (v : StateView). v.core) q.0

@@ -1,9 +1,9 @@
 -- The exit and the enter are told before the other thread runs.
-use Rattle.state_calls.specs.Currents.{IsCurrent}
+use Rattle.ops_state.specs.Currents.{IsCurrent}
 use Rattle.std.proofs.Common.{inl, inr, refl, subst, ◌∙◌}
 use Rattle.std.specs.Prelude.{ℕ}
-use Rattle.group_notices.specs.Moves.{StopsAt, moved}
-use Rattle.group_notices.specs.declared.tells.GroupsBefore.{GroupsBefore}
+use Rattle.store_notices.specs.Moves.{StopsAt, moved}
+use Rattle.store_notices.specs.declared.tells.GroupsBefore.{GroupsBefore}
 use Rattle.task_group.specs.Listeners.{ToldWithHookOk}
 use Rattle.task_loop.proofs.GuestCallLemmas.{hears, ran_of}
 use Rattle.task_loop.proofs.GuestTaskLemmas.{runs_holds}

@@ -1,17 +1,17 @@
 -- A host that the thread called is held.
-use Rattle.host_works.specs.Course.{one_fewer}
-use Rattle.host_works.specs.KeptWorks.{held}
+use Rattle.store_works.specs.Course.{one_fewer}
+use Rattle.store_works.specs.KeptWorks.{held}
 use Rattle.std.proofs.Common.{ap, arith, refl, sym, ◌∙◌}
 use Rattle.std.specs.Prelude.{None, Option, Some, option_map, ℕ, ◌≡◌}
-use Rattle.task_machine.specs.declared.component.HostDef.{HostDef}
-use Rattle.op_dispatch.proofs.StayLemmas.{ok_then}
+use Rattle.machine_data.specs.declared.component.HostDef.{HostDef}
+use Rattle.ops_dispatch.proofs.StayLemmas.{ok_then}
 use Rattle.task_loop.proofs.HoldLemmas.{held_run}
 use Rattle.task_loop.proofs.run.call_host_outlined.Goals as goal
 use Rattle.task_loop.specs.Threads.{StepsUntold}
 use Rattle.task_store.specs.Hosts.{held_after_call, held_by}
-use Rattle.task_words.specs.StateView.{work_of}
-use Rattle.task_turns.specs.StepResult.{Stands}
-use Rattle.task_turns.specs.declared.made.StepResult.{StepResult}
+use Rattle.core_primitives.specs.StateView.{work_of}
+use Rattle.ops_turns.specs.StepResult.{Stands}
+use Rattle.ops_turns.specs.declared.made.StepResult.{StepResult}
 
 -- what is left of the host that was polled
 fewer_of : (o : Option (ℕ × HostDef)) → option_map (λ (h : ℕ × HostDef). one_fewer h.1) o ≡ option_map one_fewer (option_map (λ (h : ℕ × HostDef). h.1) o)

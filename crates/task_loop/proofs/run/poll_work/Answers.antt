@@ -7,10 +7,10 @@ use Rattle.task_loop.proofs.ToldLemmas.{turns_asked}
 use Rattle.task_loop.proofs.TurnTellLemmas.{asked_after, part_core, tells_in_part, tells_turn, turns_part, works_asked, works_part}
 use Rattle.task_loop.proofs.run.poll_work.Goals as goal
 use Rattle.task_loop.specs.Told.{TellsPart, TellsWhole, groups_before_work}
-use Rattle.task_machine.specs.Core.{Core, Unscripted}
-use Rattle.task_machine.specs.declared.records.Turn.TheVariants as turn
+use Rattle.machine_data.specs.Core.{Core, Unscripted}
+use Rattle.machine_data.specs.declared.records.Turn.TheVariants as turn
 use Rattle.task_store.specs.Hosts.{HoldsWorks, held_by}
-use Rattle.task_turns.specs.Turn.{setting_of}
+use Rattle.ops_turns.specs.Turn.{setting_of}
 
 pub poll_next-made-requires-clause-placed : goal.poll_next-made-requires-clause-placed
 poll_next-made-requires-clause-placed g c = (c.requires.at.order.order Unscripted).in_place.placed

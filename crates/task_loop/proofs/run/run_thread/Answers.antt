@@ -6,14 +6,14 @@ use Rattle.task_loop.proofs.ToldLemmas.{current_is, makes_asked, run_runs, run_s
 use Rattle.task_loop.proofs.TurnTellLemmas.{asked_after, makes_part, names_asked, names_part, part_core, tells_in_part, tells_turn}
 use Rattle.task_loop.proofs.run.run_thread.Goals as goal
 use Rattle.task_loop.specs.Told.{TellsPart, TellsWhole, groups_before_run, turn_of}
-use Rattle.task_machine.specs.Core.{Core}
-use Rattle.task_machine.specs.declared.records.Turn.TheVariants as turn
+use Rattle.machine_data.specs.Core.{Core}
+use Rattle.machine_data.specs.declared.records.Turn.TheVariants as turn
 use Rattle.task_store.specs.Hosts.{HoldsWorks, held_by}
-use Rattle.task_turns.proofs.KeptLemmas.{made_in_order}
-use Rattle.task_turns.proofs.ThereLemmas.{core_in_order_there}
-use Rattle.task_turns.specs.StepResult.{Added}
-use Rattle.task_turns.specs.Turn.{IsFree, MakesStep, running_of}
-use Rattle.task_turns.specs.declared.made.MadeStep.{MadeStep}
+use Rattle.ops_turns.proofs.KeptLemmas.{made_in_order}
+use Rattle.ops_turns.proofs.ThereLemmas.{core_in_order_there}
+use Rattle.ops_turns.specs.StepResult.{Added}
+use Rattle.ops_turns.specs.Turn.{IsFree, MakesStep, running_of}
+use Rattle.ops_turns.specs.declared.made.MadeStep.{MadeStep}
 
 pub tell_run-told-requires-clause-stays : goal.tell_run-told-requires-clause-stays
 tell_run-told-requires-clause-stays g c = λ on.

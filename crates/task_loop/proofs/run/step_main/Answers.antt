@@ -5,10 +5,10 @@ use Rattle.task_loop.proofs.HasRunLemmas.{halted_by}
 use Rattle.task_loop.proofs.MainStepLemmas.{step_failed, step_turned}
 use Rattle.task_loop.proofs.run.step_main.Goals as goal
 use Rattle.task_loop.specs.declared.run.Halt.TheVariants as halt
-use Rattle.task_turns.specs.Main.{Steps}
-use Rattle.task_turns.specs.Turn.{setting_of}
-use Rattle.task_turns.specs.declared.mains.MainStep.{MainStep}
-use Rattle.task_turns.specs.declared.mains.MainStep.TheVariants as step
+use Rattle.ops_turns.specs.Main.{Steps}
+use Rattle.ops_turns.specs.Turn.{setting_of}
+use Rattle.ops_turns.specs.declared.mains.MainStep.{MainStep}
+use Rattle.ops_turns.specs.declared.mains.MainStep.TheVariants as step
 
 pub ask_main-requires : goal.ask_main-requires
 ask_main-requires g c = record { may = c.requires.may }

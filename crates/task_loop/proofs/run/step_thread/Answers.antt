@@ -1,24 +1,24 @@
 -- A step that calls a host is made apart.
-use Rattle.op_dispatch.specs.Fits.{calls_host}
+use Rattle.ops_dispatch.specs.Fits.{calls_host}
 use Rattle.std.proofs.Common.{refl, subst, sym}
 use Rattle.std.specs.Prelude.{IfOk, List, None, OnErr, true, ℕ, ◌≡◌}
 use Rattle.task_loop.proofs.HoldLemmas.{held_run}
 use Rattle.task_loop.proofs.run.step_thread.Goals as goal
 use Rattle.task_loop.specs.Threads.{RunsThread, StepsUntold}
-use Rattle.task_machine.specs.declared.component.Component.{Component}
-use Rattle.task_machine.specs.declared.label.Label.{Label}
-use Rattle.task_machine.specs.declared.words.HostPoll.{HostPoll}
-use Rattle.task_machine.specs.declared.words.HostPoll.TheVariants as host_poll
-use Rattle.task_machine.specs.declared.records.Turn.TheVariants as turn
-use Rattle.task_rules.specs.Scripts.{op_of}
+use Rattle.machine_data.specs.declared.component.Component.{Component}
+use Rattle.machine_data.specs.declared.label.Label.{Label}
+use Rattle.machine_data.specs.declared.words.HostPoll.{HostPoll}
+use Rattle.machine_data.specs.declared.words.HostPoll.TheVariants as host_poll
+use Rattle.machine_data.specs.declared.records.Turn.TheVariants as turn
+use Rattle.machine_rules.specs.Scripts.{op_of}
 use Rattle.task_store.specs.Hosts.{held_by}
-use Rattle.task_turns.specs.Ran.{RanPolls}
-use Rattle.task_turns.specs.StepResult.{CallsHost, RunAdded}
-use Rattle.task_turns.specs.Turn.{IsFree, MakesStep}
-use Rattle.task_turns.specs.declared.made.Ran.{Ran}
-use Rattle.task_turns.specs.declared.made.RunStep.{RunStep}
-use Rattle.task_turns.specs.declared.made.StepResult.{StepResult}
-use Rattle.task_words.specs.StateView.{StateView}
+use Rattle.ops_turns.specs.Ran.{RanPolls}
+use Rattle.ops_turns.specs.StepResult.{CallsHost, RunAdded}
+use Rattle.ops_turns.specs.Turn.{IsFree, MakesStep}
+use Rattle.ops_turns.specs.declared.made.Ran.{Ran}
+use Rattle.ops_turns.specs.declared.made.RunStep.{RunStep}
+use Rattle.ops_turns.specs.declared.made.StepResult.{StepResult}
+use Rattle.core_primitives.specs.StateView.{StateView}
 
 -- what came of the step
 abbrev Came : Component → ℕ → (s t : StateView) → (before after : List Label) → RunStep → Type 0

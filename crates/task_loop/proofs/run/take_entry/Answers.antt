@@ -4,11 +4,11 @@ use Rattle.task_loop.proofs.TakenLemmas.{none_kept, turned_asked, turned_part}
 use Rattle.task_loop.proofs.TurnTellLemmas.{asked_after, tells_in_part, tells_turn, works_asked, works_part}
 use Rattle.task_loop.proofs.run.take_entry.Goals as goal
 use Rattle.task_loop.specs.Told.{groups_before_work}
-use Rattle.task_machine.specs.declared.records.Turn.TheVariants as turn
-use Rattle.task_turns.specs.StepResult.{AddedOrNone}
-use Rattle.task_turns.specs.Turn.{TurnedBeside}
-use Rattle.task_words.specs.Groups.{IsAsked}
-use Rattle.task_words.specs.StateView.{StateView}
+use Rattle.machine_data.specs.declared.records.Turn.TheVariants as turn
+use Rattle.ops_turns.specs.StepResult.{AddedOrNone}
+use Rattle.ops_turns.specs.Turn.{TurnedBeside}
+use Rattle.core_primitives.specs.Groups.{IsAsked}
+use Rattle.core_primitives.specs.StateView.{StateView}
 
 pub returns-in-Ok-tell_work-clause-taken : goal.returns-in-Ok-tell_work-clause-taken
 returns-in-Ok-tell_work-clause-taken g c =

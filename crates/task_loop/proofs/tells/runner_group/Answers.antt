@@ -2,8 +2,8 @@
 use Rattle.std.proofs.Common.{ap, sym, ◌∙◌}
 use Rattle.std.specs.Prelude.{option_map}
 use Rattle.task_loop.proofs.tells.runner_group.Goals as goal
-use Rattle.task_turns.proofs.OrderLemmas.{positive}
-use Rattle.task_words.specs.StateView.{thread_of}
+use Rattle.ops_turns.proofs.OrderLemmas.{positive}
+use Rattle.core_primitives.specs.StateView.{thread_of}
 
 pub group_unchecked-requires : goal.group_unchecked-requires
 group_unchecked-requires c =

@@ -1,10 +1,10 @@
 use Rattle.std.proofs.Common.{drop, length, ◌-◌, ◌≡◌, ◌≤◌}
-use Rattle.task_machine.specs.declared.component.Component.{Component}
-use Rattle.task_machine.specs.declared.records.Turn.{Turn}
+use Rattle.machine_data.specs.declared.component.Component.{Component}
+use Rattle.machine_data.specs.declared.records.Turn.{Turn}
 use Rattle.task_nursery.specs.Numbers.{numbered}
 use Rattle.task_nursery.specs.Scope.{AreOf, those_aborted}
 use Rattle.task_store.specs.Hosts.{HoldsHosts}
-use Rattle.task_turns.specs.Turn.{CoreInOrder}
+use Rattle.ops_turns.specs.Turn.{CoreInOrder}
 use Rattle.task_nursery.proofs.nursery.abort_all.Given as goal
 
 abbrev pub invariant-running : goal.invariant-running

@@ -5,7 +5,7 @@ use Rattle.std.specs.Prelude.{Bool, false, true, ◌≡◌}
 use Rattle.task_nursery.proofs.NumberLemmas.{first_found, first_passes}
 use Rattle.task_nursery.specs.Children.{has_ended}
 use Rattle.task_nursery.specs.Numbers.{numbered}
-use Rattle.task_words.specs.StateView.{StateView}
+use Rattle.core_primitives.specs.StateView.{StateView}
 use Rattle.task_nursery.proofs.nursery.seek_ended.Goals as goal
 
 pub has_ended_at-requires-clause-of : goal.has_ended_at-requires-clause-of

@@ -1,7 +1,7 @@
 use Rattle.std.proofs.Common.{◌≡◌, ◌≤◌, ◌<◌, ℕ, zero, suc, List, [], ◌∷◌, ◌++◌, length, refl, ap, sym, ◌∙◌, length-append, arith}
 use Rattle.std.specs.Prelude.{replicate}
-use Rattle.task_machine.specs.declared.component.Slot.{Slot}
-use Rattle.task_machine.specs.declared.component.Slot.TheVariants as slot
+use Rattle.machine_data.specs.declared.component.Slot.{Slot}
+use Rattle.machine_data.specs.declared.component.Slot.TheVariants as slot
 use Rattle.task_run.proofs.lower.empty_slots.Goals as goal
 
 replicate_last : (n : ℕ) (x : Slot) → replicate n x ++ x ∷ [] ≡ replicate (suc n) x

@@ -1,6 +1,6 @@
 use Rattle.std.proofs.Common.{◌≡◌, ◌≤◌, ◌-◌, length}
 use Rattle.std.specs.Prelude.{replicate}
-use Rattle.task_machine.specs.declared.component.Slot.TheVariants as slot
+use Rattle.machine_data.specs.declared.component.Slot.TheVariants as slot
 use Rattle.task_run.proofs.lower.empty_slots.Given as goal
 
 abbrev pub invariant-loop-slots : goal.invariant-loop-slots

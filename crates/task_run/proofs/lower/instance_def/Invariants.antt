@@ -1,7 +1,7 @@
 use Rattle.std.proofs.Common.{◌≡◌, map}
 use Rattle.std.specs.Prelude.{replicate}
-use Rattle.scenario_text.specs.Spelling.{exports_in}
-use Rattle.task_machine.specs.declared.component.Slot.TheVariants as slot
+use Rattle.text_scenario.specs.Spelling.{exports_in}
+use Rattle.machine_data.specs.declared.component.Slot.TheVariants as slot
 use Rattle.task_run.specs.Lower.{export_def, slots_after}
 use Rattle.task_run.proofs.lower.instance_def.Given as goal
 

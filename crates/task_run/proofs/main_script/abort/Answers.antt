@@ -1,11 +1,11 @@
 use Rattle.std.proofs.Common.{ap, sym}
 use Rattle.std.specs.Prelude.{None, ◌≡◌}
-use Rattle.task_machine.specs.Core.{Core}
-use Rattle.task_machine.specs.Maps.{get}
+use Rattle.machine_data.specs.Core.{Core}
+use Rattle.machine_data.specs.Maps.{get}
 use Rattle.task_run.proofs.main_script.abort.Goals as goal
 use Rattle.task_run.specs.Spawns.{number_in}
 use Rattle.task_store.proofs.SpawnLemmas.{gone_aborted}
-use Rattle.task_words.specs.StateView.{with_core}
+use Rattle.core_primitives.specs.StateView.{with_core}
 
 pub returns-in-None-clause-store : goal.returns-in-None-clause-store
 returns-in-None-clause-store g c =

@@ -3,22 +3,22 @@ use Rattle.std.proofs.Common.{◌∙◌, ap, refl, subst, sym}
 use Rattle.std.specs.Option.{option_map}
 use Rattle.std.specs.Prelude.{◌-◌}
 use Rattle.std.proofs.lemmas.Option.{slice_get-map}
-use Rattle.task_machine.specs.Core.{Scripted}
-use Rattle.task_machine.specs.declared.label.Label.TheVariants as label
-use Rattle.task_machine.specs.declared.label.MainLabel.TheVariants as main_label
-use Rattle.task_machine.specs.declared.scenario.MainOpDef.TheVariants as machine
-use Rattle.task_ops.specs.Works.{KeepsWorks}
-use Rattle.task_rules.specs.MainOps.{spawned_at}
+use Rattle.machine_data.specs.Core.{Scripted}
+use Rattle.machine_data.specs.declared.label.Label.TheVariants as label
+use Rattle.machine_data.specs.declared.label.MainLabel.TheVariants as main_label
+use Rattle.machine_data.specs.declared.scenario.MainOpDef.TheVariants as machine
+use Rattle.ops_guests.specs.Works.{KeepsWorks}
+use Rattle.machine_rules.specs.MainOps.{spawned_at}
 use Rattle.task_run.specs.Script.{machine_op, part_of, place_of, script_of}
 use Rattle.task_run.specs.Spawns.{number_in}
 use Rattle.task_run.proofs.ScriptLemmas.{did_by_rule}
 use Rattle.task_run.proofs.SpawnLemmas.{aborted_rule, spawn_known}
 use Rattle.task_run.proofs.StepLemmas.{script_stepped}
 use Rattle.task_run.proofs.main_script.abort_work.Goals as goal
-use Rattle.task_turns.specs.Main.{Steps}
-use Rattle.task_turns.specs.Turn.{running_of}
-use Rattle.task_turns.specs.declared.mains.MainStep.TheVariants as step
-use Rattle.task_words.specs.StateView.{StateView}
+use Rattle.ops_turns.specs.Main.{Steps}
+use Rattle.ops_turns.specs.Turn.{running_of}
+use Rattle.ops_turns.specs.declared.mains.MainStep.TheVariants as step
+use Rattle.core_primitives.specs.StateView.{StateView}
 
 pub abort-phase-requires-clause-spawned : goal.abort-phase-requires-clause-spawned
 abort-phase-requires-clause-spawned g w = spawn_known w.args.main.now w.args.access.now.store.now.state (w.args.spawn - 1) w.spawned-work.result w.spawned-work.ensures.is w.requires.may.knows

@@ -3,17 +3,17 @@ use Rattle.std.proofs.Common.{◌∙◌, ap, refl, sym}
 use Rattle.std.specs.Option.{option_map}
 use Rattle.std.specs.Prelude.{Bool, not}
 use Rattle.std.proofs.lemmas.Option.{slice_get-map}
-use Rattle.task_machine.specs.Core.{Scripted}
-use Rattle.task_machine.specs.declared.label.Label.TheVariants as label
-use Rattle.task_machine.specs.declared.label.MainLabel.TheVariants as main_label
-use Rattle.task_machine.specs.declared.scenario.MainOpDef.TheVariants as machine
-use Rattle.task_rules.specs.MainOps.{unless_pending}
+use Rattle.machine_data.specs.Core.{Scripted}
+use Rattle.machine_data.specs.declared.label.Label.TheVariants as label
+use Rattle.machine_data.specs.declared.label.MainLabel.TheVariants as main_label
+use Rattle.machine_data.specs.declared.scenario.MainOpDef.TheVariants as machine
+use Rattle.machine_rules.specs.MainOps.{unless_pending}
 use Rattle.task_run.specs.Script.{machine_op, part_of, place_of, script_of}
 use Rattle.task_run.proofs.ScriptLemmas.{did_by_rule, pends_by_rule}
 use Rattle.task_run.proofs.StepLemmas.{script_stepped}
 use Rattle.task_run.proofs.main_script.await_quiet.Goals as goal
-use Rattle.task_turns.specs.Main.{Steps}
-use Rattle.task_turns.specs.declared.mains.MainStep.TheVariants as step
+use Rattle.ops_turns.specs.Main.{Steps}
+use Rattle.ops_turns.specs.declared.mains.MainStep.TheVariants as step
 
 pub returns-then-has_interesting-clause-step : goal.returns-then-has_interesting-clause-step
 returns-then-has_interesting-clause-step g w =

@@ -2,21 +2,21 @@
 use Rattle.std.proofs.Common.{◌∙◌, ap, refl, subst, sym}
 use Rattle.std.specs.Option.{option_map}
 use Rattle.std.proofs.lemmas.Option.{slice_get-map}
-use Rattle.task_machine.specs.Core.{Scripted}
-use Rattle.task_machine.specs.declared.label.Label.TheVariants as label
-use Rattle.task_machine.specs.declared.label.MainLabel.TheVariants as main_label
-use Rattle.task_machine.specs.declared.scenario.MainOpDef.TheVariants as machine
-use Rattle.task_ops.specs.Works.{KeepsWorks}
-use Rattle.task_rules.specs.MainOps.{finish_act, finish_result}
+use Rattle.machine_data.specs.Core.{Scripted}
+use Rattle.machine_data.specs.declared.label.Label.TheVariants as label
+use Rattle.machine_data.specs.declared.label.MainLabel.TheVariants as main_label
+use Rattle.machine_data.specs.declared.scenario.MainOpDef.TheVariants as machine
+use Rattle.ops_guests.specs.Works.{KeepsWorks}
+use Rattle.machine_rules.specs.MainOps.{finish_act, finish_result}
 use Rattle.task_run.specs.Script.{machine_op, part_of, place_of, script_of}
 use Rattle.task_run.proofs.ScriptLemmas.{did_by_rule, pends_by_rule}
 use Rattle.task_run.proofs.StepLemmas.{script_stepped}
 use Rattle.task_loop.proofs.StartLemmas.{finish_holds}
 use Rattle.task_store.specs.Hosts.{held_by}
-use Rattle.task_turns.specs.Main.{Steps}
-use Rattle.task_turns.specs.Turn.{running_of}
-use Rattle.task_turns.specs.declared.mains.MainStep.TheVariants as step
-use Rattle.task_words.specs.StateView.{StateView}
+use Rattle.ops_turns.specs.Main.{Steps}
+use Rattle.ops_turns.specs.Turn.{running_of}
+use Rattle.ops_turns.specs.declared.mains.MainStep.TheVariants as step
+use Rattle.core_primitives.specs.StateView.{StateView}
 use Rattle.task_run.proofs.main_script.finish_call.Goals as goal
 
 pub returns-in-Ready-clause-steps : goal.returns-in-Ready-clause-steps

@@ -4,16 +4,16 @@ use Rattle.std.specs.Option.{option_map}
 use Rattle.std.specs.Prelude.{IfSome, IsSome, Option}
 use Rattle.std.proofs.lemmas.List.{length-map, map_push}
 use Rattle.std.proofs.lemmas.Option.{slice_get-map}
-use Rattle.task_machine.specs.Write.{set_trapped}
-use Rattle.task_machine.specs.declared.component.ExportDef.{ExportDef}
-use Rattle.task_machine.specs.declared.label.MainLabel.TheVariants as main_label
-use Rattle.task_machine.specs.declared.records.Turn.TheVariants as turn
-use Rattle.task_machine.specs.declared.scenario.MainOpDef.TheVariants as machine
-use Rattle.task_rules.specs.MainOps.{Does, start_act, start_refusal}
-use Rattle.task_rules.specs.Scripts.{value_in}
-use Rattle.task_calls.specs.MainCalls.{Starts}
-use Rattle.state_calls.specs.declared.error.TaskError.{TaskError}
-use Rattle.state_calls.specs.declared.error.TaskError.TheVariants as task_error
+use Rattle.machine_data.specs.Write.{set_trapped}
+use Rattle.machine_data.specs.declared.component.ExportDef.{ExportDef}
+use Rattle.machine_data.specs.declared.label.MainLabel.TheVariants as main_label
+use Rattle.machine_data.specs.declared.records.Turn.TheVariants as turn
+use Rattle.machine_data.specs.declared.scenario.MainOpDef.TheVariants as machine
+use Rattle.machine_rules.specs.MainOps.{Does, start_act, start_refusal}
+use Rattle.machine_rules.specs.Scripts.{value_in}
+use Rattle.ops_calls.specs.MainCalls.{Starts}
+use Rattle.ops_state.specs.declared.error.TaskError.{TaskError}
+use Rattle.ops_state.specs.declared.error.TaskError.TheVariants as task_error
 use Rattle.task_loop.proofs.CallStartLemmas.{stop_starts, stop_told}
 use Rattle.task_loop.proofs.HookLemmas.{unfailed}
 use Rattle.task_loop.proofs.MainStartLemmas.{refusal_stepped, shows_refusal, shows_start, start_failed, start_stepped}
@@ -23,8 +23,8 @@ use Rattle.task_run.specs.Script.{machine_op, part_of, place_of, script_of, star
 use Rattle.task_run.proofs.ScriptLemmas.{asked_names, did_by_rule, refused_rule, start_names, started_rule}
 use Rattle.task_run.proofs.SpawnLemmas.{knows_still}
 use Rattle.task_run.proofs.StepLemmas.{suits_still}
-use Rattle.task_turns.specs.Main.{Steps}
-use Rattle.task_words.specs.StateView.{on_core}
+use Rattle.ops_turns.specs.Main.{Steps}
+use Rattle.core_primitives.specs.StateView.{on_core}
 use Rattle.task_run.proofs.main_script.make_start.Goals as goal
 
 pub start_call_concurrent-requires-clause-covered : goal.start_call_concurrent-requires-clause-covered

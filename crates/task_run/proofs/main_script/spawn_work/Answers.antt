@@ -6,14 +6,14 @@ use Rattle.std.proofs.lemmas.List.{length-map, map_push}
 use Rattle.std.proofs.lemmas.Option.{slice_get-map}
 use Rattle.task_loop.proofs.MainStepLemmas.{stepped_quietly}
 use Rattle.task_loop.proofs.StartLemmas.{current_still}
-use Rattle.task_machine.specs.Core.{Unscripted}
-use Rattle.task_machine.specs.declared.component.HostDef.{HostDef}
-use Rattle.task_machine.specs.declared.label.Label.TheVariants as label
-use Rattle.task_machine.specs.declared.label.MainLabel.TheVariants as main_label
-use Rattle.task_machine.specs.declared.records.WorkCaller.TheVariants as work_caller
-use Rattle.task_machine.specs.declared.scenario.MainOpDef.TheVariants as machine
-use Rattle.task_rules.specs.Calls.{next_work, work_queued}
-use Rattle.task_rules.specs.MainOps.{Does, main_spawned}
+use Rattle.machine_data.specs.Core.{Unscripted}
+use Rattle.machine_data.specs.declared.component.HostDef.{HostDef}
+use Rattle.machine_data.specs.declared.label.Label.TheVariants as label
+use Rattle.machine_data.specs.declared.label.MainLabel.TheVariants as main_label
+use Rattle.machine_data.specs.declared.records.WorkCaller.TheVariants as work_caller
+use Rattle.machine_data.specs.declared.scenario.MainOpDef.TheVariants as machine
+use Rattle.machine_rules.specs.Calls.{next_work, work_queued}
+use Rattle.machine_rules.specs.MainOps.{Does, main_spawned}
 use Rattle.task_run.specs.Says.{script_says}
 use Rattle.task_run.specs.Script.{machine_op, part_of, place_of, script_of}
 use Rattle.task_run.proofs.ScriptLemmas.{did_by_rule, spawned_rule}
@@ -22,8 +22,8 @@ use Rattle.task_run.proofs.StepLemmas.{suits_still}
 use Rattle.task_run.proofs.main_script.spawn_work.Goals as goal
 use Rattle.task_store.specs.declared.spawn.SpawnHandle.{SpawnHandle}
 use Rattle.task_store.specs.declared.store.Store.{Store}
-use Rattle.task_turns.specs.Main.{Steps}
-use Rattle.task_turns.specs.declared.mains.MainStep.TheVariants as step
+use Rattle.ops_turns.specs.Main.{Steps}
+use Rattle.ops_turns.specs.declared.mains.MainStep.TheVariants as step
 
 -- the script spawns a host that is there
 pub unreachable-requires : goal.unreachable-requires

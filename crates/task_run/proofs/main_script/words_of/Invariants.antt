@@ -1,5 +1,5 @@
 use Rattle.std.proofs.Common.{◌≡◌, take}
-use Rattle.task_rules.specs.Scripts.{values_in}
+use Rattle.machine_rules.specs.Scripts.{values_in}
 use Rattle.task_run.proofs.main_script.words_of.Given as goal
 
 abbrev pub invariant-loop-operand : goal.invariant-loop-operand

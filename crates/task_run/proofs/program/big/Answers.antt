@@ -1,7 +1,7 @@
-use Rattle.generated_scenario.specs.Summary.{summary}
+use Rattle.text_report.specs.Summary.{summary}
 use Rattle.std.proofs.Common.{ap, ◌∙◌}
 use Rattle.std.specs.Prelude.{List}
-use Rattle.task_machine.specs.declared.label.Label.{Label}
+use Rattle.machine_data.specs.declared.label.Label.{Label}
 use Rattle.task_run.proofs.ToolLemmas.{summed}
 use Rattle.task_run.proofs.program.big.Goals as goal
 

@@ -1,5 +1,5 @@
 use Rattle.std.proofs.Common.{ap, Err, refl}
-use Rattle.scenario_reader.specs.declared.error.RunError.{RunError}
+use Rattle.text_reader.specs.declared.error.RunError.{RunError}
 use Rattle.task_run.specs.Tool.{Reported}
 use Rattle.task_run.proofs.ToolLemmas.{cut_report, said_bad_line}
 use Rattle.task_run.proofs.program.report_on.Goals as goal

@@ -1,9 +1,9 @@
 use Rattle.std.proofs.Common.{◌++◌, ℕ, List, [], refl, subst, ap, ◌∙◌, append-nil, arith}
 use Rattle.std.specs.Prelude.{Result, Ok, Err, OnOk}
-use Rattle.byte_streams.specs.Outside.{Appends}
-use Rattle.byte_streams.proofs.Appending.{appends_none, appends_then, behind}
-use Rattle.report_text.specs.Lines.{lines_of}
-use Rattle.task_rules.specs.Texts.{text}
+use Rattle.text_bytes.specs.Outside.{Appends}
+use Rattle.text_bytes.proofs.Appending.{appends_none, appends_then, behind}
+use Rattle.text_report.specs.Lines.{lines_of}
+use Rattle.machine_rules.specs.Texts.{text}
 use Rattle.task_run.proofs.Fronts.{filled, page_cut, turned, whole}
 use Rattle.task_run.proofs.program.write_report.Goals as goal
 

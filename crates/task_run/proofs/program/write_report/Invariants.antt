@@ -1,6 +1,6 @@
 use Rattle.std.proofs.Common.{◌≡◌, ℕ, ◌≤◌, ◌++◌, List, length}
-use Rattle.report_text.specs.Lines.{lines_of}
-use Rattle.byte_streams.specs.Outside.{Appends}
+use Rattle.text_report.specs.Lines.{lines_of}
+use Rattle.text_bytes.specs.Outside.{Appends}
 use Rattle.task_run.proofs.program.write_report.Given as goal
 
 abbrev pub invariant-pages : goal.invariant-pages

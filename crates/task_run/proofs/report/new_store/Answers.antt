@@ -1,11 +1,11 @@
 use Rattle.std.proofs.Common.{◌≡◌, ◌<◌, ◌≤◌, ◌+◌, ◌∙◌, suc, ap, arith}
-use Rattle.make_words.specs.Instances.{with_instance}
-use Rattle.task_machine.specs.Core.{fresh}
-use Rattle.task_machine.specs.Maps.{size}
-use Rattle.task_records.specs.Seen.{nothing}
+use Rattle.core_makes.specs.Instances.{with_instance}
+use Rattle.machine_data.specs.Core.{fresh}
+use Rattle.machine_data.specs.Maps.{size}
+use Rattle.core_records.specs.Seen.{nothing}
 use Rattle.task_store.proofs.FreshLemmas.{fresh_more, limits_set, size_fresh}
-use Rattle.task_turns.proofs.FreshLemmas.{given_fresh}
-use Rattle.task_words.specs.StateView.{StateView, with_core}
+use Rattle.ops_turns.proofs.FreshLemmas.{given_fresh}
+use Rattle.core_primitives.specs.StateView.{StateView, with_core}
 use Rattle.task_run.proofs.report.new_store.Goals as goal
 
 pub add_instance-requires : goal.add_instance-requires

@@ -1,9 +1,9 @@
 use Rattle.std.proofs.Common.{◌≡◌, false, true}
 use Rattle.task_group.specs.Listeners.{nobody}
-use Rattle.host_works.specs.KeptWorks.{HoldsNone}
-use Rattle.task_machine.specs.Core.{fresh}
-use Rattle.task_records.specs.Seen.{nothing}
-use Rattle.task_words.specs.StateView.{with_core}
+use Rattle.store_works.specs.KeptWorks.{HoldsNone}
+use Rattle.machine_data.specs.Core.{fresh}
+use Rattle.core_records.specs.Seen.{nothing}
+use Rattle.core_primitives.specs.StateView.{with_core}
 use Rattle.task_run.proofs.report.new_store.Given as goal
 
 abbrev pub invariant-loop-made : goal.invariant-loop-made

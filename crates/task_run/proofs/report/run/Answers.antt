@@ -1,16 +1,16 @@
 use Rattle.std.proofs.Common.{◌∙◌, ◌+◌, ◌*◌, ap, refl, subst, sym, arith}
 use Rattle.std.proofs.Common.{List}
 use Rattle.task_group.specs.Listeners.{Listeners}
-use Rattle.task_machine.specs.declared.records.Notice.{Notice}
-use Rattle.task_machine.specs.declared.records.Turn.TheVariants as turn
-use Rattle.task_machine.specs.Core.{Scripted}
-use Rattle.task_rules.specs.Run.{main_opening}
-use Rattle.task_turns.specs.Turn.{state_at}
-use Rattle.task_turns.specs.Turn as loop
+use Rattle.machine_data.specs.declared.records.Notice.{Notice}
+use Rattle.machine_data.specs.declared.records.Turn.TheVariants as turn
+use Rattle.machine_data.specs.Core.{Scripted}
+use Rattle.machine_rules.specs.Run.{main_opening}
+use Rattle.ops_turns.specs.Turn.{state_at}
+use Rattle.ops_turns.specs.Turn as loop
 use Rattle.task_run.specs.Script.{machine_ops, part_of, script_of}
 use Rattle.task_run.specs.declared.scenario.MainOp.{MainOp}
 use Rattle.std.specs.Prelude.{Bool, ℕ}
-use Rattle.task_machine.specs.declared.records.Turn.{Turn}
+use Rattle.machine_data.specs.declared.records.Turn.{Turn}
 use Rattle.task_run.specs.Headline.{IsRunOf, machine_scenario}
 use Rattle.task_loop.proofs.MainToldLemmas.{fresh_asked}
 use Rattle.task_run.proofs.HeadlineLemmas.{headline, opens_is}

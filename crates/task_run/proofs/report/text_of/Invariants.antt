@@ -1,5 +1,5 @@
 use Rattle.std.proofs.Common.{◌≡◌, ◌≤◌, ◌++◌, length}
-use Rattle.report_text.specs.Lines.{lines_of}
+use Rattle.text_report.specs.Lines.{lines_of}
 use Rattle.task_run.proofs.report.text_of.Given as goal
 
 abbrev pub invariant-pages : goal.invariant-pages

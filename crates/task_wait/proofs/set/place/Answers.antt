@@ -1,6 +1,6 @@
 use Rattle.std.proofs.Common.{None, is_some, ap, sym, subst, ◌∙◌, option_map}
 use Rattle.std.specs.Ordering.{is_lt}
-use Rattle.task_links.specs.Links.{entries}
+use Rattle.table_links.specs.Links.{entries}
 use Rattle.task_wait.specs.Walks.{IsWalk}
 use Rattle.task_wait.proofs.WalkLemmas.{Walk-begins, Walk-stops, Walk-ends, Walk-more, Walk-smaller, walk_link}
 use Rattle.task_wait.proofs.set.place.Goals as goal

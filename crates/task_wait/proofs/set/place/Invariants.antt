@@ -1,6 +1,6 @@
 use Rattle.std.proofs.Common.{option_map}
 use Rattle.std.specs.Ordering.{is_lt}
-use Rattle.task_links.specs.Links.{IsLinks, entries}
+use Rattle.table_links.specs.Links.{IsLinks, entries}
 use Rattle.task_wait.specs.Walks.{IsWalk, up_to}
 use Rattle.task_wait.proofs.set.place.Given as goal
 

@@ -1,9 +1,9 @@
 use Rattle.std.proofs.Common.{is_some, ap, sym, subst, ◌∙◌, option_map}
 use Rattle.std.specs.Ordering.{is_lt}
-use Rattle.task_links.specs.Links.{entries, linked, inserted_by}
+use Rattle.table_links.specs.Links.{entries, linked, inserted_by}
 use Rattle.task_wait.specs.Sets.{IsAscending, placed_at}
 use Rattle.task_wait.proofs.WalkLemmas.{place_in}
-use Rattle.task_links.proofs.ReadLemmas.{entries-linked_same, made_free}
+use Rattle.table_links.proofs.ReadLemmas.{entries-linked_same, made_free}
 use Rattle.task_wait.proofs.OrderLemmas.{IsAscending-placed}
 use Rattle.task_wait.proofs.set.put_in_order.Goals as goal
 

@@ -1,5 +1,5 @@
 use Rattle.std.proofs.Common.{◌∙◌, sym, ap, subst, option_map}
-use Rattle.task_links.specs.Links.{entries}
+use Rattle.table_links.specs.Links.{entries}
 use Rattle.task_wait.specs.Sets.{IsAscending, without_entry}
 use Rattle.task_wait.proofs.SetLemmas.{first_made, entries-without_first}
 use Rattle.task_wait.proofs.OrderLemmas.{IsAscending-drop}

@@ -1,6 +1,6 @@
 use Rattle.std.proofs.Common.{subst, sym, ap, ◌∙◌, cond}
 use Rattle.std.proofs.lemmas.Bool.{eq-eqb}
-use Rattle.task_links.specs.Links.{entries, removed}
+use Rattle.table_links.specs.Links.{entries, removed}
 use Rattle.task_wait.specs.Sets.{IsAscending, is_to}
 use Rattle.task_wait.proofs.OrderLemmas.{IsAscending-taken_out}
 use Rattle.task_wait.proofs.set.take_out.Goals as goal

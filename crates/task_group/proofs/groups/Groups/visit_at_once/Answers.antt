@@ -5,7 +5,7 @@ use Rattle.task_group.proofs.groups.Groups.visit_at_once.Goals as goal
 use Rattle.task_group.specs.Counts.{Counts}
 use Rattle.task_group.specs.Groups.{notice_at}
 use Rattle.task_group.specs.Listeners.{ToldListeners}
-use Rattle.task_machine.specs.declared.records.NoticeKind.TheVariants as notice
+use Rattle.machine_data.specs.declared.records.NoticeKind.TheVariants as notice
 
 pub returns-clause-told : goal.returns-clause-told
 returns-clause-told g c = λ yes.

@@ -1,16 +1,16 @@
 -- A start where no hook is told: its group is told of once it is made.
-use Rattle.state_calls.specs.declared.error.TaskError.TheVariants as task_error
+use Rattle.ops_state.specs.declared.error.TaskError.TheVariants as task_error
 use Rattle.std.proofs.Common.{refl, subst, sym, ◌∙◌, ◌≡◌}
 use Rattle.std.proofs.lemmas.Result.{err_from_is_err_and}
 use Rattle.std.specs.Prelude.{Err, Ok, Option, false, is_some}
-use Rattle.task_calls.specs.Untrapped.{StartsUntrapped}
+use Rattle.ops_calls.specs.Untrapped.{StartsUntrapped}
 use Rattle.task_loop.proofs.CallStartLemmas.{has_started, keeps_started, keeps_still, leaves_told_none, reason_out_of_memory}
 use Rattle.task_loop.proofs.HookLemmas.{unanswered}
 use Rattle.task_loop.proofs.call.Func.start_fitting.Goals as goal
 use Rattle.task_loop.specs.LoopCalls.{callee_of}
-use Rattle.task_machine.specs.declared.component.Callee.{Callee}
-use Rattle.task_machine.specs.declared.trap.Trap.{Trap}
-use Rattle.task_rules.specs.MainOps.{start_refusal}
+use Rattle.machine_data.specs.declared.component.Callee.{Callee}
+use Rattle.machine_data.specs.declared.trap.Trap.{Trap}
+use Rattle.machine_rules.specs.MainOps.{start_refusal}
 
 pub returns : goal.returns
 returns g c =

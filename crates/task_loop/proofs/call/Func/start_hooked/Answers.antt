@@ -1,17 +1,17 @@
 -- A start that the hook is told of before it is made.
-use Rattle.state_calls.specs.declared.error.TaskError.TheVariants as task_error
+use Rattle.ops_state.specs.declared.error.TaskError.TheVariants as task_error
 use Rattle.std.proofs.Common.{refl, subst, sym, ◌∙◌, ◌≡◌}
 use Rattle.std.specs.Prelude.{Err, Ok, Option}
-use Rattle.task_calls.specs.Untrapped.{StartsUntrapped}
+use Rattle.ops_calls.specs.Untrapped.{StartsUntrapped}
 use Rattle.task_loop.proofs.CallStartLemmas.{has_started, keeps_started, keeps_still, reason_back, reason_hook, unhooked_never}
 use Rattle.task_loop.proofs.HookStartLemmas.{told_hook_is_ok, told_failed}
 use Rattle.task_loop.proofs.UnmadeLemmas.{unmade_back, unmade_refused}
 use Rattle.task_loop.proofs.call.Func.start_hooked.Goals as goal
 use Rattle.task_loop.specs.LoopCalls.{callee_of}
-use Rattle.task_machine.specs.declared.component.Callee.{Callee}
-use Rattle.task_machine.specs.declared.trap.Trap.{Trap}
-use Rattle.task_machine.specs.declared.trap.Trap.TheVariants as trap
-use Rattle.task_rules.specs.MainOps.{start_refusal}
+use Rattle.machine_data.specs.declared.component.Callee.{Callee}
+use Rattle.machine_data.specs.declared.trap.Trap.{Trap}
+use Rattle.machine_data.specs.declared.trap.Trap.TheVariants as trap
+use Rattle.machine_rules.specs.MainOps.{start_refusal}
 
 pub returns-then-is_err : goal.returns-then-is_err
 returns-then-is_err g c =

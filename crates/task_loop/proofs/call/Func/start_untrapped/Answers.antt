@@ -1,10 +1,10 @@
 -- The machine refuses the start, and nothing is told.
-use Rattle.state_calls.specs.declared.error.TaskError.TheVariants as task_error
+use Rattle.ops_state.specs.declared.error.TaskError.TheVariants as task_error
 use Rattle.std.proofs.Common.{refl, sym, ◌∙◌}
 use Rattle.task_loop.proofs.CallStartLemmas.{keeps_all, leaves_told_none, reason_refused}
 use Rattle.task_loop.proofs.HookStartLemmas.{refusal_other}
 use Rattle.task_loop.proofs.call.Func.start_untrapped.Goals as goal
-use Rattle.task_rules.specs.MainOps.{start_refusal}
+use Rattle.machine_rules.specs.MainOps.{start_refusal}
 
 pub returns-in-Some : goal.returns-in-Some
 returns-in-Some g c =

@@ -1,7 +1,7 @@
 -- The op is done elsewhere than at its thread's place.
 use Rattle.std.proofs.Common.{refl}
-use Rattle.task_calls.specs.OpAnswers.{at_once, nothing_answered}
-use Rattle.task_calls.specs.Intrinsics.{pressure_op}
+use Rattle.ops_calls.specs.OpAnswers.{at_once, nothing_answered}
+use Rattle.ops_calls.specs.Intrinsics.{pressure_op}
 use Rattle.task_loop.proofs.AskHoldLemmas.{apart_pressure}
 use Rattle.task_loop.proofs.InstanceCallLemmas.{does_host_op}
 use Rattle.task_loop.proofs.instance.Instance.backpressure_modify.Goals as goal

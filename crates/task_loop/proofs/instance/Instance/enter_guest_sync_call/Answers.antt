@@ -1,18 +1,18 @@
 -- The row of the entry is done.
-use Rattle.state_calls.specs.Named.{IsLive}
+use Rattle.ops_state.specs.Named.{IsLive}
 use Rattle.std.proofs.Common.{ap, subst}
 use Rattle.std.specs.Prelude.{IfOk, true}
-use Rattle.task_calls.specs.OpAnswers.{at_once}
-use Rattle.task_calls.specs.Asks.{Answers}
-use Rattle.task_calls.specs.Directs.{entered, enters_rule, thread_entered}
+use Rattle.ops_calls.specs.OpAnswers.{at_once}
+use Rattle.ops_calls.specs.Asks.{Answers}
+use Rattle.ops_calls.specs.Directs.{entered, enters_rule, thread_entered}
 use Rattle.task_loop.proofs.AskHoldLemmas.{by_answers, entered_holds}
 use Rattle.task_loop.proofs.InstanceCallLemmas.{does_call}
 use Rattle.task_loop.proofs.RuleTrapLemmas.{entered_not}
 use Rattle.task_loop.proofs.instance.Instance.enter_guest_sync_call.Goals as goal
 use Rattle.task_loop.specs.InstanceCalls.{EntersCall}
 use Rattle.task_loop.proofs.TrackedLemmas.{answers_known}
-use Rattle.task_machine.specs.declared.component.Callee.{Callee}
-use Rattle.task_rules.specs.Scripts.{export_kind}
+use Rattle.machine_data.specs.declared.component.Callee.{Callee}
+use Rattle.machine_rules.specs.Scripts.{export_kind}
 
 pub enter_call-answer-requires-clause-there : goal.enter_call-answer-requires-clause-there
 enter_call-answer-requires-clause-there g c = rw c.callee-callee.ensures c.requires.callee.there

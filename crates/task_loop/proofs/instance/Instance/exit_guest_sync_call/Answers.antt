@@ -1,10 +1,10 @@
 -- The row is done, unless the task still lends something.
-use Rattle.state_calls.specs.declared.error.TaskError.TheVariants as task_error
+use Rattle.ops_state.specs.declared.error.TaskError.TheVariants as task_error
 use Rattle.std.proofs.Common.{ap, refl, subst, sym, ◌∙◌}
 use Rattle.std.specs.Prelude.{Err, IfSome, Option, false, ℕ}
-use Rattle.task_calls.specs.OpAnswers.{at_once, nothing_answered}
-use Rattle.task_calls.specs.Directs.{IsDirect, exits_rule}
-use Rattle.task_lends.specs.HeldBorrows.{Comes, exit_holds_borrows}
+use Rattle.ops_calls.specs.OpAnswers.{at_once, nothing_answered}
+use Rattle.ops_calls.specs.Directs.{IsDirect, exits_rule}
+use Rattle.task_store.specs.HeldBorrows.{Comes, exit_holds_borrows}
 use Rattle.task_loop.proofs.AskHoldLemmas.{by_answers, exited_holds}
 use Rattle.task_loop.proofs.InstanceCallLemmas.{does_call}
 use Rattle.task_loop.proofs.TrackedLemmas.{answers_known}
@@ -13,7 +13,7 @@ use Rattle.task_loop.proofs.RuleTrapLemmas.{exited_not}
 use Rattle.task_loop.proofs.instance.Instance.exit_guest_sync_call.Goals as goal
 use Rattle.task_loop.specs.InstanceCalls.{UnlessHoldsBorrows}
 use Rattle.task_loop.specs.Lent.{RuleAnswers}
-use Rattle.task_machine.specs.declared.trap.Trap.TheVariants as trap
+use Rattle.machine_data.specs.declared.trap.Trap.TheVariants as trap
 
 pub returns : goal.returns
 returns g c =

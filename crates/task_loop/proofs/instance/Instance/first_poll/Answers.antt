@@ -1,10 +1,10 @@
 -- The row of the call is done, and its work is settled.
-use Rattle.state_calls.specs.declared.error.TaskError.TheVariants as task_error
+use Rattle.ops_state.specs.declared.error.TaskError.TheVariants as task_error
 use Rattle.std.proofs.Common.{ap, refl, subst, sym, ◌∙◌}
 use Rattle.std.specs.Prelude.{Err, is_ok, true, ◌≡◌}
-use Rattle.task_calls.specs.OpAnswers.{at_once, number_answered}
-use Rattle.task_calls.specs.Asks.{Answers}
-use Rattle.task_calls.specs.PolledCalls.{polls_rule}
+use Rattle.ops_calls.specs.OpAnswers.{at_once, number_answered}
+use Rattle.ops_calls.specs.Asks.{Answers}
+use Rattle.ops_calls.specs.PolledCalls.{polls_rule}
 use Rattle.task_loop.proofs.HostCallLemmas.{after_settled, held_answers, may_tell, own_held, settle_rest, polled_holds}
 use Rattle.task_loop.proofs.InstanceCallLemmas.{held_state, is_told, settled_listeners, settled_rest, settled_state, unheld_rest}
 use Rattle.task_loop.proofs.ToldLemmas.{told_core}
@@ -13,13 +13,13 @@ use Rattle.task_loop.proofs.RuleTrapLemmas.{polled_not}
 use Rattle.task_loop.proofs.instance.Instance.first_poll.Goals as goal
 use Rattle.task_group.specs.Listeners.{Listeners}
 use Rattle.task_loop.specs.Told.{TellsCall}
-use Rattle.task_machine.specs.Core.{Core, Unscripted}
-use Rattle.task_machine.specs.declared.component.HostDef.{HostDef}
-use Rattle.subtask_ops.specs.First.{first_heard}
-use Rattle.task_rules.specs.Calls.{next_work}
+use Rattle.machine_data.specs.Core.{Core, Unscripted}
+use Rattle.machine_data.specs.declared.component.HostDef.{HostDef}
+use Rattle.ops_subtasks.specs.First.{first_heard}
+use Rattle.machine_rules.specs.Calls.{next_work}
 use Rattle.task_store.proofs.HostLemmas.{holds_as}
 use Rattle.task_store.specs.Hosts.{HoldsWorks, held_by}
-use Rattle.task_words.specs.StateView.{StateView}
+use Rattle.core_primitives.specs.StateView.{StateView}
 
 pub returns : goal.returns
 returns g c =

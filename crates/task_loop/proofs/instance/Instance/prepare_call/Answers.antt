@@ -1,16 +1,16 @@
 -- The call is prepared.
 use Rattle.std.proofs.Common.{subst}
 use Rattle.std.specs.Prelude.{IfSome, Option, ℕ}
-use Rattle.task_calls.specs.Prepared.{Prepares, goal_for}
+use Rattle.ops_calls.specs.Prepared.{Prepares, goal_for}
 use Rattle.task_loop.proofs.AskHoldLemmas.{prepared_holds}
 use Rattle.task_loop.proofs.InstanceCallLemmas.{does_call}
 use Rattle.task_loop.proofs.RuleTrapLemmas.{prepares_not}
 use Rattle.task_loop.proofs.instance.Instance.prepare_call.Goals as goal
 use Rattle.task_loop.specs.InstanceCalls.{PreparesCall}
 use Rattle.task_loop.proofs.TrackedLemmas.{prepared_known}
-use Rattle.task_machine.specs.Read.{fits}
-use Rattle.task_machine.specs.declared.component.Callee.{Callee}
-use Rattle.task_turns.specs.Turn.{running_of}
+use Rattle.machine_data.specs.Read.{fits}
+use Rattle.machine_data.specs.declared.component.Callee.{Callee}
+use Rattle.ops_turns.specs.Turn.{running_of}
 
 pub prepare_call-answer-requires-clause-there : goal.prepare_call-answer-requires-clause-there
 prepare_call-answer-requires-clause-there g c = rw c.callee-callee.ensures c.requires.callee.there

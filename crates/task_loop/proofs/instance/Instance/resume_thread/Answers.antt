@@ -1,13 +1,13 @@
 -- Another thread is resumed.
 use Rattle.std.proofs.Common.{subst}
 use Rattle.std.specs.Prelude.{IfSome, Option, ℕ}
-use Rattle.task_calls.specs.Resumes.{Resumed, resumed_by}
+use Rattle.ops_calls.specs.Resumes.{Resumed, resumed_by}
 use Rattle.task_loop.proofs.AskHoldLemmas.{resumed_holds}
 use Rattle.task_loop.proofs.InstanceCallLemmas.{does_call}
 use Rattle.task_loop.proofs.TrackedLemmas.{resumed_known}
 use Rattle.task_loop.proofs.RuleTrapLemmas.{resumes_not}
 use Rattle.task_loop.proofs.instance.Instance.resume_thread.Goals as goal
-use Rattle.task_turns.specs.Turn.{running_of}
+use Rattle.ops_turns.specs.Turn.{running_of}
 
 pub returns : goal.returns
 returns g c =

@@ -1,16 +1,16 @@
 -- A prepared call is begun.
-use Rattle.host_works.specs.KeptWorks.{HeldWork}
-use Rattle.state_calls.specs.declared.name_calls.QualifiedThreadId.{QualifiedThreadId}
+use Rattle.store_works.specs.KeptWorks.{HeldWork}
+use Rattle.ops_state.specs.declared.name_calls.QualifiedThreadId.{QualifiedThreadId}
 use Rattle.std.specs.Prelude.{IfSome, IsSome, None, Ok, Option, Some, ℕ, ◌≡◌}
-use Rattle.task_calls.specs.Prepared.{starts_in}
-use Rattle.task_calls.specs.declared.answer_calls.Step.TheVariants as step
+use Rattle.ops_calls.specs.Prepared.{starts_in}
+use Rattle.ops_calls.specs.declared.answer_calls.Step.TheVariants as step
 use Rattle.task_loop.proofs.AskHoldLemmas.{started_holds}
 use Rattle.task_loop.proofs.InstanceCallLemmas.{does_call}
 use Rattle.task_loop.proofs.instance.Instance.start_call.Goals as goal
 use Rattle.task_loop.proofs.TrackedLemmas.{started_known}
 use Rattle.task_store.specs.Hosts.{HoldsWorks}
-use Rattle.task_turns.specs.Turn.{running_of}
-use Rattle.task_words.specs.StateView.{StateView, with_core, with_current}
+use Rattle.ops_turns.specs.Turn.{running_of}
+use Rattle.core_primitives.specs.StateView.{StateView, with_core, with_current}
 
 by_running : (left : ℕ → Option HeldWork) (s t : StateView) (id : QualifiedThreadId) (o : Option ℕ) → IsSome o →
     IfSome o (λ n. t ≡ with_current None (with_core (starts_in n id s) s)) → HoldsWorks left s.core → HoldsWorks left t.core

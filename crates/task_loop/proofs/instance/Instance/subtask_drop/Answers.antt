@@ -1,6 +1,6 @@
 -- The op is done elsewhere than at its thread's place.
 use Rattle.std.proofs.Common.{ap, refl}
-use Rattle.task_calls.specs.OpAnswers.{at_once, nothing_answered}
+use Rattle.ops_calls.specs.OpAnswers.{at_once, nothing_answered}
 use Rattle.task_loop.proofs.InstanceCallLemmas.{does_host_op}
 use Rattle.task_loop.proofs.instance.Instance.subtask_drop.Goals as goal
 use Rattle.task_loop.specs.InstanceCalls.{drop_subtask_op}

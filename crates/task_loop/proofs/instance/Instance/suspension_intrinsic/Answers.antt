@@ -1,7 +1,7 @@
 -- The op is done elsewhere than at its thread's place.
 use Rattle.std.proofs.Common.{refl}
-use Rattle.task_calls.specs.OpAnswers.{nothing_answered}
-use Rattle.task_calls.specs.Intrinsics.{suspension_op}
+use Rattle.ops_calls.specs.OpAnswers.{nothing_answered}
+use Rattle.ops_calls.specs.Intrinsics.{suspension_op}
 use Rattle.task_loop.proofs.AskHoldLemmas.{apart_suspension}
 use Rattle.task_loop.proofs.InstanceCallLemmas.{does_host_op}
 use Rattle.task_loop.proofs.instance.Instance.suspension_intrinsic.Goals as goal

@@ -1,11 +1,11 @@
 -- The op is done elsewhere than at its thread's place, unless the task still lends something.
-use Rattle.state_calls.specs.declared.error.TaskError.TheVariants as task_error
-use Rattle.op_dispatch.specs.Makes.{takes_memory}
+use Rattle.ops_state.specs.declared.error.TaskError.TheVariants as task_error
+use Rattle.ops_dispatch.specs.Makes.{takes_memory}
 use Rattle.std.proofs.Common.{ap, refl, sym, ◌∙◌}
 use Rattle.std.specs.Prelude.{Err, ℕ}
-use Rattle.task_calls.specs.OpAnswers.{at_once, nothing_answered}
-use Rattle.task_calls.specs.Asks.{scripted_rule_of}
-use Rattle.task_lends.specs.HeldBorrows.{Comes, cancel_holds_borrows}
+use Rattle.ops_calls.specs.OpAnswers.{at_once, nothing_answered}
+use Rattle.ops_calls.specs.Asks.{scripted_rule_of}
+use Rattle.task_store.specs.HeldBorrows.{Comes, cancel_holds_borrows}
 use Rattle.task_loop.proofs.AskHoldLemmas.{asked_holds}
 use Rattle.task_loop.proofs.InstanceCallLemmas.{does_call}
 use Rattle.task_loop.proofs.TrackedLemmas.{answers_known}
@@ -14,7 +14,7 @@ use Rattle.task_loop.proofs.RuleTrapLemmas.{asked_not}
 use Rattle.task_loop.proofs.instance.Instance.task_cancel.Goals as goal
 use Rattle.task_loop.specs.InstanceCalls.{UnlessHoldsBorrows, task_cancel_op}
 use Rattle.task_loop.specs.Lent.{RuleAnswers}
-use Rattle.task_machine.specs.declared.trap.Trap.TheVariants as trap
+use Rattle.machine_data.specs.declared.trap.Trap.TheVariants as trap
 
 pub returns : goal.returns
 returns g c =

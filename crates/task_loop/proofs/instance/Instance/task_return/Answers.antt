@@ -1,10 +1,10 @@
 -- The row of the return is done, unless the task still lends something.
-use Rattle.state_calls.specs.declared.error.TaskError.TheVariants as task_error
+use Rattle.ops_state.specs.declared.error.TaskError.TheVariants as task_error
 use Rattle.std.proofs.Common.{ap, refl, subst, sym, ◌∙◌}
 use Rattle.std.specs.Option.{option_map}
 use Rattle.std.specs.Prelude.{Bool, Err, IfSome, Option, Some, false, true, ℕ, ◌≡◌}
-use Rattle.task_calls.specs.MainCalls.{Returns, is_own_type}
-use Rattle.task_lends.specs.HeldBorrows.{Comes, return_holds_borrows}
+use Rattle.ops_calls.specs.MainCalls.{Returns, is_own_type}
+use Rattle.task_store.specs.HeldBorrows.{Comes, return_holds_borrows}
 use Rattle.task_loop.proofs.AskHoldLemmas.{returned_holds}
 use Rattle.task_loop.proofs.InstanceCallLemmas.{does_call}
 use Rattle.task_loop.proofs.TrackedLemmas.{returned_known}
@@ -12,12 +12,12 @@ use Rattle.task_loop.proofs.LentLemmas.{ended_unlent, refused_lent}
 use Rattle.task_loop.proofs.RuleTrapLemmas.{returns_not}
 use Rattle.task_loop.proofs.instance.Instance.task_return.Goals as goal
 use Rattle.task_loop.specs.InstanceCalls.{UnlessHoldsBorrows}
-use Rattle.task_machine.specs.Core.{Unscripted}
-use Rattle.task_machine.specs.declared.records.Turn.TheVariants as turn
-use Rattle.task_machine.specs.declared.trap.Trap.TheVariants as trap
+use Rattle.machine_data.specs.Core.{Unscripted}
+use Rattle.machine_data.specs.declared.records.Turn.TheVariants as turn
+use Rattle.machine_data.specs.declared.trap.Trap.TheVariants as trap
 use Rattle.task_store.proofs.HostLemmas.{runs_works}
-use Rattle.task_turns.specs.Turn.{CoreInOrder, running_of}
-use Rattle.task_words.specs.StateView.{thread_of}
+use Rattle.ops_turns.specs.Turn.{CoreInOrder, running_of}
+use Rattle.core_primitives.specs.StateView.{thread_of}
 
 pub returns : goal.returns
 returns g c =

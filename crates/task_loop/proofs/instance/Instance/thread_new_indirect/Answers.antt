@@ -1,13 +1,13 @@
 -- The op is done elsewhere than at its thread's place.
 use Rattle.std.proofs.Common.{ap, refl}
 use Rattle.std.specs.Prelude.{ℕ}
-use Rattle.task_calls.specs.OpAnswers.{at_once, number_answered}
+use Rattle.ops_calls.specs.OpAnswers.{at_once, number_answered}
 use Rattle.task_loop.proofs.InstanceCallLemmas.{does_host_op}
 use Rattle.task_loop.proofs.instance.Instance.thread_new_indirect.Goals as goal
 use Rattle.task_loop.specs.InstanceCalls.{new_thread_op}
-use Rattle.task_machine.specs.declared.op.Op.TheVariants as op
-use Rattle.task_machine.specs.declared.op.Operand.TheVariants as operand
-use Rattle.task_machine.specs.declared.op.ThreadOp.TheVariants as thread_op
+use Rattle.machine_data.specs.declared.op.Op.TheVariants as op
+use Rattle.machine_data.specs.declared.op.Operand.TheVariants as operand
+use Rattle.machine_data.specs.declared.op.ThreadOp.TheVariants as thread_op
 
 pub returns : goal.returns
 returns g c =

@@ -1,6 +1,6 @@
 -- The op is done elsewhere than at its thread's place.
 use Rattle.std.proofs.Common.{ap, refl}
-use Rattle.task_calls.specs.OpAnswers.{at_once, event_answered}
+use Rattle.ops_calls.specs.OpAnswers.{at_once, event_answered}
 use Rattle.task_loop.proofs.InstanceCallLemmas.{does_host_op}
 use Rattle.task_loop.proofs.instance.Instance.waitable_set_poll.Goals as goal
 use Rattle.task_loop.specs.InstanceCalls.{poll_set_op}

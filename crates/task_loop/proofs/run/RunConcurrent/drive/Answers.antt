@@ -4,7 +4,7 @@ use Rattle.task_loop.proofs.HasRunLemmas.{counted_on, drives_failed, has_failed,
 use Rattle.task_loop.proofs.run.RunConcurrent.drive.Goals as goal
 use Rattle.task_loop.proofs.run.RunConcurrent.drive.Goals.{in-Idle, in_default}
 use Rattle.task_loop.specs.HasRun.{at}
-use Rattle.task_machine.specs.Write.{set_trapped}
+use Rattle.machine_data.specs.Write.{set_trapped}
 
 pub returns-in-Ends-clause-drives : goal.returns-in-Ends-clause-drives
 returns-in-Ends-clause-drives g c =

@@ -1,6 +1,6 @@
 -- Each turn adds to the run, until it is over or the policy stops it.
-use Rattle.label_laws.specs.Own.{rests_by}
-use Rattle.run_pace.specs.YieldBudget.{counted, yields_before}
+use Rattle.laws_labels.specs.Own.{rests_by}
+use Rattle.run_trace.specs.YieldBudget.{counted, yields_before}
 use Rattle.std.proofs.Common.{ap, arith, refl, subst, sym, ◌∙◌}
 use Rattle.std.specs.Prelude.{None, Option, Some, false, true, ◌+◌, ◌<◌, ◌^◌, ◌≡◌}
 use Rattle.task_loop.proofs.HasPolledLemmas.{polled_idles, polled_none, polled_out, polled_over, polled_rests, polled_yields}
@@ -13,14 +13,14 @@ use Rattle.task_loop.specs.HasRun.{GoesTo, at, numbers, setting, state}
 use Rattle.task_loop.specs.declared.run.Halt.TheVariants as halt
 use Rattle.task_loop.specs.declared.run.RunConcurrent.{RunConcurrent}
 use Rattle.task_loop.specs.declared.run.Stop.TheVariants as stop
-use Rattle.task_machine.specs.declared.outcome.Outcome.TheVariants as outcome
-use Rattle.task_machine.specs.declared.records.Turn.TheVariants as turn
-use Rattle.task_machine.specs.declared.words.Mark.{Mark}
-use Rattle.task_rules.proofs.Machine.{and_parts}
-use Rattle.task_turns.specs.Turn.{given, idle_line_of}
-use Rattle.task_turns.specs.declared.made.StepResult.{StepResult}
-use Rattle.task_turns.specs.declared.made.StepResult.TheVariants as stepped
-use Rattle.task_words.specs.StateView.{Tags}
+use Rattle.machine_data.specs.declared.outcome.Outcome.TheVariants as outcome
+use Rattle.machine_data.specs.declared.records.Turn.TheVariants as turn
+use Rattle.machine_data.specs.declared.words.Mark.{Mark}
+use Rattle.machine_rules.proofs.Machine.{and_parts}
+use Rattle.ops_turns.specs.Turn.{given, idle_line_of}
+use Rattle.ops_turns.specs.declared.made.StepResult.{StepResult}
+use Rattle.ops_turns.specs.declared.made.StepResult.TheVariants as stepped
+use Rattle.core_primitives.specs.StateView.{Tags}
 
 pub turns-init : goal.turns-init
 turns-init g c =

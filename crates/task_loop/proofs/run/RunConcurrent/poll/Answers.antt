@@ -2,7 +2,7 @@
 use Rattle.std.proofs.Common.{refl}
 use Rattle.task_loop.proofs.HasRunLemmas.{has_failed, has_lost, polls_failed, polls_on}
 use Rattle.task_loop.proofs.run.RunConcurrent.poll.Goals as goal
-use Rattle.task_machine.specs.Write.{set_trapped}
+use Rattle.machine_data.specs.Write.{set_trapped}
 
 pub returns-in-Ok-clause-polls : goal.returns-in-Ok-clause-polls
 returns-in-Ok-clause-polls g c =

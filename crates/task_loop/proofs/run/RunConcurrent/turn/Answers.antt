@@ -14,15 +14,15 @@ use Rattle.task_loop.specs.Ran.{DoesStep}
 use Rattle.task_loop.specs.Standing.{standing}
 use Rattle.task_loop.specs.Told.{TurnTold, group_running, turn_of}
 use Rattle.task_loop.specs.declared.run.Halt.TheVariants as halt
-use Rattle.task_machine.specs.Core.{Main}
-use Rattle.task_machine.specs.declared.records.Turn.{Turn}
-use Rattle.task_machine.specs.declared.records.Turn.TheVariants as turn
+use Rattle.machine_data.specs.Core.{Main}
+use Rattle.machine_data.specs.declared.records.Turn.{Turn}
+use Rattle.machine_data.specs.declared.records.Turn.TheVariants as turn
 use Rattle.task_store.specs.declared.store.Store.{Store}
-use Rattle.task_turns.proofs.SteppedLemmas.{added_as}
-use Rattle.task_turns.specs.Does.{step_shown}
-use Rattle.task_turns.specs.StepResult.{Added}
-use Rattle.task_turns.specs.Turn.{IsAtTurn, IsFree, MakesStep, PendsIn, CoreInOrder, Turns, is_open, runs_in, setting_of}
-use Rattle.task_turns.specs.declared.made.MadeStep.{MadeStep}
+use Rattle.ops_turns.proofs.SteppedLemmas.{added_as}
+use Rattle.ops_turns.specs.Does.{step_shown}
+use Rattle.ops_turns.specs.StepResult.{Added}
+use Rattle.ops_turns.specs.Turn.{IsAtTurn, IsFree, MakesStep, PendsIn, CoreInOrder, Turns, is_open, runs_in, setting_of}
+use Rattle.ops_turns.specs.declared.made.MadeStep.{MadeStep}
 
 -- ---- Main does an op
 

@@ -1,6 +1,6 @@
 -- What stays of a store by a finish is said at each component; where none is asked for, any one serves.
 use Rattle.std.specs.Prelude.{[]}
-use Rattle.task_machine.specs.declared.component.Component.{Component}
+use Rattle.machine_data.specs.declared.component.Component.{Component}
 use Rattle.task_nursery.proofs.children.Kept.end.Goals as goal
 
 pub returns-in-Ready-clause-order : goal.returns-in-Ready-clause-order

@@ -1,13 +1,13 @@
 -- The open works were asked to end.
 use Rattle.std.proofs.Common.{ap, refl, subst, sym, ◌∙◌}
 use Rattle.std.specs.Prelude.{List, ℕ, ◌≡◌}
-use Rattle.task_machine.specs.Core.{Core}
+use Rattle.machine_data.specs.Core.{Core}
 use Rattle.task_nursery.proofs.GroupLemmas.{groups_aborted}
 use Rattle.task_nursery.proofs.KeptLemmas.{those_are_all}
 use Rattle.task_nursery.specs.Numbers.{numbered}
 use Rattle.task_nursery.specs.Scope.{AreOf, IsOf, Scope, all_aborted, those_aborted}
 use Rattle.task_nursery.specs.declared.children.Kept.{Kept}
-use Rattle.task_words.specs.StateView.{StateView, on_core}
+use Rattle.core_primitives.specs.StateView.{StateView, on_core}
 use Rattle.task_nursery.proofs.nursery.Nursery.close.Goals as goal
 
 pub abort_all-requires-clause-of : goal.abort_all-requires-clause-of

@@ -1,7 +1,7 @@
 -- The work is a child more.
 use Rattle.std.proofs.Common.{ap, length, refl, subst, sym, ◌∙◌, ◌+◌, ◌<◌}
 use Rattle.std.specs.Prelude.{List}
-use Rattle.task_machine.specs.Core.{Core}
+use Rattle.machine_data.specs.Core.{Core}
 use Rattle.task_nursery.proofs.GroupLemmas.{groups_queued}
 use Rattle.task_nursery.proofs.KeptLemmas.{are_more}
 use Rattle.task_nursery.proofs.LastLemmas.{spawn_last}

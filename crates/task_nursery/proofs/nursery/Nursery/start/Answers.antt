@@ -5,7 +5,7 @@ use Rattle.task_group.specs.Listeners.{ToldListeners}
 use Rattle.task_loop.proofs.CallStartLemmas.{start_told, stop_starts}
 use Rattle.task_loop.proofs.HookLemmas.{knows_trapped}
 use Rattle.task_loop.specs.LoopCalls.{callee_of}
-use Rattle.task_machine.specs.declared.records.NoticeKind.TheVariants as notice
+use Rattle.machine_data.specs.declared.records.NoticeKind.TheVariants as notice
 use Rattle.task_nursery.proofs.KeptLemmas.{are_later, are_more}
 use Rattle.task_nursery.proofs.LastLemmas.{start_last}
 use Rattle.task_nursery.proofs.ScopeLemmas.{length_last}
@@ -14,7 +14,7 @@ use Rattle.task_nursery.proofs.TallyLemmas.{tallies_more}
 use Rattle.task_nursery.specs.Scope.{AreOf, IsOf, Scope, with_child}
 use Rattle.task_nursery.specs.declared.children.Kept.{Kept}
 use Rattle.task_nursery.specs.declared.children.Kept.TheVariants as kept
-use Rattle.task_rules.specs.Notices.{told_of}
+use Rattle.machine_rules.specs.Notices.{told_of}
 use Rattle.task_nursery.proofs.nursery.Nursery.start.Goals as goal
 
 pub invariant_of-self-in-Ok : goal.invariant_of-self-in-Ok

@@ -1,7 +1,7 @@
 -- The child that was found is the least one that has ended, and is ended.
 use Rattle.std.proofs.Common.{ap, arith, get_or, length, refl, subst, sym, ◌∙◌, ◌<◌, ◌≤◌}
 use Rattle.std.specs.Prelude.{List, Option, Some, slice_get, slice_set, true, false, ℕ, ◌+◌, ◌-◌, ◌≡◌}
-use Rattle.task_machine.specs.Core.{Core}
+use Rattle.machine_data.specs.Core.{Core}
 use Rattle.task_nursery.proofs.KeptLemmas.{are_set}
 use Rattle.task_nursery.proofs.NumberLemmas.{numbered_is}
 use Rattle.task_nursery.proofs.TallyLemmas.{first_has_ended, found_at, is_counted, least_first, one_kept, tallies_less}
@@ -9,9 +9,9 @@ use Rattle.task_nursery.specs.Children.{ended, has_ended, is_open_call, left_by}
 use Rattle.task_nursery.specs.Numbers.{first_where, numbered}
 use Rattle.task_nursery.specs.Scope.{AreOf, IsOf, Scope, ended_at, left_at}
 use Rattle.task_nursery.specs.declared.children.Kept.{Kept}
-use Rattle.task_turns.specs.Turn.{CoreInOrder}
-use Rattle.task_words.specs.Groups.{IsAsked}
-use Rattle.task_words.specs.StateView.{StateView, on_core}
+use Rattle.ops_turns.specs.Turn.{CoreInOrder}
+use Rattle.core_primitives.specs.Groups.{IsAsked}
+use Rattle.core_primitives.specs.StateView.{StateView, on_core}
 use Rattle.task_nursery.proofs.nursery.Nursery.turn.Goals as goal
 
 pub first_ended-requires-clause-of : goal.first_ended-requires-clause-of

@@ -3,15 +3,15 @@ use Rattle.std.proofs.Common.{◌≡◌, ◌∙◌, Some, None, ap, refl, sym}
 use Rattle.std.specs.Prelude.{slice_get}
 use Rattle.std.specs.Option.{option_map}
 use Rattle.std.proofs.lemmas.Option.{slice_get-map}
-use Rattle.task_machine.specs.declared.scenario.MainOpDef.TheVariants as machine
+use Rattle.machine_data.specs.declared.scenario.MainOpDef.TheVariants as machine
 use Rattle.task_run.specs.declared.scenario.MainOp.{MainOp}
 use Rattle.task_run.specs.declared.scenario.MainOp.TheVariants as main_op
 use Rattle.task_run.specs.Script.{machine_op, part_of, place_of, script_of}
 use Rattle.task_run.proofs.ScriptLemmas.{answers_by_rule, pends_past}
 use Rattle.task_run.proofs.StepLemmas.{script_stepped}
 use Rattle.task_run.proofs.main_script.ScriptMainMainTask.step.Goals as goal
-use Rattle.task_turns.specs.Main.{Steps}
-use Rattle.task_turns.specs.declared.mains.MainStep.TheVariants as step
+use Rattle.ops_turns.specs.Main.{Steps}
+use Rattle.ops_turns.specs.declared.mains.MainStep.TheVariants as step
 
 pub returns-in-Some-Answer-clause-steps : goal.returns-in-Some-Answer-clause-steps
 returns-in-Some-Answer-clause-steps c w =

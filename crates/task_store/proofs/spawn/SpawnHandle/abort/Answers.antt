@@ -1,17 +1,17 @@
 use Rattle.std.proofs.Common.{ap, subst, sym, ◌∙◌}
-use Rattle.host_works.specs.KeptWorks.{held}
-use Rattle.task_machine.specs.Core.{Core}
-use Rattle.task_machine.specs.Read.{phase_of}
-use Rattle.task_machine.specs.Write.{set_phase}
-use Rattle.task_machine.specs.declared.words.Phase.{Phase}
-use Rattle.task_rules.specs.Cancels.{aborted_phase}
-use Rattle.task_rules.specs.MainOps.{main_aborted}
+use Rattle.store_works.specs.KeptWorks.{held}
+use Rattle.machine_data.specs.Core.{Core}
+use Rattle.machine_data.specs.Read.{phase_of}
+use Rattle.machine_data.specs.Write.{set_phase}
+use Rattle.machine_data.specs.declared.words.Phase.{Phase}
+use Rattle.machine_rules.specs.Cancels.{aborted_phase}
+use Rattle.machine_rules.specs.MainOps.{main_aborted}
 use Rattle.task_store.proofs.HostLemmas.{found_is, holds_aborted}
 use Rattle.task_store.proofs.SpawnLemmas.{aborted_in_order, gone_aborted}
 use Rattle.task_store.proofs.spawn.SpawnHandle.abort.Goals as goal
 use Rattle.task_store.specs.Hosts.{HoldsWorks, held_by}
-use Rattle.task_turns.specs.Turn.{CoreInOrder}
-use Rattle.task_words.specs.StateView.{StateView, on_core, with_core, work_of}
+use Rattle.ops_turns.specs.Turn.{CoreInOrder}
+use Rattle.core_primitives.specs.StateView.{StateView, on_core, with_core, work_of}
 
 pub returns-in_default-clause-state : goal.returns-in_default-clause-state
 returns-in_default-clause-state g c =

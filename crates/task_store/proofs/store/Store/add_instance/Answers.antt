@@ -1,10 +1,10 @@
 -- Order stays with one instance more.
 use Rattle.std.proofs.Common.{ap, subst, sym, ◌∙◌}
-use Rattle.task_machine.specs.Maps.{get}
+use Rattle.machine_data.specs.Maps.{get}
 use Rattle.task_store.proofs.InstanceLemmas.{instance_keeps}
 use Rattle.task_store.proofs.store.Store.add_instance.Goals as goal
-use Rattle.task_turns.specs.Turn.{CoreInOrder}
-use Rattle.task_words.specs.StateView.{StateView}
+use Rattle.ops_turns.specs.Turn.{CoreInOrder}
+use Rattle.core_primitives.specs.StateView.{StateView}
 
 pub returns-in-Ok-clause-order : goal.returns-in-Ok-clause-order
 returns-in-Ok-clause-order g c d p sits =

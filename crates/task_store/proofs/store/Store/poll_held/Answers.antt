@@ -1,8 +1,8 @@
 -- A work that is held and runs is polled.
 use Rattle.std.proofs.Common.{subst}
 use Rattle.std.specs.Prelude.{None, Option}
-use Rattle.host_works.specs.KeptWorks.{HeldWork, MayAnswer}
-use Rattle.task_machine.specs.declared.words.HostPoll.{HostPoll}
+use Rattle.store_works.specs.KeptWorks.{HeldWork, MayAnswer}
+use Rattle.machine_data.specs.declared.words.HostPoll.{HostPoll}
 use Rattle.task_store.proofs.store.Store.poll_held.Goals as goal
 use Rattle.task_store.specs.Hosts.{held_by}
 

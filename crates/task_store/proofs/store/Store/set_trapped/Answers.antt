@@ -1,10 +1,10 @@
 use Rattle.std.proofs.Common.{[], ap, filter, List, refl, subst, true, ◌∙◌, ◌∷◌, ◌≡◌, ℕ}
-use Rattle.group_notices.specs.Moves.{finishes}
+use Rattle.store_notices.specs.Moves.{finishes}
 use Rattle.task_group.specs.Listeners.{ToldListeners}
-use Rattle.task_machine.specs.Write.{set_trapped}
+use Rattle.machine_data.specs.Write.{set_trapped}
 use Rattle.task_store.proofs.store.Store.set_trapped.Goals as goal
-use Rattle.task_words.specs.Groups.{ended_groups}
-use Rattle.task_words.specs.StateView.{StateView, on_core}
+use Rattle.core_primitives.specs.Groups.{ended_groups}
+use Rattle.core_primitives.specs.StateView.{StateView, on_core}
 
 all_kept : (ns : List ℕ) → filter (λ n. true) ns ≡ ns
 all_kept [] = refl

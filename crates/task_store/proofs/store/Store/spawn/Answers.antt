@@ -1,16 +1,16 @@
 -- The work is queued and held, or none is made.
 use Rattle.std.proofs.Common.{ap, ap₂, rules, subst, sym, ◌∙◌}
 use Rattle.std.specs.Prelude.{None, cond, ℕ, ◌+◌, ◌==◌, ◌≡◌}
-use Rattle.host_works.specs.KeptWorks.{held}
-use Rattle.task_machine.specs.Core.{Core}
-use Rattle.task_machine.specs.declared.records.MadeCounts.{MadeCounts}
-use Rattle.task_machine.specs.declared.records.WorkCaller.TheVariants as work_callers
+use Rattle.store_works.specs.KeptWorks.{held}
+use Rattle.machine_data.specs.Core.{Core}
+use Rattle.machine_data.specs.declared.records.MadeCounts.{MadeCounts}
+use Rattle.machine_data.specs.declared.records.WorkCaller.TheVariants as work_callers
 use Rattle.task_store.proofs.HostLemmas.{holds_queued}
 use Rattle.task_store.proofs.SpawnLemmas.{spawned_in}
 use Rattle.task_store.proofs.store.Store.spawn.Goals as goal
 use Rattle.task_store.specs.Hosts.{HoldsWorks, held_by, running}
-use Rattle.task_turns.proofs.SpawnLemmas.{spawn_in_order}
-use Rattle.task_turns.specs.Turn.{CoreInOrder}
+use Rattle.ops_turns.proofs.SpawnLemmas.{spawn_in_order}
+use Rattle.ops_turns.specs.Turn.{CoreInOrder}
 
 pub returns-in-Ok-queue_spawn : goal.returns-in-Ok-queue_spawn
 returns-in-Ok-queue_spawn g c =

@@ -1,16 +1,16 @@
 use Rattle.std.proofs.Common.{ap, refl, subst, sym, ◌∙◌}
 use Rattle.std.specs.Prelude.{Bool, None, Option, false, true, ◌||◌}
-use Rattle.host_works.specs.KeptWorks.{MayAnswer, held}
-use Rattle.task_machine.specs.declared.words.HostPoll.{HostPoll}
-use Rattle.task_machine.specs.Read.{course_of, is_aborted}
-use Rattle.task_machine.specs.declared.records.Course.{Course}
-use Rattle.task_ops.specs.PolledWorks.{TellsPoll}
-use Rattle.task_ops.specs.declared.work_ops.PollNews.TheVariants as told
-use Rattle.task_rules.specs.Works.{Poll, has_end, polled_course}
+use Rattle.store_works.specs.KeptWorks.{MayAnswer, held}
+use Rattle.machine_data.specs.declared.words.HostPoll.{HostPoll}
+use Rattle.machine_data.specs.Read.{course_of, is_aborted}
+use Rattle.machine_data.specs.declared.records.Course.{Course}
+use Rattle.ops_guests.specs.PolledWorks.{TellsPoll}
+use Rattle.ops_guests.specs.declared.work_ops.PollNews.TheVariants as told
+use Rattle.machine_rules.specs.Works.{Poll, has_end, polled_course}
 use Rattle.task_store.proofs.HostLemmas.{aborted_ends, going_held, going_tells, over_held, polled_goes, unaborted_polls, unheld_over, unpolled_over}
 use Rattle.task_store.proofs.store.Store.tell.Goals as goal
 use Rattle.task_store.specs.Hosts.{held_by}
-use Rattle.task_words.specs.StateView.{work_of}
+use Rattle.core_primitives.specs.StateView.{work_of}
 
 pub returns-then-is_aborted-clause-answer : goal.returns-then-is_aborted-clause-answer
 returns-then-is_aborted-clause-answer g c =

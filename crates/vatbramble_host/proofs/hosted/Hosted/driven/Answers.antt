@@ -4,9 +4,9 @@ use Rattle.std.specs.Prelude.{Bool, []}
 use Rattle.task_loop.proofs.BeginLemmas.{may_open}
 use Rattle.task_loop.proofs.HasRunLemmas.{drives_of}
 use Rattle.task_loop.proofs.MainToldLemmas.{fresh_asked}
-use Rattle.task_machine.specs.Core.{Unscripted}
-use Rattle.task_machine.specs.declared.records.Turn.{Turn}
-use Rattle.task_turns.specs.Turn.{setting_of, state_at}
+use Rattle.machine_data.specs.Core.{Unscripted}
+use Rattle.machine_data.specs.declared.records.Turn.{Turn}
+use Rattle.ops_turns.specs.Turn.{setting_of, state_at}
 use Rattle.vatbramble_host.proofs.RunLemmas.{host_run}
 use Rattle.vatbramble_host.proofs.hosted.Hosted.driven.Goals as goal
 

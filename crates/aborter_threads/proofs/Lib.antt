@@ -1,5 +1,0 @@
-pub mod CountLemmas
-pub mod RunLemmas
-pub mod NewLemmas
-pub mod MeetLemmas
-pub mod LineLemmas

@@ -1,6 +1,0 @@
-use Rattle.std.proofs.Common.{take}
-use Rattle.aborter_threads.specs.Aborters.{HasRun}
-use Rattle.aborter_threads.proofs.line.Aborter.run.Given as goal
-
-abbrev pub invariant-loop-spawn : goal.invariant-loop-spawn
-invariant-loop-spawn g l = HasRun (take l.spawn-index l.line) l.initial.self l.self

@@ -1,2 +1,0 @@
-pub mod OpenMainLemmas
-pub mod AskLemmas

@@ -1,8 +1,0 @@
--- No call is lost where an ask is refused.
-use Rattle.asking_main.proofs.asking.AskingMain.admitted.Given as goal
-use Rattle.std.proofs.Common.{◌≡◌}
-
-abbrev pub invariant-loop : goal.invariant-loop
-invariant-loop g l = record {
-  calls : l.self.calls ≡ l.initial.self.calls;
-}

@@ -1,6 +1,0 @@
-pub mod MarkedLemmas
-pub mod RoundLemmas
-pub mod OutcomeLemmas
-pub mod CourseLemmas
-pub mod CallLemmas
-pub mod ShownLemmas

@@ -1,5 +1,0 @@
-use Rattle.beside_laws.proofs.CourseLemmas.{rounds_are_cut}
-use Rattle.beside_laws.proofs.course_laws.rounds_are_cut.Goals as goal
-
-pub returns : goal.returns
-returns c = rounds_are_cut

@@ -1,2 +1,0 @@
-pub mod WideLemmas
-pub mod DueLemmas

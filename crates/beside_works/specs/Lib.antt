@@ -1,0 +1,5 @@
+pub mod Shared
+pub mod Views
+pub mod Lines
+pub mod Counts
+pub mod Aborters

@@ -1,0 +1,5 @@
+pub mod CallPlaceLemmas
+pub mod KnownLemmas
+pub mod GroupLemmas
+pub mod NameLemmas
+pub mod ItemLemmas

@@ -1,0 +1,5 @@
+use Rattle.core_fields.proofs.names.caller.Goals as goal
+use Rattle.core_records.proofs.HomeLemmas.{call_names, place_bare}
+
+pub caller_id-requires-clause-at : goal.caller_id-requires-clause-at
+caller_id-requires-clause-at c = place_bare c.args.parts.now _ _ (call_names c.args.parts.now c.requires c.args.call c.in-Some.entry.now c.in-Some.ensures.item).caller

@@ -1,0 +1,18 @@
+use Rattle.core_fields.proofs.work_fields.set_cancelled.Goals as goal
+use Rattle.core_records.proofs.Core.{refl, set_cancelled, true}
+use Rattle.core_records.proofs.WriteLemmas.{work_nowhere, work_sound, work_writes}
+
+pub returns-in-Ok-clause-sound : goal.returns-in-Ok-clause-sound
+returns-in-Ok-clause-sound c =
+    let g = c.in-Ok.entry.now in
+    work_sound c.args.parts.now c.requires c.args.work g c.in-Ok.ensures.value (record g { work = record g.work { cancelled = true } }) refl
+
+pub returns-in-Ok-clause-new : goal.returns-in-Ok-clause-new
+unfolding set_cancelled
+returns-in-Ok-clause-new c =
+    let g = c.in-Ok.entry.now in
+    work_writes c.args.parts.now c.requires c.args.work g c.in-Ok.ensures.value (record g { work = record g.work { cancelled = true } }) refl _ refl
+
+pub returns-in_default-clause-new : goal.returns-in_default-clause-new
+unfolding set_cancelled
+returns-in_default-clause-new c = work_nowhere c.args.parts.now c.requires c.args.work _ c.in_default.ensures.value _

@@ -1,0 +1,10 @@
+pub mod Makes
+pub mod Loose
+pub mod Instances
+pub mod Restored
+pub mod LooseCalls
+pub mod Extends
+pub mod Strand
+pub mod Pushed
+pub mod Member
+pub mod Ends

@@ -1,0 +1,40 @@
+-- What is picked where the machine leaves a choice: the least by the places in the resource table.
+use Rattle.std.specs.Ordering.{is_lt, nat_cmp, ordering_then}
+use Rattle.std.specs.Prelude.{◌≡◌, ℕ, false, true, Ok, Some}
+use Rattle.std.specs.declared.cmp.Ordering.{Ordering}
+use Rattle.machine_data.specs.Read.{is_waiting_on}
+use Rattle.core_records.specs.Kinds.{item_of}
+use Rattle.core_records.specs.RecordPlaces.{ready_in}
+use Rattle.core_records.specs.Sound.{EachEntry}
+use Rattle.core_records.specs.declared.call_records.GuestTask.{GuestTask}
+use Rattle.core_records.specs.declared.parts.CoreParts.{CoreParts}
+use Rattle.core_records.specs.declared.thread_records.GuestThread.{GuestThread}
+use Rattle.core_records.specs.declared.work_records.WorkRecord.{WorkRecord}
+use Rattle.task_table.specs.TableAnswers.{item_at}
+use Rattle.task_table.specs.declared.id.TableId.{TableId}
+use Rattle.task_wait.specs.declared.keys.ThreadKey.{ThreadKey}
+use Rattle.core_primitives.specs.declared.names.SubtaskId.{SubtaskId}
+use Rattle.core_primitives.specs.declared.names.SubtaskId.TheVariants as subtask
+
+-- threads by the place of their task, then by their own
+abbrev pub thread_order : GuestThread → GuestThread → Ordering
+thread_order g h = ordering_then (nat_cmp g.task_entry h.task_entry) (nat_cmp g.entry h.entry)
+
+-- No thread that waits on the set comes before the one of this id.
+abbrev pub IsLeastWaiter : CoreParts → ℕ → TableId ThreadKey → Type 0
+IsLeastWaiter a x id =
+    (g : GuestThread) →
+    Ok g ≡ item_at item_of a.threads id.rep id.serial →
+    EachEntry (λ h. is_waiting_on x h.thread.place ≡ true → is_lt (thread_order h g) ≡ false) a.threads
+
+-- No ready member of the set comes before the one of this id: host works come first, then calls, each by its place.
+abbrev pub IsLeastMember : CoreParts → ℕ → SubtaskId → Type 0
+IsLeastMember a x (subtask.Host id) =
+    (w : WorkRecord) →
+    Ok w ≡ item_at item_of a.works id.rep id.serial →
+    EachEntry (λ v. ready_in v.work.event v.work.join ≡ Some x → is_lt (nat_cmp v.entry w.entry) ≡ false) a.works
+IsLeastMember a x (subtask.Guest id) =
+    EachEntry (λ (v : WorkRecord). ready_in v.work.event v.work.join ≡ Some x → ⊥) a.works
+    × ((g : GuestTask) →
+    Ok g ≡ item_at item_of a.calls id.rep id.serial →
+    EachEntry (λ h. ready_in h.call.event h.call.join ≡ Some x → is_lt (nat_cmp h.entry g.entry) ≡ false) a.calls)

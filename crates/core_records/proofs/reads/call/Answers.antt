@@ -1,0 +1,14 @@
+use Rattle.core_records.proofs.ReadLemmas.{call_named, call_read, call_unnamed, call_unread}
+use Rattle.core_records.proofs.reads.call.Goals as goal
+
+pub returns-in-Ok-clause-is : goal.returns-in-Ok-clause-is
+returns-in-Ok-clause-is c = call_read c.args.parts.now c.requires c.args.id _ c.in-Ok.ensures
+
+pub returns-in-Ok-clause-number : goal.returns-in-Ok-clause-number
+returns-in-Ok-clause-number c = call_named c.args.parts.now c.args.id _ c.in-Ok.ensures
+
+pub returns-in-Err-clause-is : goal.returns-in-Err-clause-is
+returns-in-Err-clause-is c = call_unread c.args.parts.now c.requires c.args.id _ c.in-Err.ensures
+
+pub returns-in-Err-clause-nothing : goal.returns-in-Err-clause-nothing
+returns-in-Err-clause-nothing c = call_unnamed c.args.parts.now c.args.id _ c.in-Err.ensures

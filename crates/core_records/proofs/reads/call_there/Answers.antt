@@ -1,0 +1,14 @@
+use Rattle.core_records.proofs.ReadLemmas.{call_item, call_named, call_read, call_stands}
+use Rattle.core_records.proofs.reads.call_there.Goals as goal
+
+pub there-requires : goal.there-requires
+there-requires c = call_stands c.args.parts.now c.args.id c.requires.live
+
+pub returns-clause-item : goal.returns-clause-item
+returns-clause-item c = call_item c.args.parts.now c.args.id c.requires.live c.there.result.now c.there.ensures
+
+pub returns-clause-is : goal.returns-clause-is
+returns-clause-is c = call_read c.args.parts.now c.requires.sound c.args.id c.there.result.now (returns-clause-item c)
+
+pub returns-clause-number : goal.returns-clause-number
+returns-clause-number c = call_named c.args.parts.now c.args.id c.there.result.now (returns-clause-item c)

@@ -1,0 +1,12 @@
+pub mod Rooms
+pub mod Kinds
+pub mod Keys
+pub mod Instances
+pub mod Groups
+pub mod Image
+pub mod Names
+pub mod RecordPlaces
+pub mod Rows
+pub mod CachedCounts
+pub mod Sound
+pub mod Seen

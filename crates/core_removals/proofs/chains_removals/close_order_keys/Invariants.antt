@@ -1,0 +1,10 @@
+use Rattle.core_records.proofs.Core.{entries, length}
+use Rattle.core_removals.proofs.chains_removals.close_order_keys.Given as goal
+use Rattle.core_removals.specs.Chains.{Empties}
+
+-- all else stays as nodes leave
+abbrev pub invariant-loop-node : goal.invariant-loop-node
+invariant-loop-node l = Empties l.initial.links l.links l.chain
+
+abbrev pub decreases-loop-node : goal.decreases-loop-node
+decreases-loop-node l = length (entries l.links l.chain)

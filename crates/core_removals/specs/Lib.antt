@@ -1,0 +1,9 @@
+pub mod Walks
+pub mod Least
+pub mod Held
+pub mod Order
+pub mod Merged
+pub mod Chains
+pub mod Counted
+pub mod LooseWorks
+pub mod Raised

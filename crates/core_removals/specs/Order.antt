@@ -1,0 +1,17 @@
+-- The order of a release: by the places of threads in the resource table.
+use Rattle.core_places.specs.Picks.{thread_order}
+use Rattle.std.specs.Ordering.{is_lt}
+use Rattle.std.specs.Prelude.{◌≡◌, ℕ, false, List, [], ◌∷◌}
+use Rattle.table_lists.specs.Rows.{Each}
+use Rattle.core_records.specs.Sound.{EachEntry}
+use Rattle.core_records.specs.declared.parts.CoreParts.{CoreParts}
+
+-- the thread m doesn't come before the thread n
+abbrev pub NotBefore : CoreParts → ℕ → ℕ → Type 0
+NotBefore a n m =
+    EachEntry (λ g. g.number ≡ n → EachEntry (λ h. h.number ≡ m → is_lt (thread_order h g) ≡ false) a.threads) a.threads
+
+-- no thread of the list comes before one that is earlier in it
+abbrev pub AreInOrder : CoreParts → List ℕ → Type 0
+AreInOrder a [] = Unit {0}
+AreInOrder a (n ∷ ns) = Each (NotBefore a n) ns × AreInOrder a ns

@@ -1,0 +1,16 @@
+use Rattle.core_state.proofs.borrows.set_call_borrows.Goals as goal
+use Rattle.std.proofs.Common.{refl}
+use Rattle.core_records.proofs.WriteLemmas.{call_nowhere, call_sound, call_writes}
+
+pub returns-in-Ok-clause-sound : goal.returns-in-Ok-clause-sound
+returns-in-Ok-clause-sound c =
+    let g = c.in-Ok.entry.now in
+    call_sound c.args.parts.now c.requires c.args.call g c.in-Ok.ensures.value (record g { call = record g.call { borrows = c.args.borrows } }) refl
+
+pub returns-in-Ok-clause-new : goal.returns-in-Ok-clause-new
+returns-in-Ok-clause-new c =
+    let g = c.in-Ok.entry.now in
+    call_writes c.args.parts.now c.requires c.args.call g c.in-Ok.ensures.value (record g { call = record g.call { borrows = c.args.borrows } }) refl _ refl
+
+pub returns-in_default-clause-new : goal.returns-in_default-clause-new
+returns-in_default-clause-new c = call_nowhere c.args.parts.now c.requires c.args.call _ c.in_default.ensures.value _

@@ -1,8 +1,0 @@
-use Rattle.std.proofs.Common.{◌≡◌}
-use Rattle.count_words.specs.Entries.{above}
-use Rattle.table_order.specs.GivenPlaces.{given_each}
-use Rattle.count_words.proofs.entries.give_names.Given as goal
-
-abbrev pub invariant-loop-name : goal.invariant-loop-name
-invariant-loop-name l =
-    given_each (above l.finished l.name-iterator) l.places ≡ given_each (above l.finished l.initial.name-iterator) l.initial.places

@@ -1,5 +1,0 @@
-use Rattle.count_words.proofs.member_counts.has_waiters.Goals as goal
-use Rattle.task_records.proofs.KeptLemmas.{some_waiter}
-
-pub returns : goal.returns
-returns c = some_waiter c.args.parts.now c.requires.sound c.args.set c.set_there.result.now c.set_there.ensures.item

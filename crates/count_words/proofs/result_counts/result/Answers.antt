@@ -1,7 +1,0 @@
-use Rattle.count_words.proofs.ResultLemmas.{get-given}
-use Rattle.count_words.proofs.result_counts.result.Goals as goal
-use Rattle.task_records.proofs.Core.{seen, sym, ◌∙◌}
-
-pub returns : goal.returns
-unfolding seen
-returns c = c.result.ensures ∙ sym (get-given c.args.parts.now.results c.args.call)

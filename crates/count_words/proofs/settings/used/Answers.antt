@@ -1,5 +1,0 @@
-use Rattle.count_words.proofs.settings.used.Goals as goal
-use Rattle.task_records.proofs.KeptLemmas.{used_is}
-
-pub returns : goal.returns
-returns c = used_is c.args.parts.now c.requires

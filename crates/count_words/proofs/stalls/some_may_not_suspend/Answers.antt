@@ -1,9 +1,0 @@
-use Rattle.count_words.proofs.ScanLemmas.{scanned}
-use Rattle.count_words.proofs.stalls.some_may_not_suspend.Goals as goal
-use Rattle.task_records.proofs.Core.{IsSoundCore, may_not_suspend, seen, ◌∙◌}
-
-pub returns : goal.returns
-unfolding IsSoundCore seen
-returns c =
-    c.some_entry_may_not.ensures
-    ∙ scanned (λ g. g.number) (λ g. g.call) (λ k. may_not_suspend k.callee.instance (seen c.args.parts.now).core) c.args.parts.now.calls c.requires.tables.calls.apart

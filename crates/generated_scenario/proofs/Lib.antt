@@ -1,5 +1,0 @@
-pub mod Printed
-pub mod Tree
-pub mod Standing
-pub mod Spelled
-pub mod Sizes

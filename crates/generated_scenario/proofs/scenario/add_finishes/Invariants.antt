@@ -1,8 +1,0 @@
-use Rattle.std.proofs.Common.{◌≡◌, ◌++◌, string_bytes}
-use Rattle.std.specs.List.{flat_map}
-use Rattle.task_rules.specs.Texts.{line_text}
-use Rattle.generated_scenario.specs.Generated.{each_to, finish_line}
-use Rattle.generated_scenario.proofs.scenario.add_finishes.Given as goal
-
-abbrev pub invariant-loop-before : goal.invariant-loop-before
-invariant-loop-before l = string_bytes l.text ≡ string_bytes l.fn.text ++ flat_map line_text (each_to finish_line l.before)

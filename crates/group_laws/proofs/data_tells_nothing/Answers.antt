@@ -1,8 +1,0 @@
-use Rattle.group_laws.proofs.RunTells.{data_runs_tell_nothing, data_tells_nothing}
-use Rattle.group_laws.proofs.data_tells_nothing.Goals as goal
-
-pub returns-clause-steps : goal.returns-clause-steps
-returns-clause-steps c = data_tells_nothing
-
-pub returns-clause-runs : goal.returns-clause-runs
-returns-clause-runs c = data_runs_tell_nothing

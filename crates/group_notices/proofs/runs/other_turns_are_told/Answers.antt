@@ -1,5 +1,0 @@
-use Rattle.group_notices.proofs.RunLemmas.{other_turns_told}
-use Rattle.group_notices.proofs.runs.other_turns_are_told.Goals as goal
-
-pub returns : goal.returns
-returns c = other_turns_told

@@ -1,5 +1,0 @@
-use Rattle.host_tests.proofs.midway.stays.Goals as goal
-use Rattle.task_machine.specs.Core.{Unscripted}
-
-pub leaves_none-requires : goal.leaves_none-requires
-leaves_none-requires c = (c.requires.running.order.order Unscripted).in_place.placed

@@ -1,5 +1,0 @@
-use Rattle.host_tests.proofs.waits.add_instance.Goals as goal
-use Rattle.std.proofs.Common.{arith}
-
-pub add_instance-requires : goal.add_instance-requires
-add_instance-requires g c = let few = c.requires in omega (arith, few)

@@ -1,4 +1,0 @@
-pub mod Opened
-pub mod Labels
-pub mod Rest
-pub mod Marks

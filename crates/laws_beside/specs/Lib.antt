@@ -1,0 +1,9 @@
+pub mod Wide
+pub mod Own
+pub mod Laws
+pub mod Marked
+pub mod Rounds
+pub mod Outcomes
+pub mod Courses
+pub mod RunCalls
+pub mod Shown

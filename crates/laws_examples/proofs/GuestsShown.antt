@@ -1,0 +1,25 @@
+-- The runs of these scenarios, computed.
+use Rattle.std.proofs.Common.{refl}
+use Rattle.std.specs.Prelude.{[]}
+use Rattle.machine_data.specs.declared.outcome.Outcome.TheVariants as outcome
+use Rattle.machine_data.specs.declared.trap.Trap.TheVariants as trap
+use Rattle.laws_examples.proofs.PlayLemmas.{example}
+use Rattle.laws_examples.specs.Guests.{backpressure_lowered_below_zero_traps, backpressure_lowered_below_zero_traps_labels, direct_sync_call_answers_its_result, direct_sync_call_answers_its_result_labels, held_start_runs_when_backpressure_falls_to_zero, held_start_runs_when_backpressure_falls_to_zero_labels, outer_caller_is_resumed_while_a_direct_callee_blocks, outer_caller_is_resumed_while_a_direct_callee_blocks_labels}
+use Rattle.laws_examples.specs.Play.{Example}
+use Rattle.laws_examples.specs.Words.{the_words}
+
+pub backpressure_lowered_below_zero_traps_shown : Example backpressure_lowered_below_zero_traps 1000 backpressure_lowered_below_zero_traps_labels (outcome.Trap trap.BackpressureOverflow)
+unfolding the_words
+backpressure_lowered_below_zero_traps_shown = example backpressure_lowered_below_zero_traps [] 1000 backpressure_lowered_below_zero_traps_labels (outcome.Trap trap.BackpressureOverflow) refl refl
+
+pub direct_sync_call_answers_its_result_shown : Example direct_sync_call_answers_its_result 1000 direct_sync_call_answers_its_result_labels (outcome.Done 8)
+unfolding the_words
+direct_sync_call_answers_its_result_shown = example direct_sync_call_answers_its_result [] 1000 direct_sync_call_answers_its_result_labels (outcome.Done 8) refl refl
+
+pub held_start_runs_when_backpressure_falls_to_zero_shown : Example held_start_runs_when_backpressure_falls_to_zero 1000 held_start_runs_when_backpressure_falls_to_zero_labels (outcome.Done 16)
+unfolding the_words
+held_start_runs_when_backpressure_falls_to_zero_shown = example held_start_runs_when_backpressure_falls_to_zero [] 1000 held_start_runs_when_backpressure_falls_to_zero_labels (outcome.Done 16) refl refl
+
+pub outer_caller_is_resumed_while_a_direct_callee_blocks_shown : Example outer_caller_is_resumed_while_a_direct_callee_blocks 1000 outer_caller_is_resumed_while_a_direct_callee_blocks_labels (outcome.Done 17)
+unfolding the_words
+outer_caller_is_resumed_while_a_direct_callee_blocks_shown = example outer_caller_is_resumed_while_a_direct_callee_blocks [] 1000 outer_caller_is_resumed_while_a_direct_callee_blocks_labels (outcome.Done 17) refl refl

@@ -1,0 +1,33 @@
+-- The runs of these scenarios, computed.
+use Rattle.std.proofs.Common.{refl}
+use Rattle.std.specs.Prelude.{[]}
+use Rattle.machine_data.specs.declared.outcome.Outcome.TheVariants as outcome
+use Rattle.machine_data.specs.declared.trap.Trap.TheVariants as trap
+use Rattle.laws_examples.proofs.PlayLemmas.{example}
+use Rattle.laws_examples.specs.Play.{Example}
+use Rattle.laws_examples.specs.Sets.{callback_wait_on_empty_set_deadlocks, callback_wait_on_empty_set_deadlocks_labels, callback_wait_on_empty_set_is_idle_under_idle_wait, callback_wait_on_empty_set_is_idle_under_idle_wait_labels, freed_set_handle_is_given_again_up_to_the_limit, freed_set_handle_is_given_again_up_to_the_limit_labels, handle_limit_one_stops_the_first_set, handle_limit_one_stops_the_first_set_labels, handle_limit_zero_stops_the_start, handle_limit_zero_stops_the_start_labels, unknown_callback_code_traps, unknown_callback_code_traps_labels}
+use Rattle.laws_examples.specs.Words.{the_words}
+
+pub callback_wait_on_empty_set_deadlocks_shown : Example callback_wait_on_empty_set_deadlocks 1000 callback_wait_on_empty_set_deadlocks_labels (outcome.Deadlock trap.AsyncDeadlock)
+unfolding the_words
+callback_wait_on_empty_set_deadlocks_shown = example callback_wait_on_empty_set_deadlocks [] 1000 callback_wait_on_empty_set_deadlocks_labels (outcome.Deadlock trap.AsyncDeadlock) refl refl
+
+pub callback_wait_on_empty_set_is_idle_under_idle_wait_shown : Example callback_wait_on_empty_set_is_idle_under_idle_wait 1000 callback_wait_on_empty_set_is_idle_under_idle_wait_labels outcome.Idle
+unfolding the_words
+callback_wait_on_empty_set_is_idle_under_idle_wait_shown = example callback_wait_on_empty_set_is_idle_under_idle_wait [] 1000 callback_wait_on_empty_set_is_idle_under_idle_wait_labels outcome.Idle refl refl
+
+pub freed_set_handle_is_given_again_up_to_the_limit_shown : Example freed_set_handle_is_given_again_up_to_the_limit 1000 freed_set_handle_is_given_again_up_to_the_limit_labels (outcome.Trap trap.HandleLimit)
+unfolding the_words
+freed_set_handle_is_given_again_up_to_the_limit_shown = example freed_set_handle_is_given_again_up_to_the_limit [] 1000 freed_set_handle_is_given_again_up_to_the_limit_labels (outcome.Trap trap.HandleLimit) refl refl
+
+pub handle_limit_one_stops_the_first_set_shown : Example handle_limit_one_stops_the_first_set 1000 handle_limit_one_stops_the_first_set_labels (outcome.Trap trap.HandleLimit)
+unfolding the_words
+handle_limit_one_stops_the_first_set_shown = example handle_limit_one_stops_the_first_set [] 1000 handle_limit_one_stops_the_first_set_labels (outcome.Trap trap.HandleLimit) refl refl
+
+pub handle_limit_zero_stops_the_start_shown : Example handle_limit_zero_stops_the_start 1000 handle_limit_zero_stops_the_start_labels (outcome.Trap trap.HandleLimit)
+unfolding the_words
+handle_limit_zero_stops_the_start_shown = example handle_limit_zero_stops_the_start [] 1000 handle_limit_zero_stops_the_start_labels (outcome.Trap trap.HandleLimit) refl refl
+
+pub unknown_callback_code_traps_shown : Example unknown_callback_code_traps 1000 unknown_callback_code_traps_labels (outcome.Trap trap.UnsupportedCallbackCode)
+unfolding the_words
+unknown_callback_code_traps_shown = example unknown_callback_code_traps [] 1000 unknown_callback_code_traps_labels (outcome.Trap trap.UnsupportedCallbackCode) refl refl

@@ -1,0 +1,12 @@
+pub mod ShowLemmas
+pub mod OwnLemmas
+pub mod TakingLemmas
+pub mod TurnLemmas
+pub mod GoingLemmas
+pub mod TrapLemmas
+pub mod ListLemmas
+pub mod DataGroups
+pub mod StepTells
+pub mod RunTells
+pub mod GroupLemmas
+pub mod MainGroups

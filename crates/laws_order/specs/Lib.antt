@@ -1,0 +1,12 @@
+pub mod Stands
+pub mod Pieces
+pub mod Given
+pub mod Borrows
+pub mod Events
+pub mod Works
+pub mod Rests
+pub mod Moves
+pub mod MainAnswers
+pub mod KeptOrder
+pub mod Cells
+pub mod Spawns

@@ -1,6 +1,0 @@
-use Rattle.make_words.proofs.set_makes.open_set_at.Goals as goal
-use Rattle.task_records.proofs.Core.{ap, get, is_some, StateView, ◌∙◌}
-use Rattle.task_records.proofs.InstanceReads.{instance_unchecked}
-
-pub name_set-requires-clause-there : goal.name_set-requires-clause-there
-name_set-requires-clause-there c = instance_unchecked c.new_set.new.parts c.args.instance (ap (λ (v : StateView). is_some (get v.core.handles c.args.instance)) c.in-Ok.ensures.seen ∙ c.requires.there)

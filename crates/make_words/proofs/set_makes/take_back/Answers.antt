@@ -1,5 +1,0 @@
-use Rattle.make_words.proofs.UndoLemmas.{set_deletes}
-use Rattle.make_words.proofs.set_makes.take_back.Goals as goal
-
-pub unreachable-requires : goal.unreachable-requires
-unreachable-requires c = set_deletes c.args.parts.now c.requires.sound c.args.set c.requires.live _ c.in-Err.ensures.answer

@@ -1,3 +1,0 @@
-pub mod Loose
-pub mod Instances
-pub mod Restored

@@ -1,4 +1,0 @@
-pub mod DidLemmas
-pub mod MethodLemmas
-pub mod WakeLemmas
-pub mod CallLemmas

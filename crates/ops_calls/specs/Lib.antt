@@ -1,0 +1,14 @@
+pub mod OpAnswers
+pub mod Asks
+pub mod MainCalls
+pub mod Directs
+pub mod InPlace
+pub mod Intrinsics
+pub mod PolledCalls
+pub mod Prepared
+pub mod Resumes
+pub mod Shown
+pub mod Tasks
+pub mod Untrapped
+pub mod Methods
+pub mod MethodWakes

@@ -1,0 +1,14 @@
+pub mod Shows
+pub mod GoesLemmas
+pub mod CancelLemmas
+pub mod RowLemmas
+pub mod GoesLemmasDispatch
+pub mod StayLemmas
+pub mod SubtaskRules
+pub mod OpLemmas
+pub mod CallLemmas
+pub mod InPlaceLemmas
+pub mod LeavesLemmas
+pub mod StandsLemmas
+pub mod HaltLemmas
+pub mod EndLemmas

@@ -1,0 +1,10 @@
+pub mod Runner
+pub mod Continues
+pub mod RunnerDispatch
+pub mod ContinuesDispatch
+pub mod InPlace
+pub mod Fits
+pub mod Polls
+pub mod Did
+pub mod Makes
+pub mod Rules

@@ -1,0 +1,28 @@
+-- Which ops may take memory, and which make something.
+use Rattle.std.specs.Prelude.{Bool, false, true}
+use Rattle.machine_data.specs.declared.op.CallOp.TheVariants as call_op
+use Rattle.machine_data.specs.declared.op.Op.{Op}
+use Rattle.machine_data.specs.declared.op.Op.TheVariants as op
+use Rattle.machine_data.specs.declared.op.SetOp.TheVariants as set_op
+use Rattle.machine_data.specs.declared.op.ThreadOp.TheVariants as thread_op
+use Rattle.machine_data.specs.declared.records.OpProgress.{OpProgress}
+use Rattle.machine_data.specs.declared.records.OpProgress.TheVariants as op_progress
+use Rattle.machine_data.specs.declared.records.Subtask.TheVariants as subtask
+
+-- The calls, `set_new` and `thread_new` may take memory. No other op does, and so none answers that it is out of memory.
+abbrev pub takes_memory : Op → Bool
+takes_memory (op.Call (call_op.Call r q e xs)) = true
+takes_memory (op.Call (call_op.CallSync r e xs)) = true
+takes_memory (op.Call (call_op.CallHost r q h)) = true
+takes_memory (op.Call (call_op.CallSyncHost r h)) = true
+takes_memory (op.Set (set_op.New r)) = true
+takes_memory (op.Thread (thread_op.New r x v)) = true
+takes_memory _ = false
+
+-- They make a thread, a work or a set, which gets a new number. A call makes nothing more once it is inside of what it made, or answered.
+abbrev pub makes : OpProgress → Op → Bool
+makes (op_progress.Calls (subtask.Guest k)) (op.Call (call_op.Call r q e xs)) = false
+makes (op_progress.Calls (subtask.Guest k)) (op.Call (call_op.CallSync r e xs)) = false
+makes (op_progress.Calls (subtask.Host i)) (op.Call (call_op.CallSyncHost r h)) = false
+makes (op_progress.Answered v) (op.Call (call_op.CallSync r e xs)) = false
+makes h o = takes_memory o

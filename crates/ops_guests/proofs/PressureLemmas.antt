@@ -1,0 +1,121 @@
+-- Backpressure, by its count.
+use Rattle.std.proofs.Common.{ap, ap₂, arith, cond, refl, subst, sym, ◌∙◌}
+use Rattle.std.proofs.lemmas.Bool.Decides.{nat_tests}
+use Rattle.std.proofs.lemmas.List.Sorted.{IsPermutation-refl}
+use Rattle.std.specs.Prelude.{◌&&◌, Bool, IsPermutation, List, [], false, filter, None, Option, option_and_then, Some, suc, true, zero, ℕ, ◌+◌, ◌-◌, ◌==◌, ◌<◌, ◌≡◌, ◌∷◌}
+use Rattle.laws_states.specs.WakeLaw.{NoneAdmitted}
+use Rattle.task_table.specs.declared.id.TableId.{TableId}
+use Rattle.task_wait.specs.declared.keys.ThreadKey.{ThreadKey}
+use Rattle.machine_data.proofs.CommuteLemmas.{get-change}
+use Rattle.machine_data.specs.Core.{Core}
+use Rattle.machine_data.specs.Maps.{numbers}
+use Rattle.machine_data.specs.Moves.{released}
+use Rattle.machine_data.specs.Read.{admits, admitted_held, backpressure_of, held_why, instance_of, is_held_admitted, may_not_enter, place_of}
+use Rattle.machine_data.specs.Write.{on_instance, set_backpressure}
+use Rattle.machine_data.specs.declared.label.Label.TheVariants as label
+use Rattle.machine_data.specs.declared.label.TaskLabel.TheVariants as task_label
+use Rattle.machine_data.specs.declared.records.Place.{Place}
+use Rattle.machine_data.specs.declared.records.Place.TheVariants as place
+use Rattle.machine_data.specs.declared.records.Why.{Why}
+use Rattle.machine_data.specs.declared.records.Why.TheVariants as why
+use Rattle.ops_guests.specs.OpResult.{Implements}
+use Rattle.ops_guests.proofs.RunLemmas.{stands_on}
+use Rattle.ops_moves.proofs.UntouchedLemmas.{on_instance_untouched}
+use Rattle.ops_guests.proofs.BesideLemmas.{all_of, quiet_stand}
+use Rattle.ops_guests.specs.Running.{Stand}
+use Rattle.machine_rules.specs.Finish.{Doer, NoAnswer, finish}
+use Rattle.machine_rules.specs.Places.{Placed}
+use Rattle.machine_rules.specs.Task.{dec_by, dec_rule, held_by_counter, pressure_gone, pressure_lowered}
+use Rattle.core_primitives.specs.StateView.{StateView, on_core, thread_of}
+use Rattle.ops_guests.specs.Shown.{goes_as}
+
+-- ---- The counter falls
+
+pub lowered_places : (n : TableId ThreadKey) (i k : ℕ) (s t : StateView) → Stand (thread_of s n) place.Running [] s.core → t ≡ on_core (set_backpressure i k) s → Placed t.core
+unfolding set_backpressure
+lowered_places n i k s t st e = all_of (thread_of t n) place.Running t.core refl (stands_on n place.Running (set_backpressure i k) s t e (quiet_stand (thread_of s n) place.Running [] s.core _ (on_instance_untouched i (λ r. record r { backpressure = k }) s.core) st))
+
+-- held threads of the instance were put at high
+abbrev Opened : ℕ → StateView → StateView → Type 0
+Opened i s t = (order : List ℕ) × (IsPermutation (admitted_held i s.core) order × (t ≡ on_core (released order) s))
+
+-- ---- An instance that keeps entries out
+
+and_parts : (a b : Bool) → (a && b) ≡ true → (a ≡ true) × (b ≡ true)
+and_parts true b is = (refl, is)
+and_parts false b is = absurd (cc)
+
+same_flag : (i k : ℕ) (s : Core) → may_not_enter i (set_backpressure i k s) ≡ may_not_enter i s
+unfolding set_backpressure on_instance
+same_flag i k s = grind (arith, nat_tests, get-change)
+
+held_place : (o : Option Place) (w : Why) → option_and_then held_why o ≡ Some w → o ≡ Some (place.Held w)
+held_place o w is = grind arith
+
+-- an entry of a thread there that wasn't admitted isn't yet, whatever the count
+still_out : (i k : ℕ) (s : Core) (n : ℕ) (w : Why) → admits n s w ≡ false → may_not_enter i s ≡ true → (instance_of n s == i) ≡ true →
+    admits n (set_backpressure i k s) w ≡ true → ⊥
+unfolding set_backpressure on_instance
+still_out i k s n why.Start was out home is = absurd (grind (arith, nat_tests, get-change))
+still_out i k s n (why.Delivery d) was out home is = absurd (grind (arith, nat_tests, get-change))
+still_out i k s n why.Resumption was out home is = absurd (cc)
+
+none_admitted : (i k : ℕ) (s : Core) → NoneAdmitted s → may_not_enter i s ≡ true → (n : ℕ) →
+    is_held_admitted i (set_backpressure i k s) n (option_and_then held_why (place_of n s)) ≡ true → ⊥
+unfolding set_backpressure on_instance
+none_admitted i k s q out n is = by (option_and_then held_why (place_of n s)) refl is
+  where
+    by : (o : Option Why) → option_and_then held_why (place_of n s) ≡ o → is_held_admitted i (set_backpressure i k s) n o ≡ true → ⊥
+    by None at is = absurd (cc)
+    by (Some w) at is = let both = and_parts (instance_of n s == i) _ is in still_out i k s n w (q n w (held_place (place_of n s) w at)) out both.0 both.1
+
+none_passes : (test : ℕ → Bool) (ns : List ℕ) → ((n : ℕ) → test n ≡ true → ⊥) → filter test ns ≡ []
+none_passes test [] none = refl
+none_passes test (n ∷ ns) none = by (none_passes test ns none) (test n) refl
+  where
+    by : filter test ns ≡ [] → (t : Bool) → test n ≡ t → cond t (n ∷ filter test ns) (filter test ns) ≡ []
+    by rest true is = absurd (none n is)
+    by rest false is = rest
+
+none_held : (i k : ℕ) (s : Core) → NoneAdmitted s → may_not_enter i s ≡ true → admitted_held i (set_backpressure i k s) ≡ []
+unfolding admitted_held set_backpressure on_instance
+none_held i k s q out = none_passes _ (numbers s.threads) (none_admitted i k s q out)
+
+pub none_let_in : (i k : ℕ) (s t : StateView) → NoneAdmitted s.core → t ≡ on_core (set_backpressure i k) s → may_not_enter i t.core ≡ true →
+    admitted_held i t.core ≡ []
+none_let_in i k s t q e out =
+    ap (λ (v : StateView). admitted_held i v.core) e
+    ∙ none_held i k s.core q (sym (same_flag i k s.core) ∙ (sym (ap (λ (v : StateView). may_not_enter i v.core) e) ∙ out))
+
+pub released_none : (i : ℕ) (s : StateView) → admitted_held i s.core ≡ [] → Opened i s s
+unfolding released
+released_none i s none = ([], (subst (λ l. IsPermutation l []) (sym none) (IsPermutation-refl []), refl))
+
+same_came : (m n : ℕ) → m ≡ n → goes_as (label.Task (task_label.BpDec m)) m ≡ goes_as (label.Task (task_label.BpDec n)) n
+same_came m n e = ap (λ (k : ℕ). goes_as (label.Task (task_label.BpDec k)) k) e
+
+opening_is : (d : Doer) (n m : ℕ) (order : List ℕ) (s : Core) → backpressure_of (instance_of n s) s ≡ 1 → IsPermutation (held_by_counter (instance_of n s) s) order → m ≡ n → Implements (dec_rule d n s) s (goes_as (label.Task (task_label.BpDec m)) m) (finish d n NoAnswer (pressure_gone n order s))
+opening_is d n m order s one held is = subst (λ (b : ℕ). Implements (dec_by d n s b) s (goes_as (label.Task (task_label.BpDec m)) m) (finish d n NoAnswer (pressure_gone n order s))) (sym one) (order, (held, (same_came m n is, refl)))
+
+pub opening_meets : (n : TableId ThreadKey) (f : Doer) (i c k m : ℕ) (s t u : StateView) → i ≡ instance_of (thread_of s n) s.core → c ≡ backpressure_of i s.core → c ≡ 1 → k ≡ 0 → m ≡ thread_of s n → t ≡ on_core (set_backpressure i k) s → Opened i t u → Implements (dec_rule f (thread_of s n) s.core) s.core (goes_as (label.Task (task_label.BpDec m)) m) (finish f (thread_of s n) NoAnswer u.core)
+unfolding pressure_gone held_by_counter
+opening_meets n f i c k m s t u at count one none is e o =
+    let N = thread_of s n in
+    let I = instance_of N s.core in
+    let held = ap (λ (w : StateView). admitted_held i w.core) e ∙ ap₂ (λ (j b : ℕ). admitted_held j (set_backpressure j b s.core)) at none in
+    let core = ap (λ (w : StateView). finish f N NoAnswer w.core) o.1.1 ∙ (ap (λ (w : StateView). finish f N NoAnswer (released o.0 w.core)) e ∙ ap₂ (λ (j b : ℕ). finish f N NoAnswer (released o.0 (set_backpressure j b s.core))) at none) in
+    subst (λ (x : Core). Implements (dec_rule f N s.core) s.core (goes_as (label.Task (task_label.BpDec m)) m) x) (sym core)
+    (opening_is f N m o.0 s.core (ap (λ (j : ℕ). backpressure_of j s.core) (sym at) ∙ (sym count ∙ one)) (subst (λ (l : List ℕ). IsPermutation l o.0) held o.1.0) is)
+
+lowering_is : (d : Doer) (n m c : ℕ) (s : Core) → backpressure_of (instance_of n s) s ≡ suc (suc c) → m ≡ n → Implements (dec_rule d n s) s (goes_as (label.Task (task_label.BpDec m)) m) (finish d n NoAnswer (pressure_lowered n s))
+lowering_is d n m c s more is = subst (λ (b : ℕ). Implements (dec_by d n s b) s (goes_as (label.Task (task_label.BpDec m)) m) (finish d n NoAnswer (pressure_lowered n s))) (sym more) (same_came m n is, refl)
+
+pub lowering_meets : (n : TableId ThreadKey) (f : Doer) (i c m : ℕ) (s t : StateView) → i ≡ instance_of (thread_of s n) s.core → c ≡ backpressure_of i s.core → (c ≡ 0 → ⊥) → (c ≡ 1 → ⊥) → m ≡ thread_of s n → t ≡ on_core (set_backpressure i (c - 1)) s → Implements (dec_rule f (thread_of s n) s.core) s.core (goes_as (label.Task (task_label.BpDec m)) m) (finish f (thread_of s n) NoAnswer t.core)
+unfolding pressure_lowered
+lowering_meets n f i zero m s t at count some more is e = absurd (some refl)
+lowering_meets n f i (suc zero) m s t at count some more is e = absurd (more refl)
+lowering_meets n f i (suc (suc c)) m s t at count some more is e =
+    let N = thread_of s n in
+    let here : backpressure_of (instance_of N s.core) s.core ≡ suc (suc c) = ap (λ (j : ℕ). backpressure_of j s.core) (sym at) ∙ sym count in
+    let core = ap (λ (w : StateView). finish f N NoAnswer w.core) e ∙ ap₂ (λ (j b : ℕ). finish f N NoAnswer (set_backpressure j (b - 1) s.core)) at (sym here) in
+    subst (λ (x : Core). Implements (dec_rule f N s.core) s.core (goes_as (label.Task (task_label.BpDec m)) m) x) (sym core) (lowering_is f N m c s.core here is)

@@ -1,0 +1,38 @@
+-- What a task is given, as the code says it.
+use Rattle.std.specs.Prelude.{None, Option, Some, true, ℕ, ◌≡◌}
+use Rattle.machine_data.specs.Core.{Core}
+use Rattle.machine_data.specs.Moves.{PickedMember, NothingPicked, PickedTaskEvent}
+use Rattle.machine_data.specs.Moves as moves
+use Rattle.machine_data.specs.Read.{is_ready_member, set_at, subtask_at, subtask_handle}
+use Rattle.machine_data.specs.declared.records.Subtask.{Subtask}
+use Rattle.ops_guests.specs.declared.picked_events.PickedEvent.{PickedEvent}
+use Rattle.ops_guests.specs.declared.picked_events.PickedEvent.TheVariants as picked_events
+use Rattle.core_primitives.specs.Names.{subtask_in}
+use Rattle.core_primitives.specs.StateView.{Tags}
+
+abbrev pub picked_event_in : Tags → PickedEvent → moves.PickedEvent
+picked_event_in tags (picked_events.Own e) = PickedTaskEvent e
+picked_event_in tags (picked_events.Member sub h) = PickedMember (subtask_in tags sub)
+picked_event_in tags picked_events.Nothing = NothingPicked
+
+abbrev pub member_in : Tags → PickedEvent → Option Subtask
+member_in tags (picked_events.Member sub h) = Some (subtask_in tags sub)
+member_in tags _ = None
+
+abbrev pub handle_in : PickedEvent → Option ℕ
+handle_in (picked_events.Member sub h) = Some h
+handle_in _ = None
+
+-- Each ready member of the set has a handle, which names it in the instance.
+abbrev pub MembersNamed : ℕ → ℕ → Core → Type 0
+MembersNamed i x s = (sub : Subtask) → is_ready_member x sub s ≡ true →
+    (h : ℕ) × ((subtask_handle sub s ≡ Some h) × (subtask_at i h s ≡ Some sub))
+
+-- what the handle of the gift names in the instance is the member
+abbrev pub IsNamedIn : ℕ → Tags → PickedEvent → Core → Type 0
+IsNamedIn i tags (picked_events.Member sub h) s = subtask_at i h s ≡ Some (subtask_in tags sub)
+IsNamedIn i tags _ s = Unit {0}
+
+-- As before, of each set that the instance names.
+abbrev pub AllMembersNamed : ℕ → Core → Type 0
+AllMembersNamed i s = (h x : ℕ) → set_at i h s ≡ Some x → MembersNamed i x s

@@ -1,0 +1,38 @@
+-- What a poll of a live work resulted in, against what the machine finds.
+use Rattle.std.specs.Prelude.{None, Some, is_some, ℕ, ◌≡◌}
+use Rattle.machine_data.specs.Core.{Core}
+use Rattle.machine_data.specs.Write.{set_trapped}
+use Rattle.ops_guests.specs.declared.work_ops.Polled.{Polled}
+use Rattle.ops_guests.specs.declared.work_ops.Polled.TheVariants as polled
+use Rattle.ops_guests.specs.declared.work_ops.PollNews.{PollNews}
+use Rattle.ops_guests.specs.declared.work_ops.PollNews.TheVariants as told
+use Rattle.machine_data.specs.declared.words.HostPoll.{HostPoll}
+use Rattle.machine_data.specs.declared.words.HostPoll.TheVariants as host_poll
+use Rattle.machine_rules.specs.Works.{Asked, Ends, FailsNow, Poll, StillPends, next_polled, poll_ends, poll_pends}
+
+-- what a work has answered that has told this; an open one ends with a value alone
+abbrev pub answer_in : PollNews → HostPoll
+answer_in told.Pends = host_poll.Pending
+answer_in (told.Ends None) = host_poll.Failed
+answer_in (told.Ends (Some v)) = host_poll.Value v
+answer_in told.Fails = host_poll.Failed
+
+-- the work told what the machine finds, or may find of an open one
+abbrev pub TellsPoll : PollNews → Poll → Type 0
+TellsPoll r (StillPends host) = r ≡ told.Pends
+TellsPoll r (Ends v) = r ≡ told.Ends v
+TellsPoll r FailsNow = r ≡ told.Fails
+TellsPoll r (Asked next) = TellsPoll r (next (answer_in r))
+
+abbrev pub PollImplements : ℕ → Poll → Core → Polled → Core → Type 0
+PollImplements i (StillPends host) s r t = (r ≡ polled.Pends (is_some (next_polled i t))) × (t ≡ poll_pends i host s)
+PollImplements i (Ends v) s r t = (r ≡ polled.Ends) × (t ≡ poll_ends i v s)
+PollImplements i FailsNow s r t = (r ≡ polled.Fails) × (t ≡ set_trapped s)
+PollImplements i (Asked next) s r t = (answer : HostPoll) × PollImplements i (next answer) s r t
+
+-- what the core becomes by the poll, of which the work has told this
+abbrev pub PolledTo : PollNews → ℕ → Poll → Core → Core → Type 0
+PolledTo r i (StillPends host) s t = t ≡ poll_pends i host s
+PolledTo r i (Ends v) s t = t ≡ poll_ends i v s
+PolledTo r i FailsNow s t = t ≡ set_trapped s
+PolledTo r i (Asked next) s t = PolledTo r i (next (answer_in r)) s t

@@ -1,0 +1,52 @@
+use Rattle.std.proofs.Common.{Some, ap, sym, ◌∙◌}
+use Rattle.ops_subtasks.proofs.CancelLemmas.{cancel_kept, found_meets, named_call, there_live}
+use Rattle.ops_subtasks.proofs.SubtaskLemmas.{named_meets}
+use Rattle.ops_subtasks.proofs.cancels.cancel.Goals as goal
+use Rattle.ops_subtasks.specs.Refused.{mode_of}
+use Rattle.machine_data.specs.Read.{is_joined, join_of}
+use Rattle.machine_data.specs.declared.records.Subtask.TheVariants as subtask
+use Rattle.ops_guests.proofs.DoesLemmas.{same_rest}
+use Rattle.machine_rules.specs.Cancels.{cancel_found_by}
+use Rattle.core_primitives.specs.Names.{subtask_in}
+use Rattle.core_primitives.specs.StateView.{call_of, thread_of, work_of}
+use Rattle.core_primitives.specs.declared.names.SubtaskId.{SubtaskId}
+
+pub cancel_guest-requires-clause-there : goal.cancel_guest-requires-clause-there
+cancel_guest-requires-clause-there g c =
+    let s = g.W.View.view c.args.w.now in
+    named_call c.instance_of-instance.result c.args.handle (call_of s c.in-Guest.call) (subtask_in s.tags c.in-Some.subtask) s.core c.requires.calls (ap (subtask_in s.tags) c.in-Guest.is) c.in-Some.ensures.is
+
+pub cancel_guest-requires-clause-named : goal.cancel_guest-requires-clause-named
+cancel_guest-requires-clause-named g c =
+    let s = g.W.View.view c.args.w.now in
+    there_live (call_of s c.in-Guest.call) s.core c.none_is_zero.ensures.calls (named_call c.instance_of-instance.result c.args.handle (call_of s c.in-Guest.call) (subtask_in s.tags c.in-Some.subtask) s.core c.requires.calls (ap (subtask_in s.tags) c.in-Guest.is) c.in-Some.ensures.is)
+
+pub returns-in-Guest-clause-does : goal.returns-in-Guest-clause-does
+returns-in-Guest-clause-does g c =
+    let s = g.W.View.view c.args.w.now in
+    let n = thread_of s c.args.thread in
+    let m = mode_of c.args.sync in
+    let q = subtask.Guest (call_of s c.in-Guest.call) in
+    let done = c.cancel_guest.ensures.does in
+    record {
+      meets = λ d. named_meets n _ c.args.handle q (cancel_found_by d m n s.core) s.core _ _ c.instance_of-instance.ensures (ap (λ (x : SubtaskId). Some (subtask_in s.tags x)) (sym c.in-Guest.is) ∙ c.in-Some.ensures.is)
+          (cancel_kept m n d c.instance_of-instance.result c.args.handle s.core c.none_is_zero.ensures.works c.requires.calls)
+          (found_meets m n d q s.core _ _ (ap (λ (x : SubtaskId). is_joined (join_of (subtask_in s.tags x) s.core)) (sym c.in-Guest.is) ∙ (sym c.is_joined.ensures ∙ c.if-is_joined.false)) (done.meets d));
+      stays = done.stays;
+      kept = done.kept;
+    }
+
+pub returns-in-Host-clause-does : goal.returns-in-Host-clause-does
+returns-in-Host-clause-does g c =
+    let s = g.W.View.view c.args.w.now in
+    let n = thread_of s c.args.thread in
+    let m = mode_of c.args.sync in
+    let q = subtask.Host (work_of s c.in-Host.work) in
+    let done = c.cancel_host.ensures.does in
+    record {
+      meets = λ d. named_meets n _ c.args.handle q (cancel_found_by d m n s.core) s.core _ _ c.instance_of-instance.ensures (ap (λ (x : SubtaskId). Some (subtask_in s.tags x)) (sym c.in-Host.is) ∙ c.in-Some.ensures.is)
+          (cancel_kept m n d c.instance_of-instance.result c.args.handle s.core c.none_is_zero.ensures.works c.requires.calls)
+          (found_meets m n d q s.core _ _ (ap (λ (x : SubtaskId). is_joined (join_of (subtask_in s.tags x) s.core)) (sym c.in-Host.is) ∙ (sym c.is_joined.ensures ∙ c.if-is_joined.false)) (done.meets d));
+      stays = done.stays;
+      kept = same_rest s (g.W.View.view c.cancel_host.new.w) done.kept;
+    }

@@ -1,0 +1,216 @@
+-- Steps whose labels are in the trace.
+use Rattle.ops_dispatch.specs.Fits.{calls_host}
+use Rattle.ops_dispatch.specs.Polls.{polled_host}
+use Rattle.std.proofs.Common.{ap, inl, refl, subst, sym, ◌∙◌}
+use Rattle.std.specs.Prelude.{Bool, Err, IfOk, IfSome, List, None, Ok, Option, Result, Some, [], false, is_none, option_map, true, ℕ, ◌+◌, ◌++◌, ◌<◌, ◌≡◌, ◌≤◌, ◌∷◌}
+use Rattle.machine_data.specs.Core.{Core, Main, State}
+use Rattle.machine_data.specs.Labels.{choice_of}
+use Rattle.machine_data.specs.Read.{op_progress_of, next_entry, place_of}
+use Rattle.machine_data.specs.declared.component.Component.{Component}
+use Rattle.machine_data.specs.declared.component.HostDef.{HostDef}
+use Rattle.machine_data.specs.declared.label.Label.{Label}
+use Rattle.machine_data.specs.declared.label.Label.TheVariants as label
+use Rattle.machine_data.specs.declared.label.TakeLabel.TheVariants as take_label
+use Rattle.machine_data.specs.declared.memory.NoMemory.{NoMemory}
+use Rattle.machine_data.specs.declared.op.Op.{Op}
+use Rattle.machine_data.specs.declared.outcome.Outcome.{Outcome}
+use Rattle.machine_data.specs.declared.outcome.Outcome.TheVariants as outcome
+use Rattle.machine_data.specs.declared.records.Entry.TheVariants as entry
+use Rattle.machine_data.specs.declared.records.Turn.{Turn}
+use Rattle.machine_data.specs.declared.records.Turn.TheVariants as turn
+use Rattle.machine_data.specs.declared.words.Mark.{Mark}
+use Rattle.ops_guests.specs.OpResult.{Implements}
+use Rattle.ops_guests.specs.Stays.{StaysAfter}
+use Rattle.ops_guests.specs.Steps.{label_of}
+use Rattle.ops_guests.specs.declared.op_result.OpResult.{OpResult}
+use Rattle.ops_guests.specs.declared.op_result.OpResult.TheVariants as op_result
+use Rattle.machine_rules.specs.Outcome.{last_outcome, outcome_of_label}
+use Rattle.machine_rules.specs.Progress.{Progress}
+use Rattle.machine_rules.specs.Scripts.{op_of}
+use Rattle.machine_rules.specs.Stalled.{Setting}
+use Rattle.machine_rules.specs.Step.{Step, did, scripted_op_rule}
+use Rattle.machine_rules.specs.Takes.{scripted_host_rule, popped, pushed, thread_taken}
+use Rattle.task_table.specs.declared.id.TableId.{TableId}
+use Rattle.machine_data.specs.declared.words.HostPoll.{HostPoll}
+use Rattle.ops_turns.proofs.DriveLemmas.{last_outcome-push, on_ends, on_more, on_turned_none}
+use Rattle.ops_turns.proofs.IdleLemmas.{after_free, free_at}
+use Rattle.ops_turns.proofs.RunLemmas.{host_over, ran_at, took, took_host, took_push}
+use Rattle.ops_turns.specs.Drive.{Drove, IsOn}
+use Rattle.ops_turns.specs.Ran.{RanPolls, WorkMade}
+use Rattle.ops_turns.specs.StepResult.{Added, AddedOrNone, CallsHost, RuleRan, RuleShown, RuleStep, RunAdded, Shown, StepPolls, made_by, stepped_by}
+use Rattle.ops_turns.specs.Turn.{IsFree, MakesStep, Turned, Turns, is_open, running_of, runs_in, state_at}
+use Rattle.ops_turns.specs.declared.made.PackedStep.TheVariants as brief
+use Rattle.ops_turns.specs.declared.made.MadeStep.{MadeStep}
+use Rattle.ops_turns.specs.declared.made.Ran.{Ran}
+use Rattle.ops_turns.specs.declared.made.RunStep.{RunStep}
+use Rattle.ops_turns.specs.declared.made.RunStep.TheVariants as run_step
+use Rattle.ops_turns.specs.declared.made.StepResult.{StepResult}
+use Rattle.ops_turns.specs.declared.made.StepResult.TheVariants as stepped
+use Rattle.task_wait.specs.declared.keys.HostTaskKey.{HostTaskKey}
+use Rattle.task_wait.specs.declared.keys.ThreadKey.{ThreadKey}
+use Rattle.core_primitives.specs.Names.{entry_in}
+use Rattle.core_primitives.specs.StateView.{StateView, on_core, thread_of, work_of}
+use Rattle.core_primitives.specs.declared.names.EntryId.{EntryId}
+
+-- a turn in which nothing more is made
+pub closed : (p : Turn) → is_open p ≡ false → p ≡ turn.Over
+closed turn.Over e = refl
+closed turn.Main e = absurd (cc)
+closed (turn.Futures n) e = absurd (cc)
+closed (turn.Take b) e = absurd (cc)
+closed (turn.Run n) e = absurd (cc)
+
+pub added_as : (P Q : MadeStep → Type 0) (stepped : StepResult) (before after : List Label) → ((made : MadeStep) → P made → Q made) → Added P stepped before after → Added Q stepped before after
+added_as P Q stepped before after f h = (h.0, (h.1.0, f h.0 h.1.1))
+
+pub none_as : (P Q : Option MadeStep → Type 0) (o : Option StepResult) (before after : List Label) → ((made : Option MadeStep) → P made → Q made) → AddedOrNone P o before after → AddedOrNone Q o before after
+none_as P Q None before after f h = (f None h.0, h.1)
+none_as P Q (Some q) before after f h = added_as (λ made. P (Some made)) (λ made. Q (Some made)) q before after (λ made. f (Some made)) h
+
+pub some_at : {X : Type 0} (P : X → Type 0) (o : Option X) (x : X) → o ≡ Some x → IfSome o P → P x
+some_at P o x e h = subst (λ o. IfSome o P) e h
+
+some_of : (o : Option Outcome) → is_none o ≡ false → (k : Outcome) × (o ≡ Some k)
+some_of None e = absurd (cc)
+some_of (Some k) e = (k, refl)
+
+-- the outcome of a step after which the run is over is that of the last label
+pub fallen : (made : MadeStep) (before after : List Label) → after ≡ before ++ made.label ∷ [] → is_none (outcome_of_label made.label) ≡ is_open made.turn → made.turn ≡ turn.Over
+    → (o : Outcome) × ((stepped_by brief.Over after ≡ Some (stepped.Over o)) × (outcome_of_label made.label ≡ Some o))
+fallen made before after added over turns =
+    let o = some_of (outcome_of_label made.label) (over ∙ ap is_open turns) in
+    (o.0, (ap (option_map (λ k. stepped.Over k)) (ap last_outcome added ∙ (last_outcome-push before made.label ∙ o.1)), o.1))
+
+-- ---- A step of the running thread
+
+module _ (id : TableId ThreadKey) (s t : StateView) (stepped : StepResult) (before after : List Label) where
+  pub rule_as : (P Q : OpResult → Progress) → ((r : OpResult) (u : Core) → Implements (P r) s.core r u → Implements (Q r) s.core r u) → RuleShown P id s before stepped t after → RuleShown Q id s before stepped t after
+  rule_as P Q same h = record { op_result = h.op_result; left = h.left; meets = same h.op_result h.left.core h.meets; stays = h.stays; shown = h.shown }
+
+  -- an op that met its row made a step
+  pub run_added : (c : Component) (n : ℕ) → thread_of s id ≡ n → RuleShown (λ r. did c (thread_of s id) s.core (choice_of (label_of (thread_of s id) r))) id s before stepped t after
+      → Added (λ made. MakesStep c (turn.Run n) s made t × IsFree made.turn) stepped before after
+  run_added c n number h =
+      let made = made_by (thread_of h.left id) h.op_result in
+      let makes : MakesStep c (turn.Run n) s made t = record {
+        step = ran_at id n s h.left number c h.op_result made.label made.turn t.core h.meets h.stays refl refl h.shown.core;
+        running = h.shown.running;
+        over = h.shown.over;
+      } in
+      (made, (h.shown.stands, (makes, after_free h.op_result)))
+
+  -- an op that polled no host
+  pub unpolled : (c : Component) (n : ℕ) (P : MadeStep → Type 0) → polled_host c (op_progress_of n s.core) (op_of c n s.core) ≡ None → Added P stepped before after
+      → Added (λ made. P made × ((answer : HostPoll) → RanPolls answer c n s (record { made = made; polled = None; work = None }) t)) stepped before after
+  unpolled c n P none = added_as P (λ made. P made × ((answer : HostPoll) → RanPolls answer c n s (record { made = made; polled = None; work = None }) t)) stepped before after
+      (λ made h. (h, λ answer. record { polled = sym none; work = inl refl }))
+
+module _ (id : TableId ThreadKey) (s t : StateView) where
+  -- an op that met its row made a step, whose label is still to be added
+  pub ran_made : (c : Component) (n : ℕ) → thread_of s id ≡ n → (made : MadeStep) → RuleRan (λ r. did c (thread_of s id) s.core (choice_of (label_of (thread_of s id) r))) id s made t
+      → MakesStep c (turn.Run n) s made t × IsFree made.turn
+  ran_made c n number made h =
+      let makes : MakesStep c (turn.Run n) s made t = record {
+        step = ran_at id n s h.left number c h.op_result made.label made.turn t.core h.meets h.stays h.label h.turn h.core;
+        running = h.running;
+        over = h.over;
+      } in
+      (makes, free_at _ _ h.turn (after_free h.op_result))
+
+  pub rule_ran_as : (P Q : OpResult → Progress) (made : MadeStep) → ((r : OpResult) (u : Core) → Implements (P r) s.core r u → Implements (Q r) s.core r u) → RuleRan P id s made t → RuleRan Q id s made t
+  rule_ran_as P Q made same h =
+      record { op_result = h.op_result; left = h.left; meets = same h.op_result h.left.core h.meets; stays = h.stays; label = h.label; turn = h.turn; core = h.core; running = h.running; over = h.over }
+
+-- what an op by its row resulted in is a step of the running thread
+module _ (c : Component) (id : TableId ThreadKey) (n : ℕ) (s t : StateView) (number : thread_of s id ≡ n) (o : Op) (is : op_of c (thread_of s id) s.core ≡ o)
+    (same : (op_result : OpResult) (u : Core) → Implements (scripted_op_rule c (thread_of s id) s.core (choice_of (label_of (thread_of s id) op_result)) o) s.core op_result u → Implements (did c (thread_of s id) s.core (choice_of (label_of (thread_of s id) op_result))) s.core op_result u) where
+  polled_at : (host : Option HostDef) → host ≡ polled_host c (op_progress_of (thread_of s id) s.core) o → host ≡ polled_host c (op_progress_of n s.core) (op_of c n s.core)
+  polled_at host e = subst (λ k. host ≡ polled_host c (op_progress_of k s.core) (op_of c k s.core)) number (e ∙ sym (ap (polled_host c (op_progress_of (thread_of s id) s.core)) is))
+
+  pub run_steps : (before after : List Label) (r : Result RunStep NoMemory)
+      → IfOk r (λ step. RuleStep (λ op_result. scripted_op_rule c (thread_of s id) s.core (choice_of (label_of (thread_of s id) op_result)) o) id s before step t after)
+      → IfOk r (λ step. StepPolls (polled_host c (op_progress_of (thread_of s id) s.core) o) o step)
+      → IfOk r (λ step. RunAdded (λ ran. (MakesStep c (turn.Run n) s ran.made t × IsFree ran.made.turn) × ((answer : HostPoll) → RanPolls answer c n s ran t)) (CallsHost c n s t) step before after)
+  run_steps before after (Err e) step polls = tt
+  run_steps before after (Ok (run_step.Shown q)) step polls =
+      unpolled id s t q before after c n (λ made. MakesStep c (turn.Run n) s made t × IsFree made.turn) (sym (polled_at None (sym polls)))
+      (run_added id s t q before after c n number (rule_as id s t q before after (λ op_result. scripted_op_rule c (thread_of s id) s.core (choice_of (label_of (thread_of s id) op_result)) o) (λ op_result. did c (thread_of s id) s.core (choice_of (label_of (thread_of s id) op_result))) same step))
+  run_steps before after (Ok run_step.Calls) step polls =
+      ((step.0, subst (λ k. calls_host (op_of c k s.core) ≡ true) number (ap calls_host is ∙ polls)), step.1)
+
+  -- so is what one came to that calls a host
+  pub call_steps : (answer : HostPoll) (r : Result Ran NoMemory) → IfOk r (λ ran. RuleRan (λ op_result. scripted_op_rule c (thread_of s id) s.core (choice_of (label_of (thread_of s id) op_result)) o) id s ran.made t)
+      → IfOk r (λ ran. ran.polled ≡ polled_host c (op_progress_of (thread_of s id) s.core) o) → IfOk r (λ ran. WorkMade answer ran.polled ran.work s t)
+      → IfOk r (λ ran. (MakesStep c (turn.Run n) s ran.made t × IsFree ran.made.turn) × RanPolls answer c n s ran t)
+  call_steps answer (Err e) row polled work = tt
+  call_steps answer (Ok ran) row polled work =
+      let did_it = rule_ran_as id s t (λ op_result. scripted_op_rule c (thread_of s id) s.core (choice_of (label_of (thread_of s id) op_result)) o) (λ op_result. did c (thread_of s id) s.core (choice_of (label_of (thread_of s id) op_result))) ran.made same row in
+      (ran_made id s t c n number ran.made did_it, record { polled = polled_at ran.polled polled; work = work })
+
+-- a taking that met its row made a step
+pub take_added : (c : Component) (ended : Bool) (mark : Mark) (id : TableId ThreadKey) (n : ℕ) (s u v t : StateView) (r : OpResult) (stepped : StepResult) (before after : List Label) → thread_of u id ≡ n → u.core ≡ popped mark s.core
+    → next_entry s.core ≡ Some (mark, entry.Thread n) → Implements (thread_taken mark (thread_of u id) (choice_of (label_of (thread_of u id) r)) u.core (place_of (thread_of u id) u.core)) u.core r v.core → StaysAfter r u v
+    → Shown id r v before stepped t after → Added (λ made. MakesStep c (turn.Take ended) s made t × IsFree made.turn) stepped before after
+take_added c ended mark id n s u v t r stepped before after number base next meets stays shown =
+    let made = made_by (thread_of v id) r in
+    let makes : MakesStep c (turn.Take ended) s made t = record {
+      step = took c ended mark id n s u v r made.label made.turn t.core number base next meets stays refl refl shown.core;
+      running = shown.running;
+      over = shown.over;
+    } in
+    (made, (shown.stands, (makes, after_free r)))
+
+-- ---- An entry that was taken
+
+-- what the primitive took was first
+pub next_is : (s : StateView) (r : Option (Mark × EntryId)) (mark : Mark) (e : EntryId) → option_map (λ (x : Mark × EntryId). (x.0, entry_in s.tags x.1)) r ≡ next_entry s.core → r ≡ Some (mark, e) → next_entry s.core ≡ Some (mark, entry_in s.tags e)
+next_is s r mark e next is = sym next ∙ ap (option_map (λ (x : Mark × EntryId). (x.0, entry_in s.tags x.1))) is
+
+-- and has left its mark
+pub left_is : (s u : StateView) (r : Option (Mark × EntryId)) (mark : Mark) (e : EntryId) → IfSome r (λ x. u ≡ on_core (popped x.0) s) → r ≡ Some (mark, e) → u ≡ on_core (popped mark) s
+left_is s u r mark e left is = subst (λ (o : Option (Mark × EntryId)). IfSome o (λ x. u ≡ on_core (popped x.0) s)) is left
+
+-- what the taking of a push shows
+abbrev pub push_made : Mark → ℕ → MadeStep
+push_made mark i = record { label = label.Take (take_label.Push mark i); turn = turn.Main }
+
+module _ (c : Component) (ended : Bool) (mark : Mark) (id : TableId HostTaskKey) (s u t : StateView) (made : MadeStep) (none : s.current ≡ None) (left : u ≡ on_core (popped mark) s) where
+  -- a push that was taken is a step
+  pub push_makes : next_entry s.core ≡ Some (mark, entry.Push (work_of s id)) → made ≡ push_made mark (work_of u id) → t ≡ on_core (pushed (work_of u id)) u
+      → MakesStep c (turn.Take ended) s made t × IsFree made.turn
+  push_makes next is new =
+      let whole = new ∙ ap (λ (v : StateView). on_core (pushed (work_of v id)) v) left in
+      let makes : MakesStep c (turn.Take ended) s (push_made mark (work_of s id)) t = record {
+        step = took_push c ended mark (work_of s id) s t next (ap (λ (v : StateView). v.core) whole);
+        running = ap running_of whole ∙ ap (option_map (λ k. thread_of s k)) none;
+        over = refl;
+      } in
+      subst (λ (m : MadeStep). MakesStep c (turn.Take ended) s m t × IsFree m.turn) (sym (is ∙ ap (λ (v : StateView). push_made mark (work_of v id)) left)) (makes, λ x k m. tt)
+
+  -- so is the entry of an ended host work
+  pub host_makes : next_entry s.core ≡ Some (mark, entry.Host (work_of s id)) → Implements (scripted_host_rule mark (work_of u id) (choice_of made.label).woken u.core) u.core (op_result.Stops made.label) t.core → t.current ≡ u.current → made.turn ≡ turn.Main
+      → MakesStep c (turn.Take ended) s made t × IsFree made.turn
+  host_makes next meets current turn_is =
+      let i = work_of s id in
+      let named = subst (λ k. Implements (scripted_host_rule mark k (choice_of made.label).woken u.core) u.core (op_result.Stops made.label) t.core) (ap (λ (v : StateView). work_of v id) left) meets in
+      let makes : MakesStep c (turn.Take ended) s made t = record {
+        step = λ x component m. subst (λ (p : Turn). Step x (state_at s.core m (turn.Take ended)) made.label (state_at t.core m p)) (sym turn_is)
+            (took_host c ended mark i s u t (op_result.Stops made.label) made.label (ap (λ (v : StateView). v.core) left) next named refl x component m);
+        running = ap (option_map (λ k. thread_of t k)) (current ∙ (ap (λ (v : StateView). v.current) left ∙ none)) ∙ sym (ap runs_in turn_is);
+        over = host_over mark i (choice_of made.label).woken u.core t.core (op_result.Stops made.label) made.label named refl ∙ sym (ap is_open turn_is);
+      } in
+      (makes, free_at _ _ turn_is (λ x k m. tt))
+
+-- ---- A run that is driven
+
+module _ (x : Setting) (s : State) (before : List Label) (numbers : ℕ) (p : Turn) (m : Main) (t : StateView) (mid : List Label) (n : ℕ) (on : IsOn x s before numbers p m t mid n)
+    (m' : Main) (t' : StateView) (after : List Label) where
+  pub added_more : (q : Turn) (computed : Bool) → Added (λ made. Turns x p m t made m' t') (stepped.Continues q computed) mid after → IsOn x s before numbers q m' t' after (n + 1)
+  added_more q computed h = subst (λ k. IsOn x s before numbers k m' t' after (n + 1)) h.1.0.1.0 (on_more x s before numbers p m t mid n on h.0 m' t' h.1.1 after h.1.0.0 h.1.0.1.1)
+
+  pub added_ends : (o : Outcome) (steps : ℕ) → n < steps → Added (λ made. Turns x p m t made m' t') (stepped.Over o) mid after → Drove x s before numbers turn.Over m' t' after steps o
+  added_ends o steps room h =
+      subst (λ k. Drove x s before numbers k m' t' after steps o) h.1.0.1.0 (on_ends x s before numbers p m t mid n on h.0 m' t' h.1.1 after h.1.0.0 steps o room h.1.0.1.1)
+
+  pub added_none : (steps : ℕ) → n ≤ steps → Turned x p m t None m' t' × (after ≡ mid) → Drove x s before numbers p m' t' after steps outcome.Idle
+  added_none steps room h = subst (λ (l : List Label). Drove x s before numbers p m' t' l steps outcome.Idle) (sym h.1) (on_turned_none x s before numbers p m m' t t' mid n steps on room h.0)

@@ -1,0 +1,39 @@
+use Rattle.ops_dispatch.proofs.GoesLemmasDispatch.{same_goes}
+use Rattle.ops_dispatch.proofs.RowLemmas.{data_shows}
+use Rattle.ops_dispatch.proofs.StayLemmas.{same_stays}
+use Rattle.std.proofs.lemmas.Option.{IfSome_then}
+use Rattle.machine_data.specs.declared.op.Op.TheVariants as op
+use Rattle.ops_turns.proofs.OrderLemmas.{unwinds}
+use Rattle.ops_turns.proofs.runs.run_data.Goals as goal
+use Rattle.ops_turns.specs.Ran.{scripted_rule_of}
+use Rattle.ops_turns.specs.StepResult.{RuleShown, stepped_by}
+use Rattle.ops_turns.specs.declared.made.StepResult.{StepResult}
+
+pub show-requires-clause-unwinds : goal.show-requires-clause-unwinds
+show-requires-clause-unwinds g c =
+    let v = g.W.View.view in
+    let s = v c.args.w.now in
+    let u = v c.compute-op_result.new.w in
+    unwinds c.compute-op_result.result c.args.thread s u c.requires.runner (same_stays _ s u c.compute-op_result.result (c.compute-op_result.ensures.meets c.args.component.now c.requires.within.1) c.compute-op_result.ensures.tags c.compute-op_result.ensures.current)
+
+pub show-requires-clause-goes : goal.show-requires-clause-goes
+show-requires-clause-goes g c =
+    let v = g.W.View.view in
+    let u = v c.compute-op_result.new.w in
+    same_goes c.args.thread _ (v c.args.w.now) u c.compute-op_result.result (data_shows c.args.component.now _ _ c.args.op.now) (c.compute-op_result.ensures.meets c.args.component.now c.requires.within.1) c.requires.runner.current c.compute-op_result.ensures.tags c.compute-op_result.ensures.current
+
+pub returns-clause-shown : goal.returns-clause-shown
+returns-clause-shown g c =
+    let v = g.W.View.view in
+    let s = v c.args.w.now in
+    let u = v c.compute-op_result.new.w in
+    let t = v c.show.new.w in
+    let o = op.Data c.args.op.now in
+    IfSome_then (stepped_by c.show.result c.show.new.trace) {Q = λ (q : StepResult). RuleShown (scripted_rule_of c.args.component.now o c.args.thread s) c.args.thread s c.args.trace.now q t c.show.new.trace} c.show.ensures.shown
+    (λ q h. record {
+      op_result = c.compute-op_result.result;
+      left = u;
+      meets = c.compute-op_result.ensures.meets c.args.component.now c.requires.within.1;
+      stays = same_stays _ s u c.compute-op_result.result (c.compute-op_result.ensures.meets c.args.component.now c.requires.within.1) c.compute-op_result.ensures.tags c.compute-op_result.ensures.current;
+      shown = h;
+    })

@@ -1,0 +1,76 @@
+use Rattle.ops_dispatch.proofs.StandsLemmas.{answers_right, event_fits, stands_below}
+use Rattle.ops_dispatch.specs.Rules.{rule_of}
+use Rattle.std.proofs.Common.{arith}
+use Rattle.std.proofs.lemmas.Option.{IfSome_then}
+use Rattle.ops_guests.specs.Works.{NamesTold}
+use Rattle.machine_rules.specs.Step.{own_script}
+use Rattle.ops_dispatch.proofs.EndLemmas.{end_goes, end_meets, end_stays, end_works, plain_other}
+use Rattle.ops_turns.proofs.OrderLemmas.{unwinds}
+use Rattle.ops_turns.proofs.RanLemmas.{works_told}
+use Rattle.ops_turns.proofs.runs.run_plain.Goals as goal
+use Rattle.ops_turns.specs.Ran.{scripted_rule_of}
+use Rattle.ops_turns.specs.StepResult.{RuleShown, stepped_by}
+use Rattle.ops_turns.specs.declared.made.StepResult.{StepResult}
+use Rattle.core_primitives.specs.StateView.{thread_of}
+
+pub finish-requires-clause-position : goal.finish-requires-clause-position
+finish-requires-clause-position g c due =
+    let v = g.W.View.view in
+    let o = c.args.op.now in
+    let b = stands_below NamesTold c.args.component.now o c.args.thread (v c.args.w.now) (v c.do_plain_op.new.w) c.in-Ok.op_result (plain_other o c.requires.plain) c.in-Ok.ensures.does due in
+    let p = c.requires.position in
+    grind (arith, b, p)
+
+pub finish-requires-clause-answers : goal.finish-requires-clause-answers
+finish-requires-clause-answers g c =
+    let v = g.W.View.view in
+    let o = c.args.op.now in
+    answers_right NamesTold c.args.component.now o c.args.thread (v c.args.w.now) (v c.do_plain_op.new.w) c.in-Ok.op_result (plain_other o c.requires.plain) c.in-Ok.ensures.does
+
+pub finish-requires-clause-register : goal.finish-requires-clause-register
+finish-requires-clause-register g c given =
+    let v = g.W.View.view in
+    let o = c.args.op.now in
+    event_fits c.args.component.now o c.in-Ok.op_result c.requires.fits (answers_right NamesTold c.args.component.now o c.args.thread (v c.args.w.now) (v c.do_plain_op.new.w) c.in-Ok.op_result (plain_other o c.requires.plain) c.in-Ok.ensures.does) given
+
+pub show-requires-clause-unwinds : goal.show-requires-clause-unwinds
+show-requires-clause-unwinds g c =
+    let v = g.W.View.view in
+    let s = v c.args.w.now in
+    let u = v c.finish.new.w in
+    unwinds c.in-Ok.op_result c.args.thread s u c.requires.runner (end_stays NamesTold (rule_of c.args.component.now c.args.op.now) (own_script c.args.op.now) c.args.thread s (v c.do_plain_op.new.w) u c.in-Ok.op_result c.in-Ok.ensures.does c.finish.ensures)
+
+pub show-requires-clause-goes : goal.show-requires-clause-goes
+show-requires-clause-goes g c =
+    let v = g.W.View.view in
+    end_goes NamesTold (rule_of c.args.component.now c.args.op.now) (own_script c.args.op.now) c.args.thread (v c.args.w.now) (v c.do_plain_op.new.w) (v c.finish.new.w) c.in-Ok.op_result c.in-Ok.ensures.does c.finish.ensures
+
+pub returns-clause-shown : goal.returns-clause-shown
+returns-clause-shown g c =
+    let v = g.W.View.view in
+    let s = v c.args.w.now in
+    let m = v c.do_plain_op.new.w in
+    let u = v c.finish.new.w in
+    let t = v c.show.new.w in
+    let o = c.args.op.now in
+    let k = c.args.component.now in
+    IfSome_then (stepped_by c.show.result c.show.new.trace) {Q = λ (q : StepResult). RuleShown (scripted_rule_of k o c.args.thread s) c.args.thread s c.args.trace.now q t c.show.new.trace} c.show.ensures.shown
+    (λ q h. record {
+      op_result = c.in-Ok.op_result;
+      left = u;
+      meets = end_meets NamesTold (rule_of k o) (own_script o) c.args.thread s m u c.in-Ok.op_result c.in-Ok.ensures.does c.finish.ensures;
+      stays = end_stays NamesTold (rule_of k o) (own_script o) c.args.thread s m u c.in-Ok.op_result c.in-Ok.ensures.does c.finish.ensures;
+      shown = h;
+    })
+
+pub returns-clause-works : goal.returns-clause-works
+returns-clause-works g c =
+    let v = g.W.View.view in
+    let s = v c.args.w.now in
+    let u = v c.finish.new.w in
+    let t = v c.show.new.w in
+    let o = c.args.op.now in
+    let did = c.in-Ok.ensures.does in
+    let told = end_works NamesTold (rule_of c.args.component.now o) (own_script o) c.args.thread s (v c.do_plain_op.new.w) u c.in-Ok.op_result did c.finish.ensures did.kept in
+    IfSome_then (stepped_by c.show.result c.show.new.trace) {Q = λ (q : StepResult). NamesTold s t} c.show.ensures.shown
+    (λ q h. works_told (thread_of u c.args.thread) c.in-Ok.op_result s u t h.core told c.show.ensures.works)

@@ -1,0 +1,169 @@
+//! The turns of a run in which main has no part.
+ghost use Rattle.ops_turns.specs.Worked.{tracked_worked_group};
+ghost use Rattle.std.specs.Prelude.{◌≡◌, ◌≤◌, IfOk, IfSome, None, Some, false, is_none, OnErr, OnOk};
+ghost use Rattle.laws_states.specs.Order.{WorksQueued};
+ghost use Rattle.machine_data.specs.Core.{Main};
+ghost use Rattle.machine_data.specs.Read.{next_entry};
+ghost use Rattle.ops_guests.specs.PolledWorks.{PolledTo, TellsPoll};
+ghost use Rattle.ops_guests.specs.Works.{KeepsTold};
+ghost use Rattle.machine_rules.specs.Outcome.{is_at_rest, outcome_of_label};
+ghost use Rattle.machine_rules.specs.Places.{Placed};
+ghost use Rattle.machine_rules.specs.Stalled.{Setting, is_unended_take};
+ghost use Rattle.machine_rules.specs.Works.{next_polled, poll_of};
+ghost use Rattle.ops_turns.specs.Later.{SameWorks};
+ghost use Rattle.ops_turns.specs.WellFormed.{IsWellFormed};
+ghost use Rattle.ops_turns.specs.Drive.{Computes, KeepsOn, StopsShort};
+ghost use Rattle.ops_turns.specs.StepResult.{AddedOrNone};
+ghost use Rattle.ops_turns.specs.Turn.{IsAtTurn, PendsIn, RunnerThere, CoreInOrder, TurnedBeside, Turns, idle_line_of, is_open, running_of, runs_in, state_at};
+ghost use Rattle.core_primitives.specs.StateView.{work_of};
+
+use crate::futures::step_poll;
+use crate::made::{MadeStep, PackedStep, StepResult, put, stepped_by};
+use crate::rests::step_deadlock;
+use crate::settles::queues_are_empty;
+use crate::stretches::stretch;
+use crate::takes::step_take;
+use core_primitives::{Primitives, WorkId};
+use machine_data::{Component, Label, LoopLabel, NoMemory, Turn};
+use ops_guests::PollNews;
+use run_trace::PackedLabels;
+
+/// Does a poll of the next live work, past those with numbers up to `polled`, which has this number; it was polled, and told this.
+#[inline(always)]
+pub fn poll<W: Primitives>(
+    w: &mut W,
+    work: WorkId,
+    number: u64,
+    polled: u64,
+    told: PollNews,
+) -> MadeStep
+    requires placed { Placed (W.view w.old).core }
+    requires works { WorksQueued (W.view w.old).core }
+    requires current { (W.view w.old).current ≡ None }
+    requires number { number ≡ work_of (W.view w.old) work }
+    requires next { next_polled polled (W.view w.old).core ≡ Some (work_of (W.view w.old) work) }
+    requires told { TellsPoll told (poll_of (work_of (W.view w.old) work) (W.view w.old).core) }
+    ensures turns { (x : Setting) → (m : Main) → PendsIn x (W.view w.old).core m (Turn.Futures polled) → Turns x (Turn.Futures polled) m (W.view w.old) result m (W.view w.new) }
+    ensures core { PolledTo told (work_of (W.view w.old) work) (poll_of (work_of (W.view w.old) work) (W.view w.old).core) (W.view w.old).core (W.view w.new).core }
+    ensures works { KeepsTold (W.view w.old) (W.view w.new) }
+{
+    w.none_is_zero();
+    step_poll(w, work, number, polled, told)
+}
+
+// Nothing is there, and no work ended in this turn.
+fn rest<W: Primitives>(w: &mut W, trap_on_idle: bool) -> Option<MadeStep>
+    requires works { WorksQueued (W.view w.old).core }
+    requires current { (W.view w.old).current ≡ None }
+    requires none { next_entry (W.view w.old).core ≡ None }
+    ensures turned { (c : Component) → CoreInOrder c (Turn.Take false) (W.view w.old).core → TurnedBeside c trap_on_idle (Turn.Take false) (W.view w.old) result (W.view w.new) }
+    ensures over { IfSome result (λ made. is_none (outcome_of_label made.label) ≡ is_open made.turn) }
+    ensures current { (W.view w.new).current ≡ None }
+    ensures works { KeepsTold (W.view w.old) (W.view w.new) }
+{
+    if w.has_moving_work() {
+        return Some(MadeStep {
+            label: Label::Loop(LoopLabel::Rest),
+            turn: Turn::Main,
+        });
+    }
+    if w.has_live_work() {
+        return None;
+    }
+    if !trap_on_idle {
+        return None;
+    }
+    Some(step_deadlock(w))
+}
+
+/// Takes the next entry, or else finds out why there is none. What that shows is added to the trace. If it is out of memory,
+/// nothing is added, and nothing is said of the state.
+pub fn take<W: Primitives>(
+    component: &Component,
+    w: &mut W,
+    ended: bool,
+    trap_on_idle: bool,
+    trace: &mut PackedLabels,
+    worked: &mut Option<u64>,
+) -> Result<Option<StepResult>, NoMemory>
+    requires unworked { worked.old ≡ None }
+    requires at { IsAtTurn component.now (Turn.Take ended) (W.view w.old) }
+    ensures worked { worked.new ≡ tracked_worked_group (W.view w.old) (Turn.Take ended) }
+    ensures turned { IfOk result (λ stepped. AddedOrNone (λ made. TurnedBeside component.now trap_on_idle (Turn.Take ended) (W.view w.old) made (W.view w.new)) stepped trace.old trace.new) }
+    ensures there { OnOk result (RunnerThere (W.view w.new)) }
+    ensures works { OnOk result (KeepsTold (W.view w.old) (W.view w.new)) }
+    ensures err { OnErr result (trace.new ≡ trace.old) }
+{
+    let brief = step_take(component, w, ended, trace, worked);
+    let PackedStep::Nothing = brief else {
+        let Some(stepped) = stepped_by(brief, trace) else {
+            return Err(NoMemory);
+        };
+        return Ok(Some(stepped));
+    };
+    if ended {
+        unreachable!()
+    }
+    match rest(w, trap_on_idle) {
+        Some(made) => {
+            let stepped = put(trace, made)?;
+            Ok(Some(stepped))
+        }
+        None => Ok(None),
+    }
+}
+
+/// Returns the ops on registers and memory cells that come next, where a thread runs. They are looked for only where such an op
+/// made the last label and another seems to follow it, since ops mostly come alone.
+#[inline(always)]
+pub fn compute<W: Primitives>(
+    component: &Component,
+    w: &mut W,
+    computed: bool,
+    turn: Turn,
+    trace: &mut PackedLabels,
+    added: u32,
+    steps: u32,
+) -> Result<u32, NoMemory>
+    requires covered { IsWellFormed component.now }
+    requires order { CoreInOrder component.now turn (W.view w.old).core }
+    requires runs { running_of (W.view w.old) ≡ runs_in turn }
+    requires few { added ≤ steps }
+    ensures few { IfOk result (λ k. (added ≤ k) × (k ≤ steps)) }
+    ensures on { IfOk result (λ k. KeepsOn component.now turn (W.view w.old) trace.old added (W.view w.new) trace.new k) }
+    ensures computes { IfOk result (λ k. Computes component.now turn (W.view w.old) trace.old added (W.view w.new) trace.new k) }
+    ensures still { runs_in turn ≡ None → IfOk result (λ k. k ≡ added) }
+    ensures err { OnErr result (StopsShort component.now turn (W.view w.old) trace.old added trace.new steps) }
+    ensures works { SameWorks (W.view w.old) (W.view w.new) }
+{
+    if !computed {
+        return Ok(added);
+    }
+    match turn {
+        Turn::Run { thread } => stretch(component, w, thread, trace, added, steps),
+        _ => Ok(added),
+    }
+}
+
+// Whether an entry is to be taken, and no work ended in this turn.
+fn is_take(turn: Turn) -> bool
+    ensures { result ≡ is_unended_take turn }
+{
+    matches!(turn, Turn::Take { ended: false })
+}
+
+/// Returns whether nothing can go on in this turn, and that is no deadlock.
+pub fn is_idle<W: Primitives>(w: &W, turn: Turn, trap_on_idle: bool) -> bool
+    ensures { (x : Setting) → CoreInOrder x.component turn (W.view w.now).core → x.idle ≡ idle_line_of trap_on_idle → (m : Main) → PendsIn x (W.view w.now).core m turn → is_at_rest x (state_at (W.view w.now).core m turn) ≡ result }
+{
+    if !is_take(turn) {
+        return false;
+    }
+    if !queues_are_empty(w) {
+        return false;
+    }
+    if w.has_moving_work() {
+        return false;
+    }
+    w.has_live_work() || !trap_on_idle
+}

@@ -1,7 +1,0 @@
--- A walk of primitives from a state in order leads to one.
-use Rattle.order_laws.specs.Pieces.{WalkedInOrder}
-use Rattle.task_places.proofs.OrderLemmas.{walked_in_order as of_walks}
-
-pub walked_in_order : WalkedInOrder
-unfolding WalkedInOrder
-walked_in_order = of_walks

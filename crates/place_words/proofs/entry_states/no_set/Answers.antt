@@ -1,9 +1,0 @@
-use Rattle.task_records.proofs.Core.{ap, number_of, set_key, ◌∙◌}
-use Rattle.task_records.proofs.ReadLemmas.{set_shown}
-use Rattle.place_words.proofs.EntryLemmas.{no_set_there}
-use Rattle.place_words.proofs.entry_states.no_set.Goals as goal
-
-pub returns : goal.returns
-returns c =
-    let a = c.args.parts.now in
-    set_shown a c.new.result ∙ (ap (λ r. number_of set_key a.sets r c.new.result.serial) c.new.ensures.rep ∙ no_set_there a c.requires c.new.result.serial)

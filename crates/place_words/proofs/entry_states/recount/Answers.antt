@@ -1,7 +1,0 @@
-use Rattle.place_words.proofs.EntryLemmas.{recounted_length}
-use Rattle.place_words.proofs.entry_states.recount.Goals as goal
-use Rattle.task_records.proofs.Core.{ap, length, subst, sym, Table, ℕ, ◌-◌, ◌∙◌, ◌≤◌}
-use Rattle.task_records.specs.declared.{set_records.WaitSet.WaitSet, single.Single.Single}
-
-pub one_more-requires-clause-few : goal.one_more-requires-clause-few
-one_more-requires-clause-few c = subst (λ (n : ℕ). n ≤ 4294967295) (sym (ap (λ (t : Table (Single WaitSet)). length t.places) c.one_less.ensures ∙ recounted_length (λ n. n - 1) c.args.from.rep c.args.from.serial c.args.sets.now)) c.requires.few

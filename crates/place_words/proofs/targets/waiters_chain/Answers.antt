@@ -1,8 +1,0 @@
-use Rattle.place_words.proofs.TargetLemmas.{waiters_is, waiters_none}
-use Rattle.place_words.proofs.targets.waiters_chain.Goals as goal
-
-pub returns-in-Some : goal.returns-in-Some
-returns-in-Some c = waiters_is c.args.parts.now c.requires _ _ _ c.in-Some.found.now c.in-Some.ensures.number c.in-Some.ensures.item
-
-pub returns-in-None : goal.returns-in-None
-returns-in-None c = waiters_none c.args.parts.now c.requires _ c.in-None.ensures.nothing

@@ -1,5 +1,0 @@
-use Rattle.place_words.proofs.TargetLemmas.{set_stands}
-use Rattle.place_words.proofs.targets.why_from_id.Goals as goal
-
-pub returns-in-Delivery-Set-clause-at : goal.returns-in-Delivery-Set-clause-at
-returns-in-Delivery-Set-clause-at c = set_stands c.args.parts.now c.requires c.in-Delivery-Set.id _ _ c.set_number-set.ensures c.rep.ensures

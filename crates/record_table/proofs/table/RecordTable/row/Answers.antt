@@ -1,8 +1,0 @@
-use Rattle.std.proofs.Common.{◌∙◌}
-use Rattle.record_table.proofs.RowLemmas.{row_found}
-use Rattle.record_table.proofs.table.RecordTable.row.Goals as goal
-
-pub returns : goal.returns
-returns g c = record {
-  found = c.row_in.ensures ∙ row_found c.self.inside.rows.items c.self.inside.free.items c.self.inside.given c.args.rep c.args.serial c.args.self.now c.self.view_is;
-}

@@ -1,3 +1,0 @@
-pub mod CallPlaceLemmas
-pub mod KnownLemmas
-pub mod GroupLemmas

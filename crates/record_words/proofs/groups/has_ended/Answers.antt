@@ -1,6 +1,0 @@
-use Rattle.record_words.proofs.GroupLemmas.{flipped}
-use Rattle.record_words.proofs.groups.has_ended.Goals as goal
-use Rattle.std.proofs.Common.{◌∙◌}
-
-pub returns : goal.returns
-returns c = c.contains.ensures.value ∙ flipped c.args.group c.args.ended.now

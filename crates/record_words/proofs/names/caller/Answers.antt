@@ -1,5 +1,0 @@
-use Rattle.record_words.proofs.names.caller.Goals as goal
-use Rattle.task_records.proofs.HomeLemmas.{call_names, place_bare}
-
-pub caller_id-requires-clause-at : goal.caller_id-requires-clause-at
-caller_id-requires-clause-at c = place_bare c.args.parts.now _ _ (call_names c.args.parts.now c.requires c.args.call c.in-Some.entry.now c.in-Some.ensures.item).caller

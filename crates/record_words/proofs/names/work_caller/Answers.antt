@@ -1,5 +1,0 @@
-use Rattle.record_words.proofs.names.work_caller.Goals as goal
-use Rattle.task_records.proofs.HomeLemmas.{work_names, place_bare}
-
-pub work_caller_id-requires-clause-at : goal.work_caller_id-requires-clause-at
-work_caller_id-requires-clause-at c = place_bare c.args.parts.now _ _ (work_names c.args.parts.now c.requires c.args.work c.in-Some.entry.now c.in-Some.ensures.item).caller

@@ -1,9 +1,0 @@
-use Rattle.removal_words.proofs.group_removals.settle_group.Goals as goal
-use Rattle.task_records.proofs.KindLemmas.{live_item, live_there}
-use Rattle.task_records.specs.declared.{call_records.TaskGroup.TaskGroup}
-
-pub there-found-requires : goal.there-found-requires
-there-found-requires c = live_there (λ (r : TaskGroup). r.number) (λ (r : TaskGroup). r.calls) c.args.parts.now.groups c.args.group.rep c.args.group.serial c.requires.live
-
-pub settle_counted-requires-clause-item : goal.settle_counted-requires-clause-item
-settle_counted-requires-clause-item c = live_item (λ (r : TaskGroup). r.number) (λ (r : TaskGroup). r.calls) c.args.parts.now.groups c.args.group.rep c.args.group.serial c.requires.live c.there-found.result.now c.there-found.ensures

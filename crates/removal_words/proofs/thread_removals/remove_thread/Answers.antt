@@ -1,5 +1,0 @@
-use Rattle.removal_words.proofs.thread_removals.remove_thread.Goals as goal
-use Rattle.task_records.proofs.Core.{inr}
-
-pub drop_thread-requires-clause-place : goal.drop_thread-requires-clause-place
-drop_thread-requires-clause-place c = inr (c.runs.ensures c.if-runs.true)

@@ -1,7 +1,0 @@
-use Rattle.request_lines.proofs.request.numbers_in.Given as goal
-use Rattle.request_lines.specs.Reading.{numbers_in}
-use Rattle.std.proofs.Common.{drop, ◌≡◌}
-use Rattle.text_lines.proofs.Each.{and_more}
-
-abbrev pub invariant-loop-operand : goal.invariant-loop-operand
-invariant-loop-operand l = and_more l.numbers (numbers_in (drop l.operand-index l.operands)) ≡ numbers_in l.operands

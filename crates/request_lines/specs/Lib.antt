@@ -1,4 +1,0 @@
-pub mod Input
-pub mod Reading
-pub mod Replies
-pub mod RequestLines

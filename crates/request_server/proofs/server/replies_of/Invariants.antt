@@ -1,6 +1,0 @@
-use Rattle.request_rules.specs.Serving.{reply_of}
-use Rattle.request_server.proofs.server.replies_of.Given as goal
-use Rattle.std.proofs.Common.{map, take, ◌≡◌}
-
-abbrev pub invariant-loop-stage : goal.invariant-loop-stage
-invariant-loop-stage l = l.replies.items ≡ map reply_of (take l.stage-index l.stages)

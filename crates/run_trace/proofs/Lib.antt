@@ -1,0 +1,4 @@
+pub mod Appending
+pub mod Ending
+pub mod Marking
+pub mod YieldBudgetLemmas

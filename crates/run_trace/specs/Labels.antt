@@ -1,0 +1,18 @@
+-- The labels that heads and numbers represent: each head takes its numbers from the front of those that are left.
+use Rattle.std.specs.Prelude.{ℕ, List, [], ◌∷◌, ◌+◌, drop, take}
+use Rattle.machine_data.specs.declared.label.Label.{Label}
+use Rattle.run_trace.specs.declared.kinds.Head.{Head}
+use Rattle.run_trace.specs.Opened.{all, opened}
+
+-- the label of a head whose numbers in the list are these
+abbrev pub label_of : Head → List ℕ → Label
+label_of h xs = opened h.kind h.small xs (all h.small xs)
+
+unfoldable pub labels_of : List Head → List ℕ → List Label
+labels_of [] ns = []
+labels_of (h ∷ hs) ns = label_of h (take h.count ns) ∷ labels_of hs (drop h.count ns)
+
+-- how many numbers the heads take
+unfoldable pub count_of : List Head → ℕ
+count_of [] = 0
+count_of (h ∷ hs) = h.count + count_of hs

@@ -1,6 +1,0 @@
-use Rattle.std.proofs.Common.{sym}
-use Rattle.scenario_text.proofs.MainKept.{finishes_known}
-use Rattle.scenario_text.proofs.state.State.add_main_op.Goals as goal
-
-pub push-requires : goal.push-requires
-push-requires c = finishes_known _ _ c.args.op c.in-Some.op (sym c.in-Some.ensures)

@@ -1,0 +1,13 @@
+pub mod CallLemmas
+pub mod ListLemmas
+pub mod FitsLemmas
+pub mod CountLemmas
+pub mod PairLemmas
+pub mod KeepLemmas
+pub mod ServedLemmas
+pub mod NumberLaws
+pub mod RequestLaws
+pub mod LoopLemmas
+pub mod InputLemmas
+pub mod ReplyLemmas
+pub mod CutLemmas

@@ -1,0 +1,10 @@
+pub mod HowMany
+pub mod KeepsReplies
+pub mod Laws
+pub mod Pairs
+pub mod Served
+pub mod Serving
+pub mod Input
+pub mod Reading
+pub mod Replies
+pub mod RequestLines

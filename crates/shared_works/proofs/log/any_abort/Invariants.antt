@@ -1,7 +1,0 @@
-use Rattle.std.proofs.Common.{◌≡◌, drop}
-use Rattle.task_abort.specs.Staged.{any_abort}
-use Rattle.shared_works.specs.Shared.{listed}
-use Rattle.shared_works.proofs.log.any_abort.Given as goal
-
-abbrev pub invariant-loop-aborter : goal.invariant-loop-aborter
-invariant-loop-aborter l = any_abort (listed l.aborters) ≡ any_abort (listed (drop l.aborter-index l.aborters))

@@ -1,5 +1,0 @@
-use Rattle.state_calls.proofs.OrderLemmas.{local_order}
-use Rattle.state_calls.proofs.promotions.promote_instance_local_thread_work_item.Goals as goal
-
-pub returns-clause-order : goal.returns-clause-order
-returns-clause-order g c d p going = local_order d p going _ (g.W.View.view c.args.w.now) _ c.move_first.ensures

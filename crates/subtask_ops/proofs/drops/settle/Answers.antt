@@ -1,6 +1,0 @@
-use Rattle.std.proofs.Common.{ap}
-use Rattle.subtask_ops.proofs.drops.settle.Goals as goal
-use Rattle.task_words.specs.Names.{subtask_in}
-
-pub settle_call-requires : goal.settle_call-requires
-settle_call-requires g c = c.requires.live _ (ap (subtask_in (g.W.View.view c.args.w.now).tags) c.in-Guest.is)

@@ -1,5 +1,0 @@
-use Rattle.surface_tests.proofs.calls_of_states.leaves_its_set.Goals as goal
-use Rattle.state_calls.proofs.PlacedLemmas.{placed_idle}
-
-pub join-requires-clause-idle : goal.join-requires-clause-idle
-join-requires-clause-idle c = placed_idle _ c.requires.placed

@@ -1,6 +1,0 @@
--- Plain exports are covered.
-use Rattle.task_turns.proofs.CoveredLemmas.{covered_of}
-use Rattle.surface_tests.proofs.drive.component.Goals as goal
-
-pub returns-clause-covered : goal.returns-clause-covered
-returns-clause-covered g c = covered_of c.in-Ok.component c.in-Ok.ensures.exports

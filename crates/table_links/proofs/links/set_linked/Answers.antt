@@ -1,0 +1,12 @@
+use Rattle.table_links.specs.Rings.{cell_role}
+use Rattle.std.proofs.lemmas.List.{map-set}
+use Rattle.table_links.proofs.links.set_linked.Goals as goal
+
+pub returns-clause-next : goal.returns-clause-next
+returns-clause-next g c = map-set (λ cell. cell.next) c.args.cells.now c.args.index _
+
+pub returns-clause-previous : goal.returns-clause-previous
+returns-clause-previous g c = map-set (λ cell. cell.previous) c.args.cells.now c.args.index _
+
+pub returns-clause-roles : goal.returns-clause-roles
+returns-clause-roles g c = map-set cell_role c.args.cells.now c.args.index _

@@ -1,0 +1,13 @@
+pub mod Refilings
+pub mod Indexes
+pub mod Tables
+pub mod Lists
+pub mod Rows
+pub mod Parts
+pub mod Counts
+pub mod Members
+pub mod Entries
+pub mod Walks
+pub mod Queues
+pub mod OrderedLemmas
+pub mod PlaceLemmas

@@ -1,2 +1,0 @@
-pub mod OrderedLemmas
-pub mod PlaceLemmas

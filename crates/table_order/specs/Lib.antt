@@ -1,2 +1,0 @@
-pub mod GivenPlaces
-pub mod OrderKeys

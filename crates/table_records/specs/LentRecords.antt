@@ -1,0 +1,19 @@
+-- What a `RecordTable` ends as, where a `&mut` into it is returned.
+use Rattle.std.specs.Prelude.{ℕ, Result}
+use Rattle.std.specs.Borrow.{Lends, LendsIfOk, Fml, RattleType, MutBor}
+use Rattle.task_table.specs.Table.{Table}
+use Rattle.task_table.specs.Changes.{with_entry}
+use Rattle.table_records.specs.contracts.table.RecordTable.{the_row}
+
+module _ (E : RattleType) (t : MutBor (Table E.Denot)) (rep : ℕ) where
+  -- once the borrow ends, the entry at the place is the last one written through it
+  abbrev pub lends_entry : MutBor E.Denot → Fml
+  lends_entry r = Lends (the_row E) E t r (λ entry. with_entry rep entry t.now)
+
+  -- the same through an item of a kind, and after a refusal the table stays as it was
+  abbrev pub lends_item : (I : RattleType) → (I.Denot → E.Denot) → {Error : Type 0} → Result (MutBor I.Denot) Error → Fml
+  lends_item I entry_of r = LendsIfOk (the_row E) I t r (λ item. with_entry rep (entry_of item) t.now) t.now
+
+  -- the same of an item that is known to be there
+  abbrev pub lends_known : (I : RattleType) → (I.Denot → E.Denot) → MutBor I.Denot → Fml
+  lends_known I entry_of r = Lends (the_row E) I t r (λ item. with_entry rep (entry_of item) t.now)

@@ -1,5 +1,0 @@
-pub mod Index
-pub mod Rows
-pub mod Counts
-pub mod Members
-pub mod Walks

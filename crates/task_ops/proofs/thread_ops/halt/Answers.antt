@@ -1,6 +1,0 @@
-use Rattle.task_machine.specs.declared.records.Place.TheVariants as place
-use Rattle.task_ops.proofs.RunLemmas.{checked_stands}
-use Rattle.task_ops.proofs.thread_ops.halt.Goals as goal
-
-pub stop_top-requires-clause-running : goal.stop_top-requires-clause-running
-stop_top-requires-clause-running g c = checked_stands c.args.thread place.Running _ (g.W.View.view c.args.w.now) _ c.requires.running c.check.ensures

@@ -1,5 +1,0 @@
-use Rattle.task_turns.proofs.KeptLemmas as lemmas
-use Rattle.task_turns.proofs.kept.finish_in_order.Goals as goal
-
-pub returns : goal.returns
-returns c = lemmas.finish_in_order

@@ -1,0 +1,27 @@
+//! Tests of what a host hands in and holds: stores with a hook, small values, and hosts without proofs.
+#![tactic(auto)]
+
+#[cfg(test)]
+mod answers;
+#[cfg(test)]
+mod asks;
+#[cfg(test)]
+mod between;
+#[cfg(test)]
+mod compares;
+#[cfg(test)]
+mod crosses;
+#[cfg(test)]
+mod driven;
+#[cfg(test)]
+mod midway;
+#[cfg(test)]
+mod opens;
+#[cfg(test)]
+mod refused;
+#[cfg(test)]
+mod spawned;
+#[cfg(test)]
+mod stopped;
+#[cfg(test)]
+mod waits;

@@ -1,0 +1,9 @@
+-- A run begins in the store that was called.
+use Rattle.std.proofs.Common.{arith, ◌∙◌}
+use Rattle.tests_surface.proofs.drive.a_call_runs_while_main_waits.Goals as goal
+use Rattle.task_loop.proofs.BeginLemmas.{may_start}
+
+pub drive-outcome-requires : goal.drive-outcome-requires
+drive-outcome-requires g c =
+    let e = c.called-call.ensures in
+    record { may = may_start _ _ _ c.in-Ok.run' c.in-Ok.ensures.turn _ tt c.component-component.ensures.covered c.called-call.new.store _ (c.is_recursive.ensures ∙ c.run_concurrent.ensures.store) _ e.order e.current tt e.hosts e.groups (let given = e.given in omega (arith, given)) }

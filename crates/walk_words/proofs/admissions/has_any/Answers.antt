@@ -1,6 +1,0 @@
-use Rattle.task_records.proofs.Core.{◌∙◌}
-use Rattle.walk_words.proofs.HeldLemmas.{first_is_any}
-use Rattle.walk_words.proofs.admissions.has_any.Goals as goal
-
-pub returns-clause-is : goal.returns-clause-is
-returns-clause-is c = c.is_some.ensures ∙ first_is_any _ _ c.first.result c.first.ensures.entry

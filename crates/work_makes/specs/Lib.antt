@@ -1,2 +1,0 @@
-pub mod LooseWorks
-pub mod Raised
