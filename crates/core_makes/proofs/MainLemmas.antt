@@ -21,7 +21,7 @@ fits_grouped s room = let more = length-append s.groups ((s.made.groups + 1) ∷
 
 pub keeps_grouped : (s : StateView) (new : Tags) → Keeps (with_group s).tags new → KeepsWith (s.core.made.groups + 1) s.tags new
 unfolding thread_number call_number set_number work_number
-keeps_grouped s new kept = record { threads = kept.threads; calls = kept.calls; sets = kept.sets; works = kept.works; same = kept.same }
+keeps_grouped s new kept = record { threads = kept.threads; calls = kept.calls; sets = kept.sets; works = kept.works; same = kept.same; wanted = kept.wanted }
 
 -- ---- Nodes that hang on nothing hang on nothing beside another group
 

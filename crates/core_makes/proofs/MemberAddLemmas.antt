@@ -79,7 +79,7 @@ module _ (a : CoreParts) (sound : IsSoundCore a) where
 
       pub member_tags : Keeps (seen a).tags (seen member).tags
       unfolding seen call_number set_number work_number
-      member_tags = record { threads = thread_still a sound g is.next member refl; calls = λ k live. ap (λ (ts : List (Option Tag)). named k.serial (slice_get ts k.rep)) call_tags; sets = λ k live. refl; works = λ k live. refl; same = refl }
+      member_tags = record { threads = thread_still a sound g is.next member refl; calls = λ k live. ap (λ (ts : List (Option Tag)). named k.serial (slice_get ts k.rep)) call_tags; sets = λ k live. refl; works = λ k live. refl; same = refl; wanted = refl }
 
       pub member_named : (k : TableId ThreadKey) → k.rep ≡ next_place a.threads → k.serial ≡ a.threads.given → thread_of (seen member) k ≡ a.made.threads + 1
       member_named = thread_new a sound g is.next member refl

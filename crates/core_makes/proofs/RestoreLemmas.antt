@@ -1,4 +1,5 @@
 -- Tables that hold at each place what they held: the core is sound, and nothing is seen of it.
+use Rattle.core_records.specs.Keys.{call_seat_key, thread_seat_key, work_seat_key}
 use Rattle.core_records.proofs.Core.{AreEnded, [], ap, ap₂, AreHandlesNamed, AreKept, arith, AtPlace, bare, bare_call, bare_thread, bare_work, blocked_key, BlockedOn, Call, call_instance, call_key, callers_chain, callers_in, callers_key, callers_row, CallOf, cases_eq, chained, children_of, children_of-deleted, children_of-pushed, children_of-with_entry, cond, Core, core_of, deleted, Each, Entry, entry_keyed, eq-eqb, Filing, filings, follower, found, found_record, get, get-records, group_key, HandleKind, HasHome, HaveNodes, HeldIn, host_entry, IfSome, image, inl, inr, is_moving, IsCallKept, IsCallNamed, IsFollower, IsGroupKept, IsHeldNamed, IsIndex-same, IsIndex-same_chains, IsNamedAt, IsRows, IsKeyed, IsSetKept, IsSome, IsTable, IsTable-with_entry, IsWhole, IsWorkNamed, item_at, item_in, item_of, key_in, Kinds, kinds, tracked_in, tracked_of, List, live_chain, live_work, map, mapped, ne_eqb, next_place, next_place_free, None, Nothing, number_in, of_serial, on_item, Option, option_map, or_record, CoreImage, passing, place_at, place_at-deleted, place_at-mapped, place_at-pushed, place_chain, place_filing, Placed, placed_as, push_entry, pushed, ready_call, ready_call_chain, ready_calls_key, ready_work, ready_work_chain, ready_works_key, records, refl, Rep, said, same_map, set_key, SetOf, slice_get, slice_get-map, Some, Sound, SoundTable, Spot, standing, StandsAt, subst, Subtask, suc, sym, Table, Tag, tag_of, tags_in, Target, thread_entry, thread_key, ThreadOf, trimmed, under_key, UnderOf, WaitableKind, waiters_key, WaitsOn, Where, with_entry, with_first, with_nodes, work_blocked_key, work_key, WorkOf, ℕ, ◌∙◌, ◌∷◌, ◌≡◌, StartsIn}
 use Rattle.core_records.specs.declared.{call_records.GuestTask.GuestTask, call_records.TaskGroup.TaskGroup, instance_records.InstanceRecord.InstanceRecord, set_records.WaitSet.WaitSet, single.Single.Single, thread_records.Follower.Follower, thread_records.GuestThread.GuestThread, thread_records.Queued.Queued, work_records.WorkRecord.WorkRecord}
 use Rattle.core_makes.proofs.MoreLemmas.{IsRows-known, at_unwritten, at_written}
@@ -218,7 +219,7 @@ module _ (p q : CoreImage) (back : IsRestored p q) where
 
   pub image_restored : image q ≡ image p
   image_restored =
-      ap image back.rest ∙ rw (known_again, core_again, tags_same thread_key p.threads q.threads back.threads.places, tags_same call_key p.calls q.calls back.calls.places, tags_same work_key p.works q.works back.works.places, tags_same set_key p.sets q.sets back.sets.places) refl
+      ap image back.rest ∙ rw (known_again, core_again, tags_same thread_key p.threads q.threads back.threads.places, tags_same call_key p.calls q.calls back.calls.places, tags_same work_key p.works q.works back.works.places, tags_same set_key p.sets q.sets back.sets.places, records_same thread_seat_key p.threads q.threads back.threads.places, records_same call_seat_key p.calls q.calls back.calls.places, records_same work_seat_key p.works q.works back.works.places) refl
 
   module _ (sound : Sound p) where
     threads_bare : SamePlaces (bare p).threads (bare again).threads

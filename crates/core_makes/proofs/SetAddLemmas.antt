@@ -45,7 +45,7 @@ module _ (a : CoreParts) (sound : IsSoundCore a) where
 
     pub set_tags : Keeps (seen a).tags (seen (with_set_made t)).tags
     unfolding seen thread_number call_number work_number
-    set_tags = subst (λ (u : Table (Single WaitSet)). Keeps (seen a).tags (seen (with_set_made u)).tags) (sym is) (record { threads = λ id live. refl; calls = λ id live. refl; sets = keeps_set; works = λ id live. refl; same = refl })
+    set_tags = subst (λ (u : Table (Single WaitSet)). Keeps (seen a).tags (seen (with_set_made u)).tags) (sym is) (record { threads = λ id live. refl; calls = λ id live. refl; sets = keeps_set; works = λ id live. refl; same = refl; wanted = refl })
 
     module _ (table : IsTable t) (loose : AreSetLoose (bare (parts_of a)) x) (no_members : x.members ≡ 0) (no_entries : x.entries ≡ 0) where
       held_more : (h : HandleKind) (r : Rep) → IsHeldNamed (kinds (bare (parts_of a))) h r → IsHeldNamed (kinds (bare (parts_of (with_set_made (pushed (record { item = x }) a.sets))))) h r

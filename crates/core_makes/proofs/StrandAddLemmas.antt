@@ -113,7 +113,7 @@ module _ (a : CoreParts) (sound : IsSoundCore a) where
 
       pub strand_tags : Keeps (seen a).tags (seen made).tags
       unfolding seen set_number work_number
-      strand_tags = record { threads = thread_still a sound g is.thread_next made refl; calls = call_kept; sets = λ k live. refl; works = λ k live. refl; same = ap (λ gs. tracked_of a.ended.items gs a.made.groups) live_same }
+      strand_tags = record { threads = thread_still a sound g is.thread_next made refl; calls = call_kept; sets = λ k live. refl; works = λ k live. refl; same = ap (λ gs. tracked_of a.ended.items gs a.made.groups) live_same; wanted = refl }
 
       pub thread_named : (k : TableId ThreadKey) → k.rep ≡ next_place a.threads → k.serial ≡ a.threads.given → thread_of (seen made) k ≡ a.made.threads + 1
       thread_named = thread_new a sound g is.thread_next made refl

@@ -1,8 +1,10 @@
 -- A host work with another event, set or stage, as the primitives write it.
+use Rattle.core_records.specs.Keys.{work_seat_key}
 use Rattle.core_records.proofs.Core.{[], ap, AreHandlesNamed, arith, AtPlace, bare, bare_work, Bool, CallOf, change, cond, core_of, EachEntry, entry_of, filings, filings_at, HandleKind, HostTaskKey, IfSome, is_in_set, is_live, is_made, is_moving, IsHeldNamed, IsIndex, IsIndex-with_entry, IsSetKept, IsSome, IsSoundCore, IsWhole, item_at, item_of, Join, join_target, kinds, link_for, link_of, List, list_of, live_chain, live_value, live_work, loose_work, mapped, mapped-with_entry, mapped-with_entry_same, members_of, None, Ok, on_core, on_item, on_work, one_if_passes, Option, option_and_then, CoreImage, parts_of, passing, place_at, Placed, ready_in, ready_work, ready_work_chain, Records, records, Refiles, refl, Rep, Rises, seen, Set, set_key, set_of, SetKey, SetOf, Some, SoundTable, Spot, StateView, Status, subst, sym, Table, TableId, Tag, tags_in, ThreadOf, true, unmoved, WaitableKind, with_entry, Work, work_key, work_of, WorkOf, ℕ, ◌+◌, ◌∙◌, ◌≡◌, ◌≤◌}
 use Rattle.core_records.specs.declared.{instance_records.InstanceRecord.InstanceRecord, parts.CoreParts.CoreParts, set_records.WaitSet.WaitSet, single.Single.Single, work_records.WorkRecord.WorkRecord, work_records.LiveWork.LiveWork}
 use Rattle.core_records.proofs.HomeLemmas.{place_bare, place_in_bare, work_names}
 use Rattle.core_records.proofs.KeptLemmas.{passing_seconds, records_seconds}
+use Rattle.core_records.proofs.TableLemmas.{records_unseen}
 use Rattle.core_records.proofs.KindLemmas.{item_stands, passing_written, records_changed, table_written, tags_written}
 use Rattle.core_records.proofs.ReadLemmas.{work_shown}
 use Rattle.core_records.proofs.WriteLemmas.{each_written}
@@ -165,19 +167,23 @@ module _ (a : CoreParts) (sound : IsSoundCore a) (id : TableId HostTaskKey) (g :
           ended = sound.ended;
         }
 
+      work_seats_same : records work_seat_key works_now.places ≡ records work_seat_key a.works.places
+      work_seats_same = records_unseen work_seat_key a.works id.rep stands.0 stands.1.0 (entry_of h) (ap (λ (x : WorkRecord). work_seat_key (entry_of x)) stays ∙ sym (ap work_seat_key stands.1.1.1))
+
       works_seen : Records Work → Records Set → List (Option Tag) → List (Option Tag) → StateView
       works_seen m x l t = record (seen a) { core = record (seen a).core { works = m; sets = x }; tags = record (seen a).tags { works = l; sets = t } }
 
       pub heard_seen : (f : Work → Work) → f g.work ≡ h.work → seen heard_after ≡ on_core (on_work (work_of (seen a) id) f) (seen a)
       unfolding seen IsSoundCore on_work works_seen
       heard_seen f is_f =
-          ap (λ (m : Records Work). works_seen m (records set_key sets.places) (tags_in work_key works_now) (tags_in set_key sets))
+          ap (λ (p : Records ℕ). record (seen heard_after) { tags = record (seen heard_after).tags { seats = record (seen a).tags.seats { works = p } } }) work_seats_same
+          ∙ (ap (λ (m : Records Work). works_seen m (records set_key sets.places) (tags_in work_key works_now) (tags_in set_key sets))
           (records_changed (λ (g : WorkRecord). g.number) (λ (g : WorkRecord). g.work) a.works a.made.works sound.tables.works id.rep id.serial g is h same_number f is_f ∙ ap (λ n. change n f (records work_key a.works.places)) (sym (work_shown a id)))
           ∙ (ap (λ x. works_seen (change (work_of (seen a) id) f (records work_key a.works.places)) x (tags_in work_key works_now) (tags_in set_key sets)) (sets_same sets a.sets as_sets)
           ∙ (ap (λ (l : List (Option Tag)). works_seen (change (work_of (seen a) id) f (records work_key a.works.places)) (records set_key a.sets.places) l (tags_in set_key sets))
           (tags_written (λ (g : WorkRecord). g.number) (λ (g : WorkRecord). g.work) a.works a.made.works sound.tables.works id.rep id.serial g is h same_number)
           ∙ ap (λ t. works_seen (change (work_of (seen a) id) f (records work_key a.works.places)) (records set_key a.sets.places) (tags_in work_key a.works) t)
-          (tags_alike uncounted set_key (λ e. refl) sets a.sets as_sets)))
+          (tags_alike uncounted set_key (λ e. refl) sets a.sets as_sets))))
 
     -- the sets as they were count what they counted, where the work stays in its set
     pub kept_same : h.work.join ≡ g.work.join → (links : List (Spot OrderKey)) → (polled : List (Spot LiveWork)) (live moving : ℕ) → EachEntry (IsSetKept (core_of (after a.sets refl links polled live moving))) a.sets

@@ -1,4 +1,6 @@
 -- A thread with another place: the core is sound, and contracts see just that.
+use Rattle.core_records.specs.Keys.{thread_seat_key}
+use Rattle.machine_rules.specs.Picks.{ThreadSeat}
 use Rattle.core_records.proofs.Core.{ap, ap₂, AreHandlesNamed, AtPlace, bare, bare_thread, Bool, call_instance, call_key, callers_in, CallOf, change, cond, core_of, EachEntry, entries_for, entry_of, filings, filings_at, found_record_at, get, get-records, HandleKind, HasHome, HasNumber, op_progress_target, IfSome, is_made, IsHeldNamed, IsIndex, IsIndex-with_entry, IsSetKept, IsSome, IsSoundCore, IsWhole, item_at, item_of, keeps_set, key_in, kinds, link_for, link_of, List, list_of, loose_thread, mapped, mapped-with_entry, mapped-with_entry_same, None, number_of, Ok, on_core, on_item, on_thread, Option, option_and_then, option_map, OwnsHandle, CoreImage, parts_of, passing, Place, place_at, place_chain, place_filing, place_target, Placed, Records, records, Refiles, refl, Rep, seen, Set, set_key, set_of, SetKey, SetOf, size, slice_get, Some, Spot, StateView, subst, sym, Table, TableId, Tag, tags_in, Thread, thread_at, thread_key, thread_of, ThreadKey, ThreadOf, true, WaitableKind, Where, where_at, with_entry, WorkOf, ℕ, ◌+◌, ◌-◌, ◌<◌, ◌==◌, ◌∙◌, ◌≡◌}
 use Rattle.core_records.specs.declared.{instance_records.InstanceRecord.InstanceRecord, parts.CoreParts.CoreParts, set_records.WaitSet.WaitSet, single.Single.Single, thread_records.GuestThread.GuestThread}
 use Rattle.core_records.proofs.HomeLemmas.{place_in_bare, thread_home}
@@ -247,20 +249,24 @@ module _ (a : CoreParts) (sound : IsSoundCore a) (id : TableId ThreadKey) (g : G
       callers_same : records (callers_in a.behind) threads_now.places ≡ records (callers_in a.behind) a.threads.places
       callers_same = records_unseen (callers_in a.behind) a.threads id.rep stands.0 stands.1.0 (entry_of h) (ap (λ (x : GuestThread). callers_in a.behind (entry_of x)) stays ∙ sym (ap (callers_in a.behind) stands.1.1.1))
 
+      seats_same : records thread_seat_key threads_now.places ≡ records thread_seat_key a.threads.places
+      seats_same = records_unseen thread_seat_key a.threads id.rep stands.0 stands.1.0 (entry_of h) (ap (λ (x : GuestThread). thread_seat_key (entry_of x)) stays ∙ sym (ap thread_seat_key stands.1.1.1))
+
       abbrev view_of : Records Thread → Records (List ℕ) → Records Set → List (Option Tag) → List (Option Tag) → StateView
       view_of m k x l t = record (seen a) { core = record (seen a).core { threads = m; callers = k; sets = x }; tags = record (seen a).tags { threads = l; sets = t } }
 
       pub placed_seen : (f : Thread → Thread) → f g.thread ≡ h.thread → seen placed_after ≡ on_core (on_thread (thread_of (seen a) id) f) (seen a)
       unfolding seen IsSoundCore on_thread
       placed_seen f is_f =
-          ap (λ m. view_of m (records (callers_in a.behind) threads_now.places) (records set_key sets_now.places) (tags_in thread_key threads_now) (tags_in set_key sets_now))
+          ap (λ (p : Records ThreadSeat). record (seen placed_after) { tags = record (seen placed_after).tags { seats = record (seen a).tags.seats { threads = p } } }) seats_same
+          ∙ (ap (λ m. view_of m (records (callers_in a.behind) threads_now.places) (records set_key sets_now.places) (tags_in thread_key threads_now) (tags_in set_key sets_now))
           (records_changed (λ (g : GuestThread). g.number) (λ (g : GuestThread). g.thread) a.threads a.made.threads sound.tables.threads id.rep id.serial g is h same_number f is_f ∙ ap (λ n. change n f (records thread_key a.threads.places)) (sym (thread_shown a id)))
           ∙ (ap (λ k. view_of (change (thread_of (seen a) id) f (records thread_key a.threads.places)) k (records set_key sets_now.places) (tags_in thread_key threads_now) (tags_in set_key sets_now)) callers_same
           ∙ (ap (λ x. view_of (change (thread_of (seen a) id) f (records thread_key a.threads.places)) (records (callers_in a.behind) a.threads.places) x (tags_in thread_key threads_now) (tags_in set_key sets_now)) (sets_same sets_now a.sets sets_alike)
           ∙ (ap (λ l. view_of (change (thread_of (seen a) id) f (records thread_key a.threads.places)) (records (callers_in a.behind) a.threads.places) (records set_key a.sets.places) l (tags_in set_key sets_now))
           (tags_written (λ (g : GuestThread). g.number) (λ (g : GuestThread). g.thread) a.threads a.made.threads sound.tables.threads id.rep id.serial g is h same_number)
           ∙ ap (λ t. view_of (change (thread_of (seen a) id) f (records thread_key a.threads.places)) (records (callers_in a.behind) a.threads.places) (records set_key a.sets.places) (tags_in thread_key a.threads) t)
-          (tags_alike uncounted set_key (λ e. refl) sets_now a.sets sets_alike))))
+          (tags_alike uncounted set_key (λ e. refl) sets_now a.sets sets_alike)))))
 
       -- the tables as the functions leave them
       pub placed_becomes : AtPlace (parts_of a) h.beside (place_target h.thread.place) → AtPlace (parts_of a) h.awaited (op_progress_target h.thread.op_progress) →

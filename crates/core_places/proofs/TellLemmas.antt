@@ -1,8 +1,10 @@
 -- A call with another event or set, as the primitives write it.
+use Rattle.core_records.specs.Keys.{call_seat_key}
 use Rattle.core_records.proofs.Core.{[], ap, AreHandlesNamed, arith, AtPlace, bare, bare_call, Call, call_key, call_of, CallOf, change, cond, core_of, EachEntry, entry_of, filings, filings_at, GuestTaskKey, HandleKind, IfSome, is_in_set, is_made, IsHeldNamed, IsIndex, IsIndex-with_entry, IsSetKept, IsSome, IsSoundCore, IsWhole, item_at, item_of, Join, join_target, kinds, link_for, List, list_of, loose_call, mapped, mapped-with_entry, mapped-with_entry_same, members_of, None, Ok, on_call, on_core, on_item, one_if_passes, Option, option_and_then, CoreImage, parts_of, passing, place_at, Placed, ready_call, ready_call_chain, ready_in, Records, records, Refiles, refl, Rep, seen, Set, set_key, set_of, SetKey, SetOf, Some, SoundTable, Spot, StateView, Status, subst, sym, Table, TableId, Tag, tags_in, ThreadOf, true, uninterested, WaitableKind, with_entry, WorkOf, ℕ, ◌+◌, ◌∙◌, ◌≡◌, ◌≤◌}
 use Rattle.core_records.specs.declared.{call_records.GuestTask.GuestTask, instance_records.InstanceRecord.InstanceRecord, parts.CoreParts.CoreParts, set_records.WaitSet.WaitSet, single.Single.Single}
 use Rattle.core_records.proofs.HomeLemmas.{call_names, place_bare, place_in_bare}
 use Rattle.core_records.proofs.KeptLemmas.{passing_seconds, records_seconds}
+use Rattle.core_records.proofs.TableLemmas.{records_unseen}
 use Rattle.core_records.proofs.KindLemmas.{item_stands, passing_same, passing_written, records_changed, table_written, tags_written}
 use Rattle.core_records.proofs.ReadLemmas.{call_shown}
 use Rattle.core_records.proofs.WriteLemmas.{each_written}
@@ -142,19 +144,23 @@ module _ (a : CoreParts) (sound : IsSoundCore a) (id : TableId GuestTaskKey) (g 
           ended = sound.ended;
         }
 
+      call_seats_same : records call_seat_key calls_now.places ≡ records call_seat_key a.calls.places
+      call_seats_same = records_unseen call_seat_key a.calls id.rep stands.0 stands.1.0 (entry_of h) (ap (λ (x : GuestTask). call_seat_key (entry_of x)) stays ∙ sym (ap call_seat_key stands.1.1.1))
+
       calls_seen : Records Call → Records Set → List (Option Tag) → List (Option Tag) → StateView
       calls_seen m x l t = record (seen a) { core = record (seen a).core { calls = m; sets = x }; tags = record (seen a).tags { calls = l; sets = t } }
 
       pub told_seen : (f : Call → Call) → f g.call ≡ h.call → seen told_after ≡ on_core (on_call (call_of (seen a) id) f) (seen a)
       unfolding seen IsSoundCore on_call calls_seen
       told_seen f is_f =
-          ap (λ (m : Records Call). calls_seen m (records set_key sets.places) (tags_in call_key calls_now) (tags_in set_key sets))
+          ap (λ (p : Records ℕ). record (seen told_after) { tags = record (seen told_after).tags { seats = record (seen a).tags.seats { calls = p } } }) call_seats_same
+          ∙ (ap (λ (m : Records Call). calls_seen m (records set_key sets.places) (tags_in call_key calls_now) (tags_in set_key sets))
           (records_changed (λ (g : GuestTask). g.number) (λ (g : GuestTask). g.call) a.calls a.made.threads sound.tables.calls id.rep id.serial g is h same_number f is_f ∙ ap (λ n. change n f (records call_key a.calls.places)) (sym (call_shown a id)))
           ∙ (ap (λ x. calls_seen (change (call_of (seen a) id) f (records call_key a.calls.places)) x (tags_in call_key calls_now) (tags_in set_key sets)) (sets_same sets a.sets as_sets)
           ∙ (ap (λ (l : List (Option Tag)). calls_seen (change (call_of (seen a) id) f (records call_key a.calls.places)) (records set_key a.sets.places) l (tags_in set_key sets))
           (tags_written (λ (g : GuestTask). g.number) (λ (g : GuestTask). g.call) a.calls a.made.threads sound.tables.calls id.rep id.serial g is h same_number)
           ∙ ap (λ t. calls_seen (change (call_of (seen a) id) f (records call_key a.calls.places)) (records set_key a.sets.places) (tags_in call_key a.calls) t)
-          (tags_alike uncounted set_key (λ e. refl) sets a.sets as_sets)))
+          (tags_alike uncounted set_key (λ e. refl) sets a.sets as_sets))))
 
     -- the sets as they were count what they counted, where the call stays in its set
     pub kept_same : h.call.join ≡ g.call.join → (links : List (Spot OrderKey)) → EachEntry (IsSetKept (core_of (after a.sets refl links))) a.sets

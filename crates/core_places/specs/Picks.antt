@@ -1,11 +1,14 @@
 -- What is picked where the machine leaves a choice: the least by the places in the resource table.
 use Rattle.std.specs.Ordering.{is_lt, nat_cmp, ordering_then}
-use Rattle.std.specs.Prelude.{◌≡◌, ℕ, false, true, Ok, Some}
+use Rattle.std.specs.Prelude.{◌≡◌, ℕ, false, IfSome, None, Option, true, Ok, Some}
 use Rattle.std.specs.declared.cmp.Ordering.{Ordering}
-use Rattle.machine_data.specs.Read.{is_waiting_on}
+use Rattle.machine_data.specs.Read.{is_ready_member, is_waiter, is_waiting_on}
 use Rattle.core_records.specs.Kinds.{item_of}
 use Rattle.core_records.specs.RecordPlaces.{ready_in}
+use Rattle.core_records.specs.Seen.{seen}
 use Rattle.core_records.specs.Sound.{EachEntry}
+use Rattle.core_primitives.specs.Names.{subtask_in}
+use Rattle.core_primitives.specs.StateView.{thread_of}
 use Rattle.core_records.specs.declared.call_records.GuestTask.{GuestTask}
 use Rattle.core_records.specs.declared.parts.CoreParts.{CoreParts}
 use Rattle.core_records.specs.declared.thread_records.GuestThread.{GuestThread}
@@ -26,6 +29,16 @@ IsLeastWaiter a x id =
     (g : GuestThread) →
     Ok g ≡ item_at item_of a.threads id.rep id.serial →
     EachEntry (λ h. is_waiting_on x h.thread.place ≡ true → is_lt (thread_order h g) ≡ false) a.threads
+
+-- The wanted waiter, which waits on the set, or there is none.
+abbrev pub IsWantedWaiter : CoreParts → ℕ → Option (TableId ThreadKey) → Type 0
+IsWantedWaiter a x None = IfSome a.wanted.waiter (λ id. is_waiter x (thread_of (seen a) id) (seen a).core ≡ false)
+IsWantedWaiter a x (Some id) = (a.wanted.waiter ≡ Some id) × (is_waiter x (thread_of (seen a) id) (seen a).core ≡ true)
+
+-- The wanted member, which is ready in the set, or there is none.
+abbrev pub IsWantedMember : CoreParts → ℕ → Option SubtaskId → Type 0
+IsWantedMember a x None = IfSome a.wanted.member (λ sub. is_ready_member x (subtask_in (seen a).tags sub) (seen a).core ≡ false)
+IsWantedMember a x (Some sub) = (a.wanted.member ≡ Some sub) × (is_ready_member x (subtask_in (seen a).tags sub) (seen a).core ≡ true)
 
 -- No ready member of the set comes before the one of this id: host works come first, then calls, each by its place.
 abbrev pub IsLeastMember : CoreParts → ℕ → SubtaskId → Type 0

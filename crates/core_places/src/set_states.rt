@@ -1,15 +1,54 @@
-ghost use Rattle.core_places.specs.Picks.{IsLeastMember, IsLeastWaiter};
+ghost use Rattle.core_places.specs.Picks.{IsLeastMember, IsLeastWaiter, IsWantedMember, IsWantedWaiter};
 ghost use Rattle.std.specs.Prelude.{◌≡◌, ◌<◌, IfNone, IfSome, false, true};
-ghost use Rattle.machine_data.specs.Read.{has_ready_member, has_waiter, is_ready_member, is_waiter};
+ghost use Rattle.machine_data.specs.Read.{has_ready_member, has_waiter, is_in_set, is_ready_member, is_waiter};
 ghost use Rattle.core_records.specs.Seen.{IsSoundCore, seen};
+ghost use Rattle.machine_rules.specs.Picks.{IsFirstMember, IsFirstWaiter};
 ghost use Rattle.core_primitives.specs.Names.{subtask_in};
+ghost use Rattle.core_primitives.specs.Preferences.{preference};
 ghost use Rattle.core_primitives.specs.StateView.{set_of, thread_of};
 
 use core_primitives::{SetId, SubtaskId, ThreadId};
 use core_records::{CoreParts, call_at, thread_at, work_at};
+use machine_data::{Join, Place};
 
-/// Returns the first waiter of a set: the least by the places of its call and of itself in the resource table.
-pub fn first_waiter(parts: &CoreParts, set: SetId) -> Option<ThreadId>
+// Whether the thread waits on the set of this number.
+fn waits_on(parts: &CoreParts, thread: ThreadId, set: u64) -> bool
+    requires { IsSoundCore parts.now }
+    ensures { result ≡ is_waiter set (thread_of (seen parts.now) thread) (seen parts.now).core }
+{
+    match crate::place(parts, thread) {
+        Some(
+            Place::Waiting {
+                set: on,
+                by_callback: _,
+            },
+        ) => set == on,
+        _ => false,
+    }
+}
+
+// The waiter that is wanted, if it waits on the set.
+#[inline(always)]
+fn wanted_waiter(parts: &CoreParts, set: SetId) -> Option<ThreadId>
+    requires sound { IsSoundCore parts.now }
+    requires live { 0 < set_of (seen parts.now) set }
+    ensures { IsWantedWaiter parts.now (set_of (seen parts.now) set) result }
+{
+    match parts.wanted.waiter {
+        Some(thread) => {
+            let number = core_records::set_there(parts, set).number;
+            if waits_on(parts, thread, number) {
+                Some(thread)
+            } else {
+                None
+            }
+        }
+        None => None,
+    }
+}
+
+// The least waiter of a set by the places of its call and of itself in the resource table.
+fn least_waiter(parts: &CoreParts, set: SetId) -> Option<ThreadId>
     requires sound { IsSoundCore parts.now }
     requires live { 0 < set_of (seen parts.now) set }
     ensures none { IfNone result (has_waiter (set_of (seen parts.now) set) (seen parts.now).core ≡ false) }
@@ -24,9 +63,71 @@ pub fn first_waiter(parts: &CoreParts, set: SetId) -> Option<ThreadId>
     }
 }
 
-/// Returns the first ready member of a set, in the order of `Waitable`: host works, then calls, each by its place in the resource
-/// table.
-pub fn first_ready(parts: &CoreParts, set: SetId) -> Option<SubtaskId>
+/// Returns the waiter of a set that comes first: the one that is wanted, else the least by the places of its call and of
+/// itself in the resource table.
+pub fn first_waiter(parts: &CoreParts, set: SetId) -> Option<ThreadId>
+    requires sound { IsSoundCore parts.now }
+    requires live { 0 < set_of (seen parts.now) set }
+    ensures none { IfNone result (has_waiter (set_of (seen parts.now) set) (seen parts.now).core ≡ false) }
+    ensures some { IfSome result (λ id. is_waiter (set_of (seen parts.now) set) (thread_of (seen parts.now) id) (seen parts.now).core ≡ true) }
+    ensures live { IfSome result (λ id. 0 < thread_of (seen parts.now) id) }
+    ensures first { IfSome result (λ id. IsFirstWaiter (preference (seen parts.now)) (set_of (seen parts.now) set) (seen parts.now).core (thread_of (seen parts.now) id)) }
+{
+    match wanted_waiter(parts, set) {
+        Some(thread) => Some(thread),
+        None => least_waiter(parts, set),
+    }
+}
+
+// Whether what is joined so is in the set of this number.
+fn is_in(join: Join, set: u64) -> bool
+    ensures { result ≡ is_in_set set join }
+{
+    match join {
+        Join::Set { set: of } => set == of,
+        _ => false,
+    }
+}
+
+// Whether the subtask is joined to the set of this number and has an event.
+fn is_ready_in(parts: &CoreParts, subtask: SubtaskId, set: u64) -> bool
+    requires { IsSoundCore parts.now }
+    ensures { result ≡ is_ready_member set (subtask_in (seen parts.now).tags subtask) (seen parts.now).core }
+{
+    match subtask {
+        SubtaskId::Guest(call) => match core_records::call(parts, call) {
+            Some(found) => is_in(found.call.join, set) && found.call.event.is_some(),
+            None => false,
+        },
+        SubtaskId::Host(work) => match core_records::work(parts, work) {
+            Some(found) => is_in(found.work.join, set) && found.work.event.is_some(),
+            None => false,
+        },
+    }
+}
+
+// The member that is wanted, if it is ready in the set.
+#[inline(always)]
+fn wanted_member(parts: &CoreParts, set: SetId) -> Option<SubtaskId>
+    requires sound { IsSoundCore parts.now }
+    requires live { 0 < set_of (seen parts.now) set }
+    ensures { IsWantedMember parts.now (set_of (seen parts.now) set) result }
+{
+    match parts.wanted.member {
+        Some(subtask) => {
+            let number = core_records::set_there(parts, set).number;
+            if is_ready_in(parts, subtask, number) {
+                Some(subtask)
+            } else {
+                None
+            }
+        }
+        None => None,
+    }
+}
+
+// The least ready member of a set, in the order of `Waitable`: host works, then calls, each by its place in the resource table.
+fn least_ready(parts: &CoreParts, set: SetId) -> Option<SubtaskId>
     requires sound { IsSoundCore parts.now }
     requires live { 0 < set_of (seen parts.now) set }
     ensures none { IfNone result (has_ready_member (set_of (seen parts.now) set) (seen parts.now).core ≡ false) }
@@ -43,13 +144,28 @@ pub fn first_ready(parts: &CoreParts, set: SetId) -> Option<SubtaskId>
     }
 }
 
+/// Returns the ready member of a set that comes first: the one that is wanted, else a host work, else a call, each by its
+/// place in the resource table.
+pub fn first_ready(parts: &CoreParts, set: SetId) -> Option<SubtaskId>
+    requires sound { IsSoundCore parts.now }
+    requires live { 0 < set_of (seen parts.now) set }
+    ensures none { IfNone result (has_ready_member (set_of (seen parts.now) set) (seen parts.now).core ≡ false) }
+    ensures some { IfSome result (λ member. is_ready_member (set_of (seen parts.now) set) (subtask_in (seen parts.now).tags member) (seen parts.now).core ≡ true) }
+    ensures first { IfSome result (λ member. IsFirstMember (preference (seen parts.now)) (set_of (seen parts.now) set) (seen parts.now).core (subtask_in (seen parts.now).tags member)) }
+{
+    match wanted_member(parts, set) {
+        Some(subtask) => Some(subtask),
+        None => least_ready(parts, set),
+    }
+}
+
 /// Returns whether a set has a member that has an event.
 pub fn has_ready_member(parts: &CoreParts, set: SetId) -> bool
     requires sound { IsSoundCore parts.now }
     requires live { 0 < set_of (seen parts.now) set }
     ensures { result ≡ has_ready_member (set_of (seen parts.now) set) (seen parts.now).core }
 {
-    match first_ready(parts, set) {
+    match least_ready(parts, set) {
         Some(_) => true,
         None => false,
     }

@@ -2,6 +2,7 @@ pub mod StateView
 pub mod Groups
 pub mod BecomesRecord
 pub mod Names
+pub mod Preferences
 pub mod Live
 pub mod Apart
 pub mod Context

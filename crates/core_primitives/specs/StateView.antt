@@ -6,20 +6,35 @@ use Rattle.task_wait.specs.declared.keys.HostTaskKey.{HostTaskKey}
 use Rattle.task_wait.specs.declared.keys.SetKey.{SetKey}
 use Rattle.task_wait.specs.declared.keys.ThreadKey.{ThreadKey}
 use Rattle.machine_data.specs.Core.{Core}
+use Rattle.machine_data.specs.Maps.{get}
+use Rattle.machine_rules.specs.Picks.{Seats}
+use Rattle.core_primitives.specs.declared.names.SubtaskId.{SubtaskId}
 
 -- What is at a place of a table: its serial and its number.
 pub record Tag : Type 0 where
   pub serial : ℕ
   pub number : ℕ
 
--- What each id names: what is at each place of the tables of threads, of calls, of sets and of host works, spawns among them. And
--- which groups are tracked, in order: those that are live, and those that have ended since it was last asked which.
+-- What is to be picked first: a waiter, a ready member, and held threads in this order. The core of a store is told nothing.
+pub record Wanted : Type 0 where
+  pub waiter : Option (TableId ThreadKey)
+  pub member : Option SubtaskId
+  pub held : List (TableId ThreadKey)
+
+abbrev pub nothing_wanted : Wanted
+nothing_wanted = record { waiter = None; member = None; held = [] }
+
+-- What each id names: what is at each place of the tables of threads, of calls, of sets and of host works, spawns among them. Which
+-- groups are tracked, in order: those that are live, and those that have ended since it was last asked which. And by what is
+-- picked: what is wanted, and the places of the resource table.
 pub record Tags : Type 0 where
   pub threads : List (Option Tag)
   pub calls : List (Option Tag)
   pub sets : List (Option Tag)
   pub works : List (Option Tag)
   pub tracked : List ℕ
+  pub wanted : Wanted
+  pub seats : Seats
 
 pub record StateView : Type 0 where
   pub core : Core
@@ -68,6 +83,10 @@ on_core f s = with_core (f s.core) s
 abbrev pub with_current : Option (TableId ThreadKey) → StateView → StateView
 with_current id s = record { core = s.core; tags = s.tags; current = id }
 
+-- something else is wanted
+abbrev pub with_wanted : Wanted → StateView → StateView
+with_wanted w s = record { core = s.core; tags = record s.tags { wanted = w }; current = s.current }
+
 -- Each id that named something names it still, and these groups are tracked.
 pub record KeepsTo (tracked : List ℕ) (old new : Tags) : Type 0 where
   pub threads : (id : TableId ThreadKey) → 0 < thread_number old id → thread_number new id ≡ thread_number old id
@@ -75,6 +94,7 @@ pub record KeepsTo (tracked : List ℕ) (old new : Tags) : Type 0 where
   pub sets : (id : TableId SetKey) → 0 < set_number old id → set_number new id ≡ set_number old id
   pub works : (id : TableId HostTaskKey) → 0 < work_number old id → work_number new id ≡ work_number old id
   pub same : new.tracked ≡ tracked
+  pub wanted : new.wanted ≡ old.wanted
 
 -- the groups that were tracked
 abbrev pub Keeps : Tags → Tags → Type 0
@@ -106,6 +126,12 @@ lost_set x = record nothing_lost { set = x }
 abbrev pub lost_work : ℕ → Lost
 lost_work i = record nothing_lost { work = i }
 
+-- What isn't lost has the place that it had.
+pub record KeepsSeats (lost : Lost) (old new : Seats) : Type 0 where
+  pub threads : (n : ℕ) → 0 < n → n ≢ lost.thread → get new.threads n ≡ get old.threads n
+  pub calls : (k : ℕ) → 0 < k → k ≢ lost.call → get new.calls k ≡ get old.calls k
+  pub works : (i : ℕ) → 0 < i → i ≢ lost.work → get new.works i ≡ get old.works i
+
 -- Each id names what it named, but for what is lost; what named the thread that is lost, or no thread, names none. The same groups
 -- are tracked.
 pub record KeepsBut (lost : Lost) (old new : Tags) : Type 0 where
@@ -115,3 +141,5 @@ pub record KeepsBut (lost : Lost) (old new : Tags) : Type 0 where
   pub works : (id : TableId HostTaskKey) → work_number old id ≢ lost.work → work_number new id ≡ work_number old id
   pub gone : (id : TableId ThreadKey) → thread_number old id ≡ lost.thread → thread_number new id ≡ 0
   pub same : new.tracked ≡ old.tracked
+  pub wanted : new.wanted ≡ old.wanted
+  pub seats : KeepsSeats lost old.seats new.seats

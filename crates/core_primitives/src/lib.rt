@@ -22,7 +22,7 @@ pub use instance_primitives::InstancePrimitives;
 pub use machine_data::NoMemory;
 pub use names::{
     CallId, CallerId, DeliveryId, EntryId, JoinId, OpProgressId, PlaceId, SetId, SubtaskId,
-    ThreadAt, ThreadId, WhyId, WorkCallerId, WorkId,
+    ThreadAt, ThreadId, WantedId, WhyId, WorkCallerId, WorkId,
 };
 pub use place_primitives::PlacePrimitives;
 pub use queue_primitives::QueuePrimitives;

@@ -61,6 +61,14 @@ pub enum OpProgressId {
     Yields,
 }
 
+/// What is to be picked first where the machine leaves a choice: a waiter, a ready member, and held threads in this order.
+#[derive(Drop)]
+pub struct WantedId {
+    pub waiter: Option<ThreadId>,
+    pub member: Option<SubtaskId>,
+    pub held: Vec<ThreadId>,
+}
+
 /// Returns in which set a subtask is.
 #[derive(Clone, Copy)]
 pub enum JoinId {

@@ -6,11 +6,13 @@ ghost use Rattle.machine_data.specs.Write.{set_callers, set_op_progress, set_pla
 ghost use Rattle.machine_data.specs.declared.records.OpProgress.TheVariants as op_progress_of_thread;
 ghost use Rattle.machine_data.specs.declared.records.Place.TheVariants as place_of_thread;
 ghost use Rattle.machine_data.specs.declared.records.Subtask.TheVariants as subtasks;
+ghost use Rattle.machine_rules.specs.Picks.{GoInOrder, IsFirstWaiter};
 ghost use Rattle.machine_rules.specs.Places.{Placed};
 ghost use Rattle.machine_rules.specs.Works.{first_number};
 ghost use Rattle.core_primitives.specs.Apart.{IsBehindNobody, later_of, newest_of, older_of};
 ghost use Rattle.core_primitives.specs.Live.{delivered_set, live_set};
 ghost use Rattle.core_primitives.specs.Names.{op_progress_in, number_in, place_in, subtask_in};
+ghost use Rattle.core_primitives.specs.Preferences.{preference};
 ghost use Rattle.core_primitives.specs.StateView.{call_of, on_core, set_of, thread_of};
 
 use crate::names::{CallId, OpProgressId, PlaceId, SetId, SubtaskId, ThreadId};
@@ -74,12 +76,13 @@ pub trait PlacePrimitives: View {
         ensures is { option_map (λ id. thread_of (Self.view self.now) id) result ≡ blocked_on (subtask_in (Self.view self.now).tags subtask) (Self.view self.now).core }
         ensures live { IfSome result (λ id. 0 < thread_of (Self.view self.now) id) };
 
-    /// Returns the first waiter of a set, in the order of the set's chain.
+    /// Returns the waiter of a set that comes first: the one that is wanted, else the least by place.
     fn first_waiter(&self, set: SetId) -> Option<ThreadId>
         requires { 0 < set_of (Self.view self.now) set }
         ensures none { IfNone result (has_waiter (set_of (Self.view self.now) set) (Self.view self.now).core ≡ false) }
         ensures some { IfSome result (λ id. is_waiter (set_of (Self.view self.now) set) (thread_of (Self.view self.now) id) (Self.view self.now).core ≡ true) }
-        ensures live { IfSome result (λ id. 0 < thread_of (Self.view self.now) id) };
+        ensures live { IfSome result (λ id. 0 < thread_of (Self.view self.now) id) }
+        ensures first { IfSome result (λ id. IsFirstWaiter (preference (Self.view self.now)) (set_of (Self.view self.now) set) (Self.view self.now).core (thread_of (Self.view self.now) id)) };
 
     /// Returns whether some thread is behind this one.
     fn has_callers(&self, thread: ThreadId) -> bool
@@ -110,8 +113,8 @@ pub trait PlacePrimitives: View {
     fn has_admitted(&self, instance: u32) -> bool
         ensures { result ≡ not (is_nil (admitted_held instance (Self.view self.now).core)) };
 
-    /// Puts the held threads of the instance that are admitted at high, in an order of the code's own.
+    /// Puts the held threads of the instance that are admitted at high: in the order that is wanted, the others by place.
     fn release(&mut self, instance: u32)
         requires { Placed (Self.view self.old).core }
-        ensures { (order : List ℕ) × (IsPermutation (admitted_held instance (Self.view self.old).core) order × (Self.view self.new ≡ on_core (released order) (Self.view self.old))) };
+        ensures { (order : List ℕ) × (IsPermutation (admitted_held instance (Self.view self.old).core) order × (GoInOrder (preference (Self.view self.old)) order × (Self.view self.new ≡ on_core (released order) (Self.view self.old)))) };
 }

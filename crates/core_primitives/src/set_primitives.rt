@@ -3,7 +3,9 @@ ghost use Rattle.machine_data.specs.Maps.{get};
 ghost use Rattle.machine_data.specs.Read.{at_handle_limit, fits, has_member, has_ready_member, has_waiters, is_ready_member, set_at};
 ghost use Rattle.machine_data.specs.Write.{add_set, free_handle, give_handle, remove_set};
 ghost use Rattle.machine_data.specs.declared.records.Named.TheVariants as names;
+ghost use Rattle.machine_rules.specs.Picks.{IsFirstMember};
 ghost use Rattle.core_primitives.specs.Names.{subtask_in};
+ghost use Rattle.core_primitives.specs.Preferences.{preference};
 ghost use Rattle.core_primitives.specs.BecomesRecord.{BecomesBut, MakesRecord, names_set};
 ghost use Rattle.core_primitives.specs.StateView.{lost_set, set_of};
 
@@ -28,11 +30,12 @@ pub trait SetPrimitives: View {
         requires { 0 < set_of (Self.view self.now) set }
         ensures { result ≡ has_waiters (set_of (Self.view self.now) set) (Self.view self.now).core };
 
-    /// Returns the first ready member of a set, in the order of the set's chain.
+    /// Returns the ready member of a set that comes first: the one that is wanted, else a host work, else a call, each by place.
     fn first_ready(&self, set: SetId) -> Option<SubtaskId>
         requires { 0 < set_of (Self.view self.now) set }
         ensures none { IfNone result (has_ready_member (set_of (Self.view self.now) set) (Self.view self.now).core ≡ false) }
-        ensures some { IfSome result (λ member. is_ready_member (set_of (Self.view self.now) set) (subtask_in (Self.view self.now).tags member) (Self.view self.now).core ≡ true) };
+        ensures some { IfSome result (λ member. is_ready_member (set_of (Self.view self.now) set) (subtask_in (Self.view self.now).tags member) (Self.view self.now).core ≡ true) }
+        ensures first { IfSome result (λ member. IsFirstMember (preference (Self.view self.now)) (set_of (Self.view self.now) set) (Self.view self.now).core (subtask_in (Self.view self.now).tags member)) };
 
     /// Makes a set of an instance, and its handle there. If it is out of memory, all is as before.
     fn open_set(&mut self, instance: u32) -> Result<SetId, NoMemory>

@@ -1,11 +1,12 @@
 ghost use Rattle.std.specs.Prelude.{◌≡◌, None, false};
 ghost use Rattle.machine_data.specs.Maps.{get};
 ghost use Rattle.machine_rules.specs.Notices.{is_in};
-ghost use Rattle.core_primitives.specs.StateView.{StateView, with_current};
+ghost use Rattle.core_primitives.specs.Preferences.{wanted_of};
+ghost use Rattle.core_primitives.specs.StateView.{StateView, with_current, with_wanted};
 
 use crate::call_primitives::CallPrimitives;
 use crate::instance_primitives::InstancePrimitives;
-use crate::names::ThreadId;
+use crate::names::{ThreadId, WantedId};
 use crate::place_primitives::PlacePrimitives;
 use crate::queue_primitives::QueuePrimitives;
 use crate::result_primitives::ResultPrimitives;
@@ -25,6 +26,10 @@ pub trait View {
     /// Makes this thread the one that runs, or lets none run.
     fn set_current(&mut self, thread: Option<ThreadId>)
         ensures { view self.new ≡ with_current thread (view self.old) };
+
+    /// Makes this what is picked first where the machine leaves a choice, as long as it can be picked.
+    fn want(&mut self, wanted: WantedId)
+        ensures { view self.new ≡ with_wanted (wanted_of wanted) (view self.old) };
 
     /// Says that nothing has the number 0, which is that of an id that names nothing. It does nothing.
     fn none_is_zero(&self)

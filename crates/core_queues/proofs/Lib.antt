@@ -9,3 +9,4 @@ pub mod LeaveLemmas
 pub mod SwitchLemmas
 pub mod TopLemmas
 pub mod CallerLemmas
+pub mod SeatLemmas

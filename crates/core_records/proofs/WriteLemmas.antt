@@ -4,6 +4,8 @@ use Rattle.core_records.specs.declared.{call_records.GuestTask.GuestTask, instan
 use Rattle.core_records.proofs.KindLemmas.{item_stands, passing_written, records_changed, refused_write, table_written, tags_written}
 use Rattle.core_records.proofs.ReadLemmas.{call_shown, thread_shown, work_shown}
 use Rattle.core_records.proofs.TableLemmas.{records_unseen}
+use Rattle.core_records.specs.Keys.{call_seat_key, thread_seat_key, work_seat_key}
+use Rattle.machine_rules.specs.Picks.{ThreadSeat}
 
 -- what the handles of all instances name
 abbrev HandlesNamed : Kinds → CoreParts → Type 0
@@ -75,17 +77,24 @@ module _ (a : CoreParts) (sound : IsSoundCore a) (id : TableId ThreadKey) where
     callers_same : records (callers_in a.behind) (with_entry id.rep (entry_of h) a.threads).places ≡ records (callers_in a.behind) a.threads.places
     callers_same = records_unseen (callers_in a.behind) a.threads id.rep thread_stands.0 thread_stands.1.0 (entry_of h) (ap (λ (x : GuestThread). callers_in a.behind (entry_of x)) thread_loose ∙ ap (callers_in a.behind) (sym thread_stands.1.1.1))
 
-    threads_seen : Records Thread → Records (List ℕ) → List (Option Tag) → StateView
-    threads_seen m k l = record (seen a) { core = record (seen a).core { threads = m; callers = k }; tags = record (seen a).tags { threads = l } }
+    seats_same : records thread_seat_key (with_entry id.rep (entry_of h) a.threads).places ≡ records thread_seat_key a.threads.places
+    seats_same = records_unseen thread_seat_key a.threads id.rep thread_stands.0 thread_stands.1.0 (entry_of h) (ap (λ (x : GuestThread). thread_seat_key (entry_of x)) thread_loose ∙ ap thread_seat_key (sym thread_stands.1.1.1))
+
+    threads_seen : Records Thread → Records (List ℕ) → List (Option Tag) → Records ThreadSeat → StateView
+    threads_seen m k l p = record (seen a) { core = record (seen a).core { threads = m; callers = k }; tags = record (seen a).tags { threads = l; seats = record (seen a).tags.seats { threads = p } } }
 
     pub thread_put_writes : (f : Thread → Thread) → f g.thread ≡ h.thread → seen thread_after ≡ on_core (on_thread (thread_of (seen a) id) f) (seen a)
     unfolding seen IsSoundCore on_thread threads_seen
     thread_put_writes f is_f =
-        ap (λ (m : Records Thread). threads_seen m (records (callers_in a.behind) (with_entry id.rep (entry_of h) a.threads).places) (tags_in thread_key (with_entry id.rep (entry_of h) a.threads)))
+        let now = with_entry id.rep (entry_of h) a.threads in
+        let change_is = change (thread_of (seen a) id) f (records thread_key a.threads.places) in
+        let callers_are = records (callers_in a.behind) a.threads.places in
+        ap (λ (m : Records Thread). threads_seen m (records (callers_in a.behind) now.places) (tags_in thread_key now) (records thread_seat_key now.places))
         (records_changed (λ (g : GuestThread). g.number) (λ (g : GuestThread). g.thread) a.threads a.made.threads sound.tables.threads id.rep id.serial g is h thread_same f is_f ∙ ap (λ n. change n f (records thread_key a.threads.places)) (sym (thread_shown a id)))
-        ∙ (ap (λ (k : Records (List ℕ)). threads_seen (change (thread_of (seen a) id) f (records thread_key a.threads.places)) k (tags_in thread_key (with_entry id.rep (entry_of h) a.threads))) callers_same
-        ∙ ap (λ (l : List (Option Tag)). threads_seen (change (thread_of (seen a) id) f (records thread_key a.threads.places)) (records (callers_in a.behind) a.threads.places) l)
-        (tags_written (λ (g : GuestThread). g.number) (λ (g : GuestThread). g.thread) a.threads a.made.threads sound.tables.threads id.rep id.serial g is h thread_same))
+        ∙ (ap (λ (k : Records (List ℕ)). threads_seen change_is k (tags_in thread_key now) (records thread_seat_key now.places)) callers_same
+        ∙ (ap (λ (l : List (Option Tag)). threads_seen change_is callers_are l (records thread_seat_key now.places))
+        (tags_written (λ (g : GuestThread). g.number) (λ (g : GuestThread). g.thread) a.threads a.made.threads sound.tables.threads id.rep id.serial g is h thread_same)
+        ∙ ap (threads_seen change_is callers_are (tags_in thread_key a.threads)) seats_same))
 
   -- with the same handle
   module _ (g : GuestThread) (is : Ok g ≡ item_at item_of a.threads id.rep id.serial) (h : GuestThread) (close : close_thread h ≡ close_thread g) where
@@ -152,7 +161,12 @@ module _ (a : CoreParts) (sound : IsSoundCore a) (id : TableId GuestTaskKey) (g 
     call_put_writes : (f : Call → Call) → f g.call ≡ h.call → seen call_after ≡ on_core (on_call (call_of (seen a) id) f) (seen a)
     unfolding seen IsSoundCore on_call
     call_put_writes f is_f =
-        ap₂ (λ (m : Records Call) (l : List (Option Tag)). record (seen a) { core = record (seen a).core { calls = m }; tags = record (seen a).tags { calls = l } })
+        let now = with_entry id.rep (entry_of h) a.calls in
+        let one = item_stands (λ (g : GuestTask). g.number) (λ (g : GuestTask). g.call) a.calls a.made.threads sound.tables.calls id.rep id.serial g is in
+        let seats : records call_seat_key now.places ≡ records call_seat_key a.calls.places =
+            records_unseen call_seat_key a.calls id.rep one.0 one.1.0 (entry_of h) (ap (λ (x : GuestTask). call_seat_key (entry_of x)) alike ∙ ap call_seat_key (sym one.1.1.1)) in
+        ap (λ (p : Records ℕ). record (seen call_after) { tags = record (seen call_after).tags { seats = record (seen a).tags.seats { calls = p } } }) seats
+        ∙ ap₂ (λ (m : Records Call) (l : List (Option Tag)). record (seen a) { core = record (seen a).core { calls = m }; tags = record (seen a).tags { calls = l } })
         (records_changed (λ (g : GuestTask). g.number) (λ (g : GuestTask). g.call) a.calls a.made.threads sound.tables.calls id.rep id.serial g is h call_same f is_f
         ∙ ap (λ (n : ℕ). change n f (records call_key a.calls.places)) (sym (call_shown a id)))
         (tags_written (λ (g : GuestTask). g.number) (λ (g : GuestTask). g.call) a.calls a.made.threads sound.tables.calls id.rep id.serial g is h call_same)
@@ -230,7 +244,12 @@ module _ (a : CoreParts) (sound : IsSoundCore a) (id : TableId HostTaskKey) (g :
     pub moved_writes : (f : Work → Work) → f g.work ≡ h.work → seen moved_after ≡ on_core (on_work (work_of (seen a) id) f) (seen a)
     unfolding seen IsSoundCore on_work
     moved_writes f is_f =
-        ap₂ (λ (m : Records Work) (l : List (Option Tag)). record (seen a) { core = record (seen a).core { works = m }; tags = record (seen a).tags { works = l } })
+        let now = with_entry id.rep (entry_of h) a.works in
+        let one = item_stands (λ (g : WorkRecord). g.number) (λ (g : WorkRecord). g.work) a.works a.made.works sound.tables.works id.rep id.serial g is in
+        let seats : records work_seat_key now.places ≡ records work_seat_key a.works.places =
+            records_unseen work_seat_key a.works id.rep one.0 one.1.0 (entry_of h) (ap (λ (x : WorkRecord). work_seat_key (entry_of x)) alike ∙ ap work_seat_key (sym one.1.1.1)) in
+        ap (λ (p : Records ℕ). record (seen moved_after) { tags = record (seen moved_after).tags { seats = record (seen a).tags.seats { works = p } } }) seats
+        ∙ ap₂ (λ (m : Records Work) (l : List (Option Tag)). record (seen a) { core = record (seen a).core { works = m }; tags = record (seen a).tags { works = l } })
         (records_changed (λ (g : WorkRecord). g.number) (λ (g : WorkRecord). g.work) a.works a.made.works sound.tables.works id.rep id.serial g is h moved_same f is_f
         ∙ ap (λ (n : ℕ). change n f (records work_key a.works.places)) (sym (work_shown a id)))
         (tags_written (λ (g : WorkRecord). g.number) (λ (g : WorkRecord). g.work) a.works a.made.works sound.tables.works id.rep id.serial g is h moved_same)

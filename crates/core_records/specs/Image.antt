@@ -13,7 +13,7 @@ use Rattle.machine_data.specs.Maps.{Records, empty, insert, numbers, remove}
 use Rattle.machine_data.specs.declared.records.MadeCounts.{MadeCounts}
 use Rattle.core_records.specs.Groups.{tracked_of}
 use Rattle.core_records.specs.Instances.{by_place, handle_table, named_of, thread_of}
-use Rattle.core_records.specs.Keys.{call_key, group_key, set_key, thread_key, work_key}
+use Rattle.core_records.specs.Keys.{call_key, call_seat_key, group_key, set_key, thread_key, thread_seat_key, work_key, work_seat_key}
 use Rattle.core_records.specs.declared.call_records.GuestTask.{GuestTask}
 use Rattle.core_records.specs.declared.call_records.TaskGroup.{TaskGroup}
 use Rattle.core_records.specs.declared.instance_records.InstanceRecord.{InstanceRecord}
@@ -30,7 +30,8 @@ use Rattle.task_table.specs.Records.{number_in, records}
 use Rattle.task_table.specs.Table.{Placed, Table}
 use Rattle.task_table.specs.declared.id.TableId.{TableId}
 use Rattle.task_wait.specs.declared.keys.ThreadKey.{ThreadKey}
-use Rattle.core_primitives.specs.StateView.{StateView, Tag, Tags}
+use Rattle.machine_rules.specs.Picks.{Seats}
+use Rattle.core_primitives.specs.StateView.{StateView, Tag, Tags, Wanted}
 
 -- the fields of a core, as tables, lists and numbers
 pub record CoreImage : Type 0 where
@@ -53,6 +54,7 @@ pub record CoreImage : Type 0 where
   pub live : Option ℕ
   pub switch : Option Follower
   pub current : Option (TableId ThreadKey)
+  pub wanted : Wanted
   pub results : List (ℕ × ResultRoom)
   pub kept : CachedCounts
   pub finished : ℕ
@@ -129,6 +131,14 @@ tags_in key t = trimmed (map (tag_of key) t.places)
 abbrev pub tracked_in : CoreImage → List ℕ
 tracked_in p = tracked_of p.ended (core_of p).groups p.made.groups
 
+-- the places of the resource table, as the records of threads, calls and host works name them
+abbrev pub seats_of : CoreImage → Seats
+seats_of p = record {
+  threads = records thread_seat_key p.threads.places;
+  calls = records call_seat_key p.calls.places;
+  works = records work_seat_key p.works.places;
+}
+
 abbrev pub tags_of : CoreImage → Tags
 tags_of p = record {
   threads = tags_in thread_key p.threads;
@@ -136,6 +146,8 @@ tags_of p = record {
   sets = tags_in set_key p.sets;
   works = tags_in work_key p.works;
   tracked = tracked_in p;
+  wanted = p.wanted;
+  seats = seats_of p;
 }
 
 abbrev pub image : CoreImage → StateView

@@ -4,6 +4,7 @@ use Rattle.machine_data.specs.declared.records.Call.{Call}
 use Rattle.machine_data.specs.declared.records.Set.{Set}
 use Rattle.machine_data.specs.declared.records.Thread.{Thread}
 use Rattle.machine_data.specs.declared.records.Work.{Work}
+use Rattle.machine_rules.specs.Picks.{ThreadSeat}
 use Rattle.core_records.specs.declared.call_records.GuestTask.{GuestTask}
 use Rattle.core_records.specs.declared.call_records.TaskGroup.{TaskGroup}
 use Rattle.core_records.specs.declared.single.Single.{Single}
@@ -26,6 +27,17 @@ set_key x = Some (x.item.number, x.item.set)
 -- a group's record is the count of its calls
 abbrev pub group_key : Single TaskGroup → Option (ℕ × ℕ)
 group_key r = Some (r.item.number, r.item.calls)
+
+-- ---- Places in the resource table
+
+abbrev pub thread_seat_key : Single GuestThread → Option (ℕ × ThreadSeat)
+thread_seat_key g = Some (g.item.number, record { task = g.item.task_entry; own = g.item.entry })
+
+abbrev pub call_seat_key : Single GuestTask → Option (ℕ × ℕ)
+call_seat_key g = Some (g.item.number, g.item.entry)
+
+abbrev pub work_seat_key : Single WorkRecord → Option (ℕ × ℕ)
+work_seat_key w = Some (w.item.number, w.item.entry)
 
 -- ---- Chains
 

@@ -4,7 +4,10 @@ use Rattle.machine_data.specs.Core.{fresh}
 use Rattle.core_records.specs.Image.{CoreImage, image}
 use Rattle.core_records.specs.Sound.{Sound}
 use Rattle.core_records.specs.declared.parts.CoreParts.{CoreParts}
-use Rattle.core_primitives.specs.StateView.{StateView}
+use Rattle.machine_data.specs.Maps.{empty}
+use Rattle.machine_rules.specs.Picks.{Seats}
+use Rattle.core_primitives.specs.Preferences.{wanted_of}
+use Rattle.core_primitives.specs.StateView.{StateView, nothing_wanted}
 
 abbrev pub parts_of : CoreParts → CoreImage
 parts_of a = record {
@@ -27,6 +30,7 @@ parts_of a = record {
   live = a.live;
   switch = a.switch;
   current = a.current;
+  wanted = wanted_of a.wanted;
   results = a.results;
   kept = a.kept;
   finished = a.finished;
@@ -43,6 +47,9 @@ seen a = image (parts_of a)
 unfoldable pub IsSoundCore : CoreParts → Type 0
 IsSoundCore a = Sound (parts_of a)
 
+abbrev pub no_seats : Seats
+no_seats = record { threads = empty; calls = empty; works = empty }
+
 -- what is seen of a core in which nothing was made: no instance, a limit of 100,000 handles, and room for 1,000,000 entries
 abbrev pub nothing : StateView
-nothing = record { core = fresh 0 100000 1000000; tags = record { threads = []; calls = []; sets = []; works = []; tracked = [] }; current = None }
+nothing = record { core = fresh 0 100000 1000000; tags = record { threads = []; calls = []; sets = []; works = []; tracked = []; wanted = nothing_wanted; seats = no_seats }; current = None }

@@ -31,6 +31,7 @@ use Rattle.core_records.specs.declared.single.Single.{Single}
 use Rattle.core_records.specs.declared.thread_records.GuestThread.{GuestThread}
 use Rattle.core_records.specs.declared.work_records.WorkRecord.{WorkRecord}
 use Rattle.machine_rules.specs.Works.{is_moving}
+use Rattle.core_primitives.specs.StateView.{nothing_wanted}
 use Rattle.task_table.specs.Mapped.{mapped}
 use Rattle.task_table.specs.Records.{AreApart, found_record}
 use Rattle.task_table.specs.Table.{IsTable, Placed, Table, children_of, place_at}
@@ -99,6 +100,7 @@ bare p = record p {
   kept = record p.kept { interesting = 0; moving = 0 };
   counter = record { limit = 0; live = 0 };
   current = None;
+  wanted = nothing_wanted;
   ended = [];
   end_room = 0;
   trapped = false;

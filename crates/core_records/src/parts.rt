@@ -8,6 +8,7 @@ use crate::set_records::WaitSet;
 use crate::single::Single;
 use crate::thread_records::{Follower, GuestThread, Queued};
 use crate::work_records::{LiveWork, WorkRecord};
+use core_primitives::WantedId;
 use machine_data::{Entry, MadeCounts};
 use std::alloc::Global;
 use table_links::{Links, Node};
@@ -65,6 +66,8 @@ pub struct CoreParts {
     pub switch: Option<Follower>,
     /// The thread that runs.
     pub current: Option<TableId<ThreadKey>>,
+    /// What is picked first.
+    pub wanted: WantedId,
     /// The rooms for results, by the numbers of calls by main: of each that is there or whose result was not taken.
     pub results: ResultRooms,
     pub kept: CachedCounts,
@@ -145,6 +148,11 @@ impl CoreParts {
             live: None,
             switch: None,
             current: None,
+            wanted: WantedId {
+                waiter: None,
+                member: None,
+                held: Vec::new(alloc),
+            },
             results: ResultRooms::new(alloc),
             kept: NOTHING_KEPT,
             finished: 0,

@@ -1,4 +1,5 @@
 -- A call is gone, as the primitive takes it away.
+use Rattle.core_queues.proofs.SeatLemmas.{seats_less}
 use Rattle.core_records.proofs.Core.{ap, ap₂, AreHandlesNamed, arith, bare, bare_call, bare_thread, BlockedOn, Call, call_group, call_key, call_of, calls_of, cond, Core, core_of, deleted, EachEntry, entry_of, eq-eqb, false, filings_at, filter, get, group_key, GroupKey, GuestTaskKey, has_thread, is_made, IsGroupKept, IsSome, IsSoundCore, IsTable, IsWhole, item_at, item_of, Join, join_of, KeepsBut, kinds, List, list_of, loose_call, lost_call, mapped-deleted, nat_lt, ne_eqb, None, number_of, Ok, on_item, one_if_passes, option_map_or, CoreImage, parts_of, passing, passing-with_at, place_at, Placed, ready_call, Records, records, refl, remove, remove_call, seen, set_number, Some, SoundTable, Spot, subst, Subtask, sym, Table, table_use, TableId, Thread, thread_number, true, uninterested, with_entry, work_number, ℕ, ◌+◌, ◌-◌, ◌<◌, ◌==◌, ◌∙◌, ◌≡◌, ◌≤◌, numbers, tracked_of}
 use Rattle.core_records.specs.declared.{call_records.GuestTask.GuestTask, call_records.TaskGroup.TaskGroup, parts.CoreParts.CoreParts, parts.CachedCounts.CachedCounts, single.Single.Single, thread_records.GuestThread.GuestThread}
 use Rattle.core_places.proofs.AlikeLemmas.{number_of_alike}
@@ -201,6 +202,12 @@ module _ (a : CoreParts) (sound : IsSoundCore a) (id : TableId GuestTaskKey) (g 
           works = λ w other. refl;
           gone = λ t none. none;
           same = ap (λ gs. tracked_of a.ended.items gs a.made.groups) live_same;
+          wanted = refl;
+          seats = record {
+            threads = λ n live other. refl;
+            calls = λ k live other. seats_less number machine (λ (h : GuestTask). h.entry) a.calls a.made.threads sound.tables.calls id.rep id.serial g is k (λ same. other (same ∙ named));
+            works = λ i live other. refl;
+          };
         }
 
         module _ (calls : Table (Single GuestTask)) (are : calls ≡ deleted id.rep a.calls) where

@@ -184,7 +184,7 @@ module _ (a : CoreParts) (sound : IsSoundCore a) (id : TableId SetKey) (g : Wait
 
     tags_without : KeepsBut (lost_set (set_of (seen a) id)) (seen a).tags (seen set_removed).tags
     unfolding seen thread_number call_number work_number
-    tags_without = record { threads = λ t other. refl; calls = λ k other. refl; sets = λ x other. others_named set_removed refl x other; works = λ w other. refl; gone = λ t none. none; same = refl }
+    tags_without = record { threads = λ t other. refl; calls = λ k other. refl; sets = λ x other. others_named set_removed refl x other; works = λ w other. refl; gone = λ t none. none; same = refl; wanted = refl; seats = record { threads = λ n live other. refl; calls = λ k live other. refl; works = λ i live other. refl } }
 
     module _ (sets : Table (Single WaitSet)) (less : sets ≡ deleted id.rep a.sets) where
       abbrev without : CoreParts

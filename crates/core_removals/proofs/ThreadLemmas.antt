@@ -1,4 +1,8 @@
 -- A suspended thread is gone, as the primitive takes it away.
+use Rattle.core_queues.proofs.SeatLemmas.{seats_less}
+use Rattle.core_records.specs.Keys.{call_seat_key}
+use Rattle.machine_data.specs.Maps.{get}
+use Rattle.machine_rules.specs.Picks.{ThreadSeat}
 use Rattle.core_records.proofs.Core.{[], ap, ap₂, AreHandlesNamed, arith, bare, bare_call, bare_thread, Bool, Call, call_key, call_number, callers_chain, callers_in, callers_of, callers_row, cases_eq, chained, cond, Core, core_of, deleted, Each, EachEntry, Entry, entry_of, eq-eqb, Err, false, filings_at, follower, FreeNode, get, get-change_same, get-remove, GuestTaskKey, High, inl, inr, is_entry_of, is_free, is_made, IsApart, IsBehindNobody, IsCallKept, IsLinks, IsSome, IsSoundCore, IsTable, IsWhole, item_at, item_of, keeps_set, KeepsBut, kinds, List, list_any, list_of, loose_call, loose_thread, lost_thread, Low, map, mapped, mapped-deleted, mapped-with_entry, ne_eqb, None, Ok, on_item, on_thread, one_if, Option, option_map, OwnsHandle, CoreImage, parts_of, passing, Place, place_at, place_filing, place_of, Placed, Records, records, refl, remove, remove-change_same, remove_thread, Renames, ResourceTableError, Result, Row, row, same_map, same_Some, seen, set_number, set_place, slice_get, Some, SoundTable, Spot, subst, switch_entries, sym, Table, table_use, TableId, Tag, Thread, thread_entry, thread_key, thread_of, ThreadKey, threads_of, times, true, UnderOf, uninterested, Unmade, values, with_entry, work_number, ℕ, ◌+◌, ◌-◌, ◌⊎◌, ◌<◌, ◌==◌, ◌||◌, ◌∙◌, ◌∷◌, ◌≡◌, ◌≤◌}
 use Rattle.core_records.specs.declared.{call_records.GuestTask.GuestTask, parts.CoreParts.CoreParts, parts.CachedCounts.CachedCounts, single.Single.Single, thread_records.Follower.Follower, thread_records.GuestThread.GuestThread, thread_records.Queued.Queued}
 use Rattle.machine_rules.specs.Places.{entries}
@@ -25,6 +29,9 @@ use Rattle.table_lists.specs.declared.ordered_lists.OrderKey.{OrderKey}
 
 abbrev number : GuestThread → ℕ
 number g = g.number
+
+abbrev thread_sits : GuestThread → ThreadSeat
+thread_sits g = record { task = g.task_entry; own = g.entry }
 
 abbrev machine : GuestThread → Thread
 machine g = g.thread
@@ -271,6 +278,12 @@ module _ (a : CoreParts) (sound : IsSoundCore a) (id : TableId ThreadKey) (g : G
           ∙ (ap (λ cs. with_maps (remove (records thread_key a.threads.places) (thread_of (seen a) id)) (remove (records (callers_in a.behind) a.threads.places) (thread_of (seen a) id)) cs (chained marks a.high) (chained marks a.low)) calls_map
           ∙ ap₂ (with_maps (remove (records thread_key a.threads.places) (thread_of (seen a) id)) (remove (records (callers_in a.behind) a.threads.places) (thread_of (seen a) id)) (records call_key a.calls.places)) (rule_same High) (rule_same Low))
 
+      call_seats_same : records call_seat_key calls_less.places ≡ records call_seat_key a.calls.places
+      unfolding IsSoundCore
+      call_seats_same =
+          let one = item_stands call_of_number call_machine a.calls a.made.threads sound.tables.calls task.rep task.serial c is_c in
+          records_unseen call_seat_key a.calls task.rep one.0 one.1.0 (entry_of call_less) (ap call_seat_key (sym one.1.1.1))
+
       tags_without : KeepsBut (lost_thread (thread_of (seen a) id)) (seen a).tags (seen thread_removed).tags
       unfolding seen IsSoundCore set_number work_number call_number
       tags_without = record {
@@ -280,6 +293,12 @@ module _ (a : CoreParts) (sound : IsSoundCore a) (id : TableId ThreadKey) (g : G
         works = λ w other. refl;
         gone = λ t same. thread_shown thread_removed t ∙ number_gone number machine a.threads a.made.threads sound.tables.threads id.rep id.serial g is t.rep t.serial (sym (thread_shown a t) ∙ (same ∙ sym named));
         same = refl;
+        wanted = refl;
+        seats = record {
+          threads = λ n live other. seats_less number machine thread_sits a.threads a.made.threads sound.tables.threads id.rep id.serial g is n (λ same. other (same ∙ named));
+          calls = λ k live other. ap (λ m. get m k) call_seats_same;
+          works = λ i live other. refl;
+        };
       }
 
       module _ (threads : Table (Single GuestThread)) (are : threads ≡ deleted id.rep a.threads) where

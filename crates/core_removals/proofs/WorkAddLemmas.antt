@@ -45,7 +45,7 @@ places_few key t table apart =
     omega arith
 
 pub same_tags : (a b : CoreParts) → a ≡ b → Keeps (seen a).tags (seen b).tags
-same_tags a b same = subst (λ (x : CoreParts). Keeps (seen a).tags (seen x).tags) same (record { threads = λ t some. refl; calls = λ k some. refl; sets = λ x some. refl; works = λ w some. refl; same = refl })
+same_tags a b same = subst (λ (x : CoreParts). Keeps (seen a).tags (seen x).tags) same (record { threads = λ t some. refl; calls = λ k some. refl; sets = λ x some. refl; works = λ w some. refl; same = refl; wanted = refl })
 
 module _ (a : CoreParts) (sound : IsSoundCore a) where
   abbrev bared : CoreImage
@@ -210,6 +210,7 @@ module _ (a : CoreParts) (sound : IsSoundCore a) where
       sets = λ x some. refl;
       works = λ w some. work_shown (work_made works_now) w ∙ (number_kept number machine a.works a.made.works sound.tables.works g next.number w.rep w.serial (subst (λ (n : ℕ). 0 < n) (work_shown a w) some) ∙ sym (work_shown a w));
       same = ap (λ gs. tracked_of a.ended.items gs a.made.groups) live_same;
+      wanted = refl;
     }
 
     named_with : (id : TableId HostTaskKey) → id.rep ≡ next_place a.works → id.serial ≡ a.works.given → work_of (seen (work_made works_now)) id ≡ a.made.works + 1

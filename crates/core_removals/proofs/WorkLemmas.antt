@@ -1,4 +1,5 @@
 -- A host work is gone, as the primitive takes it away.
+use Rattle.core_queues.proofs.SeatLemmas.{seats_less}
 use Rattle.core_records.proofs.Core.{[], ap, ap₂, AreHandlesNamed, arith, bare, bare_work, BlockedOn, Bool, call_number, calls_of, chained, cond, Core, core_of, deleted, Each, EachEntry, Entry, entry_of, eq-eqb, false, filings_at, filter, free_unlinked, FreeNode, get, group_key, GroupKey, High, host_entry, HostTaskKey, is_aborted, is_free, is_host_call, is_live, is_made, is_moving, is_never, is_of_group, is_some, is_stage_live, IsGroupKept, IsLinks, IsOfThread, IsKeyed, IsSome, IsSoundCore, IsTable, IsWhole, item_at, item_of, Join, join_of, KeepsBut, kinds, link_for, link_of, List, list_any, list_of, live_chain, live_value, live_work, loose_work, lost_work, Low, map, mapped, mapped-deleted, nat_lt, ne_eqb, None, not, Ok, on_item, one_if_passes, Option, option_and_then, option_map_or, CoreImage, parts_of, passing, passing-with_at, place_at, Placed, ready_work, Records, records, refl, remove, remove_work, Renames, Row, row, seen, set_number, Some, SoundTable, Spot, Stage, stage_of, subst, Subtask, sym, Table, table_use, TableId, thread_number, true, Unmade, unmoved, Work, work_entries, work_group, work_key, work_of, ℕ, ◌&&◌, ◌+◌, ◌-◌, ◌==◌, ◌||◌, ◌∙◌, ◌∷◌, ◌≡◌, ◌≤◌, numbers, tracked_of}
 use Rattle.core_records.specs.declared.{call_records.TaskGroup.TaskGroup, parts.CoreParts.CoreParts, parts.CachedCounts.CachedCounts, single.Single.Single, thread_records.Queued.Queued, work_records.WorkRecord.WorkRecord, work_records.LiveWork.LiveWork}
 use Rattle.core_places.proofs.AlikeLemmas.{number_of_alike}
@@ -260,6 +261,12 @@ module _ (a : CoreParts) (sound : IsSoundCore a) (id : TableId HostTaskKey) (g :
           works = λ w other. work_shown work_removed w ∙ (number_left number machine a.works a.made.works sound.tables.works id.rep id.serial g is w.rep w.serial (λ same. other (work_shown a w ∙ (same ∙ named))) ∙ sym (work_shown a w));
           gone = λ t none. none;
           same = ap (λ gs. tracked_of a.ended.items gs a.made.groups) live_same;
+          wanted = refl;
+          seats = record {
+            threads = λ n live other. refl;
+            calls = λ k live other. refl;
+            works = λ i live other. seats_less number machine (λ (h : WorkRecord). h.entry) a.works a.made.works sound.tables.works id.rep id.serial g is i (λ same. other (same ∙ named));
+          };
         }
 
         module _ (works : Table (Single WorkRecord)) (are : works ≡ deleted id.rep a.works) where

@@ -1,7 +1,7 @@
 ghost use Rattle.std.specs.Prelude.{◌≡◌};
 ghost use Rattle.core_records.specs.Seen.{nothing};
 
-use core_primitives::{Primitives, ThreadId, View};
+use core_primitives::{Primitives, ThreadId, View, WantedId};
 use core_records::CoreParts;
 use std::alloc::Global;
 use std::marker::Model;
@@ -55,6 +55,10 @@ impl View for TaskCore {
 
     fn set_current(&mut self, thread: Option<ThreadId>) {
         core_counts::set_current(&mut self.parts, thread);
+    }
+
+    fn want(&mut self, wanted: WantedId) {
+        core_counts::want(&mut self.parts, wanted);
     }
 
     fn none_is_zero(&self) {

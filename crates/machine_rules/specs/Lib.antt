@@ -22,6 +22,7 @@ pub mod SubtaskEnds
 pub mod Once
 pub mod Notices
 pub mod Words
+pub mod Picks
 pub mod Scenes
 pub mod OpParts
 pub mod Allowed

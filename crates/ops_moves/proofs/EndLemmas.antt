@@ -72,6 +72,12 @@ ended_names n k call s u x there one two named = record {
       two.works id (still (work_number u.tags id) _ same live) ∙ same;
   gone = λ id none. two.gone id (⊎_elim (λ e. one.threads id (λ d. positive _ there (sym d ∙ e)) ∙ e) (one.gone id) none);
   same = two.same ∙ one.same;
+  wanted = two.wanted ∙ one.wanted;
+  seats = record {
+    threads = λ m live other. two.seats.threads m live (positive m live) ∙ one.seats.threads m live other;
+    calls = λ m live other. two.seats.calls m live (λ e. other (e ∙ named)) ∙ one.seats.calls m live (positive m live);
+    works = λ m live other. two.seats.works m live (positive m live) ∙ one.seats.works m live (positive m live);
+  };
 }
   where
     still : (i j : ℕ) → i ≡ j → 0 < j → i ≢ 0

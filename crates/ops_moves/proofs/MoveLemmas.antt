@@ -73,7 +73,7 @@ no_thread_left k s e = and_not (option_map_or is_deletable_call (get s.calls k) 
 
 -- ids that name what they named before
 pub keeps_all : (lost : Lost) → lost.thread ≡ 0 → (tags : Tags) → KeepsBut lost tags tags
-keeps_all lost none tags = record { threads = λ id _. refl; calls = λ id _. refl; sets = λ id _. refl; works = λ id _. refl; gone = λ id is. is ∙ none; same = refl }
+keeps_all lost none tags = record { threads = λ id _. refl; calls = λ id _. refl; sets = λ id _. refl; works = λ id _. refl; gone = λ id is. is ∙ none; same = refl; wanted = refl; seats = record { threads = λ n live other. refl; calls = λ k live other. refl; works = λ i live other. refl } }
 
 pub behind_nobody_standing : (id : TableId ThreadKey) (p : Place) (s t : StateView) → IsBehindNobody (thread_of s id) s.core → t ≡ on_core (set_place (thread_of s id) p) s → IsBehindNobody (thread_of t id) t.core
 unfolding set_place on_thread

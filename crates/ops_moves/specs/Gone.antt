@@ -8,7 +8,7 @@ use Rattle.task_wait.specs.declared.keys.ThreadKey.{ThreadKey}
 use Rattle.machine_data.specs.Moves.{ended}
 use Rattle.machine_data.specs.Read.{task_of}
 use Rattle.core_primitives.specs.BecomesRecord.{BecomesWith}
-use Rattle.core_primitives.specs.StateView.{Lost, StateView, Tags, call_number, nothing_lost, set_number, thread_number, work_number}
+use Rattle.core_primitives.specs.StateView.{KeepsSeats, Lost, StateView, Tags, call_number, nothing_lost, set_number, thread_number, work_number}
 
 abbrev pub lost_both : ℕ → ℕ → Lost
 lost_both n k = record nothing_lost { thread = n; call = k }
@@ -24,6 +24,8 @@ pub record KeepsLive (lost : Lost) (old new : Tags) : Type 0 where
   pub works : (id : TableId HostTaskKey) → 0 < work_number old id → work_number new id ≡ work_number old id
   pub gone : (id : TableId ThreadKey) → (thread_number old id ≡ 0) ⊎ (thread_number old id ≡ lost.thread) → thread_number new id ≡ 0
   pub same : new.tracked ≡ old.tracked
+  pub wanted : new.wanted ≡ old.wanted
+  pub seats : KeepsSeats lost old.seats new.seats
 
 -- The thread has ended, and what that settles is done; its ids and, if it is gone, those of its call name nothing.
 abbrev pub HasEnded : ℕ → StateView → StateView → Type 0

@@ -1,28 +1,25 @@
-use Rattle.core_places.proofs.FirstLemmas.{first_held, none_held}
-use Rattle.core_places.proofs.PickLemmas.{least_waiter}
-use Rattle.core_places.proofs.WaiterLemmas.{no_waiter, waiter_held, waiters_live}
+use Rattle.core_places.proofs.WantedLemmas.{unwanted_first, wanted_first, waiter_live}
 use Rattle.core_places.proofs.set_states.first_waiter.Goals as goal
-
-pub first-requires : goal.first-requires
-first-requires c = waiters_live c.args.parts.now c.requires.sound c.args.set.rep c.args.set.serial c.set_there-found.result.now c.set_there-found.ensures.item
-
-pub returns-in-Some-clause-some : goal.returns-in-Some-clause-some
-returns-in-Some-clause-some c =
-    let holds = first_held c.args.parts.now.places c.set_there-found.result.now.waiters c.in-Some.field-0-0 c.in-Some.order_key c.in-Some.ensures.linked c.in-Some.ensures.entry in
-    (waiter_held c.args.parts.now c.requires.sound c.args.set.rep c.args.set.serial c.set_there-found.result.now c.set_there-found.ensures.item c.in-Some.order_key holds _ _ c.set_there-found.ensures.number c.thread_at.ensures).0
+use Rattle.core_places.specs.Picks.{IsLeastWaiter}
+use Rattle.core_primitives.specs.Preferences.{preference}
+use Rattle.core_primitives.specs.StateView.{set_of}
+use Rattle.core_records.proofs.Core.{IfSome, is_waiter, None, Option, seen, Some, TableId, thread_of, ThreadKey, true, ◌<◌, ◌≡◌}
+use Rattle.machine_rules.specs.Picks.{IsFirstWaiter}
 
 pub returns-in-Some-clause-live : goal.returns-in-Some-clause-live
-returns-in-Some-clause-live c =
-    let holds = first_held c.args.parts.now.places c.set_there-found.result.now.waiters c.in-Some.field-0-0 c.in-Some.order_key c.in-Some.ensures.linked c.in-Some.ensures.entry in
-    (waiter_held c.args.parts.now c.requires.sound c.args.set.rep c.args.set.serial c.set_there-found.result.now c.set_there-found.ensures.item c.in-Some.order_key holds _ _ c.set_there-found.ensures.number c.thread_at.ensures).1
+returns-in-Some-clause-live c = waiter_live c.args.parts.now c.requires.sound _ _ c.in-Some.ensures.1
 
-pub returns-in-None-clause-none : goal.returns-in-None-clause-none
-returns-in-None-clause-none c =
-    no_waiter c.args.parts.now c.requires.sound c.args.set.rep c.args.set.serial c.set_there-found.result.now c.set_there-found.ensures.item _ c.set_there-found.ensures.number
-    (none_held c.args.parts.now.places c.set_there-found.result.now.waiters c.in-None.ensures.sound c.in-None.ensures.entry)
+pub returns-in-Some-clause-some : goal.returns-in-Some-clause-some
+returns-in-Some-clause-some c = c.in-Some.ensures.1
 
-pub returns-in-Some-clause-least : goal.returns-in-Some-clause-least
-returns-in-Some-clause-least c =
-    let a = c.args.parts.now in
-    let holds = first_held a.places c.set_there-found.result.now.waiters c.in-Some.field-0-0 c.in-Some.order_key c.in-Some.ensures.linked c.in-Some.ensures.entry in
-    least_waiter a c.requires.sound c.args.set.rep c.args.set.serial c.set_there-found.result.now c.set_there-found.ensures.item c.in-Some.order_key holds c.in-Some.ensures.sound c.in-Some.ensures.linked c.in-Some.ensures.least _ c.set_there-found.ensures.number c.thread_at.result c.thread_at.ensures
+pub returns-in-Some-clause-first : goal.returns-in-Some-clause-first
+returns-in-Some-clause-first c = wanted_first c.args.parts.now c.requires.sound _ _ c.in-Some.ensures.0
+
+pub returns-in-None-clause-first : goal.returns-in-None-clause-first
+returns-in-None-clause-first c = first_of c.least_waiter.result c.least_waiter.ensures.some c.least_waiter.ensures.live c.least_waiter.ensures.least
+  where
+    first_of : (r : Option (TableId ThreadKey)) → IfSome r (λ id. is_waiter (set_of (seen c.args.parts.now) c.args.set) (thread_of (seen c.args.parts.now) id) (seen c.args.parts.now).core ≡ true)
+        → IfSome r (λ id. 0 < thread_of (seen c.args.parts.now) id) → IfSome r (λ id. IsLeastWaiter c.args.parts.now (set_of (seen c.args.parts.now) c.args.set) id)
+        → IfSome r (λ id. IsFirstWaiter (preference (seen c.args.parts.now)) (set_of (seen c.args.parts.now) c.args.set) (seen c.args.parts.now).core (thread_of (seen c.args.parts.now) id))
+    first_of None some live least = tt
+    first_of (Some id) some live least = unwanted_first c.args.parts.now c.requires.sound _ id c.in-None.ensures some live least
