@@ -121,7 +121,7 @@ times_once (x ∷ xs) few = (
   times_once xs (λ n. let more = sum_by-cons (λ m. cond (n == m) 1 0) x xs in let all = few n in omega (arith, more, all)),
 )
 
-permuted_has : (xs ys : List ℕ) → IsPermutation xs ys → (n : ℕ) → has n ys ≡ has n xs
+pub permuted_has : (xs ys : List ℕ) → IsPermutation xs ys → (n : ℕ) → has n ys ≡ has n xs
 permuted_has xs ys moved n = by (has n ys) refl (has n xs) refl
   where
     same : times n ys ≡ times n xs
@@ -133,7 +133,7 @@ permuted_has xs ys moved n = by (has n ys) refl (has n xs) refl
     by false is_y true is_x = let some = times_some n xs is_x in let none = times_none n ys is_y in absurd (omega (arith, same, some, none))
     by false is_y false is_x = refl
 
-permuted_once : (xs ys : List ℕ) → IsPermutation xs ys → Once xs → Once ys
+pub permuted_once : (xs ys : List ℕ) → IsPermutation xs ys → Once xs → Once ys
 permuted_once xs ys moved once = times_once ys (λ n. let few = once_times xs once n in let same = sum_by-IsPermutation (λ m. cond (n == m) 1 0) xs ys moved in omega (arith, few, same))
 
 -- ---- The numbers of groups by the places of their records

@@ -4,6 +4,7 @@ pub mod ChainLemmas
 pub mod PollLemmas
 pub mod HeldLemmas
 pub mod ReleaseLemmas
+pub mod RaisedLemmas
 pub mod OrderLemmas
 pub mod CountLemmas
 pub mod AdmitLemmas

@@ -11,7 +11,7 @@ use Rattle.task_table.specs.Table.{Placed as Standing}
 use Rattle.core_places.proofs.FiledLemmas.{places_filed}
 use Rattle.core_queues.proofs.BareLemmas.{one_place}
 use Rattle.core_removals.proofs.WalkLemmas.{out_others, out_smaller, walk_more, walk_out, walk_smaller}
-use Rattle.core_removals.specs.Held.{IsUntouched, Releases, is_admitted}
+use Rattle.core_removals.specs.Held.{AreHeldUnqueued, IsUntouched, Releases, is_admitted}
 use Rattle.core_removals.specs.Walks.{Walk, at_place, at_order_key, left_from, of_node}
 use Rattle.table_lists.specs.declared.ordered_lists.OrderKey.{OrderKey}
 use Rattle.core_records.specs.RecordPlaces.{thread_order_key}
@@ -55,7 +55,7 @@ admitted_held i n s is = by (held_why_of n s) refl is
     by (Some w) at is = (w, at)
 
 -- who is held has no entry
-held_unqueued : (i n : ℕ) (s : Core) → Placed s → is_held_in i s n ≡ true → IsUnqueued n s
+pub held_unqueued : (i n : ℕ) (s : Core) → Placed s → is_held_in i s n ≡ true → IsUnqueued n s
 held_unqueued i n s placed is = by (place_of n s) refl (second _ _ is)
   where
     second : (b c : Bool) → (b && c) ≡ true → c ≡ true
@@ -92,18 +92,18 @@ pushed_other : (m n : ℕ) (es : List Entry) → (m ≡ n → ⊥) → placing.e
 pushed_other m n [] other = ap (λ b. one_if b + 0) (ne_eqb m n other)
 pushed_other m n (e ∷ es) other = ap (λ k. one_if (is_entry_of m e) + k) (pushed_other m n es other)
 
-put_others : (m n : ℕ) (w : Why) (s t : Core) → (m ≡ n → ⊥) → IsUntouched m s t → IsUntouched m s (put_high n w t)
+pub put_others : (m n : ℕ) (w : Why) (s t : Core) → (m ≡ n → ⊥) → IsUntouched m s t → IsUntouched m s (put_high n w t)
 unfolding put_high push_high set_place on_thread
 put_others m n w s t other was = record {
   thread = get-change_other t.threads n (λ (x : Thread). record x { place = Place.Ready Mark.High w }) m other ∙ was.thread;
   unqueued = record { high = pushed_other m n t.queues.high other ∙ was.unqueued.high; low = was.unqueued.low };
 }
 
-put_calls : (n : ℕ) (w : Why) (t : Core) → (put_high n w t).calls ≡ t.calls
+pub put_calls : (n : ℕ) (w : Why) (t : Core) → (put_high n w t).calls ≡ t.calls
 unfolding put_high push_high set_place on_thread
 put_calls n w t = refl
 
-put_instances : (n : ℕ) (w : Why) (t : Core) → (put_high n w t).instances ≡ t.instances
+pub put_instances : (n : ℕ) (w : Why) (t : Core) → (put_high n w t).instances ≡ t.instances
 unfolding put_high push_high set_place on_thread
 put_instances n w t = refl
 
@@ -160,13 +160,13 @@ module _ {P : Type 0} (i : ℕ) (s : StateView) (all : List ℕ) (a : CoreParts)
       }
 
 -- the walk begins
-pub release_begins : {P : Type 0} (i : ℕ) (a : CoreParts) (left : List (ℕ × P)) → Placed (seen a).core → Once (map (λ e. of_node a e.0) left) → ((n : ℕ) → has n (map (λ e. of_node a e.0) left) ≡ true → is_held_in i (seen a).core n ≡ true) → Releases i (seen a) (map (λ e. of_node a e.0) left) a left
-release_begins i a left placed once held = record {
+pub release_begins : {P : Type 0} (i : ℕ) (a : CoreParts) (left : List (ℕ × P)) → AreHeldUnqueued i (seen a).core → Once (map (λ e. of_node a e.0) left) → ((n : ℕ) → has n (map (λ e. of_node a e.0) left) ≡ true → is_held_in i (seen a).core n ≡ true) → Releases i (seen a) (map (λ e. of_node a e.0) left) a left
+release_begins i a left free once held = record {
   again = refl;
   calls = refl;
   instances = refl;
   once = once;
-  untouched = λ n there. record { thread = refl; unqueued = held_unqueued i n (seen a).core placed (held n there) };
+  untouched = λ n there. record { thread = refl; unqueued = free n (held n there) };
 }
 
 -- the numbers of the nodes that are left stay, where another one left

@@ -1,7 +1,7 @@
 -- The held threads of an instance, as a walk goes through them.
 use Rattle.std.specs.List.{list_any}
-use Rattle.std.specs.Prelude.{◌≡◌, ◌==◌, ◌&&◌, ℕ, Bool, false, not, true, List, None, Option, Some, filter, map}
-use Rattle.table_lists.specs.Members.{Once, has}
+use Rattle.std.specs.Prelude.{◌≡◌, ◌==◌, ◌&&◌, ℕ, Bool, false, not, if◌then◌else◌, true, List, [], ◌∷◌, None, Option, Some, filter, map}
+use Rattle.table_lists.specs.Members.{Once, has, is_held_in}
 use Rattle.machine_data.specs.Core.{Core}
 use Rattle.machine_data.specs.Maps.{get}
 use Rattle.machine_data.specs.Moves.{held_why_of, released}
@@ -41,6 +41,23 @@ listed_at starts s (Some t) = in_list starts (bars_start t.explicit (kind_of t.c
 -- the thread is held in the instance, in the chain of the barred starts or in the other one
 abbrev pub listed_in : (starts : Bool) → ℕ → Core → ℕ → Bool
 listed_in starts i s n = (instance_of n s == i) && listed_at starts s (get s.threads n)
+
+-- who is held in the instance has no entry
+abbrev pub AreHeldUnqueued : ℕ → Core → Type 0
+AreHeldUnqueued i s = (n : ℕ) → is_held_in i s n ≡ true → IsUnqueued n s
+
+-- those of the list that are held in the instance and admitted are put at high, in its order
+abbrev pub raised_one : ℕ → ℕ → Core → Core
+raised_one i n s = if is_admitted i s n then released (n ∷ []) s else s
+
+abbrev pub raised : ℕ → List ℕ → Core → Core
+raised i [] s = s
+raised i (n ∷ ns) s = raised i ns (raised_one i n s)
+
+-- these are they
+abbrev pub raised_of : ℕ → List ℕ → Core → List ℕ
+raised_of i [] s = []
+raised_of i (n ∷ ns) s = if is_admitted i s n then n ∷ raised_of i ns (raised_one i n s) else raised_of i ns s
 
 -- some of what is left passes just where some of all does
 abbrev pub AnyLeft : {P : Type 0} → (ℕ → ℕ) → (ℕ → Bool) → List ℕ → List (ℕ × P) → Type 0

@@ -14,7 +14,9 @@ ghost use Rattle.machine_rules.specs.Places.{Placed};
 ghost use Rattle.task_table.specs.TableAnswers.{item_at};
 ghost use Rattle.core_primitives.specs.Apart.{IsUnqueued};
 ghost use Rattle.core_primitives.specs.StateView.{on_core, thread_of};
-ghost use Rattle.core_removals.specs.Held.{is_admitted};
+ghost use Rattle.machine_rules.specs.Picks.{GoInOrder};
+ghost use Rattle.core_primitives.specs.Preferences.{preference};
+ghost use Rattle.core_removals.specs.Held.{AreHeldUnqueued, is_admitted, raised};
 ghost use Rattle.core_removals.specs.Merged.{merged, of_both};
 ghost use Rattle.core_removals.specs.Order.{AreInOrder};
 ghost use Rattle.core_removals.specs.Walks.{at_place, of_chain, of_node};
@@ -84,7 +86,7 @@ fn release_node(parts: &mut CoreParts, instance: u32, node: Node)
 // Puts those of a chain of held threads at high that are admitted, from its first on.
 fn release_chain(parts: &mut CoreParts, instance: u32, chain: usize)
     requires sound { IsSoundCore parts.old }
-    requires placed { Placed (seen parts.old).core }
+    requires unqueued { AreHeldUnqueued instance (seen parts.old).core }
     requires live { IsSome (list_of parts.old.places chain) }
     requires once { Once (of_chain parts.old chain) }
     requires held { (n : ℕ) → has n (of_chain parts.old chain) ≡ true → is_held_in instance (seen parts.old).core n ≡ true }
@@ -122,7 +124,7 @@ fn first_of(parts: &CoreParts, chain: usize, other: usize) -> Option<Node>
 // Puts all of two chains of held threads at high, by their order keys: all are admitted.
 fn release_both(parts: &mut CoreParts, instance: u32, chain: usize, other: usize)
     requires sound { IsSoundCore parts.old }
-    requires placed { Placed (seen parts.old).core }
+    requires unqueued { AreHeldUnqueued instance (seen parts.old).core }
     requires chain { IsSome (list_of parts.old.places chain) }
     requires other { IsSome (list_of parts.old.places other) }
     requires once { Once (of_both parts.old chain other) }
@@ -144,12 +146,11 @@ fn release_both(parts: &mut CoreParts, instance: u32, chain: usize, other: usize
 #[inline(never)]
 fn release_some(parts: &mut CoreParts, instance: u32, held: usize, starts: usize, kept_out: bool)
     requires sound { IsSoundCore parts.old }
-    requires placed { Placed (seen parts.old).core }
+    requires unqueued { AreHeldUnqueued instance (seen parts.old).core }
     requires held { place_chain (bare (parts_of parts.old)) (HeldIn instance) ≡ Some held }
     requires starts { place_chain (bare (parts_of parts.old)) (StartsIn instance) ≡ Some starts }
     requires kept_out { (may_not_enter instance (seen parts.old).core || nat_lt 0 (backpressure_of instance (seen parts.old).core)) ≡ kept_out }
     ensures sound { IsSoundCore parts.new }
-    ensures new { (order : List ℕ) × (IsPermutation (admitted_held instance (seen parts.old).core) order × (seen parts.new ≡ on_core (released order) (seen parts.old))) }
     ensures picks { (order : List ℕ) × (AreInOrder parts.old order × (IsPermutation (admitted_held instance (seen parts.old).core) order × (seen parts.new ≡ on_core (released order) (seen parts.old)))) }
 {
     parts.places.no_node_is_twice();
@@ -160,14 +161,13 @@ fn release_some(parts: &mut CoreParts, instance: u32, held: usize, starts: usize
     release_both(parts, instance, held, starts);
 }
 
-/// Puts the held threads of the instance that are admitted at high, in the order of the places of their calls and of
-/// themselves in the resource table. Where the instance is open it looks at none that stays.
+// Puts the held threads of the instance that are admitted at high, in the order of the places of their calls and of
+// themselves in the resource table. Where the instance is open it looks at none that stays.
 #[inline(always)]
-pub fn release(parts: &mut CoreParts, instance: u32)
+fn release_least(parts: &mut CoreParts, instance: u32)
     requires sound { IsSoundCore parts.old }
-    requires placed { Placed (seen parts.old).core }
+    requires unqueued { AreHeldUnqueued instance (seen parts.old).core }
     ensures sound { IsSoundCore parts.new }
-    ensures new { (order : List ℕ) × (IsPermutation (admitted_held instance (seen parts.old).core) order × (seen parts.new ≡ on_core (released order) (seen parts.old))) }
     ensures picks { (order : List ℕ) × (AreInOrder parts.old order × (IsPermutation (admitted_held instance (seen parts.old).core) order × (seen parts.new ≡ on_core (released order) (seen parts.old)))) }
 {
     if let Some(found) = core_records::instance(parts, instance) {
@@ -178,5 +178,50 @@ pub fn release(parts: &mut CoreParts, instance: u32)
         {
             release_some(parts, instance, held, starts, kept_out);
         }
+    }
+}
+
+// Puts the held threads of the instance that are wanted and admitted at high, in the order in which they are wanted.
+fn raise_wanted(parts: &mut CoreParts, instance: u32)
+    requires sound { IsSoundCore parts.old }
+    requires unqueued { AreHeldUnqueued instance (seen parts.old).core }
+    ensures sound { IsSoundCore parts.new }
+    ensures new { seen parts.new ≡ on_core (raised instance (preference (seen parts.old)).held) (seen parts.old) }
+    ensures unqueued { AreHeldUnqueued instance (seen parts.new).core }
+    ensures numbers { (r : ℕ) → at_place parts.new r ≡ at_place parts.old r }
+{
+    for index in 0..parts.wanted.held.len() {
+        let thread = parts.wanted.held[index];
+        if is_admitted(parts, instance, thread) {
+            put_high(parts, thread);
+        }
+    }
+}
+
+// Releases those that are wanted, and then the others. It is a function of its own, as the core of a store is told nothing.
+#[inline(never)]
+fn release_wanted(parts: &mut CoreParts, instance: u32)
+    requires sound { IsSoundCore parts.old }
+    requires unqueued { AreHeldUnqueued instance (seen parts.old).core }
+    ensures sound { IsSoundCore parts.new }
+    ensures new { (order : List ℕ) × (IsPermutation (admitted_held instance (seen parts.old).core) order × (GoInOrder (preference (seen parts.old)) order × (seen parts.new ≡ on_core (released order) (seen parts.old)))) }
+{
+    raise_wanted(parts, instance);
+    release_least(parts, instance);
+}
+
+/// Puts the held threads of the instance that are admitted at high: in the order that is wanted, the others in the order of the
+/// places of their calls and of themselves in the resource table.
+#[inline(always)]
+pub fn release(parts: &mut CoreParts, instance: u32)
+    requires sound { IsSoundCore parts.old }
+    requires placed { Placed (seen parts.old).core }
+    ensures sound { IsSoundCore parts.new }
+    ensures new { (order : List ℕ) × (IsPermutation (admitted_held instance (seen parts.old).core) order × (GoInOrder (preference (seen parts.old)) order × (seen parts.new ≡ on_core (released order) (seen parts.old)))) }
+{
+    if parts.wanted.held.is_empty() {
+        release_least(parts, instance);
+    } else {
+        release_wanted(parts, instance);
     }
 }

@@ -14,7 +14,7 @@ loop-node-init c =
       links = c.nodes_have_order_keys.ensures.links;
       chain = c.requires.chain;
       other = c.requires.other;
-      walk = release_begins c.args.instance a (merged (entries a.places c.args.chain) (entries a.places c.args.other)) c.requires.placed c.requires.once c.requires.held;
+      walk = release_begins c.args.instance a (merged (entries a.places c.args.chain) (entries a.places c.args.other)) c.requires.unqueued c.requires.once c.requires.held;
       admitted = c.requires.admitted;
     }
 

@@ -18,7 +18,7 @@ loop-next-init c =
       sound = c.requires.sound;
       links = c.first-next.ensures.sound;
       walk = subst (Walk (Releases c.args.instance (seen a) (of_chain a c.args.chain) a) list) (sym c.first-next.ensures.entry)
-          (walk_begins (Releases c.args.instance (seen a) (of_chain a c.args.chain) a) list (release_begins c.args.instance a list c.requires.placed c.requires.once c.requires.held));
+          (walk_begins (Releases c.args.instance (seen a) (of_chain a c.args.chain) a) list (release_begins c.args.instance a list c.requires.unqueued c.requires.once c.requires.held));
     }
 
 pub next-next-requires : goal.next-next-requires

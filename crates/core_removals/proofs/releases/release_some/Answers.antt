@@ -12,9 +12,6 @@ release_chain-requires-clause-once c = chain_once c.args.parts.now c.requires.so
 pub release_chain-requires-clause-held : goal.release_chain-requires-clause-held
 release_chain-requires-clause-held c = chain_held c.args.parts.now c.requires.sound c.no_node_is_twice.ensures c.args.instance c.args.held c.args.starts c.requires.held c.requires.starts
 
-pub returns-then-kept_out-clause-new : goal.returns-then-kept_out-clause-new
-returns-then-kept_out-clause-new c = (_, (kept_order c.args.parts.now c.requires.sound c.no_node_is_twice.ensures c.args.instance c.args.held c.args.starts c.requires.held c.requires.starts (c.requires.kept_out ∙ c.if-kept_out.true), c.release_chain.ensures.new))
-
 pub returns-then-kept_out-clause-picks : goal.returns-then-kept_out-clause-picks
 returns-then-kept_out-clause-picks c = (_, (c.release_chain.ensures.picks, (kept_order c.args.parts.now c.requires.sound c.no_node_is_twice.ensures c.args.instance c.args.held c.args.starts c.requires.held c.requires.starts (c.requires.kept_out ∙ c.if-kept_out.true), c.release_chain.ensures.new)))
 
@@ -32,9 +29,6 @@ release_both-requires-clause-held c = λ n h. sym ((both_members c.args.parts.no
 
 pub release_both-requires-clause-admitted : goal.release_both-requires-clause-admitted
 release_both-requires-clause-admitted c = open_admitted c.args.parts.now c.requires.sound c.no_node_is_twice.ensures c.args.instance c.args.held c.args.starts c.requires.held c.requires.starts (c.requires.kept_out ∙ c.if-kept_out.false)
-
-pub returns-clause-new : goal.returns-clause-new
-returns-clause-new c = (_, (both_order c.args.parts.now c.requires.sound c.no_node_is_twice.ensures c.args.instance c.args.held c.args.starts c.requires.held c.requires.starts (c.requires.kept_out ∙ c.if-kept_out.false), c.release_both.ensures.new))
 
 pub returns-clause-picks : goal.returns-clause-picks
 returns-clause-picks c = (_, (c.release_both.ensures.picks, (both_order c.args.parts.now c.requires.sound c.no_node_is_twice.ensures c.args.instance c.args.held c.args.starts c.requires.held c.requires.starts (c.requires.kept_out ∙ c.if-kept_out.false), c.release_both.ensures.new)))
