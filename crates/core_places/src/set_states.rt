@@ -2,9 +2,8 @@ ghost use Rattle.core_places.specs.Picks.{IsLeastMember, IsLeastWaiter, IsWanted
 ghost use Rattle.std.specs.Prelude.{◌≡◌, ◌<◌, IfNone, IfSome, false, true};
 ghost use Rattle.machine_data.specs.Read.{has_ready_member, has_waiter, is_in_set, is_ready_member, is_waiter};
 ghost use Rattle.core_records.specs.Seen.{IsSoundCore, seen};
-ghost use Rattle.machine_rules.specs.Picks.{IsFirstMember, IsFirstWaiter};
 ghost use Rattle.core_primitives.specs.Names.{subtask_in};
-ghost use Rattle.core_primitives.specs.Preferences.{preference};
+ghost use Rattle.core_primitives.specs.Changes.{ComesFirst, MemberComesFirst};
 ghost use Rattle.core_primitives.specs.StateView.{set_of, thread_of};
 
 use core_primitives::{SetId, SubtaskId, ThreadId};
@@ -71,7 +70,7 @@ pub fn first_waiter(parts: &CoreParts, set: SetId) -> Option<ThreadId>
     ensures none { IfNone result (has_waiter (set_of (seen parts.now) set) (seen parts.now).core ≡ false) }
     ensures some { IfSome result (λ id. is_waiter (set_of (seen parts.now) set) (thread_of (seen parts.now) id) (seen parts.now).core ≡ true) }
     ensures live { IfSome result (λ id. 0 < thread_of (seen parts.now) id) }
-    ensures first { IfSome result (λ id. IsFirstWaiter (preference (seen parts.now)) (set_of (seen parts.now) set) (seen parts.now).core (thread_of (seen parts.now) id)) }
+    ensures first { IfSome result (λ id. ComesFirst set id (seen parts.now)) }
 {
     match wanted_waiter(parts, set) {
         Some(thread) => Some(thread),
@@ -151,7 +150,7 @@ pub fn first_ready(parts: &CoreParts, set: SetId) -> Option<SubtaskId>
     requires live { 0 < set_of (seen parts.now) set }
     ensures none { IfNone result (has_ready_member (set_of (seen parts.now) set) (seen parts.now).core ≡ false) }
     ensures some { IfSome result (λ member. is_ready_member (set_of (seen parts.now) set) (subtask_in (seen parts.now).tags member) (seen parts.now).core ≡ true) }
-    ensures first { IfSome result (λ member. IsFirstMember (preference (seen parts.now)) (set_of (seen parts.now) set) (seen parts.now).core (subtask_in (seen parts.now).tags member)) }
+    ensures first { IfSome result (λ member. MemberComesFirst set member (seen parts.now)) }
 {
     match wanted_member(parts, set) {
         Some(subtask) => Some(subtask),

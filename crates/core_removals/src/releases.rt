@@ -14,7 +14,7 @@ ghost use Rattle.machine_rules.specs.Places.{Placed};
 ghost use Rattle.task_table.specs.TableAnswers.{item_at};
 ghost use Rattle.core_primitives.specs.Apart.{IsUnqueued};
 ghost use Rattle.core_primitives.specs.StateView.{on_core, thread_of};
-ghost use Rattle.machine_rules.specs.Picks.{GoInOrder};
+ghost use Rattle.core_primitives.specs.Changes.{ReleasesHeld};
 ghost use Rattle.core_primitives.specs.Preferences.{preference};
 ghost use Rattle.core_removals.specs.Held.{AreHeldUnqueued, is_admitted, raised};
 ghost use Rattle.core_removals.specs.Merged.{merged, of_both};
@@ -204,7 +204,7 @@ fn release_wanted(parts: &mut CoreParts, instance: u32)
     requires sound { IsSoundCore parts.old }
     requires unqueued { AreHeldUnqueued instance (seen parts.old).core }
     ensures sound { IsSoundCore parts.new }
-    ensures new { (order : List ℕ) × (IsPermutation (admitted_held instance (seen parts.old).core) order × (GoInOrder (preference (seen parts.old)) order × (seen parts.new ≡ on_core (released order) (seen parts.old)))) }
+    ensures new { ReleasesHeld instance (seen parts.old) (seen parts.new) }
 {
     raise_wanted(parts, instance);
     release_least(parts, instance);
@@ -217,7 +217,7 @@ pub fn release(parts: &mut CoreParts, instance: u32)
     requires sound { IsSoundCore parts.old }
     requires placed { Placed (seen parts.old).core }
     ensures sound { IsSoundCore parts.new }
-    ensures new { (order : List ℕ) × (IsPermutation (admitted_held instance (seen parts.old).core) order × (GoInOrder (preference (seen parts.old)) order × (seen parts.new ≡ on_core (released order) (seen parts.old)))) }
+    ensures new { ReleasesHeld instance (seen parts.old) (seen parts.new) }
 {
     if parts.wanted.held.is_empty() {
         release_least(parts, instance);
