@@ -14,7 +14,7 @@ use Rattle.machine_data.specs.declared.records.OpProgress.TheVariants as op_prog
 use Rattle.machine_data.specs.declared.records.Place.TheVariants as place
 use Rattle.machine_data.specs.declared.records.Subtask.TheVariants as subtask
 use Rattle.machine_rules.specs.Calls.{with_thread_handle}
-use Rattle.machine_rules.specs.Picks.{GoInOrder, IsFirstMember, IsFirstWaiter}
+use Rattle.machine_rules.specs.Picks.{goes_in_order, IsFirstMember, IsFirstWaiter}
 use Rattle.machine_rules.specs.Works.{poll_of, poll_pends}
 use Rattle.core_primitives.specs.Names.{join_in, op_progress_in, place_in, subtask_in}
 use Rattle.core_primitives.specs.Polls.{PendsWith}
@@ -80,7 +80,7 @@ NamesThread id h s = thread_at (instance_of (thread_of s id) s.core) h s.core �
 
 -- The held threads of the instance that are admitted are at high, in the order of the preference.
 abbrev pub ReleasesHeld : (instance : ℕ) → (old new : StateView) → Type 0
-ReleasesHeld i s t = (order : List ℕ) × (IsPermutation (admitted_held i s.core) order × (GoInOrder (preference s) order × (t ≡ on_core (released order) s)))
+ReleasesHeld i s t = (order : List ℕ) × (IsPermutation (admitted_held i s.core) order × ((goes_in_order (preference s) order ≡ true) × (t ≡ on_core (released order) s)))
 
 -- No waiter of the set comes before this one.
 abbrev pub ComesFirst : TableId SetKey → TableId ThreadKey → StateView → Type 0

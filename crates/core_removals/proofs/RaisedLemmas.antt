@@ -6,7 +6,7 @@ use Rattle.core_removals.specs.Held.{is_admitted, raised, raised_of, raised_one}
 use Rattle.machine_data.proofs.MapLemmas.{get-change_other, get-change_same}
 use Rattle.machine_data.specs.declared.records.Place.{Place}
 use Rattle.machine_data.specs.declared.words.Mark.{Mark}
-use Rattle.machine_rules.specs.Picks.{GoInOrder, Preference, held_before, listed_before, thread_before}
+use Rattle.machine_rules.specs.Picks.{Preference, goes_in_order, held_before, listed_before, thread_before}
 use Rattle.std.proofs.lemmas.List.Sorted.{IsPermutation-refl}
 use Rattle.std.specs.Prelude.{IsPermutation}
 use Rattle.table_lists.proofs.Members.{IsMembers-same, members_permute}
@@ -198,6 +198,9 @@ none_passes p (x ∷ xs) each = ap₂ (λ a b. a || b) (each x (ap (λ b. b || h
     later true is = refl
     later false is = is
 
+goes_on : (p : Preference) (n : ℕ) (ns : List ℕ) → list_any (λ m. held_before p m n) ns ≡ false → goes_in_order p ns ≡ true → goes_in_order p (n ∷ ns) ≡ true
+goes_on p n ns none order = ap₂ (λ a b. not a && b) none order
+
 one_more : (m n : ℕ) (pre : List ℕ) → has m pre ≡ false → (m ≡ n → ⊥) → has m (pre ++ n ∷ []) ≡ false
 one_more m n pre none other = has_both m pre (n ∷ []) ∙ (ap (λ b. b || ((m == n) || false)) none ∙ ap (λ b. b || false) (ne_eqb m n other))
 
@@ -206,7 +209,7 @@ append_one [] n ns = refl
 append_one (x ∷ xs) n ns = ap (λ l. x ∷ l) (append_one xs n ns)
 
 pub raised_in_order : (p : Preference) (i : ℕ) (ns pre rest : List ℕ) (s : Core) → p.held ≡ pre ++ ns → ((m : ℕ) → is_admitted i s m ≡ true → has m pre ≡ false)
-    → ((m : ℕ) → has m rest ≡ true → is_admitted i (raised i ns s) m ≡ true) → GoInOrder p rest → GoInOrder p (raised_of i ns s ++ rest)
+    → ((m : ℕ) → has m rest ≡ true → is_admitted i (raised i ns s) m ≡ true) → goes_in_order p rest ≡ true → goes_in_order p (raised_of i ns s ++ rest) ≡ true
 raised_in_order p i [] pre rest s is past left order = order
 raised_in_order p i (n ∷ ns) pre rest s is past left order = by (is_admitted i s n) refl left
   where
@@ -228,23 +231,23 @@ raised_in_order p i (n ∷ ns) pre rest s is past left order = by (is_admitted i
     apart a m off same = let never : true ≡ false = sym (eq-eqb a m same) ∙ off in absurd (cc)
 
     by : (b : Bool) → is_admitted i s n ≡ b → ((m : ℕ) → has m rest ≡ true → is_admitted i (raised i ns (cond b (released (n ∷ []) s) s)) m ≡ true)
-        → GoInOrder p (cond b (n ∷ raised_of i ns (cond b (released (n ∷ []) s) s)) (raised_of i ns s) ++ rest)
+        → goes_in_order p (cond b (n ∷ raised_of i ns (cond b (released (n ∷ []) s) s)) (raised_of i ns s) ++ rest) ≡ true
     by true on left =
         let one = held_of i n s on in
         let t = released (n ∷ []) s in
         let step : (m : ℕ) → is_admitted i t m ≡ (is_admitted i s m && not (m == n)) = λ m. one_raised i n m s one.0 one.1 in
         let after : (m : ℕ) → has m (raised_of i ns t ++ rest) ≡ true → is_admitted i t m ≡ true =
             λ m there. of_both (is_admitted i t m) (has m ns) (has m rest) (sym (has_both m (raised_of i ns t) rest ∙ ap (λ b. b || has m rest) (has_raised i ns t m)) ∙ there)
-                (λ in_rest. both (is_admitted i t m) (has m ns) (sym (raised_admits i ns t m) ∙ left m in_rest)) in (
-          none_passes (λ m. held_before p m n) (raised_of i ns t ++ rest) (λ m there.
+                (λ in_rest. both (is_admitted i t m) (has m ns) (sym (raised_admits i ns t m) ∙ left m in_rest)) in
+        goes_on p n (raised_of i ns t ++ rest)
+          (none_passes (λ m. held_before p m n) (raised_of i ns t ++ rest) (λ m there.
               let admitted = sym (step m) ∙ after m there in
               ap (λ l. listed_before l m n (thread_before p.seats m n)) is
               ∙ (listed_past pre (n ∷ ns) m n (thread_before p.seats m n) (past m (both (is_admitted i s m) (m == n) admitted)) (past n on)
-              ∙ ap (λ b. cond b false (cond (n == m) true (listed_before ns m n (thread_before p.seats m n)))) (eq-eqb n n refl))),
-          raised_in_order p i ns (pre ++ n ∷ []) rest t (is ∙ append_one pre n ns)
+              ∙ ap (λ b. cond b false (cond (n == m) true (listed_before ns m n (thread_before p.seats m n)))) (eq-eqb n n refl))))
+          (raised_in_order p i ns (pre ++ n ∷ []) rest t (is ∙ append_one pre n ns)
               (λ m admitted. let was = sym (step m) ∙ admitted in one_more m n pre (past m (both (is_admitted i s m) (m == n) was)) (apart m n (second (is_admitted i s m) (m == n) was)))
-              left order,
-        )
+              left order)
     by false off left =
         raised_in_order p i ns (pre ++ n ∷ []) rest s (is ∙ append_one pre n ns)
         (λ m admitted. one_more m n pre (past m admitted) (λ same. let never : false ≡ true = sym off ∙ (ap (is_admitted i s) (sym same) ∙ admitted) in absurd (cc)))
@@ -264,19 +267,18 @@ module _ (a : CoreParts) (sound : IsSoundCore a) where
           (one.0, one.1.0, one.1.1.0, one.1.1.1.0)
 
   pub placed_in_order : (i : ℕ) (order : List ℕ) → AreInOrder a order → ((m : ℕ) → has m order ≡ true → is_admitted i (seen a).core m ≡ true)
-      → ((m : ℕ) → has m order ≡ true → has m (preference (seen a)).held ≡ false) → GoInOrder (preference (seen a)) order
-  placed_in_order i [] are admitted unwanted = tt
-  placed_in_order i (n ∷ ns) are admitted unwanted = (
-    none_passes (λ m. held_before (preference (seen a)) m n) ns (λ m there.
+      → ((m : ℕ) → has m order ≡ true → has m (preference (seen a)).held ≡ false) → goes_in_order (preference (seen a)) order ≡ true
+  placed_in_order i [] are admitted unwanted = refl
+  placed_in_order i (n ∷ ns) are admitted unwanted = goes_on (preference (seen a)) n ns
+    (none_passes (λ m. held_before (preference (seen a)) m n) ns (λ m there.
         let later = later_has n ns m there in
         let one = held_there i n (admitted n (here_has n ns)) in
         let two = held_there i m (admitted m later) in
         unlisted (preference (seen a)).held m n _ (unwanted m later) (unwanted n (here_has n ns))
         ∙ (ap₂ (thread_before (seen a).tags.seats) (sym two.1.1.1) (sym one.1.1.1)
         ∙ (ordered_there a sound two.0 one.0 two.1.0 one.1.0 two.1.1.0 one.1.1.0
-        ∙ each_has (NotBefore a n) ns are.0 m there one.0 one.1.0 one.1.1.0 one.1.1.1 two.0 two.1.0 two.1.1.0 two.1.1.1))),
-    placed_in_order i ns are.1 (λ m there. admitted m (later_has n ns m there)) (λ m there. unwanted m (later_has n ns m there)),
-  )
+        ∙ each_has (NotBefore a n) ns are.0 m there one.0 one.1.0 one.1.1.0 one.1.1.1 two.0 two.1.0 two.1.1.0 two.1.1.1))))
+    (placed_in_order i ns are.1 (λ m there. admitted m (later_has n ns m there)) (λ m there. unwanted m (later_has n ns m there)))
     where
       here_has : (n : ℕ) (ns : List ℕ) → has n (n ∷ ns) ≡ true
       here_has n ns = ap (λ b. b || has n ns) (eq-eqb n n refl)

@@ -1,7 +1,7 @@
 -- What is picked where a step leaves a choice: which waiter is woken, which member's event is taken, in which order threads are released.
 use Rattle.std.specs.List.{list_any}
 use Rattle.std.specs.Ordering.{is_lt, nat_cmp, ordering_then}
-use Rattle.std.specs.Prelude.{Bool, IfSome, IsPermutation, List, None, Option, Some, [], false, if◌then◌else◌, true, unwrap_or, ℕ, ◌==◌, ◌≡◌, ◌∷◌}
+use Rattle.std.specs.Prelude.{Bool, IfSome, List, None, Option, Some, [], false, if◌then◌else◌, not, true, unwrap_or, ℕ, ◌&&◌, ◌==◌, ◌≡◌, ◌∷◌}
 use Rattle.machine_data.specs.Core.{Core, State}
 use Rattle.machine_data.specs.Labels.{choice_of, woken_of}
 use Rattle.machine_data.specs.Maps.{Records, get}
@@ -16,10 +16,9 @@ use Rattle.machine_data.specs.declared.records.Subtask.TheVariants as subtask
 use Rattle.machine_data.specs.declared.records.Subtask.{Subtask}
 use Rattle.machine_data.specs.declared.words.Given.TheVariants as given
 use Rattle.machine_data.specs.declared.words.Given.{Given}
-use Rattle.machine_data.specs.declared.words.HostPoll.{HostPoll}
 use Rattle.machine_data.specs.declared.records.Turn.TheVariants as turn
 use Rattle.machine_data.specs.declared.records.Turn.{Turn}
-use Rattle.machine_rules.specs.Progress.{Asks, Ordered, Progress}
+use Rattle.machine_rules.specs.Progress.{Asks, Ordered, Progress, may}
 use Rattle.machine_rules.specs.Stalled.{Setting}
 use Rattle.machine_rules.specs.Step.{Progresses, TurnStep, did}
 
@@ -106,9 +105,9 @@ abbrev pub IsFirstMember : Preference → ℕ → Core → Subtask → Type 0
 IsFirstMember p x s sub = (other : Subtask) → is_ready_member x other s ≡ true → member_before p other sub ≡ false
 
 -- no thread of the list comes before one that is earlier in it
-abbrev pub GoInOrder : Preference → List ℕ → Type 0
-GoInOrder p [] = Unit {0}
-GoInOrder p (n ∷ ns) = (list_any (λ m. held_before p m n) ns ≡ false) × GoInOrder p ns
+abbrev pub goes_in_order : Preference → List ℕ → Bool
+goes_in_order p [] = true
+goes_in_order p (n ∷ ns) = not (list_any (λ m. held_before p m n) ns) && goes_in_order p ns
 
 -- The thread waited on a set, as the first of its waiters.
 pub record WakesFirst (p : Preference) (s : Core) (w : ℕ) : Type 0 where
@@ -152,23 +151,22 @@ pub record ShowsFirst (p : Preference) (s : Core) (l : Label) : Type 0 where
 
 -- ---- What a step does
 
--- as `Progresses`, each release in such an order
-abbrev pub ProgressesIn : (List ℕ → Type 0) → State → Core → ℕ → Progress → Label → State → Type 0
-ProgressesIn P s base n (Ordered ns next) l t =
-    (order : List ℕ) × (IsPermutation ns order × (P order × ProgressesIn P s base n (next order) l t))
-ProgressesIn P s base n (Asks next) l t = (answer : HostPoll) × ProgressesIn P s base n (next answer) l t
-ProgressesIn P s base n p l t = Progresses s base n p l t
+-- as the row, with each release in the order of the preference
+abbrev pub in_order : Preference → Progress → Progress
+in_order p (Ordered ns next) = Ordered ns (λ order. may (goes_in_order p order) (in_order p (next order)))
+in_order p (Asks next) = Asks (λ answer. in_order p (next answer))
+in_order p row = row
 
 -- only the op of a thread that runs releases threads
-abbrev pub TurnStepIn : (List ℕ → Type 0) → Setting → State → Turn → Label → State → Type 0
-TurnStepIn P x s (turn.Run n) l t = ProgressesIn P s s.core n (did x.component n s.core (choice_of l)) l t
-TurnStepIn P x s p l t = TurnStep x s p l t
+abbrev pub TurnStepIn : Preference → Setting → State → Turn → Label → State → Type 0
+TurnStepIn p x s (turn.Run n) l t = Progresses s s.core n (in_order p (did x.component n s.core (choice_of l))) l t
+TurnStepIn p x s q l t = TurnStep x s q l t
 
--- From s the machine may show the label, and then is in t, where each release goes in such an order.
-unfoldable pub StepIn : (List ℕ → Type 0) → Setting → State → Label → State → Type 0
-StepIn P x s l t = TurnStepIn P x s s.turn l t
+-- From s the machine may show the label, and then is in t, where each release goes in the order of the preference.
+unfoldable pub StepIn : Preference → Setting → State → Label → State → Type 0
+StepIn p x s l t = TurnStepIn p x s s.turn l t
 
 -- The step picks what comes first.
-pub record Picked (p : Preference) (x : Setting) (s : State) (l : Label) (t : State) : Type 0 where
+pub record Picks (p : Preference) (x : Setting) (s : State) (l : Label) (t : State) : Type 0 where
   pub shows : ShowsFirst p s.core l
-  pub step : StepIn (GoInOrder p) x s l t
+  pub step : StepIn p x s l t
