@@ -23,6 +23,7 @@ pub mod Once
 pub mod Notices
 pub mod Words
 pub mod Picks
+pub mod TablePlaces
 pub mod Scenes
 pub mod OpParts
 pub mod Allowed

@@ -22,7 +22,7 @@ use Rattle.machine_data.specs.declared.op.ThreadOp.TheVariants as thread_op
 use Rattle.machine_data.specs.declared.records.OpProgress.TheVariants as op_progress
 use Rattle.machine_data.specs.declared.records.Turn.{Turn}
 use Rattle.machine_data.specs.declared.records.Turn.TheVariants as turn
-use Rattle.ops_guests.specs.OpResult.{Implements}
+use Rattle.ops_guests.specs.OpResult.{Implements, PicksFirst}
 use Rattle.ops_guests.specs.Ended.{ended}
 use Rattle.ops_guests.specs.Stays.{StaysAfter}
 use Rattle.ops_guests.specs.Steps.{label_of}
@@ -36,6 +36,7 @@ use Rattle.machine_rules.specs.Finish.{SomeHost}
 use Rattle.machine_rules.specs.Step.{op_rule}
 use Rattle.ops_turns.specs.Turn.{CoreInOrder, state_at}
 use Rattle.ops_turns.specs.WellFormed.{IsWellFormed}
+use Rattle.core_primitives.specs.Preferences.{preference}
 use Rattle.core_primitives.specs.StateView.{StateView, on_core, with_current}
 
 -- A thread of a well formed component runs, in one of its instances, and the core is in order.
@@ -74,6 +75,7 @@ left_by n r s = after r (on_core (ended SomeHost n r) s)
 -- The thread n did a row: t is what the row says, and the thread that goes on runs. Where it was refused, nothing is changed.
 pub record Does (row : Choice → Progress) (n : ℕ) (s : StateView) (r : OpResult) (t : StateView) : Type 0 where
   pub meets : Implements (row (choice_of (label_of n r))) s.core r t.core
+  pub picks : PicksFirst (preference s) (row (choice_of (label_of n r))) (label_of n r) s.core r t.core
   pub running : running_of t ≡ runs_after n r
   pub stays : StaysAfter r s t
   pub works : NamesTold s t

@@ -3,7 +3,7 @@ use Rattle.std.specs.Prelude.{None, Option, Some, option_map, true, ℕ, ◌+◌
 use Rattle.machine_data.specs.Core.{Core}
 use Rattle.machine_data.specs.Labels.{choice_of}
 use Rattle.machine_data.specs.Read.{op_progress_of}
-use Rattle.ops_guests.specs.OpResult.{Implements}
+use Rattle.ops_guests.specs.OpResult.{Implements, PicksFirst}
 use Rattle.ops_guests.specs.Does.{Rule}
 use Rattle.ops_guests.specs.Ended.{ended, ends_op}
 use Rattle.ops_guests.specs.Stays.{StaysAfter}
@@ -15,6 +15,7 @@ use Rattle.machine_rules.specs.Finish.{Doer}
 use Rattle.machine_rules.specs.Outcome.{outcome_of_label}
 use Rattle.task_table.specs.declared.id.TableId.{TableId}
 use Rattle.task_wait.specs.declared.keys.ThreadKey.{ThreadKey}
+use Rattle.core_primitives.specs.Preferences.{preference}
 use Rattle.core_primitives.specs.StateView.{StateView, thread_of}
 
 -- the number of the thread that runs
@@ -34,11 +35,13 @@ Shows n (op_result.Stops l) = outcome_of_label l ≡ None
 Shows n _ = Unit {0}
 
 -- The running thread did an op as its rule says, whoever has it done: its core is the rule's once the op is ended with what it answers, and
--- until then the thread is named as it was. A thread that goes on runs, a trap has changed nothing, and of the names that much is kept.
+-- until then the thread is named as it was. It picked what comes first, a thread that goes on runs, a trap has changed nothing, and of the names that much is kept.
 pub record DoesOp (AreKept : StateView → StateView → Type 0) (rule : Rule) (id : TableId ThreadKey) (s : StateView) (r : OpResult)
     (t : StateView) : Type 0 where
   pub meets : (d : Doer) → Implements (rule d (thread_of s id) (choice_of (label_of (thread_of s id) r)) s.core) s.core r
       (ended d (thread_of s id) r t.core)
+  pub picks : (d : Doer) → PicksFirst (preference s) (rule d (thread_of s id) (choice_of (label_of (thread_of s id) r)) s.core)
+      (label_of (thread_of s id) r) s.core r (ended d (thread_of s id) r t.core)
   pub named : ends_op r ≡ true → thread_of t id ≡ thread_of s id
   pub goes : OpGoesOn r t
   pub stays : StaysAfter r s t

@@ -9,7 +9,7 @@ use Rattle.machine_data.specs.Read.{op_progress_of, position_of}
 use Rattle.machine_data.specs.declared.component.Component.{Component}
 use Rattle.machine_data.specs.declared.op.Op.{Op}
 use Rattle.machine_data.specs.declared.words.HostPoll.{HostPoll}
-use Rattle.ops_guests.specs.OpResult.{Implements}
+use Rattle.ops_guests.specs.OpResult.{Implements, PicksFirst}
 use Rattle.ops_guests.specs.Stays.{StaysAfter}
 use Rattle.ops_guests.specs.Steps.{label_of}
 use Rattle.ops_guests.specs.Works.{NamesTold}
@@ -19,6 +19,7 @@ use Rattle.machine_rules.specs.Scripts.{script_of}
 use Rattle.machine_rules.specs.Step.{scripted_op_rule}
 use Rattle.task_table.specs.declared.id.TableId.{TableId}
 use Rattle.task_wait.specs.declared.keys.ThreadKey.{ThreadKey}
+use Rattle.core_primitives.specs.Preferences.{preference}
 use Rattle.core_primitives.specs.StateView.{StateView, thread_of}
 
 -- the op of the thread, as its script has it done, by what it resulted in
@@ -32,6 +33,8 @@ StandsBefore end c n s = (position_of n s < end) Ã— (length (script_of c n s) â‰
 -- The op was done and ended: t is what its rule says, a thread that goes on runs, and what polled is so.
 pub record DidOp (answer : HostPoll) (c : Component) (o : Op) (id : TableId ThreadKey) (s : StateView) (done : Done) (t : StateView) : Type 0 where
   pub meets : Implements (scripted_rule_of c o id s done.op_result) s.core done.op_result t.core
+  pub picks : PicksFirst (preference s) (scripted_rule_of c o id s done.op_result) (label_of (thread_of s id) done.op_result) s.core
+      done.op_result t.core
   pub goes : OpGoesOn done.op_result t
   pub stays : StaysAfter done.op_result s t
   pub polls : Polls answer c (op_progress_of (thread_of s id) s.core) o s done t

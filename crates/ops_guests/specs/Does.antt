@@ -2,7 +2,7 @@
 use Rattle.std.specs.Prelude.{ℕ, ◌≡◌}
 use Rattle.machine_data.specs.Core.{Core}
 use Rattle.machine_data.specs.Labels.{Choice, choice_of}
-use Rattle.ops_guests.specs.OpResult.{Implements}
+use Rattle.ops_guests.specs.OpResult.{Implements, PicksFirst}
 use Rattle.ops_guests.specs.Ended.{ended}
 use Rattle.ops_guests.specs.Stays.{StaysAfter}
 use Rattle.ops_guests.specs.Steps.{label_of}
@@ -12,6 +12,7 @@ use Rattle.machine_rules.specs.Finish.{Doer}
 use Rattle.machine_rules.specs.Progress.{Progress}
 use Rattle.task_table.specs.declared.id.TableId.{TableId}
 use Rattle.task_wait.specs.declared.keys.ThreadKey.{ThreadKey}
+use Rattle.core_primitives.specs.Preferences.{preference}
 use Rattle.core_primitives.specs.StateView.{Keeps, StateView, thread_of}
 
 -- the rule of an op: what it results in by whoever has a thread do it, where its label shows such choices, from a core on
@@ -19,11 +20,13 @@ abbrev pub Rule : Type 0
 Rule = Doer → ℕ → Choice → Core → Progress
 
 -- The op that began in s came to what its rule says, whoever has it done: its core is the rule's once the op is ended with what it answers.
--- A trap has changed nothing, and of the names that much is kept.
+-- It picked what comes first, a trap has changed nothing, and of the names that much is kept.
 pub record DoesRule (AreKept : StateView → StateView → Type 0) (rule : Rule) (id : TableId ThreadKey) (s : StateView) (r : OpResult)
     (t : StateView) : Type 0 where
   pub meets : (d : Doer) → Implements (rule d (thread_of s id) (choice_of (label_of (thread_of s id) r)) s.core) s.core r
       (ended d (thread_of s id) r t.core)
+  pub picks : (d : Doer) → PicksFirst (preference s) (rule d (thread_of s id) (choice_of (label_of (thread_of s id) r)) s.core)
+      (label_of (thread_of s id) r) s.core r (ended d (thread_of s id) r t.core)
   pub stays : StaysAfter r s t
   pub kept : AreKept s t
 

@@ -2,6 +2,8 @@
 use Rattle.std.specs.Prelude.{IsPermutation, List, Some, ℕ, ◌≡◌}
 use Rattle.machine_data.specs.Core.{Core}
 use Rattle.machine_data.specs.declared.words.HostPoll.{HostPoll}
+use Rattle.machine_data.specs.declared.label.Label.{Label}
+use Rattle.machine_rules.specs.Picks.{Preference, ShowsFirst, in_order}
 use Rattle.machine_rules.specs.Progress.{Asks, Fails, Continues, Never, Ordered, Progress, Stops, Traps}
 use Rattle.task_table.specs.declared.id.TableId.{TableId}
 use Rattle.task_wait.specs.declared.keys.ThreadKey.{ThreadKey}
@@ -19,6 +21,11 @@ Implements (Fails i) s r t = (r ≡ op_result.Fails i) × (t ≡ s)
 Implements Never s r t = ⊥
 Implements (Ordered ns next) s r t = (order : List ℕ) × (IsPermutation ns order × Implements (next order) s r t)
 Implements (Asks next) s r t = (answer : HostPoll) × Implements (next answer) s r t
+
+-- The op that began in s picked what comes first: its label shows it, and it released threads in that order.
+pub record PicksFirst (p : Preference) (row : Progress) (l : Label) (s : Core) (r : OpResult) (t : Core) : Type 0 where
+  pub shows : ShowsFirst p s l
+  pub order : Implements (in_order p row) s r t
 
 -- The thread that goes on is current.
 abbrev pub IsCurrent : OpResult → StateView → Type 0

@@ -1,6 +1,6 @@
 -- What an op that resulted in this shows, and where it leads.
 use Rattle.std.specs.Prelude.{Bool, Some, ℕ, ◌≡◌}
-use Rattle.ops_guests.specs.OpResult.{Implements}
+use Rattle.ops_guests.specs.OpResult.{Implements, PicksFirst}
 use Rattle.ops_guests.specs.declared.op_result.OpResult.{OpResult}
 use Rattle.ops_guests.specs.declared.op_result.OpResult.TheVariants as op_result
 use Rattle.machine_data.specs.Core.{Core, MainPlace, Scripted, State}
@@ -10,6 +10,7 @@ use Rattle.machine_data.specs.declared.label.Label.{Label}
 use Rattle.machine_data.specs.declared.label.Label.TheVariants as label
 use Rattle.machine_data.specs.declared.records.Turn.{Turn}
 use Rattle.machine_data.specs.declared.records.Turn.TheVariants as turn
+use Rattle.machine_rules.specs.Picks.{Picks, Preference}
 use Rattle.machine_rules.specs.Stalled.{Setting}
 use Rattle.machine_rules.specs.Step.{Step, did, entry_number, unwound, trap_label}
 use Rattle.machine_rules.specs.Takes.{popped, take_rule}
@@ -58,6 +59,24 @@ TakingIsStep =
     next_entry s.core ≡ Some e →
     Implements (take_rule e.0 (choice_of (label_of (entry_number e.1) r)) (popped e.0 s.core) e.1) (popped e.0 s.core) r t →
     Step x s (label_of (entry_number e.1) r) (goes_to s (core_after (entry_number e.1) r t) (turn_after r))
+
+-- ---- What a step picks
+
+-- each op that meets its rule and picks what comes first is a step that does
+abbrev pub PickingIsPicked : Type 0
+PickingIsPicked =
+    (p : Preference) (x : Setting) (s : State) (n : ℕ) (r : OpResult) (t : Core) → s.turn ≡ turn.Run n →
+    PicksFirst p (did x.component n s.core (choice_of (label_of n r))) (label_of n r) s.core r t →
+    Picks p x s (label_of n r) (goes_to s (core_after n r t) (turn_after r))
+
+-- so is each taking, from the core that the entry has left
+abbrev pub TakingIsPicked : Type 0
+TakingIsPicked =
+    (p : Preference) (x : Setting) (s : State) (ended : Bool) (e : Mark × Entry) (r : OpResult) (t : Core) → s.turn ≡ turn.Take ended →
+    next_entry s.core ≡ Some e →
+    PicksFirst p (take_rule e.0 (choice_of (label_of (entry_number e.1) r)) (popped e.0 s.core) e.1) (label_of (entry_number e.1) r)
+    (popped e.0 s.core) r t →
+    Picks p x s (label_of (entry_number e.1) r) (goes_to s (core_after (entry_number e.1) r t) (turn_after r))
 
 -- ---- Main
 

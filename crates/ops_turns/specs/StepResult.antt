@@ -6,7 +6,7 @@ use Rattle.machine_data.specs.declared.component.HostDef.{HostDef}
 use Rattle.machine_data.specs.declared.label.Label.{Label}
 use Rattle.machine_data.specs.declared.op.Op.{Op}
 use Rattle.machine_data.specs.declared.records.Turn.TheVariants as turn
-use Rattle.ops_guests.specs.OpResult.{Implements}
+use Rattle.ops_guests.specs.OpResult.{Implements, PicksFirst}
 use Rattle.ops_guests.specs.Stays.{StaysAfter}
 use Rattle.ops_guests.specs.Steps.{core_after, label_of, turn_after}
 use Rattle.ops_guests.specs.declared.op_result.OpResult.{OpResult}
@@ -24,6 +24,7 @@ use Rattle.ops_turns.specs.declared.made.RunStep.TheVariants as run_step
 use Rattle.ops_turns.specs.declared.made.StepResult.{StepResult}
 use Rattle.ops_turns.specs.declared.made.StepResult.TheVariants as stepped
 use Rattle.task_wait.specs.declared.keys.ThreadKey.{ThreadKey}
+use Rattle.core_primitives.specs.Preferences.{preference}
 use Rattle.core_primitives.specs.StateView.{StateView, thread_of}
 
 -- The label of the step was added, and what is left to tell is whose turn it is then, or the outcome that the label gives.
@@ -71,6 +72,7 @@ pub record RuleShown (row : OpResult → Progress) (id : TableId ThreadKey) (s :
   pub op_result : OpResult
   pub left : StateView
   pub meets : Implements (row op_result) s.core op_result left.core
+  pub picks : PicksFirst (preference s) (row op_result) (label_of (thread_of s id) op_result) s.core op_result left.core
   pub stays : StaysAfter op_result s left
   pub shown : Shown id op_result left before stepped t after
 
@@ -79,6 +81,7 @@ pub record RuleRan (row : OpResult → Progress) (id : TableId ThreadKey) (s : S
   pub op_result : OpResult
   pub left : StateView
   pub meets : Implements (row op_result) s.core op_result left.core
+  pub picks : PicksFirst (preference s) (row op_result) made.label s.core op_result left.core
   pub stays : StaysAfter op_result s left
   pub label : made.label ≡ label_of (thread_of left id) op_result
   pub turn : made.turn ≡ turn_after op_result

@@ -23,6 +23,8 @@ use Rattle.machine_rules.specs.Stalled.{Setting, main_pends}
 use Rattle.machine_rules.specs.Step.{Step}
 use Rattle.machine_rules.specs.Turns.{settled_turn}
 use Rattle.ops_turns.specs.declared.made.MadeStep.{MadeStep}
+use Rattle.machine_rules.specs.Picks.{Picks}
+use Rattle.core_primitives.specs.Preferences.{preference}
 use Rattle.core_primitives.specs.StateView.{StateView}
 
 -- the state with this core and this part of main, at this turn
@@ -44,10 +46,12 @@ runs_in _ = None
 abbrev pub RunnerThere : StateView → Type 0
 RunnerThere s = (n : ℕ) → running_of s ≡ Some n → is_some (get s.core.threads n) ≡ true
 
--- The step that was made is one of the machine, whatever main's part, its script and the idle line are. Its label gives an outcome exactly
+-- The step that was made is one of the machine, whatever main's part, its script and the idle line are, and picks what comes first. Its label gives an outcome exactly
 -- where the run is over.
 pub record MakesStep (c : Component) (p : Turn) (s : StateView) (made : MadeStep) (t : StateView) : Type 0 where
   pub step : (x : Setting) → x.component ≡ c → (m : Main) → Step x (state_at s.core m p) made.label (state_at t.core m made.turn)
+  pub picks : (x : Setting) → x.component ≡ c → (m : Main) →
+      Picks (preference s) x (state_at s.core m p) made.label (state_at t.core m made.turn)
   pub running : running_of t ≡ runs_in made.turn
   pub over : is_none (outcome_of_label made.label) ≡ is_open made.turn
 
@@ -78,9 +82,10 @@ pub record IsAtTurn (c : Component) (p : Turn) (s : StateView) : Type 0 where
   pub settled : IsSettled s.core p
   pub unfinished : is_open p ≡ true
 
--- The step that was made is one of the machine, and its label gives an outcome exactly where the run is over.
+-- The step that was made is one of the machine and picks what comes first, and its label gives an outcome exactly where the run is over.
 pub record Turns (x : Setting) (p : Turn) (m : Main) (s : StateView) (made : MadeStep) (m' : Main) (t : StateView) : Type 0 where
   pub step : Step x (state_at s.core m p) made.label (state_at t.core m' made.turn)
+  pub picks : Picks (preference s) x (state_at s.core m p) made.label (state_at t.core m' made.turn)
   pub running : running_of t ≡ runs_in made.turn
   pub over : is_none (outcome_of_label made.label) ≡ is_open made.turn
   pub pends : PendsIn x t.core m' made.turn
