@@ -14,7 +14,7 @@ use Rattle.machine_data.specs.declared.records.OpProgress.TheVariants as op_prog
 use Rattle.machine_data.specs.declared.records.Place.TheVariants as place
 use Rattle.machine_data.specs.declared.records.Subtask.TheVariants as subtask
 use Rattle.machine_rules.specs.Calls.{with_thread_handle}
-use Rattle.machine_rules.specs.Picks.{goes_in_order, IsFirstMember, IsFirstWaiter}
+use Rattle.machine_rules.specs.Picks.{goes_in_order, IsFirstMember, IsFirstWaiter, WakesFirst}
 use Rattle.machine_rules.specs.Works.{poll_of, poll_pends}
 use Rattle.core_primitives.specs.Names.{join_in, op_progress_in, place_in, subtask_in}
 use Rattle.core_primitives.specs.Polls.{PendsWith}
@@ -85,6 +85,10 @@ ReleasesHeld i s t = (order : List ℕ) × (IsPermutation (admitted_held i s.cor
 -- No waiter of the set comes before this one.
 abbrev pub ComesFirst : TableId SetKey → TableId ThreadKey → StateView → Type 0
 ComesFirst set id s = IsFirstWaiter (preference s) (set_of s set) s.core (thread_of s id)
+
+-- It waits on a set, and no waiter of that comes before it.
+abbrev pub IsFirstToWake : TableId ThreadKey → StateView → Type 0
+IsFirstToWake id s = WakesFirst (preference s) s.core (thread_of s id)
 
 -- No ready member of the set comes before this one.
 abbrev pub MemberComesFirst : TableId SetKey → SubtaskId → StateView → Type 0

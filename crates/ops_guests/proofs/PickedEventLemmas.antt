@@ -1,4 +1,13 @@
 -- A ready member that is found is given.
+use Rattle.core_primitives.specs.Changes.{MemberComesFirst}
+use Rattle.core_primitives.specs.Names.{subtask_in}
+use Rattle.core_primitives.specs.Preferences.{preference}
+use Rattle.core_primitives.specs.StateView.{StateView, set_of}
+use Rattle.core_primitives.specs.declared.names.SubtaskId.{SubtaskId}
+use Rattle.machine_rules.specs.Picks.{TakesFirst}
+use Rattle.ops_guests.specs.PickedEvents.{MembersNamed}
+use Rattle.task_table.specs.declared.id.TableId.{TableId}
+use Rattle.task_wait.specs.declared.keys.SetKey.{SetKey}
 use Rattle.std.proofs.Common.{T, ap, cond, refl, subst, sym, ◌∙◌}
 use Rattle.std.proofs.lemmas.List.Folds.{list_any-append}
 use Rattle.std.specs.Cmp.{unsigned_tied}
@@ -6,11 +15,11 @@ use Rattle.std.specs.FinMap.Entries.{find}
 use Rattle.std.specs.List.{list_any}
 use Rattle.std.specs.Option.{option_map_or}
 use Rattle.std.specs.Ordering.{eq_by_cmp, nat_cmp}
-use Rattle.std.specs.Prelude.{Bool, List, None, Option, Some, [], false, is_some, map, true, ℕ, ◌&&◌, ◌∷◌, ◌≡◌, ◌||◌}
+use Rattle.std.specs.Prelude.{Bool, List, None, Option, Some, [], false, is_some, map, true, unwrap_or, ℕ, ◌&&◌, ◌∷◌, ◌≡◌, ◌||◌}
 use Rattle.machine_data.specs.Core.{Core}
 use Rattle.machine_data.specs.Maps.{get, numbers}
 use Rattle.machine_data.specs.Moves.{PickedMember, NothingPicked, picked_event, picked_event_after_own, picked_member, picked_task_event_of}
-use Rattle.machine_data.specs.Read.{has_ready_member, is_in_set, is_ready_member}
+use Rattle.machine_data.specs.Read.{has_ready_member, is_in_set, is_ready_member, subtask_at, subtask_handle}
 use Rattle.machine_data.specs.declared.records.Call.{Call}
 use Rattle.machine_data.specs.declared.records.Join.TheVariants as join
 use Rattle.machine_data.specs.declared.records.Subtask.{Subtask}
@@ -65,3 +74,16 @@ unfolding picked_event
 member_given b k x sub s none ready =
     ap (λ g. picked_event_after_own g x (Some sub) s) (sym none)
     ∙ (ap (λ c. cond c (picked_member x (Some sub) s) (Some NothingPicked)) (ready_found x sub s ready) ∙ ap (λ c. cond c (Some (PickedMember sub)) None) ready)
+
+-- the first ready member, with the handle that names it
+pub member_first : (i : ℕ) (set : TableId SetKey) (sub : SubtaskId) (s : StateView) (h : Option ℕ) → MembersNamed i (set_of s set) s.core → is_ready_member (set_of s set) (subtask_in s.tags sub) s.core ≡ true
+    → MemberComesFirst set sub s → h ≡ subtask_handle (subtask_in s.tags sub) s.core → TakesFirst (preference s) s.core i (unwrap_or h 0)
+member_first i set sub s h named ready first is =
+    let one = named (subtask_in s.tags sub) ready in
+    record {
+      set = set_of s set;
+      member = subtask_in s.tags sub;
+      named = ap (λ k. subtask_at i k s.core) (ap (λ o. unwrap_or o 0) (is ∙ one.1.0)) ∙ one.1.1;
+      ready = ready;
+      first = first;
+    }

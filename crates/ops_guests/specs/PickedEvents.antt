@@ -8,7 +8,9 @@ use Rattle.machine_data.specs.declared.records.Subtask.{Subtask}
 use Rattle.ops_guests.specs.declared.picked_events.PickedEvent.{PickedEvent}
 use Rattle.ops_guests.specs.declared.picked_events.PickedEvent.TheVariants as picked_events
 use Rattle.core_primitives.specs.Names.{subtask_in}
-use Rattle.core_primitives.specs.StateView.{Tags}
+use Rattle.machine_rules.specs.Picks.{TakesFirst}
+use Rattle.core_primitives.specs.Preferences.{preference}
+use Rattle.core_primitives.specs.StateView.{StateView, Tags}
 
 abbrev pub picked_event_in : Tags → PickedEvent → moves.PickedEvent
 picked_event_in tags (picked_events.Own e) = PickedTaskEvent e
@@ -32,6 +34,11 @@ MembersNamed i x s = (sub : Subtask) → is_ready_member x sub s ≡ true →
 abbrev pub IsNamedIn : ℕ → Tags → PickedEvent → Core → Type 0
 IsNamedIn i tags (picked_events.Member sub h) s = subtask_at i h s ≡ Some (subtask_in tags sub)
 IsNamedIn i tags _ s = Unit {0}
+
+-- the member is the first of the ready ones of its set
+abbrev pub IsFirstPicked : ℕ → StateView → PickedEvent → Type 0
+IsFirstPicked i s (picked_events.Member sub h) = TakesFirst (preference s) s.core i h
+IsFirstPicked i s _ = Unit {0}
 
 -- As before, of each set that the instance names.
 abbrev pub AllMembersNamed : ℕ → Core → Type 0

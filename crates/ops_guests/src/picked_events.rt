@@ -2,7 +2,7 @@
 ghost use Rattle.std.specs.Prelude.{◌≡◌, ◌<◌, None, Some, unwrap_or};
 ghost use Rattle.machine_data.specs.Labels.{handle_given};
 ghost use Rattle.machine_data.specs.Moves.{picked_event, given_for, picked_task_event_of, picked_task_event_only, taken};
-ghost use Rattle.ops_guests.specs.PickedEvents.{IsNamedIn, MembersNamed, picked_event_in, handle_in, member_in};
+ghost use Rattle.ops_guests.specs.PickedEvents.{IsFirstPicked, IsNamedIn, MembersNamed, picked_event_in, handle_in, member_in};
 ghost use Rattle.core_primitives.specs.StateView.{call_of, on_core, set_of};
 
 use core_primitives::{CallId, Primitives, SetId, SubtaskId};
@@ -45,6 +45,7 @@ pub(crate) fn picked_event_for<W: Primitives>(
     requires named { MembersNamed instance (set_of (W.view w.now) set) (W.view w.now).core }
     ensures is { picked_event by_callback (call_of (W.view w.now) call) (set_of (W.view w.now) set) (member_in (W.view w.now).tags result) (W.view w.now).core ≡ Some (picked_event_in (W.view w.now).tags result) }
     ensures named { IsNamedIn instance (W.view w.now).tags result (W.view w.now).core }
+    ensures first { IsFirstPicked instance (W.view w.now) result }
 {
     // only the contract speaks of `instance`
     let _instance = instance;

@@ -10,6 +10,7 @@ ghost use Rattle.ops_guests.specs.Rules.{waits_from};
 ghost use Rattle.ops_guests.specs.Running.{IsRunning, SetsThere};
 ghost use Rattle.ops_guests.specs.Shown.{goes_as};
 ghost use Rattle.machine_rules.specs.Sets.{finds_nothing, wait_stops};
+ghost use Rattle.core_primitives.specs.Changes.{IsFirstToWake};
 ghost use Rattle.core_primitives.specs.Apart.{AreWaitersUnqueued};
 ghost use Rattle.core_primitives.specs.StateView.{on_core, set_of, thread_of};
 
@@ -31,6 +32,7 @@ pub(crate) fn hand_on<W: Primitives>(
     requires live { 0 < set_of (W.view w.old) set }
     requires unqueued { AreWaitersUnqueued (set_of (W.view w.old) set) (W.view w.old).core }
     ensures choice { may_hand_on (set_of (W.view w.old) set) (picked_event_in (W.view w.old).tags picked_event) (option_map (λ id. thread_of (W.view w.old) id) result) (W.view w.old).core ≡ true }
+    ensures first { IfSome result (λ id. IsFirstToWake id (W.view w.old)) }
     ensures new { W.view w.new ≡ on_core (handed_on (set_of (W.view w.old) set) (picked_event_in (W.view w.old).tags picked_event) (option_map (λ id. thread_of (W.view w.old) id) result)) (W.view w.old) }
 {
     match picked_event {

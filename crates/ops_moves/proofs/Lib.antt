@@ -5,3 +5,4 @@ pub mod StopLemmas
 pub mod PublishLemmas
 pub mod TellLemmas
 pub mod EndLemmas
+pub mod FirstLemmas

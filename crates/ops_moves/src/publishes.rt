@@ -4,6 +4,7 @@ ghost use Rattle.machine_data.specs.Moves.{may_publish, may_wake_joined, publish
 ghost use Rattle.machine_data.specs.declared.records.Join.TheVariants as joins;
 ghost use Rattle.ops_moves.specs.Idle.{CanPublish, IsJoinThere, IsWaiting};
 ghost use Rattle.core_primitives.specs.Apart.{IsUnqueued};
+ghost use Rattle.core_primitives.specs.Changes.{IsFirstToWake};
 ghost use Rattle.core_primitives.specs.Names.{join_in, subtask_in};
 ghost use Rattle.core_primitives.specs.StateView.{on_core, thread_of};
 
@@ -18,6 +19,7 @@ fn waiter_of<W: Primitives>(w: &W, join: JoinId) -> Option<ThreadId>
     ensures choice { may_wake_joined (join_in (W.view w.now).tags join) (option_map (λ id. thread_of (W.view w.now) id) result) (W.view w.now).core ≡ true }
     ensures live { IfSome result (λ id. 0 < thread_of (W.view w.now) id) }
     ensures waits { IfSome result (λ id. IsWaiting (thread_of (W.view w.now) id) (W.view w.now).core) }
+    ensures first { IfSome result (λ id. IsFirstToWake id (W.view w.now)) }
 {
     match join {
         JoinId::Set(set) => w.first_waiter(set),
@@ -43,6 +45,7 @@ pub fn publish_waiter<W: Primitives>(w: &W, subtask: SubtaskId) -> Option<Thread
     ensures choice { may_publish (subtask_in (W.view w.now).tags subtask) (option_map (λ id. thread_of (W.view w.now) id) result) (W.view w.now).core ≡ true }
     ensures live { IfSome result (λ id. 0 < thread_of (W.view w.now) id) }
     ensures waits { IfSome result (λ id. IsWaiting (thread_of (W.view w.now) id) (W.view w.now).core) }
+    ensures first { IfSome result (λ id. IsFirstToWake id (W.view w.now)) }
 {
     w.none_is_zero();
     let join = w.join(subtask);

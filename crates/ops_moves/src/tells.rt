@@ -5,6 +5,7 @@ ghost use Rattle.machine_data.specs.declared.records.Goal.TheVariants as goals;
 ghost use Rattle.ops_moves.specs.Idle.{CanPublish, IsJoinThere, IsWaiting};
 ghost use Rattle.machine_data.specs.declared.records.Subtask.TheVariants as subtasks;
 ghost use Rattle.machine_rules.specs.Ends.{cancelled, is_told, may_tell, result_given, returned, told};
+ghost use Rattle.core_primitives.specs.Changes.{IsFirstToWake};
 ghost use Rattle.core_primitives.specs.Names.{caller_in};
 ghost use Rattle.core_primitives.specs.StateView.{call_of, on_core, thread_of};
 
@@ -30,6 +31,7 @@ pub fn tell_waiter<W: Primitives>(w: &W, call: CallId) -> Option<ThreadId>
     ensures choice { may_tell (call_of (W.view w.now) call) (option_map (λ id. thread_of (W.view w.now) id) result) (W.view w.now).core ≡ true }
     ensures live { IfSome result (λ id. 0 < thread_of (W.view w.now) id) }
     ensures waits { IfSome result (λ id. IsWaiting (thread_of (W.view w.now) id) (W.view w.now).core) }
+    ensures first { IfSome result (λ id. IsFirstToWake id (W.view w.now)) }
 {
     if is_told(w, call) {
         publish_waiter(w, SubtaskId::Guest(call))

@@ -4,6 +4,7 @@ ghost use Rattle.machine_data.specs.Moves.{PickedTaskEvent, behind_one, handed_o
 ghost use Rattle.machine_data.specs.Read.{blocked_on};
 ghost use Rattle.machine_data.specs.declared.words.TaskEvent.{TaskEvent};
 ghost use Rattle.core_primitives.specs.Apart.{AreWaitersUnqueued, IsBehindNobody, IsBlockedUnqueued, IsUnqueued};
+ghost use Rattle.core_primitives.specs.Changes.{IsFirstToWake};
 ghost use Rattle.core_primitives.specs.Names.{number_in, subtask_in};
 ghost use Rattle.core_primitives.specs.StateView.{on_core, set_of, thread_of};
 
@@ -59,6 +60,7 @@ pub fn wake<W: Primitives>(w: &mut W, set: SetId) -> Option<ThreadId>
     requires named { 0 < set_of (W.view w.old) set }
     requires unqueued { AreWaitersUnqueued (set_of (W.view w.old) set) (W.view w.old).core }
     ensures choice { may_wake (set_of (W.view w.old) set) (option_map (λ id. thread_of (W.view w.old) id) result) (W.view w.old).core ≡ true }
+    ensures first { IfSome result (λ id. IsFirstToWake id (W.view w.old)) }
     ensures new { W.view w.new ≡ on_core (wake (set_of (W.view w.old) set) (option_map (λ id. thread_of (W.view w.old) id) result)) (W.view w.old) }
 {
     let waiter = w.first_waiter(set);
@@ -73,6 +75,7 @@ pub fn hand_wake_on<W: Primitives>(w: &mut W, set: SetId) -> Option<ThreadId>
     requires named { 0 < set_of (W.view w.old) set }
     requires unqueued { AreWaitersUnqueued (set_of (W.view w.old) set) (W.view w.old).core }
     ensures choice { (event : TaskEvent) → may_hand_on (set_of (W.view w.old) set) (PickedTaskEvent event) (option_map (λ id. thread_of (W.view w.old) id) result) (W.view w.old).core ≡ true }
+    ensures first { IfSome result (λ id. IsFirstToWake id (W.view w.old)) }
     ensures new { (event : TaskEvent) → W.view w.new ≡ on_core (handed_on (set_of (W.view w.old) set) (PickedTaskEvent event) (option_map (λ id. thread_of (W.view w.old) id) result)) (W.view w.old) }
 {
     if w.has_ready_member(set) {
