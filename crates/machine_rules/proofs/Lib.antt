@@ -20,3 +20,4 @@ pub mod StandLemmas
 pub mod StopLemmas
 pub mod MoveLemmas
 pub mod FreeLemmas
+pub mod CalmLemmas

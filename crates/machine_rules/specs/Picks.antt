@@ -16,9 +16,10 @@ use Rattle.machine_data.specs.declared.records.Subtask.TheVariants as subtask
 use Rattle.machine_data.specs.declared.records.Subtask.{Subtask}
 use Rattle.machine_data.specs.declared.words.Given.TheVariants as given
 use Rattle.machine_data.specs.declared.words.Given.{Given}
+use Rattle.machine_data.specs.declared.words.HostPoll.{HostPoll}
 use Rattle.machine_data.specs.declared.records.Turn.TheVariants as turn
 use Rattle.machine_data.specs.declared.records.Turn.{Turn}
-use Rattle.machine_rules.specs.Progress.{Asks, Ordered, Progress, may}
+use Rattle.machine_rules.specs.Progress.{Asks, Continues, Ordered, Progress, Stops, may}
 use Rattle.machine_rules.specs.Stalled.{Setting}
 use Rattle.machine_rules.specs.Step.{Progresses, TurnStep, did}
 
@@ -165,6 +166,18 @@ TurnStepIn p x s q l t = TurnStep x s q l t
 -- From s the machine may show the label, and then is in t, where each release goes in the order of the preference.
 unfoldable pub StepIn : Preference → Setting → State → Label → State → Type 0
 StepIn p x s l t = TurnStepIn p x s s.turn l t
+
+-- the label shows nothing of a choice
+abbrev pub Silent : Label → Type 0
+Silent l = (woken_of l ≡ None) × (taken_of l ≡ None)
+
+-- the row leaves no choice: its labels show none, and it releases no thread
+abbrev pub LeavesNoChoice : Progress → Type 0
+LeavesNoChoice (Continues l new m) = Silent l
+LeavesNoChoice (Stops l new) = Silent l
+LeavesNoChoice (Ordered ns next) = ⊥
+LeavesNoChoice (Asks next) = (answer : HostPoll) → LeavesNoChoice (next answer)
+LeavesNoChoice _ = Unit {0}
 
 -- The step picks what comes first.
 pub record Picks (p : Preference) (x : Setting) (s : State) (l : Label) (t : State) : Type 0 where

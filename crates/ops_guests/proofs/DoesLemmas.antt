@@ -4,7 +4,10 @@ use Rattle.std.specs.Prelude.{ℕ, ◌≡◌}
 use Rattle.machine_data.specs.Core.{Core}
 use Rattle.machine_data.specs.Labels.{Choice, choice_of}
 use Rattle.machine_data.specs.declared.trap.Trap.{Trap}
-use Rattle.ops_guests.specs.OpResult.{Implements}
+use Rattle.ops_guests.proofs.CalmLemmas.{calm_picks}
+use Rattle.ops_guests.specs.OpResult.{Implements, PicksFirst}
+use Rattle.machine_rules.specs.Picks.{LeavesNoChoice}
+use Rattle.core_primitives.specs.Preferences.{preference}
 use Rattle.ops_guests.specs.Does.{DoesRule, KeepsRest, Rule, SameNames}
 use Rattle.ops_guests.specs.Ended.{ended}
 use Rattle.ops_guests.specs.Stays.{StaysAfter}
@@ -50,12 +53,27 @@ ended_stays p d n (op_result.Stops l) s t h tags current = tt
 ended_stays p d n (op_result.Traps why) s t h tags current = same_view s t (trapped_same p s.core t.core why h) tags current
 ended_stays p d n (op_result.Fails i) s t h tags current = same_view s t (failed_same p s.core t.core i h) tags current
 
+-- what an op picks whose rule leaves no choice, whoever has it done
+abbrev pub IsCalm : Rule → TableId ThreadKey → StateView → OpResult → Type 0
+IsCalm rule id s r = (d : Doer) → LeavesNoChoice (rule d (thread_of s id) (choice_of (label_of (thread_of s id) r)) s.core)
+
+-- what an op picks, whoever has it done
+abbrev pub PicksAs : Rule → TableId ThreadKey → StateView → OpResult → StateView → Type 0
+PicksAs rule id s r t = (d : Doer) → PicksFirst (preference s) (rule d (thread_of s id) (choice_of (label_of (thread_of s id) r)) s.core)
+    (label_of (thread_of s id) r) s.core r (ended d (thread_of s id) r t.core)
+
+pub calm_as : (rule : Rule) (id : TableId ThreadKey) (s t : StateView) (r : OpResult) → IsCalm rule id s r
+    → ((d : Doer) → Implements (rule d (thread_of s id) (choice_of (label_of (thread_of s id) r)) s.core) s.core r (ended d (thread_of s id) r t.core))
+    → PicksAs rule id s r t
+calm_as rule id s t r calm meets = λ d. calm_picks (preference s) (thread_of s id) (rule d (thread_of s id) (choice_of (label_of (thread_of s id) r)) s.core) s.core r (ended d (thread_of s id) r t.core) (calm d) (meets d)
+
 -- it did its rule, and no name is changed
 pub does_same : (rule : Rule) (id : TableId ThreadKey) (s t : StateView) (r : OpResult)
     → ((d : Doer) → Implements (rule d (thread_of s id) (choice_of (label_of (thread_of s id) r)) s.core) s.core r (ended d (thread_of s id) r t.core))
-    → t.tags ≡ s.tags → t.current ≡ s.current → DoesRule SameNames rule id s r t
-does_same rule id s t r meets tags current = record {
+    → PicksAs rule id s r t → t.tags ≡ s.tags → t.current ≡ s.current → DoesRule SameNames rule id s r t
+does_same rule id s t r meets picks tags current = record {
   meets = meets;
+  picks = picks;
   stays = ended_stays (rule SomeHost (thread_of s id) (choice_of (label_of (thread_of s id) r)) s.core) SomeHost (thread_of s id) r s t (meets SomeHost) tags current;
   kept = (tags, current);
 }
@@ -63,8 +81,8 @@ does_same rule id s t r meets tags current = record {
 -- the same, where the core alone was written
 pub does_on : (rule : Rule) (id : TableId ThreadKey) (new : Core) (s t : StateView) (r : OpResult) → t ≡ with_core new s
     → ((d : Doer) → Implements (rule d (thread_of s id) (choice_of (label_of (thread_of s id) r)) s.core) s.core r (ended d (thread_of s id) r t.core))
-    → DoesRule SameNames rule id s r t
-does_on rule id new s t r e meets = does_same rule id s t r meets (ap (λ (v : StateView). v.tags) e) (ap (λ (v : StateView). v.current) e)
+    → PicksAs rule id s r t → DoesRule SameNames rule id s r t
+does_on rule id new s t r e meets picks = does_same rule id s t r meets picks (ap (λ (v : StateView). v.tags) e) (ap (λ (v : StateView). v.current) e)
 
 -- ---- What is kept
 
@@ -78,6 +96,7 @@ pub does_rule : (AreKept : StateView → StateView → Type 0) (rule other : Rul
     → ((d : Doer) (c : Choice) → other d (thread_of s id) c s.core ≡ rule d (thread_of s id) c s.core) → DoesRule AreKept other id s r t
 does_rule AreKept rule other id s t r did same = record {
   meets = λ d. subst (λ (p : Progress). Implements p s.core r (ended d (thread_of s id) r t.core)) (sym (same d (choice_of (label_of (thread_of s id) r)))) (did.meets d);
+  picks = λ d. subst (λ (p : Progress). PicksFirst (preference s) p (label_of (thread_of s id) r) s.core r (ended d (thread_of s id) r t.core)) (sym (same d (choice_of (label_of (thread_of s id) r)))) (did.picks d);
   stays = did.stays;
   kept = did.kept;
 }

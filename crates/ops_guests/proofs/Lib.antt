@@ -21,3 +21,4 @@ pub mod DeliveryLemmas
 pub mod WorkLemmas
 pub mod BlockLemmas
 pub mod OpenLemmas
+pub mod CalmLemmas

@@ -1,0 +1,280 @@
+-- Rows that leave no choice: their labels show none, and they release no thread.
+use Rattle.std.proofs.Common.{refl, suc, zero}
+use Rattle.std.specs.Prelude.{Bool, List, None, Option, Some, false, is_some, nat_le, nat_lt, not, true, ℕ, ◌%◌, ◌*◌, ◌+◌, ◌/◌, ◌==◌, ◌≡◌}
+use Rattle.machine_data.specs.Core.{Core}
+use Rattle.machine_data.specs.Labels.{Choice, exit_label, join_label, ret_label, task_cancel_label, wait_label}
+use Rattle.machine_data.specs.Moves.{PickedEvent, PickedMember, NothingPicked, PickedTaskEvent, picked_event, may_hand_on, passes_check}
+use Rattle.machine_data.specs.Read.{at_handle_limit, backpressure_of, cancel_was_delivered, event_of, fits, foot_of, goal_of, has_ended, has_member, has_waiters, op_progress_of, instance_of, is_async_lifted, is_direct, is_explicit, is_joined, is_watched, join_of, kind_of, registers_of, set_at, subtask_at, subtask_ended, task_of, thread_at, undelivered_end, under_of, was_cancelled}
+use Rattle.machine_data.specs.Statuses.{status_code}
+use Rattle.machine_data.specs.Write.{set_join}
+use Rattle.machine_data.specs.declared.component.Callee.{Callee}
+use Rattle.machine_data.specs.declared.component.Component.{Component}
+use Rattle.machine_data.specs.declared.component.ExportKind.TheVariants as kind
+use Rattle.machine_data.specs.declared.component.ExportKind.{ExportKind}
+use Rattle.machine_data.specs.declared.component.Slot.TheVariants as slot
+use Rattle.machine_data.specs.declared.component.Slot.{Slot}
+use Rattle.machine_data.specs.declared.label.Label.TheVariants as label
+use Rattle.machine_data.specs.declared.label.Label.{Label}
+use Rattle.machine_data.specs.declared.label.TaskLabel.TheVariants as task_label
+use Rattle.machine_data.specs.declared.label.ThreadLabel.TheVariants as thread_label
+use Rattle.machine_data.specs.declared.label.ThreadLabel.{ThreadLabel}
+use Rattle.machine_data.specs.declared.op.CallOp.TheVariants as call_op
+use Rattle.machine_data.specs.declared.op.CallOp.{CallOp}
+use Rattle.machine_data.specs.declared.op.DataOp.TheVariants as data_op
+use Rattle.machine_data.specs.declared.op.DataOp.{DataOp}
+use Rattle.machine_data.specs.declared.op.Op.TheVariants as op
+use Rattle.machine_data.specs.declared.op.Op.{Op}
+use Rattle.machine_data.specs.declared.op.SetOp.TheVariants as set_op
+use Rattle.machine_data.specs.declared.op.SetOp.{SetOp}
+use Rattle.machine_data.specs.declared.op.TaskOp.TheVariants as task_op
+use Rattle.machine_data.specs.declared.op.TaskOp.{TaskOp}
+use Rattle.machine_data.specs.declared.op.ThreadOp.TheVariants as thread_op
+use Rattle.machine_data.specs.declared.op.ThreadOp.{ThreadOp}
+use Rattle.machine_data.specs.declared.records.Goal.TheVariants as goal
+use Rattle.machine_data.specs.declared.records.Goal.{Goal}
+use Rattle.machine_data.specs.declared.records.OpProgress.TheVariants as op_progress
+use Rattle.machine_data.specs.declared.records.OpProgress.{OpProgress}
+use Rattle.machine_data.specs.declared.records.Join.TheVariants as join
+use Rattle.machine_data.specs.declared.records.Subtask.TheVariants as subtask
+use Rattle.machine_data.specs.declared.records.Subtask.{Subtask}
+use Rattle.machine_data.specs.declared.trap.Trap.TheVariants as trap
+use Rattle.machine_data.specs.declared.words.Given.{Given}
+use Rattle.machine_data.specs.declared.words.Status.TheVariants as status
+use Rattle.machine_data.specs.declared.words.Status.{Status}
+use Rattle.machine_data.specs.declared.component.HostDef.{HostDef}
+use Rattle.machine_data.specs.declared.component.HostDef.TheVariants as host_def
+use Rattle.machine_rules.specs.Calls.{AtOnce, Failing, FirstPoll, Later, call_begins, call_host_by, call_resumes, call_rule, call_status_by, call_sync_begins, call_sync_host_by, call_sync_host_rule, call_sync_rule, call_sync_status_by, enter_rule, first_polled, heard_first, polled_first, status_found}
+use Rattle.machine_rules.specs.Cancels.{AlreadyEnded, Async, CallbackWaits, CallbackYields, CancelCase, Mode, OtherwiseRuns, StartNotRun, Sync, after_cancel_by, cancel_aborts_host, cancel_asks, cancel_by, cancel_case, cancel_ended_by, cancel_found_by, cancel_guest_by, cancel_label, cancel_resumed, cancel_rule, cancel_subtask_by, cancel_unended_by, drop_by, subtask_rule}
+use Rattle.machine_rules.specs.Data.{data_rule, skip_rule}
+use Rattle.machine_rules.specs.Ends.{blocking_exit_rule, code_kind_rule, code_rule, code_wait_rule, direct_exit_to, exit_rule_for, has_event_for, held_by_flag, implicit_exit_rule, kind_exit_rule, leaves_no_result, may_tell, passes_after_return, passes_after_stop, sync_exit_rule, thread_exit_rule}
+use Rattle.machine_rules.specs.Finish.{Doer}
+use Rattle.machine_rules.specs.OpParts.{is_data_op}
+use Rattle.machine_rules.specs.Progress.{Progress, or_trap, trap_if}
+use Rattle.machine_rules.specs.Scripts.{export_kind, host_at, op_of, slot_at, value_of, values_in}
+use Rattle.machine_rules.specs.Sets.{chosen, finds_nothing, handed_out, join_done_by, join_to_by, may_wake_new, set_drop_by, set_new_rule, set_rule, wait_begins_by, wait_goes_on_by, wait_rule}
+use Rattle.machine_rules.specs.Step.{did, op_rule, own_script}
+use Rattle.machine_rules.specs.Task.{dec_by, inc_rule, ret_bad_rule, ret_rule, task_cancel_rule, task_rule}
+use Rattle.machine_rules.specs.Threads.{Halt, Suspension, Yielding, halt_rule, halting_by, halts_by, has_yielded, resume_later_by, resume_why, resumed_by, then_promote_by, then_promote_found_by, then_promote_rule, then_resume_found, then_resume_rule, thread_new_rule, thread_rule}
+use Rattle.machine_rules.specs.Picks.{LeavesNoChoice, Silent}
+use Rattle.machine_data.specs.declared.trap.Trap.{Trap}
+
+pub trap_if_calm : (b : Bool) (t : Trap) (p : Progress) → LeavesNoChoice p → LeavesNoChoice (trap_if b t p)
+trap_if_calm true t p calm = tt
+trap_if_calm false t p calm = calm
+
+pub or_trap_calm : {X : Type 0} (o : Option X) (t : Trap) (next : X → Progress) → ((x : X) → LeavesNoChoice (next x)) → LeavesNoChoice (or_trap o t next)
+or_trap_calm None t next calm = tt
+or_trap_calm (Some x) t next calm = calm x
+
+silent_cancel : (mode : Mode) (n v : ℕ) → Silent (cancel_label mode n v)
+silent_cancel Async n v = (refl, refl)
+silent_cancel Sync n v = (refl, refl)
+
+-- ---- Registers and words
+
+pub skip_calm : (c : Component) (n k : ℕ) (s : Core) (b : Bool) → LeavesNoChoice (skip_rule c n k s b)
+skip_calm c n k s true = (refl, refl)
+skip_calm c n k s false = (refl, refl)
+
+pub data_calm : (c : Component) (n : ℕ) (s : Core) (o : DataOp) → LeavesNoChoice (data_rule c n s o)
+data_calm c n s (data_op.Set r x) = (refl, refl)
+data_calm c n s (data_op.Add r x) = (refl, refl)
+data_calm c n s (data_op.Handle r x) = (refl, refl)
+data_calm c n s (data_op.Load r w) = (refl, refl)
+data_calm c n s (data_op.Store w x) = (refl, refl)
+data_calm c n s (data_op.SkipEq x y k) = skip_calm c n k s (value_of n s x == value_of n s y)
+
+-- ---- Ends
+
+module _ (d : Doer) (n : ℕ) (s : Core) where
+  abbrev fails_check : Bool
+  fails_check = not (passes_check (instance_of n s) s)
+
+  -- ---- Tasks
+
+  pub ret_bad_calm : LeavesNoChoice (ret_bad_rule n s)
+  ret_bad_calm = trap_if_calm (has_ended (task_of n s) s) _ _ (refl, refl)
+
+  pub inc_calm : LeavesNoChoice (inc_rule d n s)
+  inc_calm = trap_if_calm (nat_le 65535 (backpressure_of (instance_of n s) s)) _ _ (refl, refl)
+
+  -- ---- Sets
+
+  pub set_new_calm : LeavesNoChoice (set_new_rule d n s)
+  set_new_calm = trap_if_calm (not (fits 1 s)) _ _ (trap_if_calm (at_handle_limit s) _ _ (refl, refl))
+
+  pub set_drop_calm : (h x : ℕ) → LeavesNoChoice (set_drop_by d n h s x)
+  set_drop_calm h x = trap_if_calm (has_waiters x s) _ _ (trap_if_calm (has_member x s) _ _ (refl, refl))
+
+  -- ---- Calls
+
+  pub call_begins_calm : (c : Component) (e : Callee) (g : Goal) (words : List ℕ) → LeavesNoChoice (call_begins c n e g words s)
+  call_begins_calm c e g words = trap_if_calm (not (fits 3 s)) _ _ (refl, refl)
+
+  pub call_status_calm : (k : ℕ) (x : Status) → LeavesNoChoice (call_status_by d n k s x)
+  call_status_calm k status.Returned = (refl, refl)
+  call_status_calm k status.Starting = trap_if_calm (at_handle_limit s) _ _ (refl, refl)
+  call_status_calm k status.Started = trap_if_calm (at_handle_limit s) _ _ (refl, refl)
+  call_status_calm k status.StartCancelled = trap_if_calm (at_handle_limit s) _ _ (refl, refl)
+  call_status_calm k status.ReturnCancelled = trap_if_calm (at_handle_limit s) _ _ (refl, refl)
+
+  pub call_calm : (c : Component) (q : ℕ) (e : Callee) (words : List ℕ) (far : OpProgress) → LeavesNoChoice (call_rule d c n q e words s far)
+  call_calm c q e words (op_progress.Calls (subtask.Guest k)) = call_status_calm k (status_found k s)
+  call_calm c q e words _ = call_begins_calm c e (goal.Register q) words
+
+  pub sync_status_calm : (k : ℕ) (x : Status) → LeavesNoChoice (call_sync_status_by d n k s x)
+  sync_status_calm k status.Returned = (refl, refl)
+  sync_status_calm k status.Starting = trap_if_calm (not (passes_check (instance_of n s) (call_resumes n k s))) _ _ (refl, refl)
+  sync_status_calm k status.Started = trap_if_calm (not (passes_check (instance_of n s) (call_resumes n k s))) _ _ (refl, refl)
+  sync_status_calm k status.StartCancelled = trap_if_calm (not (passes_check (instance_of n s) (call_resumes n k s))) _ _ (refl, refl)
+  sync_status_calm k status.ReturnCancelled = trap_if_calm (not (passes_check (instance_of n s) (call_resumes n k s))) _ _ (refl, refl)
+
+  pub enter_calm : (e : Callee) (x : ExportKind) (words : List ℕ) → LeavesNoChoice (enter_rule n e x words s)
+  enter_calm e x words = trap_if_calm (not (fits 3 s)) _ _ (trap_if_calm (at_handle_limit s) _ _ (refl, refl))
+
+  pub sync_begins_calm : (c : Component) (e : Callee) (words : List ℕ) (b : Bool) → LeavesNoChoice (call_sync_begins c n e words s b)
+  sync_begins_calm c e words true = call_begins_calm c e goal.Answer words
+  sync_begins_calm c e words false = enter_calm e (export_kind c e) words
+
+  pub sync_calm : (c : Component) (e : Callee) (words : List ℕ) (far : OpProgress) → LeavesNoChoice (call_sync_rule d c n e words s far)
+  sync_calm c e words (op_progress.Answered v) = (refl, refl)
+  sync_calm c e words (op_progress.Calls (subtask.Guest k)) = sync_status_calm k (status_found k s)
+  sync_calm c e words _ = sync_begins_calm c e words (is_async_lifted (export_kind c e))
+
+  pub host_calm : (q : ℕ) (x : FirstPoll) → LeavesNoChoice (call_host_by d n q s x)
+  host_calm q (AtOnce v) = (refl, refl)
+  host_calm q Failing = tt
+  host_calm q (Later host) = trap_if_calm (not (fits 1 s)) _ _ (trap_if_calm (at_handle_limit s) _ _ (refl, refl))
+
+  pub sync_host_polled_calm : (x : FirstPoll) → LeavesNoChoice (call_sync_host_by d n s x)
+  sync_host_polled_calm (AtOnce v) = (refl, refl)
+  sync_host_polled_calm Failing = tt
+  sync_host_polled_calm (Later host) = trap_if_calm (not (fits 1 s)) _ _ (trap_if_calm fails_check _ _ (refl, refl))
+
+  pub first_polled_calm : (host : HostDef) (next : FirstPoll → Progress) → ((x : FirstPoll) → LeavesNoChoice (next x)) → LeavesNoChoice (first_polled host next)
+  first_polled_calm (host_def.Settled polls value) next silent = silent (polled_first polls value)
+  first_polled_calm host_def.Open next silent = λ answer. silent (heard_first answer)
+
+  pub sync_host_calm : (c : Component) (h : ℕ) (far : OpProgress) → LeavesNoChoice (call_sync_host_rule d c n h s far)
+  sync_host_calm c h (op_progress.Calls (subtask.Host i)) = (refl, refl)
+  sync_host_calm c h _ = first_polled_calm (host_at c h) (call_sync_host_by d n s) (λ x. sync_host_polled_calm x)
+
+-- ---- Cancels and drops
+
+module _ (d : Doer) (mode : Mode) (n : ℕ) where
+  pub ended_calm : (sub : Subtask) (s : Core) (e : Option Status) → LeavesNoChoice (cancel_ended_by d mode n sub s e)
+  ended_calm sub s None = (refl, refl)
+  ended_calm sub s (Some e) = silent_cancel mode n (status_code e)
+
+  pub unended_calm : (sub : Subtask) (s : Core) (m : Mode) → LeavesNoChoice (cancel_unended_by d m n sub s)
+  unended_calm sub s Async = (refl, refl)
+  unended_calm sub s Sync = trap_if_calm (not (passes_check (instance_of n s) s)) _ _ (refl, refl)
+
+  pub by_end_calm : (sub : Subtask) (s : Core) (b : Bool) → LeavesNoChoice (cancel_by d mode n sub s b)
+  by_end_calm sub s true = ended_calm sub s (undelivered_end (event_of sub s))
+  by_end_calm sub s false = unended_calm sub s mode
+
+  pub after_calm : (sub : Subtask) (s : Core) → LeavesNoChoice (after_cancel_by d mode n sub s)
+  after_calm sub s = by_end_calm sub s (subtask_ended sub s)
+
+  pub guest_calm : (k : ℕ) (s : Core) (x : CancelCase) → LeavesNoChoice (cancel_guest_by d mode n k s x)
+  guest_calm k s AlreadyEnded = ended_calm (subtask.Guest k) s (undelivered_end (event_of (subtask.Guest k) s))
+  guest_calm k s StartNotRun = silent_cancel mode n 3
+  guest_calm k s CallbackWaits = (refl, refl)
+  guest_calm k s CallbackYields = (refl, refl)
+  guest_calm k s OtherwiseRuns = after_calm (subtask.Guest k) (cancel_asks k s)
+
+  pub subtask_calm : (s : Core) (sub : Subtask) → LeavesNoChoice (cancel_subtask_by d mode n s sub)
+  subtask_calm s (subtask.Guest k) = guest_calm k s (cancel_case k s)
+  subtask_calm s (subtask.Host i) = trap_if_calm (was_cancelled i s) _ _ (after_calm (subtask.Host i) (cancel_aborts_host i s))
+
+  pub found_calm : (s : Core) (sub : Subtask) → LeavesNoChoice (cancel_found_by d mode n s sub)
+  found_calm s sub = trap_if_calm (is_joined (join_of sub s)) _ _ (subtask_calm s sub)
+
+  pub named_calm : (h : ℕ) (s : Core) → LeavesNoChoice (or_trap (subtask_at (instance_of n s) h s) trap.BadHandle (cancel_found_by d mode n s))
+  named_calm h s = or_trap_calm (subtask_at (instance_of n s) h s) _ _ (λ sub. found_calm s sub)
+
+  pub cancel_calm : (h : ℕ) (s : Core) (far : OpProgress) → LeavesNoChoice (cancel_rule d mode n h s far)
+  cancel_calm h s (op_progress.Cancels sub) = after_calm sub (cancel_resumed n sub s)
+  cancel_calm h s (op_progress.AwaitsEnd sub) =
+      let t = set_join sub join.Nowhere s in ended_calm sub t (undelivered_end (event_of sub t))
+  cancel_calm h s _ = named_calm h s
+
+pub drop_calm : (d : Doer) (n h : ℕ) (s : Core) (sub : Subtask) → LeavesNoChoice (drop_by d n h s sub)
+drop_calm d n h s sub =
+    trap_if_calm (is_watched (join_of sub s)) _ _ (
+    trap_if_calm (not (subtask_ended sub s)) _ _ (
+    trap_if_calm (is_some (event_of sub s)) _ _ (refl, refl)))
+
+pub calls_calm : (d : Doer) (c : Component) (n : ℕ) (s : Core) (o : CallOp) → LeavesNoChoice (subtask_rule d c n s o)
+calls_calm d c n s (call_op.Call r q e xs) = call_calm d n s c q e (values_in (registers_of n s) xs) (op_progress_of n s)
+calls_calm d c n s (call_op.CallSync r e xs) = sync_calm d n s c e (values_in (registers_of n s) xs) (op_progress_of n s)
+calls_calm d c n s (call_op.CallHost r q h) = first_polled_calm d n s (host_at c h) (call_host_by d n q s) (λ x. host_calm d n s q x)
+calls_calm d c n s (call_op.CallSyncHost r h) = sync_host_calm d n s c h (op_progress_of n s)
+calls_calm d c n s (call_op.Cancel r x) = cancel_calm d Async n (value_of n s x) s (op_progress_of n s)
+calls_calm d c n s (call_op.CancelSync r x) = cancel_calm d Sync n (value_of n s x) s (op_progress_of n s)
+calls_calm d c n s (call_op.Drop x) =
+    or_trap_calm (subtask_at (instance_of n s) (value_of n s x) s) _ _ (λ sub. drop_calm d n (value_of n s x) s sub)
+
+-- ---- Threads
+
+pub new_calm : (d : Doer) (n x v : ℕ) (s : Core) (y : Slot) → LeavesNoChoice (thread_new_rule d n x v s y)
+new_calm d n x v s slot.Empty = tt
+new_calm d n x v s slot.Bad = tt
+new_calm d n x v s (slot.Script ops) = trap_if_calm (not (fits 2 s)) _ _ (trap_if_calm (at_handle_limit s) _ _ (refl, refl))
+
+pub later_calm : (d : Doer) (n : ℕ) (s : Core) (m : ℕ) → LeavesNoChoice (resume_later_by d n s m)
+later_calm d n s m = trap_if_calm (m == n) _ _ (or_trap_calm (resume_why m s) _ _ (λ w. (refl, refl)))
+
+pub then_resume_calm : (x : Halt) (n : ℕ) (s : Core) (m : ℕ) → LeavesNoChoice (then_resume_found x n s m)
+then_resume_calm x n s m = trap_if_calm (m == n) _ _ (or_trap_calm (resume_why m s) _ _ (λ w. (refl, refl)))
+
+module _ (d : Doer) (n : ℕ) (l : Label) (silent : Silent l) (s : Core) where
+  pub halts_calm : (x : Halt) (b : Bool) → LeavesNoChoice (halts_by d x n l s b)
+  halts_calm x true = (refl, refl)
+  halts_calm Suspension false = tt
+  halts_calm Yielding false = silent
+
+  pub halt_calm : (x : Halt) → LeavesNoChoice (halt_rule d x n l s)
+  halt_calm x = halts_calm x (passes_check (instance_of n s) s)
+
+  pub promote_calm : (x : Halt) (m : ℕ) (b : Bool) → LeavesNoChoice (then_promote_by d x n l s m b)
+  promote_calm x m true = (refl, refl)
+  promote_calm x m false = halt_calm x
+
+  pub promote_found_calm : (x : Halt) (m : ℕ) → LeavesNoChoice (then_promote_found_by d x n l s m)
+  promote_found_calm x m = trap_if_calm (m == n) _ _ (promote_calm x m (has_yielded m s))
+
+  pub then_promote_calm : (x : Halt) (h : ℕ) → LeavesNoChoice (then_promote_rule d x n h l s)
+  then_promote_calm x h = or_trap_calm (thread_at (instance_of n s) h s) _ _ (λ m. promote_found_calm x m)
+
+  pub by_calm : (far : OpProgress) (p : Progress) → LeavesNoChoice p → LeavesNoChoice (resumed_by d far n l s p)
+  by_calm op_progress.Suspends p h = silent
+  by_calm op_progress.Yields p h = silent
+  by_calm _ p h = h
+
+module _ (d : Doer) (n : ℕ) (s : Core) where
+  pub resume_rule_calm : (x : Halt) (h : ℕ) → LeavesNoChoice (then_resume_rule x n h s)
+  resume_rule_calm x h = or_trap_calm (thread_at (instance_of n s) h s) _ _ (λ m. then_resume_calm x n s m)
+
+  pub halting_calm : (l : ThreadLabel) (row : Label → Progress) → LeavesNoChoice (row (label.Thread l)) → LeavesNoChoice (halting_by d n s l row)
+  halting_calm l row h = by_calm d n (label.Thread l) (refl, refl) s (op_progress_of n s) (row (label.Thread l)) h
+
+  pub thread_calm : (c : Component) (o : ThreadOp) → LeavesNoChoice (thread_rule d c n s o)
+  thread_calm c (thread_op.New r x v) = new_calm d n x (value_of n s v) s (slot_at c (instance_of n s) x)
+  thread_calm c (thread_op.Index r) = (refl, refl)
+  thread_calm c (thread_op.ResumeLater x) = or_trap_calm (thread_at (instance_of n s) (value_of n s x) s) _ _ (λ m. later_calm d n s m)
+  thread_calm c thread_op.Suspend =
+      let l = thread_label.Suspend n in halting_calm l (λ l. halt_rule d Suspension n l s) (halt_calm d n (label.Thread l) (refl, refl) s Suspension)
+  thread_calm c thread_op.Yield =
+      let l = thread_label.Yield n in halting_calm l (λ l. halt_rule d Yielding n l s) (halt_calm d n (label.Thread l) (refl, refl) s Yielding)
+  thread_calm c (thread_op.SuspendThenResume x) =
+      halting_calm (thread_label.SuspendThenResume n) (λ l. then_resume_rule Suspension n (value_of n s x) s) (resume_rule_calm Suspension (value_of n s x))
+  thread_calm c (thread_op.YieldThenResume x) =
+      halting_calm (thread_label.YieldThenResume n) (λ l. then_resume_rule Yielding n (value_of n s x) s) (resume_rule_calm Yielding (value_of n s x))
+  thread_calm c (thread_op.SuspendThenPromote x) =
+      let l = thread_label.SuspendThenPromote n in
+      halting_calm l (λ l. then_promote_rule d Suspension n (value_of n s x) l s) (then_promote_calm d n (label.Thread l) (refl, refl) s Suspension (value_of n s x))
+  thread_calm c (thread_op.YieldThenPromote x) =
+      let l = thread_label.YieldThenPromote n in
+      halting_calm l (λ l. then_promote_rule d Yielding n (value_of n s x) l s) (then_promote_calm d n (label.Thread l) (refl, refl) s Yielding (value_of n s x))
