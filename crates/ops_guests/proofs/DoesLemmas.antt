@@ -100,3 +100,9 @@ does_rule AreKept rule other id s t r did same = record {
   stays = did.stays;
   kept = did.kept;
 }
+
+-- the same of a rule that leaves no choice
+pub calm_same : (rule : Rule) (id : TableId ThreadKey) (s t : StateView) (r : OpResult) → IsCalm rule id s r
+    → ((d : Doer) → Implements (rule d (thread_of s id) (choice_of (label_of (thread_of s id) r)) s.core) s.core r (ended d (thread_of s id) r t.core))
+    → t.tags ≡ s.tags → t.current ≡ s.current → DoesRule SameNames rule id s r t
+calm_same rule id s t r calm meets tags current = does_same rule id s t r meets (calm_as rule id s t r calm meets) tags current

@@ -1,12 +1,21 @@
 -- An op that meets its rule is a step.
-use Rattle.std.proofs.Common.{refl, subst, sym}
-use Rattle.std.specs.Prelude.{Option, ℕ, ◌≡◌}
+use Rattle.std.proofs.Common.{ap, ap₂, refl, subst, sym, ◌∙◌}
+use Rattle.std.specs.Prelude.{Bool, IfSome, None, Option, Some, false, true, ℕ, ◌≡◌}
 use Rattle.ops_guests.specs.OpResult.{Implements}
-use Rattle.ops_guests.specs.Steps.{ActingIsStep, MeetingIsStep, TakingIsStep, core_after, label_of, main_after, main_label_of, turn_after}
+use Rattle.machine_data.specs.declared.label.Label.{Label}
+use Rattle.machine_data.specs.declared.words.Mark.TheVariants as mark
+use Rattle.machine_rules.specs.Picks.{Preference, ShowsFirst, StepIn, TakesFirst, TurnStepIn, WakesFirst, goes_in_order, in_order, taken_of}
+use Rattle.machine_rules.specs.Progress.{may}
+use Rattle.ops_guests.specs.Steps.{ActingIsStep, MeetingIsStep, PickingIsPicked, TakingIsPicked, TakingIsStep, core_after, label_of, main_after, main_label_of, turn_after}
 use Rattle.ops_guests.specs.declared.op_result.OpResult.{OpResult}
 use Rattle.machine_data.specs.Core.{Core, Main, MainPlace, State}
 use Rattle.machine_data.specs.declared.records.Turn.{Turn}
-use Rattle.machine_data.specs.Labels.{choice_of}
+use Rattle.machine_data.specs.Labels.{choice_of, woken_of}
+use Rattle.machine_data.specs.Maps.{Records}
+use Rattle.machine_data.specs.Core.{NameTable}
+use Rattle.machine_data.specs.Read.{instance_of, is_ready_member, is_waiter, subtask_at}
+use Rattle.machine_data.specs.declared.records.Named.{Named}
+use Rattle.machine_data.specs.declared.records.Subtask.{Subtask}
 use Rattle.machine_rules.specs.Progress.{Asks, Fails, Continues, Never, Ordered, Progress, Stops, Traps}
 use Rattle.machine_rules.specs.Step.{MainProgresses, MainStep, Progresses, ScriptStep, Step, TakeStep, TurnStep, did, entry_number}
 use Rattle.machine_rules.specs.Takes.{popped, take_rule}
@@ -41,6 +50,82 @@ taking_is_step x s ended e r t at next h =
     let u = goes_to s (core_after (entry_number e.1) r t) (turn_after r) in
     let taken = meets_progresses s (popped e.0 s.core) (entry_number e.1) (take_rule e.0 (choice_of l) (popped e.0 s.core) e.1) r t h in
     subst (λ (y : Turn). TurnStep x s y l u) (sym at) (subst (λ (o : Option (Mark × Entry)). TakeStep x s o l u) (sym next) taken)
+
+-- ---- What a step picks
+
+pub picking_is_picked : PickingIsPicked
+unfolding StepIn
+picking_is_picked p x s n r t at h = record {
+  shows = h.shows;
+  step = subst (λ (u : Turn). TurnStepIn p x s u (label_of n r) (goes_to s (core_after n r t) (turn_after r))) (sym at)
+      (meets_progresses s s.core n (in_order p (did x.component n s.core (choice_of (label_of n r)))) r t h.order);
+}
+
+-- what a step shows is told by threads, calls, host works and handles alone
+shows_as : (p : Preference) (s t : Core) (l : Label) → t.threads ≡ s.threads → t.calls ≡ s.calls → t.works ≡ s.works → t.handles ≡ s.handles → ShowsFirst p t l → ShowsFirst p s l
+shows_as p s t l threads calls works handles h = record {
+  waiter = if_some (WakesFirst p t) (WakesFirst p s) (λ w f. record {
+    set = f.set;
+    waits = sym (waits f.set w) ∙ f.waits;
+    first = λ n there. f.first n (waits f.set n ∙ there);
+  }) (woken_of l) h.waiter;
+  member = if_some (λ e. TakesFirst p t (instance_of e.0 t) e.1) (λ e. TakesFirst p s (instance_of e.0 s) e.1) (λ e f. record {
+    set = f.set;
+    member = f.member;
+    named = sym (ap₂ (λ m i. named_subtask i e.1 m) handles (instance e.0)) ∙ f.named;
+    ready = sym (ready f.set f.member) ∙ f.ready;
+    first = λ other there. f.first other (ready f.set other ∙ there);
+  }) (taken_of l) h.member;
+}
+  where
+    waits : (x n : ℕ) → is_waiter x n t ≡ is_waiter x n s
+    waits x n = ap (λ m. is_waiter x n (record s { threads = m })) threads
+
+    instance : (n : ℕ) → instance_of n t ≡ instance_of n s
+    instance n = ap₂ (λ m k. instance_of n (record s { threads = m; calls = k })) threads calls
+
+    named_subtask : ℕ → ℕ → Records (NameTable Named) → Option Subtask
+    named_subtask i h m = subtask_at i h (record s { handles = m })
+
+    ready : (x : ℕ) (sub : Subtask) → is_ready_member x sub t ≡ is_ready_member x sub s
+    ready x sub = ap₂ (λ m k. is_ready_member x sub (record s { calls = m; works = k })) calls works
+
+-- the taking of an entry moves no thread, no call and no host work
+if_some : {A : Type 0} (P Q : A → Type 0) → ((a : A) → P a → Q a) → (o : Option A) → IfSome o P → IfSome o Q
+if_some P Q leads None h = tt
+if_some P Q leads (Some a) h = leads a h
+
+popped_shows : (p : Preference) (m : Mark) (s : Core) (l : Label) → ShowsFirst p (popped m s) l → ShowsFirst p s l
+unfolding popped
+popped_shows p mark.Switch s l h = shows_as p s (popped mark.Switch s) l refl refl refl refl h
+popped_shows p mark.High s l h = shows_as p s (popped mark.High s) l refl refl refl refl h
+popped_shows p mark.Low s l h = shows_as p s (popped mark.Low s) l refl refl refl refl h
+
+-- a taking releases no thread
+unordered : (p : Preference) (row : Progress) (s : Core) (r : OpResult) (t : Core) → Implements (in_order p row) s r t → Implements row s r t
+unordered p (Continues l new m) s r t h = h
+unordered p (Stops l new) s r t h = h
+unordered p (Traps why) s r t h = h
+unordered p (Fails i) s r t h = h
+unordered p Never s r t h = h
+unordered p (Ordered ns next) s r t h = (h.0, h.1.0, unordered p (next h.0) s r t (allowed (goes_in_order p h.0) (in_order p (next h.0)) h.1.1))
+  where
+    allowed : (b : Bool) (q : Progress) → Implements (may b q) s r t → Implements q s r t
+    allowed true q is = is
+    allowed false q is = absurd is
+unordered p (Asks next) s r t h = (h.0, unordered p (next h.0) s r t h.1)
+
+pub taking_is_picked : TakingIsPicked
+unfolding StepIn
+taking_is_picked p x s ended e r t at next h =
+    let l = label_of (entry_number e.1) r in
+    let u = goes_to s (core_after (entry_number e.1) r t) (turn_after r) in
+    let row = take_rule e.0 (choice_of l) (popped e.0 s.core) e.1 in
+    let taken = meets_progresses s (popped e.0 s.core) (entry_number e.1) row r t (unordered p row (popped e.0 s.core) r t h.order) in
+    record {
+      shows = popped_shows p e.0 s.core l h.shows;
+      step = subst (λ (y : Turn). TurnStepIn p x s y l u) (sym at) (subst (λ (o : Option (Mark × Entry)). TakeStep x s o l u) (sym next) taken);
+    }
 
 -- ---- Main
 

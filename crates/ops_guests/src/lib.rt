@@ -22,7 +22,7 @@ mod unwinds;
 mod wait_ops;
 mod work_ops;
 
-ghost use Rattle.ops_guests.specs.Steps.{ActingIsStep, MeetingIsStep, TakingIsStep};
+ghost use Rattle.ops_guests.specs.Steps.{ActingIsStep, MeetingIsStep, PickingIsPicked, TakingIsPicked, TakingIsStep};
 
 pub use codes::end_activation;
 pub use data::{compute, value_of};
@@ -52,4 +52,11 @@ pub fn ops_are_steps()
     ensures meeting { MeetingIsStep }
     ensures taking { TakingIsStep }
     ensures acting { ActingIsStep }
+{}
+
+/// Says that an op which picks what comes first is a step that does; so is a taking.
+#[tactic(auto, using(crate::proofs::MeetLemmas::picking_is_picked, crate::proofs::MeetLemmas::taking_is_picked))]
+pub fn steps_pick_first()
+    ensures picking { PickingIsPicked }
+    ensures taking { TakingIsPicked }
 {}

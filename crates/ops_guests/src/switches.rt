@@ -7,6 +7,7 @@ ghost use Rattle.ops_guests.specs.Halting.{ComesFirst, halt_of, promoted_first, 
 ghost use Rattle.ops_guests.specs.Running.{IsRunning};
 ghost use Rattle.ops_guests.specs.Shown.{shown};
 ghost use Rattle.ops_guests.specs.Rules.{makes_thread};
+ghost use Rattle.machine_rules.specs.Picks.{Silent};
 ghost use Rattle.machine_rules.specs.Threads.{has_yielded, then_resume_rule, thread_index_rule};
 ghost use Rattle.core_primitives.specs.StateView.{thread_of};
 
@@ -109,6 +110,7 @@ pub fn halt_then_promote<W: Primitives>(
 ) -> OpResult
     requires live { 0 < thread_of (W.view w.old) thread }
     requires shown { shown label ≡ OpAnswer.Nothing }
+    requires silent { Silent label }
     requires running { IsRunning (thread_of (W.view w.old) thread) (W.view w.old).core }
     ensures does { DoesRule SameNames (promotes_first (halt_of yielding) handle label) thread (W.view w.old) result (W.view w.new) }
 {

@@ -4,6 +4,7 @@ ghost use Rattle.ops_guests.specs.Does.{DoesRule, SameNames};
 ghost use Rattle.ops_guests.specs.Halting.{halt_of};
 ghost use Rattle.ops_guests.specs.Running.{IsRunning};
 ghost use Rattle.ops_guests.specs.Shown.{shown};
+ghost use Rattle.machine_rules.specs.Picks.{Silent};
 ghost use Rattle.machine_rules.specs.Threads.{halt_rule, halted, resume_later_rule, resume_why};
 ghost use Rattle.core_primitives.specs.Names.{why_in};
 ghost use Rattle.core_primitives.specs.StateView.{on_core, thread_of};
@@ -36,6 +37,7 @@ pub(crate) fn stop_top<W: Primitives>(w: &mut W, thread: ThreadId, yielding: boo
 pub fn halt<W: Primitives>(w: &mut W, thread: ThreadId, yielding: bool, label: Label) -> OpResult
     requires live { 0 < thread_of (W.view w.old) thread }
     requires shown { shown label ≡ OpAnswer.Nothing }
+    requires silent { Silent label }
     requires running { IsRunning (thread_of (W.view w.old) thread) (W.view w.old).core }
     ensures does { DoesRule SameNames (λ d n ch s. halt_rule d (halt_of yielding) n label s) thread (W.view w.old) result (W.view w.new) }
 {

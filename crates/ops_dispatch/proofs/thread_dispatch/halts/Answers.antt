@@ -1,10 +1,11 @@
+use Rattle.machine_rules.proofs.CalmLemmas.{halt_calm, halting_calm}
 use Rattle.ops_dispatch.proofs.HaltLemmas.{begins_rule, resumed_meets}
 use Rattle.ops_dispatch.proofs.thread_dispatch.halts.Goals as goal
 use Rattle.ops_dispatch.specs.Rules.{halts_here}
 use Rattle.std.proofs.Common.{refl, sym, ◌∙◌}
 use Rattle.machine_data.specs.Read.{op_progress_of}
 use Rattle.machine_data.specs.declared.label.Label.TheVariants as label
-use Rattle.ops_guests.proofs.DoesLemmas.{does_rule, does_same}
+use Rattle.ops_guests.proofs.DoesLemmas.{calm_same, does_rule}
 use Rattle.ops_guests.specs.Does.{SameNames}
 use Rattle.ops_guests.specs.Halting.{halt_of}
 use Rattle.machine_rules.specs.Threads.{halt_rule}
@@ -15,7 +16,8 @@ returns-then-is_resumed g c =
     let s = g.W.View.view c.args.w.now in
     let n = thread_of s c.args.thread in
     record {
-      does = does_same (halts_here c.args.yielding c.args.label) c.args.thread s s c.ends.result
+      does = calm_same (halts_here c.args.yielding c.args.label) c.args.thread s s c.ends.result
+          (λ d. halting_calm d n s.core c.args.label (λ k. halt_rule d (halt_of c.args.yielding) n k s.core) (halt_calm d n (label.Thread c.args.label) (refl, refl) s.core (halt_of c.args.yielding)))
           (λ d. resumed_meets n c.args.label s.core d (op_progress_of n s.core) _ c.ends.result (sym c.is_resumed.ensures ∙ c.if-is_resumed.true) c.requires.shown c.ends.ensures) refl refl;
     }
 

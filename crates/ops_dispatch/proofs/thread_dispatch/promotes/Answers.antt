@@ -1,3 +1,4 @@
+use Rattle.machine_rules.proofs.CalmLemmas.{halting_calm, then_promote_calm}
 use Rattle.ops_dispatch.proofs.HaltLemmas.{begins_rule, resumed_meets}
 use Rattle.ops_dispatch.proofs.thread_dispatch.promotes.Goals as goal
 use Rattle.ops_dispatch.specs.Rules.{promotes_here}
@@ -5,7 +6,7 @@ use Rattle.std.proofs.Common.{ap, refl, sym, ◌∙◌}
 use Rattle.std.specs.Prelude.{ℕ}
 use Rattle.machine_data.specs.Read.{op_progress_of}
 use Rattle.machine_data.specs.declared.label.Label.TheVariants as label
-use Rattle.ops_guests.proofs.DoesLemmas.{does_rule, does_same}
+use Rattle.ops_guests.proofs.DoesLemmas.{calm_same, does_rule}
 use Rattle.ops_guests.specs.Does.{SameNames}
 use Rattle.ops_guests.specs.Halting.{halt_of, promotes_first}
 use Rattle.machine_rules.specs.Threads.{then_promote_rule}
@@ -16,7 +17,8 @@ returns-then-is_resumed g c =
     let s = g.W.View.view c.args.w.now in
     let n = thread_of s c.args.thread in
     record {
-      does = does_same (promotes_here c.args.yielding c.args.other c.args.label) c.args.thread s s c.ends.result
+      does = calm_same (promotes_here c.args.yielding c.args.other c.args.label) c.args.thread s s c.ends.result
+          (λ d. halting_calm d n s.core c.args.label (λ k. then_promote_rule d (halt_of c.args.yielding) n (value_of n s.core c.args.other) k s.core) (then_promote_calm d n (label.Thread c.args.label) (refl, refl) s.core (halt_of c.args.yielding) (value_of n s.core c.args.other)))
           (λ d. resumed_meets n c.args.label s.core d (op_progress_of n s.core) _ c.ends.result (sym c.is_resumed.ensures ∙ c.if-is_resumed.true) c.requires.shown c.ends.ensures) refl refl;
     }
 

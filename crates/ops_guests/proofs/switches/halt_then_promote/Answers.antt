@@ -1,8 +1,9 @@
 -- The thread goes first, and then the strand stops; or the plain op follows.
+use Rattle.machine_rules.proofs.CalmLemmas.{then_promote_calm}
 use Rattle.std.proofs.Common.{ap, subst, ◌∙◌}
 use Rattle.std.specs.Prelude.{Bool, Ok, Result}
 use Rattle.machine_data.specs.declared.trap.Trap.{Trap}
-use Rattle.ops_guests.proofs.DoesLemmas.{does_same}
+use Rattle.ops_guests.proofs.DoesLemmas.{calm_same}
 use Rattle.ops_guests.proofs.SwitchLemmas.{comes_same, promote_plain, promote_refused, promote_stops, promoted_runs}
 use Rattle.ops_guests.proofs.switches.halt_then_promote.Goals as goal
 use Rattle.ops_guests.specs.Halting.{ComesFirst, halt_of, promoted_first}
@@ -21,7 +22,8 @@ returns-in-Err g c =
     let f = promoted_first (thread_of s c.args.thread) c.args.handle s.core in
     let same = comes_same f s t _ c.promote_first.ensures in
     record {
-      does = does_same _ c.args.thread s t _
+      does = calm_same _ c.args.thread s t _
+          (λ d. then_promote_calm d (thread_of s c.args.thread) c.args.label c.requires.silent s.core (halt_of c.args.yielding) c.args.handle)
           (λ d. promote_refused d (halt_of c.args.yielding) c.args.label c.args.thread c.args.handle s t t c.in-Err.trap (subst (λ (r : Result Bool Trap). ComesFirst f s r t) c.in-Err.is c.promote_first.ensures))
           same.0 same.1;
     }
@@ -34,7 +36,8 @@ returns-in-Ok-true g c =
     let f = promoted_first (thread_of s c.args.thread) c.args.handle s.core in
     let same = comes_same f s t _ c.promote_first.ensures in
     record {
-      does = does_same _ c.args.thread s u _
+      does = calm_same _ c.args.thread s u _
+          (λ d. then_promote_calm d (thread_of s c.args.thread) c.args.label c.requires.silent s.core (halt_of c.args.yielding) c.args.handle)
           (λ d. promote_stops d (halt_of c.args.yielding) c.args.label c.args.thread c.args.handle s t u _ c.number-number.ensures (subst (λ (r : Result Bool Trap). ComesFirst f s r t) (c.in-Ok-true.is ∙ ap (λ (b : Bool). Ok b) c.in-Ok-true.field-0-test) c.promote_first.ensures) c.stop_top.ensures)
           (ap (λ (v : StateView). v.tags) c.stop_top.ensures ∙ same.0) (ap (λ (v : StateView). v.current) c.stop_top.ensures ∙ same.1);
     }
@@ -49,7 +52,8 @@ returns-in-Ok-false g c =
     let same = comes_same f s t _ c.promote_first.ensures in
     let halted = c.halt.ensures.does in
     record {
-      does = does_same _ c.args.thread s u _
+      does = calm_same _ c.args.thread s u _
+          (λ d. then_promote_calm d (thread_of s c.args.thread) c.args.label c.requires.silent s.core (halt_of c.args.yielding) c.args.handle)
           (λ d. promote_plain d (halt_of c.args.yielding) c.args.label c.args.thread c.args.handle s t u _ comes (halted.meets d))
           (halted.kept.0 ∙ same.0) (halted.kept.1 ∙ same.1);
     }

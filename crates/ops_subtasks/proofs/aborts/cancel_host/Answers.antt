@@ -1,3 +1,4 @@
+use Rattle.machine_rules.proofs.CalmLemmas.{subtask_calm}
 use Rattle.std.proofs.Common.{None, ap, refl, sym, ◌∙◌}
 use Rattle.ops_subtasks.proofs.CancelLemmas.{aborts_steady, host_meets}
 use Rattle.ops_subtasks.proofs.EndLemmas.{finished, refused_on, refused_same, trapped_meets}
@@ -5,7 +6,7 @@ use Rattle.ops_subtasks.proofs.SteadyLemmas.{still_runs}
 use Rattle.ops_subtasks.proofs.aborts.cancel_host.Goals as goal
 use Rattle.ops_subtasks.specs.Refused.{mode_of}
 use Rattle.machine_data.specs.declared.records.Subtask.TheVariants as subtask
-use Rattle.ops_guests.proofs.DoesLemmas.{does_same}
+use Rattle.ops_guests.proofs.DoesLemmas.{calm_same}
 use Rattle.machine_rules.specs.Cancels.{cancel_aborts_host}
 use Rattle.machine_rules.specs.Finish.{SomeHost}
 use Rattle.core_primitives.specs.StateView.{StateView, thread_of, work_of}
@@ -18,7 +19,8 @@ returns-in-Some g c =
     let i = work_of s c.args.work in
     let m = mode_of c.args.sync in
     record {
-      does = does_same _ c.args.thread s s _
+      does = calm_same _ c.args.thread s s _
+          (λ d. subtask_calm d m n s.core (subtask.Host i))
           (λ d. host_meets m n d i s.core _ _ (sym c.was_cancelled.ensures ∙ c.if-was_cancelled.false)
           (trapped_meets m n d (subtask.Host i) s.core (cancel_aborts_host i s.core) _ (refused_same m n (subtask.Host i) s.core _ (aborts_steady i s.core) ∙ sym c.in-Some.ensures)))
           refl refl;
@@ -47,7 +49,8 @@ returns g c =
     let m = mode_of c.args.sync in
     let done = c.finish_cancel.ensures.does in
     record {
-      does = does_same _ c.args.thread s (v c.finish_cancel.new.w) _
+      does = calm_same _ c.args.thread s (v c.finish_cancel.new.w) _
+          (λ d. subtask_calm d m n s.core (subtask.Host i))
           (λ d. host_meets m n d i s.core _ _ (sym c.was_cancelled.ensures ∙ c.if-was_cancelled.false)
           (finished m c.args.thread d (subtask_id.Host c.args.work) (cancel_aborts_host i) s (v c.abort.new.w) c.abort.ensures _ _ (refused_same m n (subtask.Host i) s.core _ (aborts_steady i s.core) ∙ sym c.in_default.ensures) (done.meets d)))
           (done.kept.0 ∙ ap (λ (y : StateView). y.tags) c.abort.ensures) (done.kept.1 ∙ ap (λ (y : StateView). y.current) c.abort.ensures);

@@ -1,3 +1,4 @@
+use Rattle.machine_rules.proofs.CalmLemmas.{after_calm}
 use Rattle.std.proofs.Common.{None, ap, refl, sym, ◌∙◌}
 use Rattle.ops_subtasks.proofs.EndLemmas.{finished, refused_on, refused_same, trapped_meets}
 use Rattle.ops_subtasks.proofs.GuestLemmas.{asks_steady}
@@ -5,7 +6,7 @@ use Rattle.ops_subtasks.proofs.SteadyLemmas.{still_runs}
 use Rattle.ops_subtasks.proofs.guest_ops.ask_running.Goals as goal
 use Rattle.ops_subtasks.specs.Refused.{mode_of}
 use Rattle.machine_data.specs.declared.records.Subtask.TheVariants as subtask
-use Rattle.ops_guests.proofs.DoesLemmas.{does_same}
+use Rattle.ops_guests.proofs.DoesLemmas.{calm_same}
 use Rattle.machine_rules.specs.Cancels.{cancel_asks}
 use Rattle.machine_rules.specs.Finish.{SomeHost}
 use Rattle.core_primitives.specs.StateView.{StateView, call_of, thread_of}
@@ -18,7 +19,8 @@ returns-in-Some g c =
     let k = call_of s c.args.call in
     let m = mode_of c.args.sync in
     record {
-      does = does_same _ c.args.thread s s _
+      does = calm_same _ c.args.thread s s _
+          (λ d. after_calm d m n (subtask.Guest k) (cancel_asks k s.core))
           (λ d. trapped_meets m n d (subtask.Guest k) s.core (cancel_asks k s.core) _ (refused_same m n (subtask.Guest k) s.core _ (asks_steady k s.core) ∙ sym c.in-Some.ensures))
           refl refl;
     }
@@ -46,7 +48,8 @@ returns g c =
     let m = mode_of c.args.sync in
     let done = c.finish_cancel.ensures.does in
     record {
-      does = does_same _ c.args.thread s (v c.finish_cancel.new.w) _
+      does = calm_same _ c.args.thread s (v c.finish_cancel.new.w) _
+          (λ d. after_calm d m n (subtask.Guest k) (cancel_asks k s.core))
           (λ d. finished m c.args.thread d (subtask_id.Guest c.args.call) (cancel_asks k) s (v c.ask.new.w) c.ask.ensures _ _ (refused_same m n (subtask.Guest k) s.core _ (asks_steady k s.core) ∙ sym c.in_default.ensures) (done.meets d))
           (done.kept.0 ∙ ap (λ (y : StateView). y.tags) c.ask.ensures) (done.kept.1 ∙ ap (λ (y : StateView). y.current) c.ask.ensures);
     }

@@ -1,9 +1,10 @@
+use Rattle.machine_rules.proofs.CalmLemmas.{guest_calm}
 use Rattle.std.proofs.Common.{ap, sym, ◌∙◌}
 use Rattle.ops_subtasks.proofs.GuestLemmas.{first_at_same, first_found, runs_meets, waits_meets, yields_meets}
 use Rattle.ops_subtasks.proofs.guest_ops.cancel_started.Goals as goal
 use Rattle.ops_subtasks.specs.Refused.{mode_of}
 use Rattle.machine_data.specs.Read.{is_callback_yield}
-use Rattle.ops_guests.proofs.DoesLemmas.{does_same}
+use Rattle.ops_guests.proofs.DoesLemmas.{calm_same}
 use Rattle.machine_rules.specs.Cancels.{is_callback_wait}
 use Rattle.core_primitives.specs.StateView.{StateView, call_of, thread_of}
 
@@ -22,7 +23,8 @@ returns-then-is_callback_wait g c =
     let s = g.W.View.view c.args.w.now in
     let k = call_of s c.args.call in
     record {
-      does = does_same _ c.args.thread s (g.W.View.view c.wake_callback.new.w) _
+      does = calm_same _ c.args.thread s (g.W.View.view c.wake_callback.new.w) _
+          (λ d. guest_calm d (mode_of c.args.sync) (thread_of s c.args.thread) k s.core (cancel_case k s.core))
           (λ d. waits_meets (mode_of c.args.sync) (thread_of s c.args.thread) d k s.core c.requires.unended c.requires.started _ _
           (sym (first_at_same _ k is_callback_wait s.core c.none_is_zero.ensures.threads c.first_thread-first.ensures) ∙ (sym c.is_callback_wait.ensures ∙ c.if-is_callback_wait.true))
           c.number-number.ensures (ap (λ (y : StateView). y.core) c.wake_callback.ensures))
@@ -44,7 +46,8 @@ returns-then-is_callback_yield g c =
     let s = g.W.View.view c.args.w.now in
     let k = call_of s c.args.call in
     record {
-      does = does_same _ c.args.thread s (g.W.View.view c.promote_yield.new.w) _
+      does = calm_same _ c.args.thread s (g.W.View.view c.promote_yield.new.w) _
+          (λ d. guest_calm d (mode_of c.args.sync) (thread_of s c.args.thread) k s.core (cancel_case k s.core))
           (λ d. yields_meets (mode_of c.args.sync) (thread_of s c.args.thread) d k s.core c.requires.unended c.requires.started
           (sym (first_at_same _ k is_callback_wait s.core c.none_is_zero.ensures.threads c.first_thread-first.ensures) ∙ (sym c.is_callback_wait.ensures ∙ c.if-is_callback_wait.false)) _ _
           (sym (first_at_same _ k is_callback_yield s.core c.none_is_zero.ensures.threads c.first_thread-first.ensures) ∙ (sym c.is_callback_yield.ensures ∙ c.if-is_callback_yield.true))

@@ -1,9 +1,10 @@
+use Rattle.machine_rules.proofs.CalmLemmas.{cancel_calm}
 use Rattle.std.proofs.Common.{None, ap, subst, sym, ◌∙◌}
 use Rattle.ops_subtasks.proofs.EndLemmas.{finished, refused_on, trapped_meets}
 use Rattle.ops_subtasks.proofs.ResumeLemmas.{resumed_as, resumed_refused, resumed_runs}
 use Rattle.ops_subtasks.proofs.resumes.go_on_cancelling.Goals as goal
 use Rattle.ops_subtasks.specs.Refused.{mode_of}
-use Rattle.ops_guests.proofs.DoesLemmas.{does_same}
+use Rattle.ops_guests.proofs.DoesLemmas.{calm_same}
 use Rattle.ops_guests.specs.OpResult.{Implements}
 use Rattle.ops_guests.specs.declared.op_result.OpResult.TheVariants as op_result
 use Rattle.machine_rules.specs.Cancels.{after_cancel_by, cancel_resumed}
@@ -35,7 +36,8 @@ returns-in-Some g c =
     let m = mode_of c.args.sync in
     let same = c.refusal_after.ensures.same in
     record {
-      does = does_same _ c.args.thread s (v c.refusal_after.new.w) _
+      does = calm_same _ c.args.thread s (v c.refusal_after.new.w) _
+          (λ d. cancel_calm d (mode_of c.args.sync) (thread_of s c.args.thread) 0 s.core (op_progress.Cancels (subtask_in s.tags c.args.subtask)))
           (λ d. subst (λ (y : StateView). Implements (after_cancel_by d m n q (cancel_resumed n q s.core)) s.core (op_result.Traps c.in-Some.trap) y.core) (sym same)
           (trapped_meets m n d q s.core (cancel_resumed n q s.core) _ (resumed_refused m n q s.core ∙ sym c.in-Some.ensures.is)))
           (ap (λ (y : StateView). y.tags) same) (ap (λ (y : StateView). y.current) same);
@@ -51,7 +53,8 @@ returns g c =
     let resumed = resumed_as c.args.thread c.args.subtask s (v c.refusal_after.new.w) (v c.resume_canceller.new.w) c.refusal_after.ensures.same c.resume_canceller.ensures in
     let done = c.finish_cancel.ensures.does in
     record {
-      does = does_same _ c.args.thread s (v c.finish_cancel.new.w) _
+      does = calm_same _ c.args.thread s (v c.finish_cancel.new.w) _
+          (λ d. cancel_calm d (mode_of c.args.sync) (thread_of s c.args.thread) 0 s.core (op_progress.Cancels (subtask_in s.tags c.args.subtask)))
           (λ d. finished m c.args.thread d c.args.subtask (cancel_resumed n q) s (v c.resume_canceller.new.w) resumed _ _ (resumed_refused m n q s.core ∙ sym c.in_default.ensures.is) (done.meets d))
           (done.kept.0 ∙ ap (λ (y : StateView). y.tags) resumed) (done.kept.1 ∙ ap (λ (y : StateView). y.current) resumed);
     }
