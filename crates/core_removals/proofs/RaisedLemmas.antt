@@ -1,8 +1,8 @@
 -- A release of what is wanted and then of the others: those that are admitted, in the order of the preference.
 use Rattle.core_records.proofs.Core.{[], admitted_held, ap, ap₂, Bool, cases_eq, cond, Core, eq-eqb, eqb-true, false, filter, get, has, held_why, held_why_of, inl, inr, is_held_admitted, IsMembers-filter, IsMembers-numbers, is_some, List, list_any, ne_eqb, None, not, option_and_then, option_map, Option, or_left, put_high, refl, released, released_one, Some, subst, sym, Thread, true, Why, ℕ, ◌&&◌, ◌++◌, ◌==◌, ◌||◌, ◌∙◌, ◌≡◌, ◌∷◌}
 use Rattle.core_counts.proofs.EndedLemmas.{permuted_has, permuted_once}
-use Rattle.core_removals.proofs.ReleaseLemmas.{put_calls, put_instances, put_others, same_admitted, admitted_held as held_of}
-use Rattle.core_removals.specs.Held.{is_admitted, raised, raised_of, raised_one}
+use Rattle.core_removals.proofs.ReleaseLemmas.{put_calls, put_instances, put_others, same_admitted, same_held, same_instance, admitted_held as held_of}
+use Rattle.core_removals.specs.Held.{AreHeldUnqueued, is_admitted, raised, raised_of, raised_one}
 use Rattle.machine_data.proofs.MapLemmas.{get-change_other, get-change_same}
 use Rattle.machine_data.specs.declared.records.Place.{Place}
 use Rattle.machine_data.specs.declared.words.Mark.{Mark}
@@ -14,7 +14,10 @@ use Rattle.table_lists.specs.Members.{IsMembers, Once}
 use Rattle.table_lists.specs.Rows.{Each}
 use Rattle.core_places.proofs.WantedLemmas.{found_there, ordered_there}
 use Rattle.core_primitives.specs.Preferences.{preference}
-use Rattle.core_records.proofs.Core.{IsSoundCore, place_at, Placed, records, seen, thread_key}
+use Rattle.core_records.proofs.Core.{instance_of, IsSoundCore, IsUnqueued, map, on_core, place_at, Placed, records, seen, StateView, TableId, thread_key, ThreadKey, with_core, ◌⊎◌}
+use Rattle.core_primitives.specs.Changes.{ReleasesHeld}
+use Rattle.core_primitives.specs.StateView.{thread_number}
+use Rattle.table_lists.specs.Members.{is_held_in}
 use Rattle.core_records.specs.declared.{parts.CoreParts.CoreParts, single.Single.Single, thread_records.GuestThread.GuestThread}
 use Rattle.core_removals.specs.Order.{AreInOrder, NotBefore}
 
@@ -304,3 +307,85 @@ module _ (a : CoreParts) (sound : IsSoundCore a) where
           append_nil : (l : List ℕ) → l ≡ l ++ []
           append_nil [] = refl
           append_nil (x ∷ xs) = ap (λ l. x ∷ l) (append_nil xs)
+
+  -- who is in such an order is admitted
+  admitted_in : (i : ℕ) (order : List ℕ) → IsPermutation (admitted_held i (seen a).core) order → (m : ℕ) → has m order ≡ true → is_admitted i (seen a).core m ≡ true
+  admitted_in i order moved m there = sym ((admitted_members i (seen a).core).are m) ∙ (sym (permuted_has (admitted_held i (seen a).core) order moved m) ∙ there)
+
+  -- where nothing is wanted the order is that of the places
+  pub least_released : (i : ℕ) (t : StateView) → a.wanted.held.items ≡ [] → (picks : (order : List ℕ) × (AreInOrder a order × (IsPermutation (admitted_held i (seen a).core) order × (t ≡ on_core (released order) (seen a))))) → ReleasesHeld i (seen a) t
+  unfolding seen
+  least_released i t none picks =
+      let order = picks.0 in (
+        order,
+        picks.1.1.0,
+        placed_in_order i order picks.1.0 (admitted_in i order picks.1.1.0) (λ m there. ap (λ (ids : List (TableId ThreadKey)). has m (map (thread_number (seen a).tags) ids)) none),
+        picks.1.1.1,
+      )
+
+released_both : (xs ys : List ℕ) (s : Core) → released ys (released xs s) ≡ released (xs ++ ys) s
+unfolding released
+released_both [] ys s = refl
+released_both (x ∷ xs) ys s = released_both xs ys (released_one x (held_why_of x s) s)
+
+-- those that are wanted were raised, and then the others were released
+pub wanted_released : (a b : CoreParts) → IsSoundCore b → (i : ℕ) (t : StateView) → seen b ≡ on_core (raised i (preference (seen a)).held) (seen a)
+    → (order : List ℕ) × (AreInOrder b order × (IsPermutation (admitted_held i (seen b).core) order × (t ≡ on_core (released order) (seen b)))) → ReleasesHeld i (seen a) t
+wanted_released a b sound i t mid picks =
+    let s = (seen a).core in
+    let p = preference (seen a) in
+    let ns = p.held in
+    let order = picks.0 in
+    let core : (seen b).core ≡ raised i ns s = ap (λ (v : StateView). v.core) mid in
+    let same : preference (seen b) ≡ p = ap preference mid in
+    let moved : IsPermutation (admitted_held i (raised i ns s)) order = subst (λ (c : Core). IsPermutation (admitted_held i c) order) core picks.1.1.0 in
+    let left : (m : ℕ) → has m order ≡ true → is_admitted i (raised i ns s) m ≡ true = λ m there. ap (λ c. is_admitted i c m) (sym core) ∙ admitted_in b sound i order picks.1.1.0 m there in
+    let unlisted : (m : ℕ) → has m order ≡ true → has m ns ≡ false = λ m there. apart (is_admitted i s m) (has m ns) (sym (raised_admits i ns s m) ∙ left m there) in
+    let by_places : goes_in_order p order ≡ true =
+        ap (λ (q : Preference). goes_in_order q order) (sym same)
+        ∙ placed_in_order b sound i order picks.1.0 (admitted_in b sound i order picks.1.1.0) (λ m there. ap (λ (q : Preference). has m q.held) same ∙ unlisted m there) in (
+      raised_of i ns s ++ order,
+      both_permute i s ns order moved,
+      raised_in_order p i ns [] order s refl (λ m on. refl) left by_places,
+      picks.1.1.1 ∙ (ap (on_core (released order)) mid ∙ ap (λ c. with_core c (seen a)) (ap (released order) (raised_is i ns s) ∙ released_both (raised_of i ns s) order s)),
+    )
+  where
+    apart : (a b : Bool) → (a && not b) ≡ true → b ≡ false
+    apart true true is = absurd (cc)
+    apart true false is = refl
+    apart false b is = absurd (cc)
+
+-- ---- One after another
+
+-- who is still held once one was put at high has no entry
+pub put_unqueued : (i n : ℕ) (w : Why) (s : Core) → AreHeldUnqueued i s → AreHeldUnqueued i (put_high n w s)
+put_unqueued i n w s free m held = by (cases_eq m n)
+  where
+    threads : (m ≡ n → ⊥) → get (put_high n w s).threads m ≡ get s.threads m
+    unfolding put_high push_high set_place on_thread
+    threads other = get-change_other s.threads n (λ (x : Thread). record x { place = Place.Ready Mark.High w }) m other
+
+    was : (m ≡ n → ⊥) → is_held_in i s m ≡ true
+    was other = sym (ap₂ (λ k b. (k == i) && is_some b) (same_instance i m s (put_high n w s) (threads other) (put_calls n w s) (put_instances n w s)) (same_held i m s (put_high n w s) (threads other) (put_calls n w s) (put_instances n w s))) ∙ held
+
+    here : m ≡ n → held_why_of m (put_high n w s) ≡ None
+    unfolding put_high push_high set_place on_thread
+    here same = ap (λ k. held_why_of k (put_high n w s)) same ∙ (ap (λ o. option_and_then held_why (option_map (λ (x : Thread). x.place) o)) (get-change_same s.threads n (λ (x : Thread). record x { place = Place.Ready Mark.High w })) ∙ none (get s.threads n))
+
+    none : (o : Option Thread) → option_and_then held_why (option_map (λ (x : Thread). x.place) (option_map (λ (x : Thread). record x { place = Place.Ready Mark.High w }) o)) ≡ None
+    none None = refl
+    none (Some x) = refl
+
+    by : (m ≡ n) ⊎ (m ≡ n → ⊥) → IsUnqueued m (put_high n w s)
+    by (inl same) = let never : false ≡ true = sym (and_false (instance_of m (put_high n w s) == i)) ∙ (ap (λ o. (instance_of m (put_high n w s) == i) && is_some o) (sym (here same)) ∙ held) in absurd (cc)
+    by (inr other) = (put_others m n w s s other (record { thread = refl; unqueued = free m (was other) })).unqueued
+
+-- one step of the list
+pub raised_step : (i n : ℕ) (rest : List ℕ) (w : Why) (s t : StateView) → is_admitted i s.core n ≡ true → held_why_of n s.core ≡ Some w → t ≡ on_core (put_high n w) s → on_core (raised i rest) t ≡ on_core (raised i (n ∷ rest)) s
+unfolding released
+raised_step i n rest w s t on at is =
+    ap (on_core (raised i rest)) is
+    ∙ ap (λ c. with_core (raised i rest c) s) (sym (ap (λ b. cond b (released (n ∷ []) s.core) s.core) on ∙ ap (λ o. released_one n o s.core) at))
+
+pub stays_step : (i n : ℕ) (rest : List ℕ) (s : StateView) → is_admitted i s.core n ≡ false → on_core (raised i rest) s ≡ on_core (raised i (n ∷ rest)) s
+stays_step i n rest s off = ap (λ c. with_core (raised i rest c) s) (sym (ap (λ b. cond b (released (n ∷ []) s.core) s.core) off))

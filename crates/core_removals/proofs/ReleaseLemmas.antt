@@ -22,7 +22,7 @@ module _ (i n : ℕ) (s t : Core) (thread : get t.threads n ≡ get s.threads n)
   same_task : task_of n t ≡ task_of n s
   same_task = ap (λ o. option_map_or (λ (x : Thread). x.call) o 0) thread
 
-  same_instance : instance_of n t ≡ instance_of n s
+  pub same_instance : instance_of n t ≡ instance_of n s
   same_instance = ap₂ (λ k m. (option_map_or (λ (c : Call). c.callee) (get m k) no_callee).instance) same_task calls
 
   may : not (option_map_or (λ (r : Instance). r.do_not_enter) (get t.instances (instance_of n t)) false) ≡ not (option_map_or (λ (r : Instance). r.do_not_enter) (get s.instances (instance_of n s)) false)

@@ -93,7 +93,7 @@ module _ (d : Doer) (n : ℕ) (s : Core) where
   -- ---- Tasks
 
   pub ret_bad_calm : LeavesNoChoice (ret_bad_rule n s)
-  ret_bad_calm = trap_if_calm (has_ended (task_of n s) s) _ _ (refl, refl)
+  ret_bad_calm = trap_if_calm (has_ended (task_of n s) s) _ _ tt
 
   pub inc_calm : LeavesNoChoice (inc_rule d n s)
   inc_calm = trap_if_calm (nat_le 65535 (backpressure_of (instance_of n s) s)) _ _ (refl, refl)
@@ -163,7 +163,7 @@ module _ (d : Doer) (n : ℕ) (s : Core) where
 
 module _ (d : Doer) (mode : Mode) (n : ℕ) where
   pub ended_calm : (sub : Subtask) (s : Core) (e : Option Status) → LeavesNoChoice (cancel_ended_by d mode n sub s e)
-  ended_calm sub s None = (refl, refl)
+  ended_calm sub s None = tt
   ended_calm sub s (Some e) = silent_cancel mode n (status_code e)
 
   pub unended_calm : (sub : Subtask) (s : Core) (m : Mode) → LeavesNoChoice (cancel_unended_by d m n sub s)

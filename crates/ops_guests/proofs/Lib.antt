@@ -22,3 +22,4 @@ pub mod WorkLemmas
 pub mod BlockLemmas
 pub mod OpenLemmas
 pub mod CalmLemmas
+pub mod QuietLemmas

@@ -181,4 +181,4 @@ free_at p q same free = subst (λ (r : Turn). IsFree r) (sym same) free
 
 -- a step that main has no part in
 pub makes_turns : (x : Setting) (p : Turn) (s : StateView) (made : MadeStep) (t : StateView) → MakesStep x.component p s made t → (m : Main) → PendsIn x t.core m made.turn → Turns x p m s made m t
-makes_turns x p s made t h m pends = record { step = h.step x refl m; running = h.running; over = h.over; pends = pends }
+makes_turns x p s made t h m pends = record { step = h.step x refl m; picks = h.picks x refl m; running = h.running; over = h.over; pends = pends }

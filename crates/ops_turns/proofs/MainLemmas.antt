@@ -1,4 +1,6 @@
 -- What a step of main makes.
+use Rattle.ops_guests.proofs.QuietLemmas.{quiet_picks}
+use Rattle.core_primitives.specs.Preferences.{preference}
 use Rattle.std.proofs.Common.{refl, subst, sym, ◌∙◌}
 use Rattle.std.specs.Prelude.{None, Option, Some, is_none, true, ℕ, ◌≡◌}
 use Rattle.machine_data.specs.Core.{Core, Main, MainPlace, Scripted, State, Unscripted}
@@ -75,8 +77,11 @@ op_goes_on main_label.Ready op = refl
 
 module _ (x : Setting) (m : Main) (s : StateView) (new : Main) (t : StateView) (none : running_of t ≡ None) where
   pub did_turns : (l : Label) → Did x.component x.script m s.core l new t.core → Turns x turn.Main m s (record { label = l; turn = turn.Main }) new t
-  did_turns (label.Main l) h = record {
-    step = main_step x m s.core (label.Main l) (state_at t.core new turn.Main) (to_setting x (state_at s.core m turn.Main) m (label.Main l) (state_at t.core new turn.Main) h.step);
+  did_turns (label.Main l) h =
+      let step = main_step x m s.core (label.Main l) (state_at t.core new turn.Main) (to_setting x (state_at s.core m turn.Main) m (label.Main l) (state_at t.core new turn.Main) h.step) in
+      record {
+    step = step;
+    picks = quiet_picks (preference s) x (state_at s.core m turn.Main) (label.Main l) (state_at t.core new turn.Main) tt (refl, refl) step;
     running = none;
     over = op_goes_on l h.op;
     pends = tt;
@@ -89,9 +94,12 @@ module _ (x : Setting) (m : Main) (s : StateView) (new : Main) (t : StateView) (
       let l = label.Loop loop_label.MainPends in
       let open_there = futures_open 0 t.core (next_polled 0 t.core) in
       let pending = subst (λ (u : Core). main_pends x u new ≡ true) (sym h.core) (subst (λ (k : Main). main_pends x s.core k ≡ true) (sym h.part) there) in
+      let step : Step x (state_at s.core m turn.Main) l (state_at t.core new (settled_turn t.core (turn.Futures 0))) =
+          subst (λ (u : Core). Step x (state_at s.core m turn.Main) l (state_at u new (settled_turn u (turn.Futures 0)))) (sym h.core)
+            (subst (λ (k : Main). Step x (state_at s.core m turn.Main) l (state_at s.core k (settled_turn s.core (turn.Futures 0)))) (sym h.part) (waits x m s.core there)) in
       let turns : Turns x turn.Main m s (record { label = l; turn = settled_turn t.core (turn.Futures 0) }) new t = record {
-        step = subst (λ (u : Core). Step x (state_at s.core m turn.Main) l (state_at u new (settled_turn u (turn.Futures 0)))) (sym h.core)
-            (subst (λ (k : Main). Step x (state_at s.core m turn.Main) l (state_at s.core k (settled_turn s.core (turn.Futures 0)))) (sym h.part) (waits x m s.core there));
+        step = step;
+        picks = quiet_picks (preference s) x (state_at s.core m turn.Main) l (state_at t.core new (settled_turn t.core (turn.Futures 0))) tt (refl, refl) step;
         running = none ∙ sym open_there.1;
         over = sym open_there.0;
         pends = in_futures x t.core new 0 (next_polled 0 t.core) pending;
@@ -101,10 +109,13 @@ module _ (x : Setting) (m : Main) (s : StateView) (new : Main) (t : StateView) (
   pub answers_turns : (v : ℕ) → Answers x.component x.script m s.core v new t.core → Turns x turn.Main m s (record { label = label.Main (main_label.Answer v); turn = turn.Over }) new t
   answers_turns v h =
       let l = label.Main (main_label.Answer v) in
-      record {
-        step = subst (λ (u : Core). Step x (state_at s.core m turn.Main) l (state_at u new turn.Over)) (sym h.core)
+      let step : Step x (state_at s.core m turn.Main) l (state_at t.core new turn.Over) =
+          subst (λ (u : Core). Step x (state_at s.core m turn.Main) l (state_at u new turn.Over)) (sym h.core)
             (subst (λ (k : Main). Step x (state_at s.core m turn.Main) l (state_at s.core k turn.Over)) (sym h.part)
-            (main_step x m s.core l (state_at s.core m turn.Over) (to_setting x (state_at s.core m turn.Main) m l (state_at s.core m turn.Over) h.step)));
+            (main_step x m s.core l (state_at s.core m turn.Over) (to_setting x (state_at s.core m turn.Main) m l (state_at s.core m turn.Over) h.step))) in
+      record {
+        step = step;
+        picks = quiet_picks (preference s) x (state_at s.core m turn.Main) l (state_at t.core new turn.Over) tt (refl, refl) step;
         running = none;
         over = refl;
         pends = tt;

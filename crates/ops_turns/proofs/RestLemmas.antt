@@ -1,4 +1,6 @@
 -- What comes where nothing is there.
+use Rattle.ops_guests.proofs.QuietLemmas.{quiet_picks}
+use Rattle.core_primitives.specs.Preferences.{preference}
 use Rattle.std.proofs.Common.{ap, ap₂, refl, subst, sym, ◌∙◌}
 use Rattle.std.specs.Prelude.{None, Option, false, option_map, true, ◌≡◌, ◌&&◌}
 use Rattle.machine_data.specs.Core.{Core, Main}
@@ -34,6 +36,7 @@ rest_step x s m none moving =
 pub rest_makes : (c : Component) (s : StateView) → s.current ≡ None → next_entry s.core ≡ None → has_moving_work s.core ≡ true → MakesStep c (turn.Take false) s (record { label = label.Loop loop_label.Rest; turn = turn.Main }) s
 rest_makes c s current none moving = record {
   step = λ x component m. rest_step x s.core m none moving;
+  picks = λ x component m. quiet_picks (preference s) x (state_at s.core m (turn.Take false)) (label.Loop loop_label.Rest) (state_at s.core m turn.Main) tt (refl, refl) (rest_step x s.core m none moving);
   running = ap (option_map (λ id. thread_of s id)) current;
   over = refl;
 }
@@ -61,6 +64,7 @@ module _ (x : Setting) (s t : StateView) (m : Main) (current : s.current ≡ Non
   pub deadlock_turns : (made : MadeStep) → made ≡ record { label = label.Loop (loop_label.Deadlock (deadlock_trap s.core)); turn = turn.Over } → Turns x (turn.Take false) m s made m t
   deadlock_turns made is = subst (λ (k : MadeStep). Turns x (turn.Take false) m s k m t) (sym is) (record {
     step = deadlock_step;
+    picks = quiet_picks (preference s) x (state_at s.core m (turn.Take false)) (label.Loop (loop_label.Deadlock (deadlock_trap s.core))) (state_at t.core m turn.Over) tt (refl, refl) deadlock_step;
     running = ap running_of new ∙ ap (option_map (λ id. thread_of s id)) current;
     over = refl;
     pends = tt;
