@@ -14,7 +14,7 @@ use Rattle.core_records.specs.RecordPlaces.{ready_in}
 use Rattle.machine_data.specs.Read.{is_in_set, is_ready_member, same_subtask}
 use Rattle.machine_data.specs.declared.records.Join.{Join}
 use Rattle.machine_data.specs.declared.records.Subtask.{Subtask}
-use Rattle.machine_data.specs.declared.words.Status.{Status}
+use Rattle.machine_data.specs.declared.statuses.Status.{Status}
 use Rattle.machine_rules.specs.Picks.{IsFirstMember, IsFirstWaiter, Seats, ThreadSeat, call_seat, member_or, sits_before, subtask_before, thread_before, thread_seat, waiter_or, work_seat}
 use Rattle.std.specs.Ordering.{is_lt, nat_cmp}
 use Rattle.std.specs.Prelude.{◌&&◌, is_some, option_and_then, unwrap_or}

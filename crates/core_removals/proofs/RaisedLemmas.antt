@@ -5,7 +5,7 @@ use Rattle.core_removals.proofs.ReleaseLemmas.{put_calls, put_instances, put_oth
 use Rattle.core_removals.specs.Held.{AreHeldUnqueued, is_admitted, raised, raised_of, raised_one}
 use Rattle.machine_data.proofs.MapLemmas.{get-change_other, get-change_same}
 use Rattle.machine_data.specs.declared.records.Place.{Place}
-use Rattle.machine_data.specs.declared.words.Mark.{Mark}
+use Rattle.machine_data.specs.declared.statuses.Mark.{Mark}
 use Rattle.machine_rules.specs.Picks.{Preference, goes_in_order, held_before, listed_before, thread_before}
 use Rattle.std.proofs.lemmas.List.Sorted.{IsPermutation-refl}
 use Rattle.std.specs.Prelude.{IsPermutation}

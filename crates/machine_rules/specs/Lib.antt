@@ -21,7 +21,7 @@ pub mod History
 pub mod SubtaskEnds
 pub mod Once
 pub mod Notices
-pub mod Words
+pub mod Primitives
 pub mod Picks
 pub mod TablePlaces
 pub mod Scenes

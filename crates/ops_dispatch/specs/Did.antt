@@ -8,7 +8,7 @@ use Rattle.machine_data.specs.Labels.{choice_of}
 use Rattle.machine_data.specs.Read.{op_progress_of, position_of}
 use Rattle.machine_data.specs.declared.component.Component.{Component}
 use Rattle.machine_data.specs.declared.op.Op.{Op}
-use Rattle.machine_data.specs.declared.words.HostPoll.{HostPoll}
+use Rattle.machine_data.specs.declared.statuses.HostPoll.{HostPoll}
 use Rattle.ops_guests.specs.OpResult.{Implements, PicksFirst}
 use Rattle.ops_guests.specs.Stays.{StaysAfter}
 use Rattle.ops_guests.specs.Steps.{label_of}

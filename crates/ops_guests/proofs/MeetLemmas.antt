@@ -3,7 +3,7 @@ use Rattle.std.proofs.Common.{ap, ap₂, refl, subst, sym, ◌∙◌}
 use Rattle.std.specs.Prelude.{Bool, IfSome, None, Option, Some, false, true, ℕ, ◌≡◌}
 use Rattle.ops_guests.specs.OpResult.{Implements}
 use Rattle.machine_data.specs.declared.label.Label.{Label}
-use Rattle.machine_data.specs.declared.words.Mark.TheVariants as mark
+use Rattle.machine_data.specs.declared.statuses.Mark.TheVariants as mark
 use Rattle.machine_rules.specs.Picks.{Preference, ShowsFirst, StepIn, TakesFirst, TurnStepIn, WakesFirst, goes_in_order, in_order, taken_of}
 use Rattle.machine_rules.specs.Progress.{may}
 use Rattle.ops_guests.specs.Steps.{ActingIsStep, MeetingIsStep, PickingIsPicked, TakingIsPicked, TakingIsStep, core_after, label_of, main_after, main_label_of, turn_after}
@@ -25,7 +25,7 @@ use Rattle.ops_guests.specs.Acted.{MainImplements}
 use Rattle.ops_guests.specs.declared.mains.Acted.{Acted}
 use Rattle.machine_data.specs.declared.records.Entry.{Entry}
 use Rattle.machine_data.specs.declared.scenario.MainOpDef.{MainOpDef}
-use Rattle.machine_data.specs.declared.words.Mark.{Mark}
+use Rattle.machine_data.specs.declared.statuses.Mark.{Mark}
 
 came_as : (s : State) (base : Core) (n : ℕ) (p : Progress) (r q : OpResult) (t u : Core) → r ≡ q → t ≡ u → Progresses s base n p (label_of n q) (goes_to s (core_after n q u) (turn_after q)) → Progresses s base n p (label_of n r) (goes_to s (core_after n r t) (turn_after r))
 came_as s base n p r q t u e d h = subst (λ (v : OpResult). Progresses s base n p (label_of n v) (goes_to s (core_after n v t) (turn_after v))) (sym e) (subst (λ (v : Core). Progresses s base n p (label_of n q) (goes_to s (core_after n q v) (turn_after q))) (sym d) h)

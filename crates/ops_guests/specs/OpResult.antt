@@ -1,7 +1,7 @@
 -- What an op resulted in, against its rule.
 use Rattle.std.specs.Prelude.{IsPermutation, List, Some, ℕ, ◌≡◌}
 use Rattle.machine_data.specs.Core.{Core}
-use Rattle.machine_data.specs.declared.words.HostPoll.{HostPoll}
+use Rattle.machine_data.specs.declared.statuses.HostPoll.{HostPoll}
 use Rattle.machine_data.specs.declared.label.Label.{Label}
 use Rattle.machine_rules.specs.Picks.{Preference, ShowsFirst, in_order}
 use Rattle.machine_rules.specs.Progress.{Asks, Fails, Continues, Never, Ordered, Progress, Stops, Traps}

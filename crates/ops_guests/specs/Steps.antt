@@ -21,7 +21,7 @@ use Rattle.machine_data.specs.declared.label.LoopLabel.TheVariants as loop_label
 use Rattle.machine_data.specs.declared.label.MainLabel.TheVariants as main_label
 use Rattle.machine_data.specs.declared.records.Entry.{Entry}
 use Rattle.machine_data.specs.declared.scenario.MainOpDef.{MainOpDef}
-use Rattle.machine_data.specs.declared.words.Mark.{Mark}
+use Rattle.machine_data.specs.declared.statuses.Mark.{Mark}
 use Rattle.ops_guests.specs.Acted.{MainImplements}
 use Rattle.ops_guests.specs.declared.mains.Acted.{Acted}
 use Rattle.ops_guests.specs.declared.mains.Acted.TheVariants as acted

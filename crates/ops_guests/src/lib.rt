@@ -42,7 +42,7 @@ pub use switches::{
 };
 pub use task_end_ops::{ret, ret_bad, task_cancel};
 pub use thread_ops::{halt, resume_later};
-pub use unwinds::strike;
+pub use unwinds::unwind_thread;
 pub use wait_ops::{begin_wait, go_on_waiting};
 pub use work_ops::{PollNews, Polled, poll_work, take_push};
 
