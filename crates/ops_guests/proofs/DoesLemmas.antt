@@ -65,16 +65,16 @@ PicksAs rule id s r t = (d : Doer) → PicksFirst (preference s) (rule d (thread
 pub calm_as : (rule : Rule) (id : TableId ThreadKey) (s t : StateView) (r : OpResult) → IsCalm rule id s r
     → ((d : Doer) → Implements (rule d (thread_of s id) (choice_of (label_of (thread_of s id) r)) s.core) s.core r (ended d (thread_of s id) r t.core))
     → PicksAs rule id s r t
-calm_as rule id s t r calm meets = λ d. calm_picks (preference s) (thread_of s id) (rule d (thread_of s id) (choice_of (label_of (thread_of s id) r)) s.core) s.core r (ended d (thread_of s id) r t.core) (calm d) (meets d)
+calm_as rule id s t r calm implements = λ d. calm_picks (preference s) (thread_of s id) (rule d (thread_of s id) (choice_of (label_of (thread_of s id) r)) s.core) s.core r (ended d (thread_of s id) r t.core) (calm d) (implements d)
 
 -- it did its rule, and no name is changed
 pub does_same : (rule : Rule) (id : TableId ThreadKey) (s t : StateView) (r : OpResult)
     → ((d : Doer) → Implements (rule d (thread_of s id) (choice_of (label_of (thread_of s id) r)) s.core) s.core r (ended d (thread_of s id) r t.core))
     → PicksAs rule id s r t → t.tags ≡ s.tags → t.current ≡ s.current → DoesRule SameNames rule id s r t
-does_same rule id s t r meets picks tags current = record {
-  meets = meets;
+does_same rule id s t r implements picks tags current = record {
+  implements = implements;
   picks = picks;
-  stays = ended_stays (rule SomeHost (thread_of s id) (choice_of (label_of (thread_of s id) r)) s.core) SomeHost (thread_of s id) r s t (meets SomeHost) tags current;
+  stays = ended_stays (rule SomeHost (thread_of s id) (choice_of (label_of (thread_of s id) r)) s.core) SomeHost (thread_of s id) r s t (implements SomeHost) tags current;
   kept = (tags, current);
 }
 
@@ -82,7 +82,7 @@ does_same rule id s t r meets picks tags current = record {
 pub does_on : (rule : Rule) (id : TableId ThreadKey) (new : Core) (s t : StateView) (r : OpResult) → t ≡ with_core new s
     → ((d : Doer) → Implements (rule d (thread_of s id) (choice_of (label_of (thread_of s id) r)) s.core) s.core r (ended d (thread_of s id) r t.core))
     → PicksAs rule id s r t → DoesRule SameNames rule id s r t
-does_on rule id new s t r e meets picks = does_same rule id s t r meets picks (ap (λ (v : StateView). v.tags) e) (ap (λ (v : StateView). v.current) e)
+does_on rule id new s t r e implements picks = does_same rule id s t r implements picks (ap (λ (v : StateView). v.tags) e) (ap (λ (v : StateView). v.current) e)
 
 -- ---- What is kept
 
@@ -95,7 +95,7 @@ same_rest s t k = ((λ id live. ap (λ (g : Tags). work_number g id) k.0, ap (λ
 pub does_rule : (AreKept : StateView → StateView → Type 0) (rule other : Rule) (id : TableId ThreadKey) (s t : StateView) (r : OpResult) → DoesRule AreKept rule id s r t
     → ((d : Doer) (c : Choice) → other d (thread_of s id) c s.core ≡ rule d (thread_of s id) c s.core) → DoesRule AreKept other id s r t
 does_rule AreKept rule other id s t r did same = record {
-  meets = λ d. subst (λ (p : Progress). Implements p s.core r (ended d (thread_of s id) r t.core)) (sym (same d (choice_of (label_of (thread_of s id) r)))) (did.meets d);
+  implements = λ d. subst (λ (p : Progress). Implements p s.core r (ended d (thread_of s id) r t.core)) (sym (same d (choice_of (label_of (thread_of s id) r)))) (did.implements d);
   picks = λ d. subst (λ (p : Progress). PicksFirst (preference s) p (label_of (thread_of s id) r) s.core r (ended d (thread_of s id) r t.core)) (sym (same d (choice_of (label_of (thread_of s id) r)))) (did.picks d);
   stays = did.stays;
   kept = did.kept;
@@ -105,4 +105,4 @@ does_rule AreKept rule other id s t r did same = record {
 pub calm_same : (rule : Rule) (id : TableId ThreadKey) (s t : StateView) (r : OpResult) → IsCalm rule id s r
     → ((d : Doer) → Implements (rule d (thread_of s id) (choice_of (label_of (thread_of s id) r)) s.core) s.core r (ended d (thread_of s id) r t.core))
     → t.tags ≡ s.tags → t.current ≡ s.current → DoesRule SameNames rule id s r t
-calm_same rule id s t r calm meets tags current = does_same rule id s t r meets (calm_as rule id s t r calm meets) tags current
+calm_same rule id s t r calm implements tags current = does_same rule id s t r implements (calm_as rule id s t r calm implements) tags current

@@ -22,7 +22,7 @@ mod unwinds;
 mod wait_ops;
 mod work_ops;
 
-ghost use Rattle.ops_guests.specs.Steps.{ActingIsStep, MeetingIsStep, PickingIsPicked, TakingIsPicked, TakingIsStep};
+ghost use Rattle.ops_guests.specs.Steps.{ActingIsStep, ImplementingIsStep, PickingIsPicked, TakingIsPicked, TakingIsStep};
 
 pub use codes::end_activation;
 pub use data::{compute, value_of};
@@ -47,15 +47,15 @@ pub use wait_ops::{begin_wait, go_on_waiting};
 pub use work_ops::{PollNews, Polled, poll_work, take_push};
 
 /// Says that an op which implements its rule is a step of the machine; so is a taking, and an op of main's script.
-#[tactic(auto, using(crate::proofs::MeetLemmas::meeting_is_step, crate::proofs::MeetLemmas::taking_is_step, crate::proofs::MeetLemmas::acting_is_step))]
+#[tactic(auto, using(crate::proofs::ImplementLemmas::implementing_is_step, crate::proofs::ImplementLemmas::taking_is_step, crate::proofs::ImplementLemmas::acting_is_step))]
 pub fn ops_are_steps()
-    ensures meeting { MeetingIsStep }
+    ensures meeting { ImplementingIsStep }
     ensures taking { TakingIsStep }
     ensures acting { ActingIsStep }
 {}
 
 /// Says that an op which picks what comes first is a step that does; so is a taking.
-#[tactic(auto, using(crate::proofs::MeetLemmas::picking_is_picked, crate::proofs::MeetLemmas::taking_is_picked))]
+#[tactic(auto, using(crate::proofs::ImplementLemmas::picking_is_picked, crate::proofs::ImplementLemmas::taking_is_picked))]
 pub fn steps_pick_first()
     ensures picking { PickingIsPicked }
     ensures taking { TakingIsPicked }

@@ -71,7 +71,7 @@ pub record RuleShown (row : OpResult → Progress) (id : TableId ThreadKey) (s :
     (t : StateView) (after : List Label) : Type 0 where
   pub op_result : OpResult
   pub left : StateView
-  pub meets : Implements (row op_result) s.core op_result left.core
+  pub implements : Implements (row op_result) s.core op_result left.core
   pub picks : PicksFirst (preference s) (row op_result) (label_of (thread_of s id) op_result) s.core op_result left.core
   pub stays : StaysAfter op_result s left
   pub shown : Shown id op_result left before stepped t after
@@ -80,7 +80,7 @@ pub record RuleShown (row : OpResult → Progress) (id : TableId ThreadKey) (s :
 pub record RuleRan (row : OpResult → Progress) (id : TableId ThreadKey) (s : StateView) (made : MadeStep) (t : StateView) : Type 0 where
   pub op_result : OpResult
   pub left : StateView
-  pub meets : Implements (row op_result) s.core op_result left.core
+  pub implements : Implements (row op_result) s.core op_result left.core
   pub picks : PicksFirst (preference s) (row op_result) made.label s.core op_result left.core
   pub stays : StaysAfter op_result s left
   pub label : made.label ≡ label_of (thread_of left id) op_result

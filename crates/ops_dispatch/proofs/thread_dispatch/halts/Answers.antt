@@ -1,5 +1,5 @@
 use Rattle.machine_rules.proofs.CalmLemmas.{halt_calm, halting_calm}
-use Rattle.ops_dispatch.proofs.HaltLemmas.{begins_rule, resumed_meets}
+use Rattle.ops_dispatch.proofs.HaltLemmas.{begins_rule, resumed_implements}
 use Rattle.ops_dispatch.proofs.thread_dispatch.halts.Goals as goal
 use Rattle.ops_dispatch.specs.Rules.{halts_here}
 use Rattle.std.proofs.Common.{refl, sym, ◌∙◌}
@@ -18,7 +18,7 @@ returns-then-is_resumed g c =
     record {
       does = calm_same (halts_here c.args.yielding c.args.label) c.args.thread s s c.ends.result
           (λ d. halting_calm d n s.core c.args.label (λ k. halt_rule d (halt_of c.args.yielding) n k s.core) (halt_calm d n (label.Thread c.args.label) (refl, refl) s.core (halt_of c.args.yielding)))
-          (λ d. resumed_meets n c.args.label s.core d (op_progress_of n s.core) _ c.ends.result (sym c.is_resumed.ensures ∙ c.if-is_resumed.true) c.requires.shown c.ends.ensures) refl refl;
+          (λ d. resumed_implements n c.args.label s.core d (op_progress_of n s.core) _ c.ends.result (sym c.is_resumed.ensures ∙ c.if-is_resumed.true) c.requires.shown c.ends.ensures) refl refl;
     }
 
 pub returns : goal.returns

@@ -1,5 +1,5 @@
 use Rattle.machine_rules.proofs.CalmLemmas.{halting_calm, then_promote_calm}
-use Rattle.ops_dispatch.proofs.HaltLemmas.{begins_rule, resumed_meets}
+use Rattle.ops_dispatch.proofs.HaltLemmas.{begins_rule, resumed_implements}
 use Rattle.ops_dispatch.proofs.thread_dispatch.promotes.Goals as goal
 use Rattle.ops_dispatch.specs.Rules.{promotes_here}
 use Rattle.std.proofs.Common.{ap, refl, sym, ◌∙◌}
@@ -19,7 +19,7 @@ returns-then-is_resumed g c =
     record {
       does = calm_same (promotes_here c.args.yielding c.args.other c.args.label) c.args.thread s s c.ends.result
           (λ d. halting_calm d n s.core c.args.label (λ k. then_promote_rule d (halt_of c.args.yielding) n (value_of n s.core c.args.other) k s.core) (then_promote_calm d n (label.Thread c.args.label) (refl, refl) s.core (halt_of c.args.yielding) (value_of n s.core c.args.other)))
-          (λ d. resumed_meets n c.args.label s.core d (op_progress_of n s.core) _ c.ends.result (sym c.is_resumed.ensures ∙ c.if-is_resumed.true) c.requires.shown c.ends.ensures) refl refl;
+          (λ d. resumed_implements n c.args.label s.core d (op_progress_of n s.core) _ c.ends.result (sym c.is_resumed.ensures ∙ c.if-is_resumed.true) c.requires.shown c.ends.ensures) refl refl;
     }
 
 pub returns : goal.returns

@@ -1,5 +1,5 @@
 use Rattle.machine_rules.proofs.CalmLemmas.{halting_calm, resume_rule_calm}
-use Rattle.ops_dispatch.proofs.HaltLemmas.{begins_rule, resumed_meets}
+use Rattle.ops_dispatch.proofs.HaltLemmas.{begins_rule, resumed_implements}
 use Rattle.ops_dispatch.proofs.thread_dispatch.resumes.Goals as goal
 use Rattle.ops_dispatch.specs.Rules.{resumes_here}
 use Rattle.std.proofs.Common.{ap, refl, sym, ◌∙◌}
@@ -19,7 +19,7 @@ returns-then-is_resumed g c =
     record {
       does = calm_same (resumes_here c.args.yielding c.args.other c.args.label) c.args.thread s s c.ends.result
           (λ d. halting_calm d n s.core c.args.label (λ k. then_resume_rule (halt_of c.args.yielding) n (value_of n s.core c.args.other) s.core) (resume_rule_calm d n s.core (halt_of c.args.yielding) (value_of n s.core c.args.other)))
-          (λ d. resumed_meets n c.args.label s.core d (op_progress_of n s.core) _ c.ends.result (sym c.is_resumed.ensures ∙ c.if-is_resumed.true) c.requires.shown c.ends.ensures) refl refl;
+          (λ d. resumed_implements n c.args.label s.core d (op_progress_of n s.core) _ c.ends.result (sym c.is_resumed.ensures ∙ c.if-is_resumed.true) c.requires.shown c.ends.ensures) refl refl;
     }
 
 pub returns : goal.returns

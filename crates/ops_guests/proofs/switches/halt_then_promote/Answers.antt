@@ -54,6 +54,6 @@ returns-in-Ok-false g c =
     record {
       does = calm_same _ c.args.thread s u _
           (λ d. then_promote_calm d (thread_of s c.args.thread) c.args.label c.requires.silent s.core (halt_of c.args.yielding) c.args.handle)
-          (λ d. promote_plain d (halt_of c.args.yielding) c.args.label c.args.thread c.args.handle s t u _ comes (halted.meets d))
+          (λ d. promote_plain d (halt_of c.args.yielding) c.args.label c.args.thread c.args.handle s t u _ comes (halted.implements d))
           (halted.kept.0 ∙ same.0) (halted.kept.1 ∙ same.1);
     }
