@@ -152,7 +152,7 @@ pub record ShowsFirst (p : Preference) (s : Core) (l : Label) : Type 0 where
 
 -- ---- What a step does
 
--- as the row, with each release in the order of the preference
+-- as the rule, with each release in the order of the preference
 abbrev pub in_order : Preference → Progress → Progress
 in_order p (Ordered ns next) = Ordered ns (λ order. may (goes_in_order p order) (in_order p (next order)))
 in_order p (Asks next) = Asks (λ answer. in_order p (next answer))
@@ -171,7 +171,7 @@ StepIn p x s l t = TurnStepIn p x s s.turn l t
 abbrev pub Silent : Label → Type 0
 Silent l = (woken_of l ≡ None) × (taken_of l ≡ None)
 
--- the row leaves no choice: its labels show none, and it releases no thread
+-- the rule leaves no choice: its labels show none, and it releases no thread
 abbrev pub LeavesNoChoice : Progress → Type 0
 LeavesNoChoice (Continues l new m) = Silent l
 LeavesNoChoice (Stops l new) = Silent l

@@ -1,4 +1,4 @@
--- What an op came to that the thread's script had it do, and that was ended.
+-- What an op resulted in that the thread's script had it do, and that was ended.
 use Rattle.std.specs.Prelude.{length, ℕ, ◌<◌, ◌≡◌}
 use Rattle.ops_dispatch.specs.ContinuesDispatch.{OpGoesOn}
 use Rattle.ops_dispatch.specs.Polls.{Polls}

@@ -1,4 +1,4 @@
--- An op whose row leaves no choice picks what comes first.
+-- An op whose rule leaves no choice picks what comes first.
 use Rattle.std.proofs.Common.{subst, sym}
 use Rattle.std.specs.Prelude.{IfSome, Option, refl, ℕ, ◌≡◌}
 use Rattle.machine_data.specs.Core.{Core}
@@ -18,7 +18,7 @@ silent_shows p s l silent = record {
   member = subst (λ (o : Option (ℕ × ℕ)). IfSome o (λ e. TakesFirst p s (instance_of e.0 s) e.1)) (sym silent.1) tt;
 }
 
--- a row that releases no thread does so in any order
+-- a rule that releases no thread does so in any order
 pub calm_order : (p : Preference) (row : Progress) (s : Core) (r : OpResult) (t : Core) → LeavesNoChoice row → Implements row s r t → Implements (in_order p row) s r t
 calm_order p (Continues l new m) s r t calm h = h
 calm_order p (Stops l new) s r t calm h = h

@@ -1,4 +1,4 @@
--- An op that meets its rule is a step.
+-- An op that implements its rule is a step.
 use Rattle.std.proofs.Common.{ap, ap₂, refl, subst, sym, ◌∙◌}
 use Rattle.std.specs.Prelude.{Bool, IfSome, None, Option, Some, false, true, ℕ, ◌≡◌}
 use Rattle.ops_guests.specs.OpResult.{Implements}

@@ -12,7 +12,7 @@ use Rattle.ops_guests.specs.declared.op_result.OpResult.{OpResult}
 use Rattle.ops_guests.specs.declared.op_result.OpResult.TheVariants as op_result
 use Rattle.ops_guests.specs.Shown.{goes_as}
 
--- The op that began in s did what the row says, and the core is t. A trap has changed nothing.
+-- The op that began in s did what the rule says, and the core is t. A trap has changed nothing.
 abbrev pub Implements : Progress → Core → OpResult → Core → Type 0
 Implements (Continues l new m) s r t = (r ≡ goes_as l m) × (t ≡ new)
 Implements (Stops l new) s r t = (r ≡ op_result.Stops l) × (t ≡ new)

@@ -45,14 +45,14 @@ core_after n (op_result.Stops l) t = t
 core_after n (op_result.Traps why) t = unwound n t
 core_after n (op_result.Fails i) t = unwound n t
 
--- each op that meets its rule is a step of the machine
+-- each op that implements its rule is a step of the machine
 abbrev pub ImplementingIsStep : Type 0
 ImplementingIsStep =
     (x : Setting) (s : State) (n : ℕ) (r : OpResult) (t : Core) → s.turn ≡ turn.Run n →
     Implements (did x.component n s.core (choice_of (label_of n r))) s.core r t →
     Step x s (label_of n r) (goes_to s (core_after n r t) (turn_after r))
 
--- each taking that meets its rule, from the core that the entry has left, is a step of the machine
+-- each taking that implements its rule, from the core that the entry has left, is a step of the machine
 abbrev pub TakingIsStep : Type 0
 TakingIsStep =
     (x : Setting) (s : State) (ended : Bool) (e : Mark × Entry) (r : OpResult) (t : Core) → s.turn ≡ turn.Take ended →
@@ -62,7 +62,7 @@ TakingIsStep =
 
 -- ---- What a step picks
 
--- each op that meets its rule and picks what comes first is a step that does
+-- each op that implements its rule and picks what comes first is a step that does
 abbrev pub PickingIsPicked : Type 0
 PickingIsPicked =
     (p : Preference) (x : Setting) (s : State) (n : ℕ) (r : OpResult) (t : Core) → s.turn ≡ turn.Run n →
@@ -91,7 +91,7 @@ main_after s p o (acted.Does l) t = at_turn s t (Scripted (advanced_main o l p))
 main_after s p o acted.Pends t = goes_to s t (turn.Futures 0)
 main_after s p o (acted.Answers v) t = goes_to s t turn.Over
 
--- each op of main's script that meets its rule is a step of the machine
+-- each op of main's script that implements its rule is a step of the machine
 abbrev pub ActingIsStep : Type 0
 ActingIsStep =
     (x : Setting) (s : State) (p : MainPlace) (o : MainOpDef) (r : Acted) (t : Core) → s.turn ≡ turn.Main → s.main ≡ Scripted p →
