@@ -164,7 +164,7 @@ module _ (a : CoreParts) (sound : IsSoundCore a) (id : TableId GuestTaskKey) (g 
         let now = with_entry id.rep (entry_of h) a.calls in
         let one = item_stands (λ (g : GuestTask). g.number) (λ (g : GuestTask). g.call) a.calls a.made.threads sound.tables.calls id.rep id.serial g is in
         let seats : records call_seat_key now.places ≡ records call_seat_key a.calls.places =
-            records_unseen call_seat_key a.calls id.rep one.0 one.1.0 (entry_of h) (ap (λ (x : GuestTask). call_seat_key (entry_of x)) alike ∙ ap call_seat_key (sym one.1.1.1)) in
+        records_unseen call_seat_key a.calls id.rep one.0 one.1.0 (entry_of h) (ap (λ (x : GuestTask). call_seat_key (entry_of x)) alike ∙ ap call_seat_key (sym one.1.1.1)) in
         ap (λ (p : Records ℕ). record (seen call_after) { tags = record (seen call_after).tags { seats = record (seen a).tags.seats { calls = p } } }) seats
         ∙ ap₂ (λ (m : Records Call) (l : List (Option Tag)). record (seen a) { core = record (seen a).core { calls = m }; tags = record (seen a).tags { calls = l } })
         (records_changed (λ (g : GuestTask). g.number) (λ (g : GuestTask). g.call) a.calls a.made.threads sound.tables.calls id.rep id.serial g is h call_same f is_f
@@ -247,7 +247,7 @@ module _ (a : CoreParts) (sound : IsSoundCore a) (id : TableId HostTaskKey) (g :
         let now = with_entry id.rep (entry_of h) a.works in
         let one = item_stands (λ (g : WorkRecord). g.number) (λ (g : WorkRecord). g.work) a.works a.made.works sound.tables.works id.rep id.serial g is in
         let seats : records work_seat_key now.places ≡ records work_seat_key a.works.places =
-            records_unseen work_seat_key a.works id.rep one.0 one.1.0 (entry_of h) (ap (λ (x : WorkRecord). work_seat_key (entry_of x)) alike ∙ ap work_seat_key (sym one.1.1.1)) in
+        records_unseen work_seat_key a.works id.rep one.0 one.1.0 (entry_of h) (ap (λ (x : WorkRecord). work_seat_key (entry_of x)) alike ∙ ap work_seat_key (sym one.1.1.1)) in
         ap (λ (p : Records ℕ). record (seen moved_after) { tags = record (seen moved_after).tags { seats = record (seen a).tags.seats { works = p } } }) seats
         ∙ ap₂ (λ (m : Records Work) (l : List (Option Tag)). record (seen a) { core = record (seen a).core { works = m }; tags = record (seen a).tags { works = l } })
         (records_changed (λ (g : WorkRecord). g.number) (λ (g : WorkRecord). g.work) a.works a.made.works sound.tables.works id.rep id.serial g is h moved_same f is_f

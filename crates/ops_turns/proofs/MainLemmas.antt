@@ -80,12 +80,12 @@ module _ (x : Setting) (m : Main) (s : StateView) (new : Main) (t : StateView) (
   did_turns (label.Main l) h =
       let step = main_step x m s.core (label.Main l) (state_at t.core new turn.Main) (to_setting x (state_at s.core m turn.Main) m (label.Main l) (state_at t.core new turn.Main) h.step) in
       record {
-    step = step;
-    picks = quiet_picks (preference s) x (state_at s.core m turn.Main) (label.Main l) (state_at t.core new turn.Main) tt (refl, refl) step;
-    running = none;
-    over = op_goes_on l h.op;
-    pends = tt;
-  }
+        step = step;
+        picks = quiet_picks (preference s) x (state_at s.core m turn.Main) (label.Main l) (state_at t.core new turn.Main) tt (refl, refl) step;
+        running = none;
+        over = op_goes_on l h.op;
+        pends = tt;
+      }
   did_turns _ h = absurd (h.op)
 
   pub waits_turns : (p : Turn) → p ≡ settled_turn t.core (turn.Futures 0) → Pends x.component x.script m s.core new t.core → Turns x turn.Main m s (record { label = label.Loop loop_label.MainPends; turn = p }) new t
@@ -95,8 +95,8 @@ module _ (x : Setting) (m : Main) (s : StateView) (new : Main) (t : StateView) (
       let open_there = futures_open 0 t.core (next_polled 0 t.core) in
       let pending = subst (λ (u : Core). main_pends x u new ≡ true) (sym h.core) (subst (λ (k : Main). main_pends x s.core k ≡ true) (sym h.part) there) in
       let step : Step x (state_at s.core m turn.Main) l (state_at t.core new (settled_turn t.core (turn.Futures 0))) =
-          subst (λ (u : Core). Step x (state_at s.core m turn.Main) l (state_at u new (settled_turn u (turn.Futures 0)))) (sym h.core)
-            (subst (λ (k : Main). Step x (state_at s.core m turn.Main) l (state_at s.core k (settled_turn s.core (turn.Futures 0)))) (sym h.part) (waits x m s.core there)) in
+      subst (λ (u : Core). Step x (state_at s.core m turn.Main) l (state_at u new (settled_turn u (turn.Futures 0)))) (sym h.core)
+      (subst (λ (k : Main). Step x (state_at s.core m turn.Main) l (state_at s.core k (settled_turn s.core (turn.Futures 0)))) (sym h.part) (waits x m s.core there)) in
       let turns : Turns x turn.Main m s (record { label = l; turn = settled_turn t.core (turn.Futures 0) }) new t = record {
         step = step;
         picks = quiet_picks (preference s) x (state_at s.core m turn.Main) l (state_at t.core new (settled_turn t.core (turn.Futures 0))) tt (refl, refl) step;
@@ -110,9 +110,9 @@ module _ (x : Setting) (m : Main) (s : StateView) (new : Main) (t : StateView) (
   answers_turns v h =
       let l = label.Main (main_label.Answer v) in
       let step : Step x (state_at s.core m turn.Main) l (state_at t.core new turn.Over) =
-          subst (λ (u : Core). Step x (state_at s.core m turn.Main) l (state_at u new turn.Over)) (sym h.core)
-            (subst (λ (k : Main). Step x (state_at s.core m turn.Main) l (state_at s.core k turn.Over)) (sym h.part)
-            (main_step x m s.core l (state_at s.core m turn.Over) (to_setting x (state_at s.core m turn.Main) m l (state_at s.core m turn.Over) h.step))) in
+      subst (λ (u : Core). Step x (state_at s.core m turn.Main) l (state_at u new turn.Over)) (sym h.core)
+      (subst (λ (k : Main). Step x (state_at s.core m turn.Main) l (state_at s.core k turn.Over)) (sym h.part)
+      (main_step x m s.core l (state_at s.core m turn.Over) (to_setting x (state_at s.core m turn.Main) m l (state_at s.core m turn.Over) h.step))) in
       record {
         step = step;
         picks = quiet_picks (preference s) x (state_at s.core m turn.Main) l (state_at t.core new turn.Over) tt (refl, refl) step;

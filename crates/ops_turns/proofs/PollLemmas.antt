@@ -108,14 +108,14 @@ poll_silent i polled.Fails = (refl, refl)
 pub poll_makes : (c : Component) (k i : ℕ) (s t : StateView) (r : Polled) (made : MadeStep) → next_polled k s.core ≡ Some i → PollImplements i (poll_of i s.core) s.core r t.core → s.current ≡ None → t.current ≡ s.current → made.label ≡ label_by i r → made.turn ≡ turn_by i r t.core → MakesStep c (turn.Futures k) s made t
 poll_makes c k i s t r made next implements none current label_is turn_is =
     let step : (x : Setting) (m : Main) → Step x (state_at s.core m (turn.Futures k)) made.label (state_at t.core m made.turn) =
-        λ x m. subst (λ (l : Label). Step x (state_at s.core m (turn.Futures k)) l (state_at t.core m made.turn)) (sym label_is)
-        (subst (λ (p : Turn). Step x (state_at s.core m (turn.Futures k)) (label_by i r) (state_at t.core m p)) (sym turn_is) (poll_step k i s.core t.core m r next implements x)) in
+    λ x m. subst (λ (l : Label). Step x (state_at s.core m (turn.Futures k)) l (state_at t.core m made.turn)) (sym label_is)
+    (subst (λ (p : Turn). Step x (state_at s.core m (turn.Futures k)) (label_by i r) (state_at t.core m p)) (sym turn_is) (poll_step k i s.core t.core m r next implements x)) in
     record {
-  step = λ x component m. step x m;
-  picks = λ x component m. quiet_picks (preference s) x (state_at s.core m (turn.Futures k)) made.label (state_at t.core m made.turn) tt (subst Silent (sym label_is) (poll_silent i r)) (step x m);
-  running = ap (option_map (λ id. thread_of t id)) (current ∙ none) ∙ sym (ap runs_in turn_is ∙ none_runs i r t.core);
-  over = ap (λ (l : Label). is_none (outcome_of_label l)) label_is ∙ (over_by i r t.core ∙ ap is_open (sym turn_is));
-}
+      step = λ x component m. step x m;
+      picks = λ x component m. quiet_picks (preference s) x (state_at s.core m (turn.Futures k)) made.label (state_at t.core m made.turn) tt (subst Silent (sym label_is) (poll_silent i r)) (step x m);
+      running = ap (option_map (λ id. thread_of t id)) (current ∙ none) ∙ sym (ap runs_in turn_is ∙ none_runs i r t.core);
+      over = ap (λ (l : Label). is_none (outcome_of_label l)) label_is ∙ (over_by i r t.core ∙ ap is_open (sym turn_is));
+    }
 
 -- ---- Main's op pends still
 

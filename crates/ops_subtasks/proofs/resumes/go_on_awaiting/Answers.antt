@@ -10,8 +10,10 @@ use Rattle.core_primitives.specs.StateView.{StateView, thread_of}
 pub returns-in_default : goal.returns-in_default
 returns-in_default g c =
     let s = g.W.View.view c.args.w.now in
-    record { does = calm_same _ c.args.thread s s _ (λ d. cancel_calm d (mode_of c.args.sync) (thread_of s c.args.thread) 0 s.core (op_progress.AwaitsEnd (subtask_in s.tags c.args.subtask)))
-          (λ d. awaits_trap (mode_of c.args.sync) (thread_of s c.args.thread) d (subtask_in s.tags c.args.subtask) s.core c.in_default.ensures) refl refl }
+    record {
+      does = calm_same _ c.args.thread s s _ (λ d. cancel_calm d (mode_of c.args.sync) (thread_of s c.args.thread) 0 s.core (op_progress.AwaitsEnd (subtask_in s.tags c.args.subtask)))
+          (λ d. awaits_trap (mode_of c.args.sync) (thread_of s c.args.thread) d (subtask_in s.tags c.args.subtask) s.core c.in_default.ensures) refl refl;
+    }
 
 pub returns : goal.returns
 returns g c =
