@@ -50,7 +50,7 @@ pub trait PlacePrimitives: View {
         requires call { 0 < call_of (Self.view self.old) call }
         ensures { Self.view self.new ≡ on_core (λ s. set_op_progress (thread_of (Self.view self.old) thread) (op_progress_of_thread.Calls (subtasks.Guest (call_of (Self.view self.old) call))) (set_place (thread_of (Self.view self.old) thread) (place_of_thread.Under (thread_of (Self.view self.old) callee)) s)) (Self.view self.old) };
 
-    /// Records that the thread's entry is at this mark, for the same reason as before.
+    /// Moves the thread's entry to this mark. Why it is queued stays.
     fn set_mark(&mut self, thread: ThreadId, mark: Mark)
         ensures { Self.view self.new ≡ on_core (λ s. stand (thread_of (Self.view self.old) thread) mark (why_of (thread_of (Self.view self.old) thread) s) s) (Self.view self.old) };
 

@@ -138,7 +138,7 @@ HostCallsDone = (x : Setting) (host : HostDef) (q : Option ℕ) (n m : ℕ) (s t
 
 -- ---- As a host calls an export
 
--- The running thread calls an export directly, with any words, and the call's thread goes on: order stays in which the thread has a sync call
+-- The running thread calls an export directly, with any values, and the call's thread goes on: order stays in which the thread has a sync call
 -- of that export, wherever it is in its script.
 unfoldable pub EnterKeeps : Type 0
 EnterKeeps = (c : Component) (o : Op) (e : Callee) (words : List ℕ) (n m : ℕ) (l : Label) (new s : Core) → callee_of_op o ≡ Some e →

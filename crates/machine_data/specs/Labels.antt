@@ -1,10 +1,10 @@
 -- Labels from their parts, and what a label shows of a step's choices.
 use Rattle.std.specs.Prelude.{ℕ, Option, Some, None}
-use Rattle.machine_data.specs.declared.words.Given.{Given}
-use Rattle.machine_data.specs.declared.words.Given.TheVariants as given
-use Rattle.machine_data.specs.declared.words.Mark.{Mark}
-use Rattle.machine_data.specs.declared.words.TaskEvent.{TaskEvent}
-use Rattle.machine_data.specs.declared.words.TaskEvent.TheVariants as own
+use Rattle.machine_data.specs.declared.statuses.Given.{Given}
+use Rattle.machine_data.specs.declared.statuses.Given.TheVariants as given
+use Rattle.machine_data.specs.declared.statuses.Mark.{Mark}
+use Rattle.machine_data.specs.declared.statuses.TaskEvent.{TaskEvent}
+use Rattle.machine_data.specs.declared.statuses.TaskEvent.TheVariants as own
 use Rattle.machine_data.specs.declared.label.Label.{Label}
 use Rattle.machine_data.specs.declared.label.Label.TheVariants as label
 use Rattle.machine_data.specs.declared.label.TakeLabel.{TakeLabel}

@@ -85,7 +85,7 @@ module _ (c : Component) (n : ℕ) (r : OpResult) (s t : StateView) (runs : runn
   from_running : (P : ℕ → Type 0) → IfSome (running_of s) P → P n
   from_running P p = subst (λ (o : Option ℕ). IfSome o P) runs p
 
-  -- the running thread did the row
+  -- the running thread did the rule
   pub did_rule : (R : ℕ → Choice → Progress) → NamesTold s t → Implements (R n (choice_of (label_of n r))) s.core r t.core → Did R s r (after r t)
   did_rule R works h = if_running (λ k. Does (R k) k s r (after r t)) (record {
     meets = subst (λ (u : Core). Implements (R n (choice_of (label_of n r))) s.core r u) (sym (core_then r t)) h;
@@ -143,7 +143,7 @@ module _ (s : StateView) (n : ℕ) (runs : running_of s ≡ Some n) where
   pub running_is : (P : ℕ → Type 0) → IfSome (running_of s) P → P n
   running_is P p = subst (λ (o : Option ℕ). IfSome o P) runs p
 
--- what met a row and wasn't refused comes of it
+-- what did a rule and wasn't refused comes of it
 pub meets_progresses : (x : State) (n : ℕ) (p : Progress) (r : OpResult) (t : Core) → Implements p x.core r t → is_going r ≡ true →
     Progresses x x.core n p (label_of n r) (goes_to x t (turn_after r))
 meets_progresses x n (Continues l new m) (op_result.Continues k j said) t h on = let e = h.0 in let is = h.1 in (cc, cc)

@@ -1,5 +1,5 @@
--- The rows of the ops that don't pause.
-use Rattle.machine_data.specs.declared.words.HostPoll.{HostPoll}
+-- The rules of the ops that don't pause.
+use Rattle.machine_data.specs.declared.statuses.HostPoll.{HostPoll}
 use Rattle.std.proofs.Common.{ap}
 use Rattle.std.specs.Prelude.{Bool, List, None, Option, Some, false, nat_le, not, is_some, suc, true, zero, ℕ, ◌==◌, ◌≡◌}
 use Rattle.ops_calls.specs.OpAnswers.{has_stopped}

@@ -31,7 +31,7 @@ use Rattle.ops_turns.proofs.RunLemmas.{settled}
 use Rattle.ops_turns.specs.Turn.{CoreInOrder, is_going, state_at}
 use Rattle.core_primitives.specs.StateView.{StateView}
 use Rattle.machine_data.specs.declared.component.HostDef.TheVariants as host_def
-use Rattle.machine_data.specs.declared.words.HostPoll.TheVariants as host_poll
+use Rattle.machine_data.specs.declared.statuses.HostPoll.TheVariants as host_poll
 use Rattle.machine_rules.specs.Calls.{AtOnce, Failing, FirstPoll, Later, call_host_by, call_sync_host_by, first_polled}
 
 -- what met a progress and wasn't refused, whatever main's part is
@@ -45,7 +45,7 @@ progressed p n r s t h on m =
 pub stays : (c : Component) (n : ℕ) (s t : StateView) → Rests c n s → t ≡ s → InTurn c t
 stays c n s t h same = order_still c n s t h.runs h.order same
 
--- who runs after a row that went on
+-- who runs after a rule that went on
 pub then_runs : (c : Component) (n m : ℕ) (t : StateView) → running_of t ≡ Some m → CoreInOrder c (Turn.Run m) t.core → InTurn c t
 then_runs c n m t is sits = subst (λ (o : Option ℕ). CoreInOrder c (turn_for o) t.core) (sym is) sits
 

@@ -158,7 +158,7 @@ module _ (c : Component) (e : Callee) (words : List ℕ) (x : ExportKind) (kind 
     pub entered_live : 0 < thread_of t to
     entered_live = grind (arith, entered_number)
 
--- ---- The row of the exit, with the register written before
+-- ---- The rule of the exit, with the register written before
 
 -- one that goes on hangs on no core before
 pub goes_base : (p : Progress) (s u t : Core) (l : Label) (m : ℕ) (said : OpAnswer) → Implements p u (op_result.Continues l m said) t → Implements p s (op_result.Continues l m said) t

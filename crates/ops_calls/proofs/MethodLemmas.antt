@@ -83,7 +83,7 @@ module _ (c : Component) (n : ℕ) (s t : StateView) (r : Result Bool TaskError)
   promotes (Some m) q = promoted_so m (m == n) (has_yielded m s.core) refl q
 
 module _ (c : Component) (n i : ℕ) (s t : StateView) (r : Result Bool TaskError) (h : Rests c n s) where
-  -- the row of `resume_later`
+  -- the rule of `resume_later`
   abbrev later : Op
   later = Op.Thread (ThreadOp.ResumeLater (Operand.Number i))
 
@@ -141,7 +141,7 @@ returns_keep c n v false s t r h q = refused_so c n s t r h (has_ended (task_of 
 
 -- ---- Direct calls
 
--- What a row that goes on or is refused is, by what it resulted in.
+-- What a rule that goes on or is refused is, by what it resulted in.
 abbrev Met : Progress → Core → OpResult → Type 0
 Met p t (OpResult.Continues l m said) = p ≡ Continues l t m
 Met p t (OpResult.Traps why) = Unit {0}

@@ -71,7 +71,7 @@ after _ s = s
 abbrev pub left_by : ℕ → OpResult → StateView → StateView
 left_by n r s = after r (on_core (ended SomeHost n r) s)
 
--- The thread n did a row: t is what the row says, and the thread that goes on runs. Where it was refused, nothing is changed.
+-- The thread n did a rule: t is what the rule says, and the thread that goes on runs. Where it was refused, nothing is changed.
 pub record Does (row : Choice → Progress) (n : ℕ) (s : StateView) (r : OpResult) (t : StateView) : Type 0 where
   pub meets : Implements (row (choice_of (label_of n r))) s.core r t.core
   pub running : running_of t ≡ runs_after n r
@@ -89,7 +89,7 @@ row_at c s n ch = scripted_rule_of c (op_of c n s) s n ch
 abbrev pub Did : (ℕ → Choice → Progress) → StateView → OpResult → StateView → Type 0
 Did row s r t = IfSome (running_of s) (λ n. Does (row n) n s r t)
 
--- It did its rule, and what that resulted in is answered. Only one that takes memory answers that it is wanting, and then nothing
+-- It did its rule, and what that resulted in is answered. Only one that takes memory answers that it is out of memory, and then nothing
 -- is changed.
 abbrev pub Answers : {A : Type 0} → (takes : Bool) → (ℕ → Choice → Progress) → (OpAnswer → A) → StateView → Result (Step A) TaskError →
     StateView → Type 0

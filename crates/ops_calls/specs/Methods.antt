@@ -1,4 +1,4 @@
--- What the calls by which a host has the running thread do a piece of a rule, or a row in place of the one at its place, leave in
+-- What the calls by which a host has the running thread do a piece of a rule, or a rule in place of the one at its place, leave in
 -- order.
 use Rattle.ops_dispatch.specs.ContinuesDispatch.{running_of}
 use Rattle.laws_order.specs.Given.{given, host_op, is_asked}
@@ -33,7 +33,7 @@ use Rattle.machine_rules.specs.Scripts.{export_kind, ops_of}
 use Rattle.ops_turns.specs.Turn.{CoreInOrder}
 use Rattle.core_primitives.specs.StateView.{StateView, thread_of, with_core, with_current}
 
--- the row of a call of a host whose first poll found this, with a register for the value, or that waits for it
+-- the rule of a call of a host whose first poll found this, with a register for the value, or that waits for it
 abbrev pub hosts_rule : Option ℕ → FirstPoll → Core → ℕ → Choice → Progress
 hosts_rule (Some q) found s = polls_rule q found s
 hosts_rule None found s = blocks_rule found s

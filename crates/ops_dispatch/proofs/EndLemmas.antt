@@ -30,7 +30,7 @@ use Rattle.machine_data.specs.declared.op.Op.TheVariants as op
 use Rattle.machine_data.specs.declared.op.TaskOp.TheVariants as task_op
 use Rattle.machine_data.specs.declared.records.Course.TheVariants as course
 use Rattle.machine_data.specs.declared.records.Work.{Work}
-use Rattle.machine_data.specs.declared.words.HostPoll.{HostPoll}
+use Rattle.machine_data.specs.declared.statuses.HostPoll.{HostPoll}
 use Rattle.ops_guests.proofs.EndedLemmas.{ended_threads, unended}
 use Rattle.ops_guests.specs.OpResult.{Implements}
 use Rattle.ops_guests.specs.Does.{Rule}

@@ -112,7 +112,7 @@ module _ (AreKept : StateView → StateView → Type 0) (rule other : Rule) (id 
 
 -- ---- Ends of threads and of activations
 
--- a row after which no thread goes on answers nothing
+-- a rule after which no thread goes on answers nothing
 pub stops_unanswered : (p : Progress) → StopsAs p → IsUnanswered p
 stops_unanswered (Continues l new m) h = absurd h.0
 stops_unanswered (Stops l new) h = tt
@@ -122,7 +122,7 @@ stops_unanswered Never h = tt
 stops_unanswered (Ordered ns next) h = λ order. stops_unanswered (next order) (h order)
 stops_unanswered (Asks next) h = λ answer. stops_unanswered (next answer) (h answer)
 
--- the row is the same whoever has it done
+-- the rule is the same whoever has it done
 module _ (p : Progress) (id : TableId ThreadKey) (s t : StateView) (r : OpResult) (meets : Implements p s.core r t.core) (stays : StaysAfter r s t) (kept : KeepsTold s t) where
   pub rule_op : IsUnanswered p → OpGoesOn r t → DoesOp KeepsTold (λ d n ch c. p) id s r t
   rule_op none goes = record {
@@ -160,7 +160,7 @@ direct_quiet n kind.Blocking s (Some m) = quiet_trap (not (passes_check (instanc
 direct_quiet n kind.Stackful s (Some m) = quiet_trap (not (passes_check (instance_of n s) s)) trap.CannotBlockSyncTask _ (tt, refl)
 direct_quiet n kind.Callback s (Some m) = quiet_trap (not (passes_check (instance_of n s) s)) trap.CannotBlockSyncTask _ (tt, refl)
 
--- what came of a row that shows so gives no outcome
+-- what came of a rule that shows so gives no outcome
 abbrev pub CameQuiet : OpResult → Type 0
 CameQuiet (op_result.Continues l m said) = outcome_of_label l ≡ None
 CameQuiet (op_result.Stops l) = outcome_of_label l ≡ None

@@ -1,4 +1,4 @@
--- What an op came to that the thread's script had it do, and that was ended.
+-- What an op resulted in that the thread's script had it do, and that was ended.
 use Rattle.std.specs.Prelude.{length, ℕ, ◌<◌, ◌≡◌}
 use Rattle.ops_dispatch.specs.ContinuesDispatch.{OpGoesOn}
 use Rattle.ops_dispatch.specs.Polls.{Polls}
@@ -8,7 +8,7 @@ use Rattle.machine_data.specs.Labels.{choice_of}
 use Rattle.machine_data.specs.Read.{op_progress_of, position_of}
 use Rattle.machine_data.specs.declared.component.Component.{Component}
 use Rattle.machine_data.specs.declared.op.Op.{Op}
-use Rattle.machine_data.specs.declared.words.HostPoll.{HostPoll}
+use Rattle.machine_data.specs.declared.statuses.HostPoll.{HostPoll}
 use Rattle.ops_guests.specs.OpResult.{Implements}
 use Rattle.ops_guests.specs.Stays.{StaysAfter}
 use Rattle.ops_guests.specs.Steps.{label_of}

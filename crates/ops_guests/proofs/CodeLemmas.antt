@@ -15,8 +15,8 @@ use Rattle.machine_data.specs.declared.records.Delivery.TheVariants as delivery
 use Rattle.machine_data.specs.declared.records.Place.TheVariants as place
 use Rattle.machine_data.specs.declared.records.Why.TheVariants as why
 use Rattle.machine_data.specs.declared.trap.Trap.TheVariants as trap
-use Rattle.machine_data.specs.declared.words.TaskEvent.{TaskEvent}
-use Rattle.machine_data.specs.declared.words.TaskEvent.TheVariants as task_event
+use Rattle.machine_data.specs.declared.statuses.TaskEvent.{TaskEvent}
+use Rattle.machine_data.specs.declared.statuses.TaskEvent.TheVariants as task_event
 use Rattle.ops_guests.specs.OpResult.{Implements}
 use Rattle.ops_guests.specs.Reopens.{InSomeOrder}
 use Rattle.ops_guests.specs.Running.{IsRunning}

@@ -10,7 +10,7 @@ use Rattle.machine_data.specs.Write.{push_high}
 use Rattle.machine_data.specs.declared.records.Place.{Place}
 use Rattle.machine_data.specs.declared.records.Place.TheVariants as place
 use Rattle.machine_data.specs.declared.records.Why.{Why}
-use Rattle.machine_data.specs.declared.words.Mark.TheVariants as mark
+use Rattle.machine_data.specs.declared.statuses.Mark.TheVariants as mark
 use Rattle.ops_moves.specs.Stops.{MayStop}
 use Rattle.ops_guests.proofs.RunLemmas.{KeepsUnder, foot_is, foot_kept, may_stop}
 use Rattle.ops_guests.proofs.BesideLemmas.{checked_place, free_loose, is_busy}

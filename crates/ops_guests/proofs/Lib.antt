@@ -9,7 +9,7 @@ pub mod SetLemmas
 pub mod FootLemmas
 pub mod ExitLemmas
 pub mod CodeLemmas
-pub mod StrikeLemmas
+pub mod UnwindLemmas
 pub mod TellingLemmas
 pub mod MainLemmas
 pub mod SwitchLemmas

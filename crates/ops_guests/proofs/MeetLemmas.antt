@@ -1,4 +1,4 @@
--- An op that meets its rule is a step.
+-- An op that implements its rule is a step.
 use Rattle.std.proofs.Common.{refl, subst, sym}
 use Rattle.std.specs.Prelude.{Option, ℕ, ◌≡◌}
 use Rattle.ops_guests.specs.OpResult.{Implements}
@@ -16,7 +16,7 @@ use Rattle.ops_guests.specs.Acted.{MainImplements}
 use Rattle.ops_guests.specs.declared.mains.Acted.{Acted}
 use Rattle.machine_data.specs.declared.records.Entry.{Entry}
 use Rattle.machine_data.specs.declared.scenario.MainOpDef.{MainOpDef}
-use Rattle.machine_data.specs.declared.words.Mark.{Mark}
+use Rattle.machine_data.specs.declared.statuses.Mark.{Mark}
 
 came_as : (s : State) (base : Core) (n : ℕ) (p : Progress) (r q : OpResult) (t u : Core) → r ≡ q → t ≡ u → Progresses s base n p (label_of n q) (goes_to s (core_after n q u) (turn_after q)) → Progresses s base n p (label_of n r) (goes_to s (core_after n r t) (turn_after r))
 came_as s base n p r q t u e d h = subst (λ (v : OpResult). Progresses s base n p (label_of n v) (goes_to s (core_after n v t) (turn_after v))) (sym e) (subst (λ (v : Core). Progresses s base n p (label_of n q) (goes_to s (core_after n q v) (turn_after q))) (sym d) h)

@@ -16,7 +16,7 @@ use Rattle.machine_data.specs.declared.records.Subtask.{Subtask}
 use Rattle.machine_data.specs.declared.records.Subtask.TheVariants as subtask
 use Rattle.machine_data.specs.declared.records.Why.{Why}
 use Rattle.machine_data.specs.declared.records.Work.{Work}
-use Rattle.machine_data.specs.declared.words.Mark.TheVariants as mark
+use Rattle.machine_data.specs.declared.statuses.Mark.TheVariants as mark
 use Rattle.ops_moves.specs.Idle.{AreIdleUnqueued, CanPublish, IsJoinThere, IsWaiting}
 use Rattle.ops_guests.proofs.BesideLemmas.{all_of}
 use Rattle.ops_guests.proofs.ExitLemmas.{reopened_stand}

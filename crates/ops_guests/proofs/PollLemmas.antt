@@ -11,7 +11,7 @@ use Rattle.machine_data.specs.Read.{instance_of, set_at, subtask_at, task_of}
 use Rattle.machine_data.specs.declared.label.Label.TheVariants as label
 use Rattle.machine_data.specs.declared.label.SetLabel.TheVariants as set_label
 use Rattle.machine_data.specs.declared.trap.Trap.TheVariants as trap
-use Rattle.machine_data.specs.declared.words.Given.{Given}
+use Rattle.machine_data.specs.declared.statuses.Given.{Given}
 use Rattle.ops_guests.specs.OpResult.{Implements}
 use Rattle.ops_guests.specs.PickedEvents.{AllMembersNamed, IsNamedIn, MembersNamed, picked_event_in, handle_in, member_in}
 use Rattle.ops_guests.specs.declared.picked_events.PickedEvent.{PickedEvent}

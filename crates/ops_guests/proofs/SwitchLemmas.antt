@@ -23,7 +23,7 @@ use Rattle.machine_data.specs.declared.records.Thread.{Thread}
 use Rattle.machine_data.specs.declared.records.Why.{Why}
 use Rattle.machine_data.specs.declared.trap.Trap.{Trap}
 use Rattle.machine_data.specs.declared.trap.Trap.TheVariants as trap
-use Rattle.machine_data.specs.declared.words.Mark.{Mark}
+use Rattle.machine_data.specs.declared.statuses.Mark.{Mark}
 use Rattle.ops_guests.specs.OpResult.{Implements}
 use Rattle.ops_guests.specs.Ended.{ended}
 use Rattle.ops_guests.specs.Halting.{ComesFirst, First, GoesFirst, Refused, StaysBehind, halts_then, or_refused, promoted_first, promoted_found, promoted_if, refused_if, resumed_first, resumed_found}
@@ -212,7 +212,7 @@ comes_same (GoesFirst new) s t r h = (ap (λ (v : StateView). v.tags) h.1, ap (�
 comes_same StaysBehind s t r h = (ap (λ (v : StateView). v.tags) h.1, ap (λ (v : StateView). v.current) h.1)
 comes_same (Refused why) s t r h = (ap (λ (v : StateView). v.tags) h.1, ap (λ (v : StateView). v.current) h.1)
 
--- the rows of the ops that let another thread go first
+-- the rules of the ops that let another thread go first
 resume_halts : (x : Halt) (n h : ℕ) (l : Label) (s : Core) → then_resume_rule x n h s ≡ halts_then SomeHost x n l s (resumed_first n h s)
 unfolding halted_resuming
 resume_halts x n h l s = at (thread_at (instance_of n s) h s)

@@ -17,9 +17,9 @@ use Rattle.machine_data.specs.declared.records.Place.TheVariants as place
 use Rattle.machine_data.specs.declared.records.Thread.{Thread}
 use Rattle.machine_data.specs.declared.records.Why.{Why}
 use Rattle.machine_data.specs.declared.records.Why.TheVariants as why
-use Rattle.machine_data.specs.declared.words.Given.{Given}
-use Rattle.machine_data.specs.declared.words.Mark.TheVariants as mark
-use Rattle.machine_data.specs.declared.words.TaskEvent.TheVariants as own
+use Rattle.machine_data.specs.declared.statuses.Given.{Given}
+use Rattle.machine_data.specs.declared.statuses.Mark.TheVariants as mark
+use Rattle.machine_data.specs.declared.statuses.TaskEvent.TheVariants as own
 use Rattle.ops_moves.proofs.TellLemmas.{map_or_is}
 use Rattle.ops_guests.proofs.PollLemmas.{chosen_is}
 use Rattle.ops_guests.specs.OpResult.{Implements}
@@ -62,7 +62,7 @@ module _ (n : TableId ThreadKey) (x : ℕ) (g : moves.PickedEvent) (w : Option �
   pub handed_task : (k : TableId GuestTaskKey) → call_of s k ≡ task_of (thread_of s n) s.core → call_of t k ≡ task_of (thread_of t n) t.core
   handed_task k at = ap (λ (v : StateView). call_of v k) e ∙ (at ∙ (sym (task_handed (thread_of s n) x g w s.core) ∙ sym (ap (λ (v : StateView). task_of (thread_of v n) v.core) e)))
 
--- ---- The row where another waiter is woken
+-- ---- The rule where another waiter is woken
 
 goes_on_is : (n x : ℕ) (r : Doer) (h w : ℕ) (tags : Tags) (g : PickedEvent) (v : Given) (s : Core) → moves.picked_event false (task_of n s) x (member_in tags g) s ≡ Some (picked_event_in tags g) → v ≡ moves.given_for (picked_event_in tags g) (unwrap_or (handle_in g) 0) s → may_hand_on x (picked_event_in tags g) (Some w) s ≡ true → wait_rule r n h (choice_of (wait_label n v (Some w))) s (op_progress.Waits x) ≡ Continues (wait_label n v (Some w)) (received_woken_by r n x (Some w) (picked_event_in tags g) v s) n
 unfolding may_hand_on
@@ -94,7 +94,7 @@ goes_on_meets n x r k m w o op_result g v s t u shown task number woken given is
     (subst (λ (j : ℕ). Implements (wait_rule r N h (choice_of (wait_label N v (Some j))) s.core (op_progress.Waits x)) s.core (goes_as (wait_label N v (Some j)) N) (ended r N (goes_as (wait_label N v (Some j)) N) u.core)) (sym woken)
     (subst (λ (p : Progress). Implements p s.core (goes_as (wait_label N v (Some w)) N) (ended r N (goes_as (wait_label N v (Some w)) N) u.core)) (sym row) (refl, core))))
 
--- ---- The row where none is woken
+-- ---- The rule where none is woken
 
 answered_is : (n x : ℕ) (r : Doer) (f : moves.PickedEvent) (v : Given) (o : Option ℕ) (s : Core) → handle_given v ≡ o → v ≡ moves.given_for f (unwrap_or o 0) s → may_hand_on x f None s ≡ true → may (may_hand_on x f None s) (Continues (wait_label n (moves.given_for f (unwrap_or (handle_given v) 0) s) None) (received_woken_by r n x None f (moves.given_for f (unwrap_or (handle_given v) 0) s) s) n) ≡ Continues (wait_label n v None) (received_woken_by r n x None f v s) n
 answered_is n x r f v o s member is hands =

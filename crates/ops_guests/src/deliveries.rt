@@ -20,7 +20,7 @@ use core_primitives::{CallId, PlaceId, Primitives, SetId, ThreadId};
 use machine_data::{Given, Label, Mark, TakeLabel};
 use ops_moves::{foot_of, stop};
 
-// What the gift hands out is in r0, r1 and r2, and the react script runs.
+// What the picked event hands out is in r0, r1 and r2, and the react script runs.
 #[tactic(auto, unfolding(machine_rules::specs::Takes::activated, core_primitives::specs::Context::activating))]
 #[inline(always)]
 fn activate<W: Primitives>(

@@ -1,5 +1,5 @@
-//! The ops of guests over the primitives of a core: each is its rule of the machine. It tests in the row's order, then makes the
-//! moves in the order of the row's new core.
+//! The ops of guests over the primitives of a core: each is its rule of the machine. It makes the rule's tests in the rule's order, then the
+//! rule's moves in their order.
 #![tactic(auto)]
 
 mod codes;
@@ -42,7 +42,7 @@ pub use switches::{
 };
 pub use task_end_ops::{ret, ret_bad, task_cancel};
 pub use thread_ops::{halt, resume_later};
-pub use unwinds::strike;
+pub use unwinds::unwind_thread;
 pub use wait_ops::{begin_wait, go_on_waiting};
 pub use work_ops::{PollNews, Polled, poll_work, take_push};
 

@@ -1,4 +1,4 @@
--- The row of a cancel, where what the handle names may be gone.
+-- The rule of a cancel, where what the handle names may be gone.
 use Rattle.std.proofs.Common.{T, ap, arith, refl, subst, sym, ◌∙◌}
 use Rattle.std.specs.Option.{option_map_or}
 use Rattle.std.specs.Prelude.{Bool, None, Option, Some, false, if◌then◌else◌, is_some, option_and_then, option_map, true, ℕ, ◌<◌, ◌≡◌}

@@ -23,7 +23,7 @@ use Rattle.machine_data.specs.declared.records.Subtask.{Subtask}
 use Rattle.machine_data.specs.declared.records.Subtask.TheVariants as subtask
 use Rattle.machine_data.specs.declared.records.Work.{Work}
 use Rattle.machine_data.specs.declared.trap.Trap.TheVariants as trap
-use Rattle.machine_data.specs.declared.words.Status.{Status}
+use Rattle.machine_data.specs.declared.statuses.Status.{Status}
 use Rattle.ops_guests.specs.OpResult.{Implements}
 use Rattle.machine_rules.specs.Calls.{settle_group_of, work_deleted, work_group}
 use Rattle.machine_rules.specs.Cancels.{drop_by, subtask_settled, unnamed}
@@ -182,7 +182,7 @@ module _ (n : TableId ThreadKey) (id : SubtaskId) (i h : ℕ) (s a b c : StateVi
           ∙ (ap (λ (v : StateView). subtask_settled (subtask_in v.tags id) v.core) freed_is
           ∙ ap (λ (j : ℕ). subtask_settled q (free_handle j h (set_subtask_handle q None (set_join q join.Nowhere s.core)))) at)
 
--- ---- The row
+-- ---- The rule
 
 pub drop_meets : (d : Doer) (n h m : ℕ) (q : Subtask) (s u : Core) → m ≡ n → is_watched (join_of q s) ≡ false → subtask_ended q s ≡ true → is_some (event_of q s) ≡ false → u ≡ unnamed n h q s → Implements (drop_by d n h s q) s (goes_as (label.Call (call_label.Drop m)) m) (finish d n NoAnswer u)
 drop_meets d n h m q s u number apart ended quiet core =

@@ -18,8 +18,8 @@ use Rattle.machine_data.specs.declared.records.Place.{Place}
 use Rattle.machine_data.specs.declared.records.Place.TheVariants as place
 use Rattle.machine_data.specs.declared.records.Thread.{Thread}
 use Rattle.machine_data.specs.declared.records.Why.{Why}
-use Rattle.machine_data.specs.declared.words.Mark.{Mark}
-use Rattle.machine_data.specs.declared.words.TaskEvent.TheVariants as own
+use Rattle.machine_data.specs.declared.statuses.Mark.{Mark}
+use Rattle.machine_data.specs.declared.statuses.TaskEvent.TheVariants as own
 use Rattle.ops_guests.proofs.BesideLemmas.{promoted_unless_stand, put_switch_good}
 use Rattle.ops_guests.proofs.RunLemmas.{stands_on}
 use Rattle.ops_guests.specs.OpResult.{Implements}

@@ -16,7 +16,7 @@ use Rattle.machine_data.specs.declared.records.Place.TheVariants as place
 use Rattle.machine_data.specs.declared.records.Subtask.{Subtask}
 use Rattle.machine_data.specs.Statuses.{status_code}
 use Rattle.machine_data.specs.declared.trap.Trap.TheVariants as trap
-use Rattle.machine_data.specs.declared.words.Status.{Status}
+use Rattle.machine_data.specs.declared.statuses.Status.{Status}
 use Rattle.ops_moves.proofs.UntouchedLemmas.{on_instance_untouched, same_untouched}
 use Rattle.ops_guests.proofs.BesideLemmas.{quiet_stand}
 use Rattle.ops_guests.proofs.RunLemmas.{stands_on}

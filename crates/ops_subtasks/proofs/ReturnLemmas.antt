@@ -16,7 +16,7 @@ use Rattle.machine_data.specs.declared.records.Call.{Call}
 use Rattle.machine_data.specs.declared.records.Instance.{Instance}
 use Rattle.machine_data.specs.declared.records.Place.TheVariants as place
 use Rattle.machine_data.specs.declared.records.Subtask.TheVariants as subtask
-use Rattle.machine_data.specs.declared.words.Status.{Status}
+use Rattle.machine_data.specs.declared.statuses.Status.{Status}
 use Rattle.ops_moves.proofs.TellLemmas.{map_or_is}
 use Rattle.ops_guests.proofs.BesideLemmas.{checked_stand, quiet_stand}
 use Rattle.ops_guests.proofs.RunLemmas.{stands_on}

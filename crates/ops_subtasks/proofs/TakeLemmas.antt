@@ -25,8 +25,8 @@ use Rattle.machine_data.specs.declared.records.Why.TheVariants as why
 use Rattle.machine_data.specs.declared.records.Work.{Work}
 use Rattle.machine_data.specs.declared.records.WorkCaller.{WorkCaller}
 use Rattle.machine_data.specs.declared.records.WorkCaller.TheVariants as work_caller
-use Rattle.machine_data.specs.declared.words.Mark.TheVariants as mark
-use Rattle.machine_data.specs.declared.words.Status.{Status}
+use Rattle.machine_data.specs.declared.statuses.Mark.TheVariants as mark
+use Rattle.machine_data.specs.declared.statuses.Status.{Status}
 use Rattle.ops_moves.proofs.TellLemmas.{Quiet, can_still, map_or_is}
 use Rattle.ops_moves.specs.Idle.{AreIdleUnqueued, CanPublish}
 use Rattle.std.proofs.Common.{le_refl}

@@ -63,7 +63,7 @@ pub fn paced_by<P: Policy>(yield_budget: YieldBudget, mark: Option<Mark>) -> Yie
     yield_budget
 }
 
-/// Ends the count if the turns stop for want of steps, and keeps it if the run ends or nothing can go on. No turn was made by that.
+/// Ends the count if the turns stop because no steps are left, and keeps it if the run ends or nothing can go on. No turn was made by that.
 /// Nothing is counted if they never stop.
 #[inline(always)]
 pub fn ended_by<P: Policy>(yield_budget: YieldBudget, used_up: bool) -> YieldBudget

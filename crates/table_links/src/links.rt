@@ -448,7 +448,7 @@ impl<P: Copy> Links<P> {
         }
     }
 
-    /// The law that no node is twice in the chains, and that a node's link is to the chain whose list it is in. It does nothing.
+    /// States that no node is twice in the chains, and that a node's link is to the chain whose list it is in. It does nothing.
     pub fn no_node_is_twice(&self)
         ensures { IsLinks self.now }
     {
@@ -456,7 +456,7 @@ impl<P: Copy> Links<P> {
         let _names = self.cells.len();
     }
 
-    /// The law that each node of a chain has its value there. It does nothing.
+    /// States that each node of a chain has its value there. It does nothing.
     pub fn nodes_have_values(&self, chain: usize)
         ensures { AreLinked self.now chain (entries self.now chain) }
     {

@@ -306,14 +306,14 @@ impl OrderedLists {
         self.links.drop_node(node);
     }
 
-    /// The law that no node is twice in the chains, and that a node's link is to the chain whose list it is in. It does nothing.
+    /// States that no node is twice in the chains, and that a node's link is to the chain whose list it is in. It does nothing.
     pub fn no_node_is_twice(&self)
         ensures { IsLinks self.now }
     {
         self.links.no_node_is_twice();
     }
 
-    /// The law that each chain is in the order of order keys. It does nothing.
+    /// States that each chain is in the order of order keys. It does nothing.
     pub fn chains_are_ordered(&self)
         ensures { AreOrdered self.now }
     {

@@ -68,7 +68,7 @@ use Rattle.machine_data.specs.declared.records.Why.{Why}
 use Rattle.machine_data.specs.declared.records.Why.TheVariants as whys
 use Rattle.machine_data.specs.declared.trap.Trap.{Trap}
 use Rattle.machine_data.specs.declared.trap.Trap.TheVariants as trap
-use Rattle.machine_data.specs.declared.words.Mark.TheVariants as mark
+use Rattle.machine_data.specs.declared.statuses.Mark.TheVariants as mark
 use Rattle.ops_moves.proofs.UntouchedLemmas.{set_register_untouched}
 use Rattle.ops_guests.specs.OpResult.{Implements}
 use Rattle.ops_guests.specs.Halting.{First, GoesFirst, Refused, StaysBehind, or_refused, promoted_found, promoted_if, refused_if, resumed_found}
@@ -85,7 +85,7 @@ use Rattle.machine_rules.specs.Progress.{Asks, Fails, Continues, Never, Ordered,
 use Rattle.machine_rules.specs.Scripts.{export_kind, op_of}
 use Rattle.machine_rules.specs.Step.{Progresses, op_rule}
 use Rattle.machine_rules.specs.Threads.{has_yielded, resume_why}
-use Rattle.machine_rules.specs.Words.{Promote, Put}
+use Rattle.machine_rules.specs.Primitives.{Promote, Put}
 use Rattle.task_store.proofs.HostLemmas.{holds_quiet, holds_same, runs_works, walked_stays}
 use Rattle.task_store.specs.Hosts.{HoldsWorks, WorksNumbered}
 use Rattle.ops_turns.proofs.KeptLemmas.{setting}

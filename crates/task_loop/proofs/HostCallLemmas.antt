@@ -25,8 +25,8 @@ use Rattle.store_works.specs.KeptWorks.{MayAnswer}
 use Rattle.ops_subtasks.specs.First.{first_heard}
 use Rattle.machine_data.specs.declared.component.HostDef.{HostDef}
 use Rattle.machine_data.specs.declared.component.HostDef.TheVariants as host_def
-use Rattle.machine_data.specs.declared.words.HostPoll.{HostPoll}
-use Rattle.machine_data.specs.declared.words.HostPoll.TheVariants as host_poll
+use Rattle.machine_data.specs.declared.statuses.HostPoll.{HostPoll}
+use Rattle.machine_data.specs.declared.statuses.HostPoll.TheVariants as host_poll
 use Rattle.task_store.specs.declared.store.Store.{Store}
 use Rattle.machine_data.specs.declared.label.CallLabel.TheVariants as call_label
 use Rattle.machine_data.specs.declared.label.Label.TheVariants as label
@@ -37,7 +37,7 @@ use Rattle.machine_data.specs.declared.records.Subtask.TheVariants as subtask
 use Rattle.machine_data.specs.declared.records.WorkCaller.TheVariants as callers
 use Rattle.machine_data.specs.declared.trap.Trap.{Trap}
 use Rattle.machine_data.specs.declared.trap.Trap.TheVariants as trap
-use Rattle.machine_data.specs.declared.words.Status.TheVariants as status
+use Rattle.machine_data.specs.declared.statuses.Status.TheVariants as status
 use Rattle.ops_guests.specs.OpResult.{Implements}
 use Rattle.ops_guests.specs.Stays.{StaysAfter}
 use Rattle.ops_guests.specs.declared.op_result.OpResult.{OpResult}
@@ -47,7 +47,7 @@ use Rattle.machine_rules.proofs.WalkMoves.{checked_shifts}
 use Rattle.machine_rules.specs.Calls.{AtOnce, Failing, FirstPoll, Later, call_host_by, call_stops, call_sync_host_by, call_sync_host_stops, host_with_handle, next_work, with_handle, work_queued}
 use Rattle.machine_rules.specs.Finish.{SomeHost}
 use Rattle.machine_rules.specs.Progress.{Continues, Progress, Stops, trap_if}
-use Rattle.machine_rules.specs.Words.{Stop}
+use Rattle.machine_rules.specs.Primitives.{Stop}
 use Rattle.task_store.proofs.HostLemmas.{holds_below, holds_queued, holds_same, holds_told, says}
 use Rattle.task_store.specs.Hosts.{HoldsWorks, WorksNumbered, running, settled}
 use Rattle.ops_turns.specs.Turn.{running_of}

@@ -23,7 +23,7 @@ use Rattle.machine_data.specs.declared.outcome.Outcome.{Outcome}
 use Rattle.machine_data.specs.declared.outcome.Outcome.TheVariants as outcome
 use Rattle.machine_data.specs.declared.records.Turn.{Turn}
 use Rattle.machine_data.specs.declared.records.Turn.TheVariants as turn
-use Rattle.machine_data.specs.declared.words.Mark.{Mark}
+use Rattle.machine_data.specs.declared.statuses.Mark.{Mark}
 use Rattle.laws_places.proofs.OrderLemmas.{steps_make_few}
 use Rattle.machine_rules.specs.Outcome.{is_at_rest, last_outcome, outcome_of_label}
 use Rattle.machine_rules.specs.Run.{Run}
@@ -76,7 +76,7 @@ may_go (outcome.HostFailed i) = refl
 may_go outcome.Idle = refl
 may_go outcome.OutOfSteps = refl
 
--- What an answer by a label is: it is no yield, memory isn't wanting, and the label gives an outcome exactly where the run is over.
+-- What an answer by a label is: it is no yield, it isn't out of memory, and the label gives an outcome exactly where the run is over.
 pub record Ends (l : Label) (r : Result RunPoll TaskError) : Type 0 where
   pub unyielded : is_yielded r ≡ false
   pub there : r ≡ Err task_error.NoMemory → ⊥

@@ -1,4 +1,4 @@
--- No row of the machine traps with 22, so a call that answers it has it of the hook.
+-- No rule of the machine traps with 22, so a call that answers it has it of the hook.
 use Rattle.laws_labels.proofs.OwnLemmas.{IsDone, IsOwn, direct_exit_own, enter_own, host_own, op_own, ret_bad_own, ret_own, sync_host_polled_own}
 use Rattle.laws_labels.proofs.ShowLemmas.{wider}
 use Rattle.laws_labels.specs.Own.{Shows, is_data, is_own, is_rule_trap}
@@ -56,7 +56,7 @@ by_hook = trap.HookFailed
 abbrev Failed : {A : Type 0} → Result A TaskError → Type 0
 Failed r = r ≡ Err (task_error.Trap by_hook)
 
--- 22 isn't a row's
+-- 22 isn't a rule's
 not_of_rule : (w : Trap) → is_rule_trap w ≡ true → w ≡ by_hook → ⊥
 not_of_rule w row is = let off : is_rule_trap w ≡ false = ap is_rule_trap is in absurd (cc)
 
@@ -90,7 +90,7 @@ trapped_as f (op_result.Traps why) w e = cc
 trapped_as f (op_result.Fails i) w e = absurd (cc)
 
 module _ (s t : StateView) where
-  -- what a row's call answers
+  -- what a rule's call answers
   pub answers_not : {A : Type 0} (takes : Bool) (row : ℕ → Choice → Progress) (f : OpAnswer → A) (a : Result (Step A) TaskError) (n : ℕ) → running_of s ≡ Some n → ((ch : Choice) → Shows IsOwn (row n ch)) →
       Answers takes row f s a t → Failed a → ⊥
   answers_not takes row f (Ok x) n runs shows answers failed = absurd (cc)

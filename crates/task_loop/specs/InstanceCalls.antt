@@ -1,4 +1,4 @@
--- What a call between runs comes to on a store, which is told of its groups, and what a method of an instance does: it has the running
+-- What a call between runs results in on a store, which is told of its groups, and what a method of an instance does: it has the running
 -- thread do an op in place of the one at its place, or a part of one.
 use Rattle.ops_state.specs.declared.error.TaskError.{TaskError}
 use Rattle.ops_state.specs.declared.error.TaskError.TheVariants as task_error
@@ -28,7 +28,7 @@ use Rattle.machine_data.specs.declared.component.Component.{Component}
 use Rattle.store_works.specs.Course.{MayTell}
 use Rattle.ops_subtasks.specs.First.{first_heard}
 use Rattle.machine_data.specs.declared.component.HostDef.{HostDef}
-use Rattle.machine_data.specs.declared.words.HostPoll.{HostPoll}
+use Rattle.machine_data.specs.declared.statuses.HostPoll.{HostPoll}
 use Rattle.machine_data.specs.declared.op.CallOp.TheVariants as call_op
 use Rattle.machine_data.specs.declared.op.Op.{Op}
 use Rattle.machine_data.specs.declared.op.Op.TheVariants as op
@@ -196,7 +196,7 @@ GoesOn listens c s r t =
 
 -- ---- Methods that call a host
 
--- The running thread called a host whose work the store holds until it ends, by this row, and what that resulted in is answered as
+-- The running thread called a host whose work the store holds until it ends, by this rule, and what that resulted in is answered as
 -- its label is read. Nothing but the host's value, the state, the listeners and the works is changed.
 pub record CallsHost {A R T H G : Type 0} (listens : Bool) (course : H → HostDef) (c : Component) (row : ℕ → Choice → Progress)
     (to : Result R TaskError → Result (Step A) TaskError) (read : OpAnswer → A) (s : Store T H G) (r : Result R TaskError) (t : Store T H G) :

@@ -41,7 +41,7 @@ pub(crate) fn tell_call<G: TaskGroupHook, A: Drop>(
     answer
 }
 
-/// Returns the same of a call that is refused.
+/// Tells the groups of a call that is refused, and returns its refusal.
 pub(crate) fn tell_refused<G: TaskGroupHook, A: Drop>(
     core: &mut TaskCore,
     listeners: &mut Listeners<G>,

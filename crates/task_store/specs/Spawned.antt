@@ -6,8 +6,8 @@ use Rattle.std.specs.Prelude.{◌≡◌, ◌<◌, ◌≤◌, ◌⊎◌, ℕ, Non
 use Rattle.machine_data.specs.Maps.{get}
 use Rattle.machine_data.specs.Read.{work_caller_of}
 use Rattle.machine_data.specs.declared.records.WorkCaller.TheVariants as callers
-use Rattle.machine_data.specs.declared.words.Phase.{Phase}
-use Rattle.machine_data.specs.declared.words.Phase.TheVariants as phases
+use Rattle.machine_data.specs.declared.statuses.Phase.{Phase}
+use Rattle.machine_data.specs.declared.statuses.Phase.TheVariants as phases
 use Rattle.task_store.specs.declared.spawn.SpawnHandle.{SpawnHandle}
 use Rattle.ops_turns.specs.Later.{WorksLast}
 use Rattle.core_primitives.specs.StateView.{StateView, work_of}

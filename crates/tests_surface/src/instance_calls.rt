@@ -469,7 +469,7 @@ fn a_task_that_lends_is_not_ended(rt: HostRuntime) {
     assert!(rt; matches!(cancelled, Err(TaskError::Trap(Trap::ScopeExit))));
 }
 
-// What the return of a task comes to that lends so many things.
+// What the return of a task results in that holds so many borrows.
 fn returns_lending(rt: &impl Abort, alloc: Global, borrows: u32) -> Result<(), TaskError> {
     let mut at = running(rt, alloc, CALLER, 29, A, false);
     assert!(rt; lend(&mut at.store, borrows));

@@ -60,7 +60,7 @@ pub fn operands(alloc: Global, words: &[&[u8]]) -> Result<Seq<Operand>, LineErro
     Ok(operands)
 }
 
-/// The numbers of starts or spawns that words are.
+/// Returns the numbers of starts or spawns that the tokens are.
 pub fn numbers(alloc: Global, words: &[&[u8]]) -> Result<Seq<u32>, LineError>
     ensures { Gives result (numbers_at (map (λ w. w.now) words.now)) }
 {

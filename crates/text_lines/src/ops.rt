@@ -55,7 +55,7 @@ fn load_after(words: &[&[u8]]) -> Option<DataOp>
     let (to, word) = two(words)?;
     let to = register(to)?;
     let word = bounded(word, 15)? as u8;
-    Some(DataOp::Load { to, word })
+    Some(DataOp::Load { to, cell })
 }
 
 #[tactic(auto, unfolding(crate::specs::Line::store_after))]
@@ -65,7 +65,7 @@ fn store_after(words: &[&[u8]]) -> Option<DataOp>
     let (word, value) = two(words)?;
     let word = bounded(word, 15)? as u8;
     let value = operand(value)?;
-    Some(DataOp::Store { word, value })
+    Some(DataOp::Store { cell, value })
 }
 
 #[tactic(auto, unfolding(crate::specs::Line::skip_after))]

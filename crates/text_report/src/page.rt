@@ -90,7 +90,7 @@ impl Page {
         &self.bytes[..PAGE]
     }
 
-    /// Takes the page away that is full. What is behind it comes to the front.
+    /// Takes the bytes of a full page away. What is behind them moves to the front.
     pub fn turn(&mut self)
         requires { PAGE ≤ length self.old }
         ensures rest { self.new ≡ drop PAGE self.old }

@@ -180,7 +180,7 @@ callee_of instances instance export = do
   j ← export_place (exports_of instances k) export
   Some (record { instance = k; export = j })
 
--- the same, where it takes these operands
+-- the export of these names, if it takes these operands
 unfoldable pub fitting_export : List InstanceText → List ℕ → List ℕ → List Operand → Option Callee
 fitting_export instances instance export operands = do
   f ← callee_of instances instance export

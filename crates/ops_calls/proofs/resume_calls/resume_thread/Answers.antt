@@ -1,4 +1,4 @@
--- The running thread asks, and a thread that is resumed later gets its entry by the row.
+-- The running thread asks, and a thread that is resumed later gets its entry by the rule.
 use Rattle.std.proofs.Common.{ap, refl, subst, sym, ◌∙◌}
 use Rattle.std.specs.Prelude.{option_map}
 use Rattle.ops_calls.proofs.AskLemmas.{met_same, same_current, same_tags}

@@ -2,7 +2,7 @@ use Rattle.std.proofs.Common.{ap, ◌∙◌}
 use Rattle.ops_guests.proofs.CodeLemmas.{code_yields_meets, owned_unqueued, some_or_none}
 use Rattle.ops_guests.proofs.codes.code_yields.Goals as goal
 use Rattle.std.specs.Prelude.{Some, unwrap_or}
-use Rattle.machine_data.specs.declared.words.TaskEvent.TheVariants as own
+use Rattle.machine_data.specs.declared.statuses.TaskEvent.TheVariants as own
 
 pub put_low-requires-clause-unqueued : goal.put_low-requires-clause-unqueued
 put_low-requires-clause-unqueued g c =

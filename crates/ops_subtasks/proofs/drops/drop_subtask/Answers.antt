@@ -2,7 +2,7 @@ use Rattle.std.proofs.Common.{Option, ap, is_some, sym, ◌∙◌}
 use Rattle.ops_subtasks.proofs.DropLemmas.{drop_kept, drop_meets, dropped_names}
 use Rattle.ops_subtasks.proofs.SubtaskLemmas.{named_meets}
 use Rattle.ops_subtasks.proofs.drops.drop_subtask.Goals as goal
-use Rattle.machine_data.specs.declared.words.Status.{Status}
+use Rattle.machine_data.specs.declared.statuses.Status.{Status}
 use Rattle.machine_rules.specs.Cancels.{drop_by}
 use Rattle.core_primitives.specs.Names.{subtask_in}
 use Rattle.core_primitives.specs.StateView.{thread_of}

@@ -1,6 +1,6 @@
 use Rattle.std.proofs.Common.{◌≡◌, ◌++◌, ◌∙◌, List, ℕ, ap, append_assoc, decimal, sym}
 use Rattle.std.specs.Prelude.{codes}
-use Rattle.machine_data.specs.declared.words.Mark.{Mark}
+use Rattle.machine_data.specs.declared.statuses.Mark.{Mark}
 use Rattle.machine_rules.specs.Texts.{taken_text}
 use Rattle.text_report.proofs.Lines.{cancelled_given, nothing_given, then}
 use Rattle.text_report.proofs.label.seldom_own.Goals as goal

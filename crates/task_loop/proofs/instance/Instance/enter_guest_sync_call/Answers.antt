@@ -1,4 +1,4 @@
--- The row of the entry is done.
+-- The rule of the entry is done.
 use Rattle.ops_state.specs.Named.{IsLive}
 use Rattle.std.proofs.Common.{ap, subst}
 use Rattle.std.specs.Prelude.{IfOk, true}

@@ -1,4 +1,4 @@
--- The row of the call is done, and its work is settled.
+-- The rule of the call is done, and its work is settled.
 use Rattle.ops_state.specs.declared.error.TaskError.TheVariants as task_error
 use Rattle.std.proofs.Common.{ap, refl, subst, sym, ◌∙◌}
 use Rattle.std.specs.Prelude.{Err, is_ok, true, ◌≡◌}

@@ -15,7 +15,7 @@ use Rattle.task_loop.specs.declared.run.RunConcurrent.{RunConcurrent}
 use Rattle.task_loop.specs.declared.run.Stop.TheVariants as stop
 use Rattle.machine_data.specs.declared.outcome.Outcome.TheVariants as outcome
 use Rattle.machine_data.specs.declared.records.Turn.TheVariants as turn
-use Rattle.machine_data.specs.declared.words.Mark.{Mark}
+use Rattle.machine_data.specs.declared.statuses.Mark.{Mark}
 use Rattle.machine_rules.proofs.Machine.{and_parts}
 use Rattle.ops_turns.specs.Turn.{given, idle_line_of}
 use Rattle.ops_turns.specs.declared.made.StepResult.{StepResult}
@@ -370,7 +370,7 @@ returns-clause-keeps g c =
     let come = c.turns.invariant.come in
     record { script = come.keeps.script; idle = ap (λ (r : RunConcurrent). r.trap_on_idle) c.ends-2.ensures.new ∙ come.keeps.idle; standing = come.keeps.standing }
 
--- the pace stays if the policy never stops the turns
+-- the yield budget stays if the policy never stops the turns
 pub returns-in_default-clause-kept : goal.returns-in_default-clause-kept
 returns-in_default-clause-kept g c = λ driven. c.turns.invariant.kept driven
 

@@ -9,12 +9,12 @@ use Rattle.core_records.proofs.TrackedLemmas.{ended_alike}
 use Rattle.core_makes.proofs.CallPushLemmas.{nodes_of as call_nodes_of}
 use Rattle.core_makes.proofs.GroupLemmas.{group_numbers}
 use Rattle.core_makes.proofs.GrowLemmas.{at_grown}
-use Rattle.core_makes.proofs.StrandCountLemmas.{passes_one}
-use Rattle.core_makes.proofs.StrandLemmas.{grows, strand_whole}
+use Rattle.core_makes.proofs.CallThreadCountLemmas.{passes_one}
+use Rattle.core_makes.proofs.CallThreadLemmas.{grows, call_thread_whole}
 use Rattle.core_makes.proofs.ThreadPushLemmas.{nodes_of}
 use Rattle.core_makes.proofs.ThreadSeenLemmas.{callers_are, thread_new, thread_still, threads_are}
-use Rattle.core_makes.specs.LooseCalls.{AreStrandLoose}
-use Rattle.core_makes.specs.Strand.{IsStrand}
+use Rattle.core_makes.specs.LooseCalls.{AreCallAndThreadLoose}
+use Rattle.core_makes.specs.CallThread.{IsCallWithThread}
 use Rattle.core_records.proofs.KeptLemmas.{used_is}
 use Rattle.core_records.proofs.KindLemmas.{item_stands, table_written}
 use Rattle.core_records.proofs.MakeLemmas.{number_kept, number_new, records_more, table_more}
@@ -90,16 +90,16 @@ module _ (a : CoreParts) (sound : IsSoundCore a) where
         let few_works = places_few work_key (bare (parts_of a)).works tables_bare.works.table tables_bare.works.apart in
         omega arith
 
-    module _ (is : IsStrand (bare (parts_of a)) (bare_call c) (bare_thread g)) (loose : AreStrandLoose (bare (parts_of a)) (call_nodes_of c) (nodes_of g)) where
+    module _ (is : IsCallWithThread (bare (parts_of a)) (bare_call c) (bare_thread g)) (loose : AreCallAndThreadLoose (bare (parts_of a)) (call_nodes_of c) (nodes_of g)) where
       -- ---- What contracts see
 
       calls_are : records call_key (pushed (record { item = c }) a.calls).places ≡ insert (records call_key a.calls.places) c.number c.call
       unfolding IsSoundCore
       calls_are = records_more (λ (d : GuestTask). d.number) (λ (d : GuestTask). d.call) a.calls a.made.threads sound.tables.calls c is.call_next
 
-      pub strand_core : (seen made).core ≡ add_thread g.thread (add_call c.number c.call (seen a).core)
+      pub call_thread_core : (seen made).core ≡ add_thread g.thread (add_call c.number c.call (seen a).core)
       unfolding seen add_thread add_call
-      strand_core = rw (threads_are a sound g is.thread_next, calls_are, callers_are a sound g is.thread_next loose.thread.callers, group_numbers a.groups id.rep placed.0 placed.1.0 one_more same_number) refl
+      call_thread_core = rw (threads_are a sound g is.thread_next, calls_are, callers_are a sound g is.thread_next loose.thread.callers, group_numbers a.groups id.rep placed.0 placed.1.0 one_more same_number) refl
 
       live_same : filter (nat_lt a.finished) (numbers (records group_key made.groups.places)) ≡ filter (nat_lt a.finished) (numbers (records group_key a.groups.places))
       live_same = ap (filter (nat_lt a.finished)) (group_numbers a.groups id.rep placed.0 placed.1.0 one_more same_number)
@@ -111,9 +111,9 @@ module _ (a : CoreParts) (sound : IsSoundCore a) where
           ∙ (number_kept (λ (d : GuestTask). d.number) (λ (d : GuestTask). d.call) a.calls a.made.threads sound.tables.calls c is.call_next k.rep k.serial (subst (λ (n : ℕ). 0 < n) (call_shown a k) live)
           ∙ sym (call_shown a k))
 
-      pub strand_tags : Keeps (seen a).tags (seen made).tags
+      pub call_thread_tags : Keeps (seen a).tags (seen made).tags
       unfolding seen set_number work_number
-      strand_tags = record { threads = thread_still a sound g is.thread_next made refl; calls = call_kept; sets = λ k live. refl; works = λ k live. refl; same = ap (λ gs. tracked_of a.ended.items gs a.made.groups) live_same }
+      call_thread_tags = record { threads = thread_still a sound g is.thread_next made refl; calls = call_kept; sets = λ k live. refl; works = λ k live. refl; same = ap (λ gs. tracked_of a.ended.items gs a.made.groups) live_same }
 
       pub thread_named : (k : TableId ThreadKey) → k.rep ≡ next_place a.threads → k.serial ≡ a.threads.given → thread_of (seen made) k ≡ a.made.threads + 1
       thread_named = thread_new a sound g is.thread_next made refl
@@ -150,9 +150,9 @@ module _ (a : CoreParts) (sound : IsSoundCore a) where
           none_owned : OwnsHandle (parts_of made) g
           none_owned h is_h = absurd (let none : ◌≡◌ {A = Option ℕ} None (Some h) = sym unnamed ∙ is_h in cc)
 
-          pub strand_sound : IsSoundCore made
+          pub call_thread_sound : IsSoundCore made
           unfolding IsSoundCore
-          strand_sound = record {
+          call_thread_sound = record {
             tables = record {
               threads = table_more (λ (h : GuestThread). h.number) (λ (h : GuestThread). h.thread) a.threads a.made.threads sound.tables.threads g is.thread_next threads_table;
               calls = table_more (λ (d : GuestTask). d.number) (λ (d : GuestTask). d.call) a.calls a.made.threads sound.tables.calls c is.call_next calls_table;
@@ -160,7 +160,7 @@ module _ (a : CoreParts) (sound : IsSoundCore a) where
               sets = sound.tables.sets;
               groups = table_written (λ (h : TaskGroup). h.number) (λ (h : TaskGroup). h.calls) a.groups a.made.groups sound.tables.groups id.rep id.serial r stands one_more refl;
             };
-            whole = moved IsWhole (strand_whole (bare (parts_of a)) sound.whole tables_bare (bare_call c) (bare_thread g) is loose.call loose.thread loose.two id.rep placed.0 placed.1.0 group_place group_is);
+            whole = moved IsWhole (call_thread_whole (bare (parts_of a)) sound.whole tables_bare (bare_call c) (bare_thread g) is loose.call loose.thread loose.two id.rep placed.0 placed.1.0 group_place group_is);
             interesting =
                 let was = sound.interesting in
                 let more = passing_more (λ (d : GuestTask). d.number) (λ (d : GuestTask). d.call) a.calls a.made.threads sound.tables.calls c is.call_next (λ d. d.interesting) in

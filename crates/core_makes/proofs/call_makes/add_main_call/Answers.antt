@@ -1,9 +1,9 @@
 use Rattle.core_makes.proofs.RestoreLemmas.{image_restored, item_restored, sound_restored}
 use Rattle.core_records.proofs.Core.{add_group, ap, arith, bare, call_made, fits, get, HasRoom, IsSome, IsSoundCore, Keeps, parts_of, seen, StateView, subst, sym, true, ◌+◌, ◌<◌, ◌^◌, ◌∙◌, ◌≡◌}
 use Rattle.core_records.specs.declared.{parts.CoreParts.CoreParts}
-use Rattle.core_makes.proofs.MainLemmas.{fits_fewer, fits_grouped, group_restored, keeps_grouped, strand_loose_beside}
-use Rattle.core_makes.proofs.call_makes.add_main_strand.Goals as goal
-use Rattle.core_makes.specs.LooseCalls.{AreStrandLoose}
+use Rattle.core_makes.proofs.MainLemmas.{fits_fewer, fits_grouped, group_restored, keeps_grouped, call_thread_loose_beside}
+use Rattle.core_makes.proofs.call_makes.add_main_call.Goals as goal
+use Rattle.core_makes.specs.LooseCalls.{AreCallAndThreadLoose}
 
 pub overflow_add-number : goal.overflow_add-number
 unfolding seen
@@ -28,8 +28,8 @@ add_call_with_thread_outlined-requires-clause-add c =
       group = c.in-Ok.ensures.group;
       there = subst (λ (v : StateView). IsSome (get v.core.instances c.args.request.callee.instance)) (sym c.in-Ok.ensures.new) c.requires.there;
       result = λ is. subst (λ (y : CoreParts). HasRoom (y.made.threads + 1) y.results) (sym c.in-Ok.ensures.only) (c.requires.result is);
-      loose = subst (λ (y : CoreParts). AreStrandLoose (bare (parts_of y)) c.args.nodes.0 c.args.nodes.1) (sym c.in-Ok.ensures.only)
-          (strand_loose_beside a c.push_group.new.parts.groups (record a.made { groups = a.made.groups + 1 }) (record a.kept { used = a.kept.used + 1; groups = a.kept.groups + 1 }) c.args.nodes.0 c.args.nodes.1 c.requires.loose);
+      loose = subst (λ (y : CoreParts). AreCallAndThreadLoose (bare (parts_of y)) c.args.nodes.0 c.args.nodes.1) (sym c.in-Ok.ensures.only)
+          (call_thread_loose_beside a c.push_group.new.parts.groups (record a.made { groups = a.made.groups + 1 }) (record a.kept { used = a.kept.used + 1; groups = a.kept.groups + 1 }) c.args.nodes.0 c.args.nodes.1 c.requires.loose);
     }
 
 pub drop_group-requires-clause-item : goal.drop_group-requires-clause-item

@@ -3,11 +3,11 @@ use Rattle.core_records.proofs.Core.{add_call, add_thread, ap, ap₂, arith, Boo
 use Rattle.core_records.specs.declared.{call_records.TaskGroup.TaskGroup, parts.CoreParts.CoreParts, single.Single.Single}
 use Rattle.core_makes.proofs.RestoreLemmas.{Restores-deleted, Restores-pushed, Restores-same, Restores-written, restored_from}
 use Rattle.core_makes.specs.Restored.{IsRestored}
-use Rattle.core_makes.specs.Pushed.{PushesStrand}
+use Rattle.core_makes.specs.Pushed.{PushesCallWithThread}
 use Rattle.core_records.proofs.KindLemmas.{item_stands}
 
 module _ (a b c e : CoreParts) (sound_a : IsSoundCore a) (sound_b : IsSoundCore b) (id : TableId GroupKey) (group : TaskGroup) (stands : Ok group ≡ item_at item_of a.groups id.rep id.serial) (first : TableId ThreadKey) (task : TableId GuestTaskKey)
-    (made : PushesStrand a b id group first task) (same : parts_of c ≡ parts_of b)
+    (made : PushesCallWithThread a b id group first task) (same : parts_of c ≡ parts_of b)
     (only_e : e ≡ record c { threads = e.threads; calls = e.calls; groups = e.groups; made = record c.made { threads = c.made.threads - 1 }; kept = record c.kept { used = c.kept.used - 3; interesting = c.kept.interesting - 1 } })
     (threads : e.threads ≡ deleted first.rep c.threads) (calls : e.calls ≡ deleted task.rep c.calls) (groups : e.groups ≡ with_entry id.rep (record { item = group }) c.groups) (threads_table : IsTable e.threads) (calls_table : IsTable e.calls) where
   abbrev less : CoreImage → CoreImage
@@ -27,9 +27,9 @@ module _ (a b c e : CoreParts) (sound_a : IsSoundCore a) (sound_b : IsSoundCore 
       ap parts_of only_e ∙ (ap less same ∙ (ap (λ (y : CoreParts). less (parts_of y)) made.only
       ∙ (ap (λ (n : ℕ). with_counts n (a.kept.used + 3 - 3) (a.kept.interesting + 1 - 1)) (one_less a.made.threads) ∙ ap₂ (λ (m n : ℕ). with_counts a.made.threads m n) (three_less a.kept.used) (one_less a.kept.interesting))))
 
-  pub strand_restored : IsRestored (parts_of a) (parts_of e)
+  pub call_thread_restored : IsRestored (parts_of a) (parts_of e)
   unfolding IsSoundCore
-  strand_restored =
+  call_thread_restored =
       let placed = item_stands (λ (r : TaskGroup). r.number) (λ (r : TaskGroup). r.calls) a.groups a.made.groups sound_a.tables.groups id.rep id.serial group stands in
       restored_from (parts_of a) (parts_of e) e.threads e.calls a.works a.sets e.groups differs
       (Restores-deleted a.threads c.threads e.threads (record { item = made.thread }) sound_a.tables.threads.table (Restores-pushed a.threads b.threads c.threads made.thread sound_b.tables.threads.table made.threads (ap (λ (q : CoreImage). q.threads) same)) first.rep made.first_at threads threads_table)

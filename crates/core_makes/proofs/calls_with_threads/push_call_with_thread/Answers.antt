@@ -2,8 +2,8 @@ use Rattle.core_makes.proofs.RestoreLemmas.{Restores-deleted, Restores-same, sou
 use Rattle.core_makes.specs.Restored.{Restores}
 use Rattle.core_records.proofs.Core.{add_call, add_thread, ap, arith, call_key, call_of, children_of, children_of-pushed, IsSoundCore, IsTable, Keeps, next_place, number_of, parts_of, pushed, refl, seen, subst, sym, Table, thread_of, ℕ, ◌+◌, ◌<◌, ◌^◌, ◌∙◌, ◌≡◌}
 use Rattle.core_records.specs.declared.{call_records.GuestTask.GuestTask, single.Single.Single}
-use Rattle.core_makes.proofs.StrandAddLemmas.{as_made, call_named, group_few, interesting_few, strand_core, strand_sound, strand_tags, thread_named, used_few}
-use Rattle.core_makes.proofs.strands.push_call_with_thread.Goals as goal
+use Rattle.core_makes.proofs.CallThreadAddLemmas.{as_made, call_named, group_few, interesting_few, call_thread_core, call_thread_sound, call_thread_tags, thread_named, used_few}
+use Rattle.core_makes.proofs.calls_with_threads.push_call_with_thread.Goals as goal
 use Rattle.core_records.proofs.MakeLemmas.{number_new}
 
 pub one_more-requires-clause-few : goal.one_more-requires-clause-few
@@ -38,7 +38,7 @@ returns-in-Ok-push-clause-sound c =
     let is_c : c.push.new.self ≡ pushed (record { item = k }) a.calls = c.in-Ok.ensures.pushed ∙ ap (λ (n : ℕ). pushed (record { item = record c.args.call { first = n } }) a.calls) c.in-Some.ensures.some in
     let is_t : c.push-in-Ok.new.self ≡ pushed (record { item = g }) a.threads = c.in-Ok-push.ensures.pushed ∙ ap (λ (n : ℕ). pushed (record { item = record c.args.thread { task = n } }) a.threads) (c.rep.ensures ∙ c.in-Ok.ensures.rep) in
     as_made a c.requires.sound k g c.args.id c.args.group c.requires.group _ _ _ is_t is_c c.one_more.ensures IsSoundCore
-    (strand_sound a c.requires.sound k g c.args.id c.args.group c.requires.group c.requires.strand c.requires.loose c.requires.place c.requires.of_group (subst IsTable is_t c.in-Ok-push.ensures.sound) (subst IsTable is_c c.in-Ok.ensures.sound) c.requires.unnamed c.requires.interests)
+    (call_thread_sound a c.requires.sound k g c.args.id c.args.group c.requires.group c.requires.strand c.requires.loose c.requires.place c.requires.of_group (subst IsTable is_t c.in-Ok-push.ensures.sound) (subst IsTable is_c c.in-Ok.ensures.sound) c.requires.unnamed c.requires.interests)
 
 pub returns-in-Ok-push-clause-thread : goal.returns-in-Ok-push-clause-thread
 returns-in-Ok-push-clause-thread c =
@@ -71,7 +71,7 @@ returns-in-Ok-push-clause-new c =
           let is_c : c.push.new.self ≡ pushed (record { item = k }) a.calls = c.in-Ok.ensures.pushed ∙ ap (λ (n : ℕ). pushed (record { item = record c.args.call { first = n } }) a.calls) c.in-Some.ensures.some in
           let is_t : c.push-in-Ok.new.self ≡ pushed (record { item = g }) a.threads = c.in-Ok-push.ensures.pushed ∙ ap (λ (n : ℕ). pushed (record { item = record c.args.thread { task = n } }) a.threads) (c.rep.ensures ∙ c.in-Ok.ensures.rep) in
           as_made a c.requires.sound k g c.args.id c.args.group c.requires.group _ _ _ is_t is_c c.one_more.ensures (λ b. (seen b).core ≡ add_thread c.args.thread.thread (add_call c.args.call.number c.args.call.call (seen a).core))
-          (strand_core a c.requires.sound k g c.args.id c.args.group c.requires.group c.requires.strand c.requires.loose);
+          (call_thread_core a c.requires.sound k g c.args.id c.args.group c.requires.group c.requires.strand c.requires.loose);
       current = refl;
       tags =
           let a = c.args.parts.now in
@@ -80,7 +80,7 @@ returns-in-Ok-push-clause-new c =
           let is_c : c.push.new.self ≡ pushed (record { item = k }) a.calls = c.in-Ok.ensures.pushed ∙ ap (λ (n : ℕ). pushed (record { item = record c.args.call { first = n } }) a.calls) c.in-Some.ensures.some in
           let is_t : c.push-in-Ok.new.self ≡ pushed (record { item = g }) a.threads = c.in-Ok-push.ensures.pushed ∙ ap (λ (n : ℕ). pushed (record { item = record c.args.thread { task = n } }) a.threads) (c.rep.ensures ∙ c.in-Ok.ensures.rep) in
           as_made a c.requires.sound k g c.args.id c.args.group c.requires.group _ _ _ is_t is_c c.one_more.ensures (λ b. Keeps (seen a).tags (seen b).tags)
-          (strand_tags a c.requires.sound k g c.args.id c.args.group c.requires.group c.requires.strand c.requires.loose);
+          (call_thread_tags a c.requires.sound k g c.args.id c.args.group c.requires.group c.requires.strand c.requires.loose);
     }
 
 pub returns-in-Err-push-clause-err : goal.returns-in-Err-push-clause-err

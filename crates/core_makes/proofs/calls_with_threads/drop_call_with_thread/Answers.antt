@@ -1,5 +1,5 @@
 use Rattle.core_records.proofs.Core.{IsSoundCore, subst, ℕ, ◌<◌}
-use Rattle.core_makes.proofs.strands.drop_call_with_thread.Goals as goal
+use Rattle.core_makes.proofs.calls_with_threads.drop_call_with_thread.Goals as goal
 use Rattle.core_records.proofs.ReadLemmas.{call_shown, thread_shown}
 
 pub drop_thread-requires-clause-live : goal.drop_thread-requires-clause-live

@@ -6,17 +6,17 @@ use Rattle.core_makes.proofs.MoreLemmas.{at_new, early_at, get_more, number_stay
 use Rattle.core_queues.proofs.BareLemmas.{number_positive}
 use Rattle.core_makes.proofs.CallPushLemmas.{call_chained, call_nodes, nobody_still, nodes_of as call_nodes_of}
 use Rattle.core_makes.proofs.GrowLemmas.{Grows, at_grown, call_grown, named_grown}
-use Rattle.core_makes.proofs.StrandCountLemmas.{strand_counted, with_strand}
+use Rattle.core_makes.proofs.CallThreadCountLemmas.{call_thread_counted, with_call_thread}
 use Rattle.core_makes.proofs.ThreadPushLemmas.{PlacesNamed, nodes_of, thread_chained, thread_nodes}
 use Rattle.core_makes.specs.LooseCalls.{AreCallLoose, AreThreadLoose}
-use Rattle.core_makes.specs.Strand.{IsStrand}
+use Rattle.core_makes.specs.CallThread.{IsCallWithThread}
 use Rattle.core_records.proofs.MakeLemmas.{stands_more}
 use Rattle.core_primitives.specs.Barred.{bars_start}
 
-module _ (p : CoreImage) (whole : IsWhole p) (tables : AreTables p) (c : GuestTask) (g : GuestThread) (is : IsStrand p c g) (call_loose : AreCallLoose p (call_nodes_of c)) (loose : AreThreadLoose p (nodes_of g)) (two : g.under ≡ c.blocked → ⊥)
+module _ (p : CoreImage) (whole : IsWhole p) (tables : AreTables p) (c : GuestTask) (g : GuestThread) (is : IsCallWithThread p c g) (call_loose : AreCallLoose p (call_nodes_of c)) (loose : AreThreadLoose p (nodes_of g)) (two : g.under ≡ c.blocked → ⊥)
     (rep : ℕ) (q : Placed (Single TaskGroup)) (at : place_at p.groups rep ≡ Some q) (place : c.group ≡ rep) (of_group : q.entry.item.number ≡ c.call.group) where
   abbrev pub after : CoreImage
-  after = with_strand p whole tables.threads tables.calls g is.thread_next c is.call_next tables.groups rep q at
+  after = with_call_thread p whole tables.threads tables.calls g is.thread_next c is.call_next tables.groups rep q at
 
   later : p.made.threads < c.number
   later = let next = is.call_next in omega arith
@@ -80,8 +80,8 @@ module _ (p : CoreImage) (whole : IsWhole p) (tables : AreTables p) (c : GuestTa
     instance = ap (λ (o : Option Call). (option_map_or (λ (d : Call). d.callee) o no_callee).instance) (get_call g.thread.call ∙ ap (λ b. cond b (Some c.call) (get (core_of p).calls g.thread.call)) (eq-eqb g.thread.call c.number is.first)) ∙ sym is.instance;
     barred = ap (λ (o : Option Call). bars_start g.thread.explicit (option_map_or (λ (d : Call). d.kind) o ExportKind.Callback)) (get_call g.thread.call ∙ ap (λ b. cond b (Some c.call) (get (core_of p).calls g.thread.call)) (eq-eqb g.thread.call c.number is.first)) ∙ is.barred;
     within = is.within;
-    place = subst (λ (x : Place). AtPlace after g.beside (place_target x)) (sym is.unplaced) tt;
-    op_progress = subst (λ (x : OpProgress). AtPlace after g.awaited (op_progress_target x)) (sym is.fresh) tt;
+    place = subst (λ (x : Place). AtPlace after g.state_target (place_target x)) (sym is.unplaced) tt;
+    op_progress = subst (λ (x : OpProgress). AtPlace after g.op_target (op_progress_target x)) (sym is.fresh) tt;
   }
 
   call_named : IsCallNamed after c
@@ -93,11 +93,11 @@ module _ (p : CoreImage) (whole : IsWhole p) (tables : AreTables p) (c : GuestTa
     positive = subst (λ (n : ℕ). 0 < n) of_group (number_positive (λ (r : TaskGroup). r.number) (λ (r : TaskGroup). r.calls) p.groups p.made.groups tables.groups rep q at);
   }
 
-  pub strand_whole : IsWhole after
-  strand_whole = record {
+  pub call_thread_whole : IsWhole after
+  call_thread_whole = record {
     named = named_grown p g tables.threads is.thread_next after.calls after.groups after.kept grows whole.named home
         (each_more (IsCallNamed after) p.calls c tables.calls.table (λ r w w_at. call_grown p g tables.threads is.thread_next after.calls after.groups after.kept grows w.entry.item (whole.named.calls r w w_at)) call_named);
     chained = chained;
     nodes = nodes;
-    counted = strand_counted p whole tables.threads tables.calls g is.thread_next c is.call_next tables.groups rep q at is.first is.one is.nowhere is.unplaced of_group is.room;
+    counted = call_thread_counted p whole tables.threads tables.calls g is.thread_next c is.call_next tables.groups rep q at is.first is.one is.nowhere is.unplaced of_group is.room;
   }

@@ -13,7 +13,7 @@ use Rattle.core_primitives.specs.Barred.{bars_start}
 
 -- The next number is that of both. The thread is nowhere yet, and its instance is there, as are who called and room for a result
 -- that goes to main.
-pub record IsStrand (p : CoreImage) (c : GuestTask) (g : GuestThread) : Type 0 where
+pub record IsCallWithThread (p : CoreImage) (c : GuestTask) (g : GuestThread) : Type 0 where
   pub call_next : c.number ≡ p.made.threads + 1
   pub thread_next : g.number ≡ p.made.threads + 1
   pub first : g.thread.call ≡ c.number

@@ -1,8 +1,8 @@
 use Rattle.core_makes.proofs.RestoreLemmas.{image_restored, sound_restored}
 use Rattle.core_records.proofs.Core.{ap, call_of, IsSoundCore, item_at, item_of, Keeps, CoreImage, parts_of, seen, StateView, subst, sym, Table, thread_of, ◌+◌, ◌∙◌}
 use Rattle.core_records.specs.declared.{call_records.TaskGroup.TaskGroup, single.Single.Single}
-use Rattle.core_makes.proofs.StrandUndoLemmas.{item_written, made_instance, named_core, strand_restored}
-use Rattle.core_makes.proofs.call_makes.add_named_strand.Goals as goal
+use Rattle.core_makes.proofs.CallThreadUndoLemmas.{item_written, made_instance, named_core, call_thread_restored}
+use Rattle.core_makes.proofs.call_makes.add_named_call.Goals as goal
 
 pub drop_call_with_thread-requires-clause-item : goal.drop_call_with_thread-requires-clause-item
 drop_call_with_thread-requires-clause-item c =
@@ -28,7 +28,7 @@ unfolding IsSoundCore
 returns-in-Err-name_thread-clause-sound c =
     let d = c.drop_call_with_thread.ensures in
     sound_restored (parts_of c.args.parts.now) (parts_of c.drop_call_with_thread.new.parts)
-    (strand_restored c.args.parts.now c.add_call_with_thread.new.parts c.name_thread.new.parts c.drop_call_with_thread.new.parts c.requires.add.sound c.in-Ok.ensures.sound c.args.id c.args.group c.requires.add.group c.in-Ok.first c.in-Ok.task c.in-Ok.ensures.pushes c.in-Err-name_thread.ensures.same d.only d.threads d.calls d.groups d.threads_table d.calls_table)
+    (call_thread_restored c.args.parts.now c.add_call_with_thread.new.parts c.name_thread.new.parts c.drop_call_with_thread.new.parts c.requires.add.sound c.in-Ok.ensures.sound c.args.id c.args.group c.requires.add.group c.in-Ok.first c.in-Ok.task c.in-Ok.ensures.pushes c.in-Err-name_thread.ensures.same d.only d.threads d.calls d.groups d.threads_table d.calls_table)
     c.requires.add.sound
 
 pub returns-in-Err-name_thread-clause-new : goal.returns-in-Err-name_thread-clause-new
@@ -36,4 +36,4 @@ unfolding seen
 returns-in-Err-name_thread-clause-new c =
     let d = c.drop_call_with_thread.ensures in
     image_restored (parts_of c.args.parts.now) (parts_of c.drop_call_with_thread.new.parts)
-    (strand_restored c.args.parts.now c.add_call_with_thread.new.parts c.name_thread.new.parts c.drop_call_with_thread.new.parts c.requires.add.sound c.in-Ok.ensures.sound c.args.id c.args.group c.requires.add.group c.in-Ok.first c.in-Ok.task c.in-Ok.ensures.pushes c.in-Err-name_thread.ensures.same d.only d.threads d.calls d.groups d.threads_table d.calls_table)
+    (call_thread_restored c.args.parts.now c.add_call_with_thread.new.parts c.name_thread.new.parts c.drop_call_with_thread.new.parts c.requires.add.sound c.in-Ok.ensures.sound c.args.id c.args.group c.requires.add.group c.in-Ok.first c.in-Ok.task c.in-Ok.ensures.pushes c.in-Err-name_thread.ensures.same d.only d.threads d.calls d.groups d.threads_table d.calls_table)

@@ -3,7 +3,7 @@ use Rattle.machine_data.specs.Read.{course_of, course_value, is_direct, is_guest
 use Rattle.std.specs.Prelude.{Bool, List, None, Option, false, if◌then◌else◌, not, ℕ, ◌+◌, ◌&&◌, Some}
 use Rattle.machine_data.specs.Core.{Core}
 use Rattle.machine_data.specs.Moves.{behind_one, less_switch, promoted, put_high, put_low, put_switch, stopped, unqueued}
-use Rattle.machine_data.specs.Write.{add_group, add_set, add_thread, count_work, free_handle, free_thread_handle, give_handle, give_result, push_high, remove_call, remove_group, remove_set, remove_thread, remove_work, set_backpressure, set_cancel_delivered, set_cancelled, set_course, set_do_not_enter, set_do_not_suspend, on_call, set_event, set_exited, set_op_progress, set_join, set_task_event, set_phase, set_place, set_position, set_register, set_result, set_saved_callee, set_saved_own, set_script, set_stage, set_started, set_starting_published, set_subtask_handle, set_trapped, set_uninteresting, set_word, take_result, with_switch}
+use Rattle.machine_data.specs.Write.{add_group, add_set, add_thread, count_work, free_handle, free_thread_handle, give_handle, give_result, push_high, remove_call, remove_group, remove_set, remove_thread, remove_work, set_backpressure, set_cancel_delivered, set_cancelled, set_course, set_do_not_enter, set_do_not_suspend, on_call, set_event, set_exited, set_op_progress, set_join, set_task_event, set_phase, set_place, set_position, set_register, set_result, set_saved_callee, set_saved_own, set_script, set_stage, set_started, set_starting_published, set_subtask_handle, set_trapped, set_uninteresting, set_memory_cell, take_result, with_switch}
 use Rattle.machine_data.specs.declared.component.Callee.{Callee}
 use Rattle.machine_data.specs.declared.component.ExportKind.{ExportKind}
 use Rattle.machine_data.specs.declared.component.HostDef.{HostDef}
@@ -20,10 +20,10 @@ use Rattle.machine_data.specs.declared.records.OpProgress.TheVariants as op_prog
 use Rattle.machine_data.specs.declared.records.Thread.{Thread}
 use Rattle.machine_data.specs.declared.records.Why.{Why}
 use Rattle.machine_data.specs.declared.records.WorkCaller.{WorkCaller}
-use Rattle.machine_data.specs.declared.words.Mark.{Mark}
-use Rattle.machine_data.specs.declared.words.TaskEvent.{TaskEvent}
-use Rattle.machine_data.specs.declared.words.Phase.{Phase}
-use Rattle.machine_data.specs.declared.words.Status.{Status}
+use Rattle.machine_data.specs.declared.statuses.Mark.{Mark}
+use Rattle.machine_data.specs.declared.statuses.TaskEvent.{TaskEvent}
+use Rattle.machine_data.specs.declared.statuses.Phase.{Phase}
+use Rattle.machine_data.specs.declared.statuses.Status.{Status}
 use Rattle.machine_rules.specs.Calls.{call_made, with_handle, with_thread_handle, work_queued}
 use Rattle.machine_rules.specs.Takes.{popped, host_status}
 use Rattle.machine_rules.specs.Works.{poll_pends}
@@ -33,9 +33,9 @@ use Rattle.machine_data.specs.declared.records.Named.TheVariants as named
 use Rattle.machine_data.specs.declared.records.Place.TheVariants as place
 use Rattle.machine_data.specs.declared.records.Stage.TheVariants as stage
 use Rattle.machine_data.specs.declared.records.Subtask.TheVariants as subtask
-use Rattle.machine_data.specs.declared.words.Mark.TheVariants as mark
-use Rattle.machine_data.specs.declared.words.Phase.TheVariants as phase
-use Rattle.machine_data.specs.declared.words.Status.TheVariants as status
+use Rattle.machine_data.specs.declared.statuses.Mark.TheVariants as mark
+use Rattle.machine_data.specs.declared.statuses.Phase.TheVariants as phase
+use Rattle.machine_data.specs.declared.statuses.Status.TheVariants as status
 
 -- ---- Where threads are
 
@@ -74,7 +74,7 @@ after_placing (Enter n m) s = set_place n (place.Under m) (set_place m place.Run
 abbrev pub placed_as : Core → Core → Core
 placed_as t s = record s { threads = t.threads; callers = t.callers; queues = t.queues }
 
--- ---- All words
+-- ---- All primitives
 
 pub data Primitive : Type 0 where
   Places : (placing : Placing) → Primitive
@@ -131,7 +131,7 @@ pub data Primitive : Type 0 where
   SetBackpressure : (instance count : ℕ) → Primitive
   SetDoNotEnter : (instance : ℕ) → (flag : Bool) → Primitive
   SetDoNotSuspend : (instance : ℕ) → (flag : Bool) → Primitive
-  SetWord : (instance word value : ℕ) → Primitive
+  SetMemoryCell : (instance cell value : ℕ) → Primitive
   -- results, groups and the trap
   GiveResult : (call value : ℕ) → Primitive
   TakeResult : (call : ℕ) → Primitive
@@ -201,7 +201,7 @@ after_primitive (CloseSet i h x) s = remove_set x (free_handle i h s)
 after_primitive (SetBackpressure i n) s = set_backpressure i n s
 after_primitive (SetDoNotEnter i b) s = set_do_not_enter i b s
 after_primitive (SetDoNotSuspend i b) s = set_do_not_suspend i b s
-after_primitive (SetWord i w v) s = set_word i w v s
+after_primitive (SetMemoryCell i w v) s = set_memory_cell i w v s
 after_primitive (GiveResult k v) s = give_result k v s
 after_primitive (TakeResult k) s = take_result k s
 after_primitive AddGroup s = add_group s

@@ -1,6 +1,6 @@
 use Rattle.core_records.proofs.Core.{arith, deletion_refused, item_of}
 use Rattle.core_records.specs.declared.{call_records.GuestTask.GuestTask}
-use Rattle.core_makes.proofs.strands.drop_call.Goals as goal
+use Rattle.core_makes.proofs.calls_with_threads.drop_call.Goals as goal
 use Rattle.core_records.proofs.KindLemmas.{refused_number}
 
 pub unreachable-requires : goal.unreachable-requires

@@ -1,5 +1,5 @@
 use Rattle.core_makes.proofs.NodeLemmas.{call_loose_kept, chains_apart, extends_on}
-use Rattle.core_makes.proofs.node_makes.new_strand_nodes.Goals as goal
+use Rattle.core_makes.proofs.node_makes.new_call_thread_nodes.Goals as goal
 use Rattle.core_records.proofs.Core.{bare, parts_of, place_chain}
 
 pub returns-clause-loose : goal.returns-clause-loose

@@ -29,18 +29,18 @@ module _ (p : CoreImage) (whole : IsWhole p) (threads : SoundTable thread_key p.
     abbrev one_more : TaskGroup
     one_more = record q.entry.item { calls = q.entry.item.calls + 1 }
 
-    abbrev pub with_strand : CoreImage
-    with_strand = record p { threads = pushed (record { item = g }) p.threads; calls = pushed (record { item = c }) p.calls; groups = with_entry rep (record { item = one_more }) p.groups; made = record p.made { threads = p.made.threads + 1 }; kept = record p.kept { used = p.kept.used + 3 } }
+    abbrev pub with_call_thread : CoreImage
+    with_call_thread = record p { threads = pushed (record { item = g }) p.threads; calls = pushed (record { item = c }) p.calls; groups = with_entry rep (record { item = one_more }) p.groups; made = record p.made { threads = p.made.threads + 1 }; kept = record p.kept { used = p.kept.used + 3 } }
 
-    thread_more : (test : Thread → Bool) → passing test (core_of with_strand).threads ≡ passing test (core_of p).threads + one_if_passes test (Some g.thread)
+    thread_more : (test : Thread → Bool) → passing test (core_of with_call_thread).threads ≡ passing test (core_of p).threads + one_if_passes test (Some g.thread)
     thread_more = passing_more (λ (h : GuestThread). h.number) (λ (h : GuestThread). h.thread) p.threads p.made.threads threads g g_next
 
-    call_more : (test : Call → Bool) → passing test (core_of with_strand).calls ≡ passing test (core_of p).calls + one_if_passes test (Some c.call)
+    call_more : (test : Call → Bool) → passing test (core_of with_call_thread).calls ≡ passing test (core_of p).calls + one_if_passes test (Some c.call)
     call_more = passing_more (λ (d : GuestTask). d.number) (λ (d : GuestTask). d.call) p.calls p.made.threads calls c c_next
 
     module _ (first : g.thread.call ≡ c.number) (one : c.threads ≡ 1) where
-      calls_kept : EachEntry (IsCallKept (core_of with_strand)) with_strand.calls
-      calls_kept = each_more (IsCallKept (core_of with_strand)) p.calls c calls.table
+      calls_kept : EachEntry (IsCallKept (core_of with_call_thread)) with_call_thread.calls
+      calls_kept = each_more (IsCallKept (core_of with_call_thread)) p.calls c calls.table
           (λ r w w_at.
           let within = early (λ (d : GuestTask). d.number) (λ (d : GuestTask). d.call) p.calls p.made.threads calls r w w_at in
           let was = whole.counted.calls r w w_at in
@@ -53,7 +53,7 @@ module _ (p : CoreImage) (whole : IsWhole p) (threads : SoundTable thread_key p.
           omega arith)
 
       module _ (nowhere : c.call.join ≡ Join.Nowhere) (unplaced : g.thread.place ≡ Place.New) where
-        set_kept : (x : WaitSet) → IsSetKept (core_of p) x → IsSetKept (core_of with_strand) x
+        set_kept : (x : WaitSet) → IsSetKept (core_of p) x → IsSetKept (core_of with_call_thread) x
         set_kept x was = record {
           members =
               let before = was.members in
@@ -68,8 +68,8 @@ module _ (p : CoreImage) (whole : IsWhole p) (threads : SoundTable thread_key p.
         }
 
         module _ (of_group : q.entry.item.number ≡ c.call.group) (room : c.call.goal ≡ Goal.Main → HasRoom c.number p.results) where
-          groups_kept : EachEntry (IsGroupKept (core_of with_strand)) with_strand.groups
-          groups_kept = each_but p.groups rep q at one_more (IsGroupKept (core_of with_strand))
+          groups_kept : EachEntry (IsGroupKept (core_of with_call_thread)) with_call_thread.groups
+          groups_kept = each_but p.groups rep q at one_more (IsGroupKept (core_of with_call_thread))
               (let was = whole.counted.groups rep q at in
               let more = call_more (λ d. d.group == q.entry.item.number) in
               let here = passes_one (λ (d : Call). d.group == q.entry.item.number) c.call (eq-eqb c.call.group q.entry.item.number (sym of_group)) in
@@ -80,7 +80,7 @@ module _ (p : CoreImage) (whole : IsWhole p) (threads : SoundTable thread_key p.
               let none = fails_none (λ (d : Call). d.group == w.entry.item.number) c.call (ne_eqb c.call.group w.entry.item.number (λ same. other (one_place (λ (h : TaskGroup). h.number) (λ (h : TaskGroup). h.calls) p.groups p.made.groups groups r rep w q w_at at (sym same ∙ sym of_group)))) in
               omega arith)
 
-          rooms : (k : ℕ) (d : Call) → get (core_of with_strand).calls k ≡ Some d → d.goal ≡ Goal.Main → HasRoom k p.results
+          rooms : (k : ℕ) (d : Call) → get (core_of with_call_thread).calls k ≡ Some d → d.goal ≡ Goal.Main → HasRoom k p.results
           rooms k d is main = by (cases_eq k c.number)
             where
               more : cond (k == c.number) (Some c.call) (get (core_of p).calls k) ≡ Some d
@@ -90,10 +90,10 @@ module _ (p : CoreImage) (whole : IsWhole p) (threads : SoundTable thread_key p.
               by (inl same) = subst (λ (n : ℕ). HasRoom n p.results) (sym same) (room (ap (λ (e : Call). e.goal) (same_Some c.call d (sym (ap (λ b. cond b (Some c.call) (get (core_of p).calls k)) (eq-eqb k c.number same)) ∙ more)) ∙ main))
               by (inr other) = whole.counted.results k d (sym (ap (λ b. cond b (Some c.call) (get (core_of p).calls k)) (ne_eqb k c.number other)) ∙ more) main
 
-          groups_same : (core_of with_strand).groups ≡ (core_of p).groups
+          groups_same : (core_of with_call_thread).groups ≡ (core_of p).groups
           groups_same = ap (filter (nat_lt p.finished)) (group_numbers p.groups rep q at one_more refl)
 
-          used : p.kept.used + 3 ≡ table_use (core_of with_strand)
+          used : p.kept.used + 3 ≡ table_use (core_of with_call_thread)
           unfolding table_use
           used =
               let was = whole.counted.kept.used in
@@ -102,8 +102,8 @@ module _ (p : CoreImage) (whole : IsWhole p) (threads : SoundTable thread_key p.
               let same = ap (λ (l : List ℕ). length l) groups_same in
               omega arith
 
-          pub strand_counted : AreCounted with_strand
-          strand_counted = record {
+          pub call_thread_counted : AreCounted with_call_thread
+          call_thread_counted = record {
             kept = record { used = used; groups = whole.counted.kept.groups ∙ ap (λ (l : List ℕ). length l) (sym groups_same); live = whole.counted.kept.live };
             calls = calls_kept;
             sets = λ r w w_at. set_kept w.entry.item (whole.counted.sets r w w_at);
