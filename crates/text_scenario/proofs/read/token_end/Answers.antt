@@ -1,6 +1,6 @@
 use Rattle.std.proofs.Common.{◌+◌, arith}
-use Rattle.text_scenario.proofs.WordEnd.{one_further, found, nowhere}
-use Rattle.text_scenario.proofs.read.word_end.Goals as goal
+use Rattle.text_scenario.proofs.TokenEnd.{one_further, found, nowhere}
+use Rattle.text_scenario.proofs.read.token_end.Goals as goal
 
 pub returns-then-line-at-eq32-clause-place : goal.returns-then-line-at-eq32-clause-place
 returns-then-line-at-eq32-clause-place c = found c.args.line.now c.fours.at _ (omega (arith, c.fours-test.true)) c.fours.invariant.before c.if-line-at-eq32.true

@@ -1,6 +1,6 @@
 use Rattle.std.proofs.Common.{◌-◌, ◌≤◌, length}
-use Rattle.text_scenario.proofs.WordEnd.{NoSpace}
-use Rattle.text_scenario.proofs.read.word_end.Given as goal
+use Rattle.text_scenario.proofs.TokenEnd.{NoSpace}
+use Rattle.text_scenario.proofs.read.token_end.Given as goal
 
 abbrev pub invariant-fours : goal.invariant-fours
 invariant-fours l = record {
