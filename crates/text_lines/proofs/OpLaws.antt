@@ -31,7 +31,7 @@ use Rattle.text_lines.specs.Line.{register_after, operand_after, target_after, e
 use Rattle.text_lines.proofs.TokenLaws.{registers, registers_up_to, operands, bounded}
 use Rattle.text_lines.proofs.LineForms.{Spells, no_tokens, token_of_each, token_of_three, with_tail, register_tail, operand_tail, target_tail, event_tail}
 
--- ---- Registers and tokens
+-- ---- Registers and memory cells
 
 pub data_op_takes : (k : DataKeyword) (ws : List (List ℕ)) (o : DataOp) → data_op_after k ws ≡ Some o → Spells data_op_tokens data_op_fits (data_keyword k) ws o
 unfolding data_op_after load_after store_after skip_after

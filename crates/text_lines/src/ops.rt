@@ -54,7 +54,7 @@ fn load_after(tokens: &[&[u8]]) -> Option<DataOp>
 {
     let (to, token) = two(tokens)?;
     let to = register(to)?;
-    let token = bounded(token, 15)? as u8;
+    let cell = bounded(token, 15)? as u8;
     Some(DataOp::Load { to, cell })
 }
 
@@ -63,7 +63,7 @@ fn store_after(tokens: &[&[u8]]) -> Option<DataOp>
     ensures { result ≡ store_after (map (λ w. w.now) tokens.now) }
 {
     let (token, value) = two(tokens)?;
-    let token = bounded(token, 15)? as u8;
+    let cell = bounded(token, 15)? as u8;
     let value = operand(value)?;
     Some(DataOp::Store { cell, value })
 }
