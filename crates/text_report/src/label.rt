@@ -86,7 +86,7 @@ fn taken_thread(out: &mut [u8], at: usize, mark: Mark) -> usize
     }
 }
 
-// Tokens, the handle of a subtask, and its status, which has one digit.
+// A text, the handle of a subtask, and its status, which has one digit.
 #[inline(always)]
 fn handed(out: &mut [u8], at: usize, before: &[u8], handle: u32, status: Status) -> usize
     requires { at + length before.now + 27 ≤ length out.old }

@@ -5,7 +5,7 @@ ghost use Rattle.text_report.specs.Digits.{six_text, three_text};
 
 use crate::table::{LEADS, THREES};
 
-// Tokens, byte by byte: of a text that is known where a line is compiled, a few stores are made.
+// A text, byte by byte: of one that is known where a line is compiled, a few stores are made.
 #[inline(always)]
 pub(crate) fn literal(out: &mut [u8], at: usize, literal: &[u8]) -> usize
     requires { at + length literal.now ≤ length out.old }
@@ -186,7 +186,7 @@ pub(crate) fn small_number(out: &mut [u8], at: usize, before: &[u8], number: u64
     one_digit(out, end, number)
 }
 
-// A text and a number behind them. The literal of each call are known where it is compiled.
+// A text and a number behind it. The text of each call is known where it is compiled.
 #[inline(always)]
 pub(crate) fn number(out: &mut [u8], at: usize, before: &[u8], number: u64) -> usize
     requires { at + length before.now + 25 ≤ length out.old }
