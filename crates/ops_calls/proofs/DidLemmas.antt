@@ -1,15 +1,15 @@
 -- An op that a host has the running thread do keeps order in which the thread has it; once it is done the state is in order.
-use Rattle.ops_calls.specs.Methods.{AsksKeep, HostsKeep, InTurn, KeepsDone, KeepsFor, OpsKeep, Rests, hosts_rule}
+use Rattle.ops_calls.specs.Methods.{HostOpsKeep, HostsKeep, InTurn, KeepsDone, KeepsFor, OpsKeep, Rests, hosts_rule}
 use Rattle.ops_dispatch.specs.ContinuesDispatch.{running_of}
 use Rattle.laws_order.proofs.GivenLemmas.{host_keeps}
 use Rattle.laws_order.proofs.HostCallLemmas.{host_calls_keep, host_instances}
 use Rattle.laws_order.proofs.HostLemmas.{host_calls_done, host_done}
-use Rattle.laws_order.specs.Given.{HostCallsDone, HostCallsKeep, HostDone, HostInstances, HostKeeps, given, host_op, host_rule, is_asked}
+use Rattle.laws_order.specs.Given.{HostCallsDone, HostCallsKeep, HostDone, HostInstances, HostKeeps, given, host_op, host_rule, is_host_op}
 use Rattle.laws_order.specs.Pieces.{SameInstances}
 use Rattle.std.proofs.Common.{arith, refl, subst, sym, ◌∙◌}
 use Rattle.std.specs.Prelude.{None, Option, Some, false, suc, true, ℕ, ◌≡◌}
-use Rattle.ops_calls.proofs.AskLemmas.{meets_progresses, met_progresses, order_still, running_is}
-use Rattle.ops_calls.specs.Asks.{Does, CoreInOrderAs, scripted_rule_of, turn_for}
+use Rattle.ops_calls.proofs.HostOpLemmas.{meets_progresses, met_progresses, order_still, running_is}
+use Rattle.ops_calls.specs.HostOps.{Does, CoreInOrderAs, scripted_rule_of, turn_for}
 use Rattle.laws_states.specs.Order.{InOrderAs}
 use Rattle.machine_data.specs.Core.{Core, Main, State, Unscripted}
 use Rattle.machine_data.specs.Labels.{choice_of}
@@ -49,10 +49,10 @@ stays c n s t h same = order_still c n s t h.runs h.order same
 pub then_runs : (c : Component) (n m : ℕ) (t : StateView) → running_of t ≡ Some m → CoreInOrder c (Turn.Run m) t.core → InTurn c t
 then_runs c n m t is sits = subst (λ (o : Option ℕ). CoreInOrder c (turn_for o) t.core) (sym is) sits
 
-unending : (o : Op) → is_asked o ≡ true → ends_activation o ≡ false
+unending : (o : Op) → is_host_op o ≡ true → ends_activation o ≡ false
 unending o on = grind arith
 
-not_data : (o : Op) → is_asked o ≡ true → is_data_op o ≡ false
+not_data : (o : Op) → is_host_op o ≡ true → is_data_op o ≡ false
 not_data o on = grind arith
 
 module _ (c : Component) (n : ℕ) (s : StateView) (h : Rests c n s) where
@@ -75,7 +75,7 @@ module _ (c : Component) (n : ℕ) (s : StateView) (h : Rests c n s) where
       (λ m. host_keeps (setting c) o n (before m) (state_at t m p) l refl plain other h.fresh (h.order.order m) (row m))
 
   -- one that is done
-  pub done_as : (o : Op) (l : Label) (k : ℕ) (t : Core) → is_asked o ≡ true →
+  pub done_as : (o : Op) (l : Label) (k : ℕ) (t : Core) → is_host_op o ≡ true →
       ((m : Main) → Progresses (before m) s.core n (op_rule SomeHost c n s.core (choice_of l) o) l (state_at t m (Turn.Run k))) → (k ≡ n) × CoreInOrder c (Turn.Run k) t
   unfolding HostDone HostInstances
   done_as o l k t asked row =
@@ -119,12 +119,12 @@ ops_keep c o n r s t h plain other did = by r (running_is s n h.runs (λ k. Does
     by (OpResult.Traps why) does = stays c n s t h does.stays
     by (OpResult.Fails i) does = stays c n s t h does.stays
 
--- one of is_asked
-asked_done : (c : Component) (o : Op) (n : ℕ) (r : OpResult) (s t : StateView) → Rests c n s → is_asked o ≡ true → Does (scripted_rule_of c o s.core n) n s r t → KeepsDone c o n r t
-asked_done c o n (OpResult.Continues l m said) s t h asked does = then_runs c n m t does.running (done_as c n s h o l m t.core asked (met_progresses c o n (OpResult.Continues l m said) s.core t.core does.meets refl)).1
-asked_done c o n (OpResult.Stops l) s t h asked does = went_as c n s h o l Turn.Main t.core (unending o asked) (not_data o asked) (met_progresses c o n (OpResult.Stops l) s.core t.core does.meets refl)
-asked_done c o n (OpResult.Traps why) s t h asked does = stays c n s t h does.stays
-asked_done c o n (OpResult.Fails i) s t h asked does = stays c n s t h does.stays
+-- one of is_host_op
+host_op_done : (c : Component) (o : Op) (n : ℕ) (r : OpResult) (s t : StateView) → Rests c n s → is_host_op o ≡ true → Does (scripted_rule_of c o s.core n) n s r t → KeepsDone c o n r t
+host_op_done c o n (OpResult.Continues l m said) s t h asked does = then_runs c n m t does.running (done_as c n s h o l m t.core asked (met_progresses c o n (OpResult.Continues l m said) s.core t.core does.meets refl)).1
+host_op_done c o n (OpResult.Stops l) s t h asked does = went_as c n s h o l Turn.Main t.core (unending o asked) (not_data o asked) (met_progresses c o n (OpResult.Stops l) s.core t.core does.meets refl)
+host_op_done c o n (OpResult.Traps why) s t h asked does = stays c n s t h does.stays
+host_op_done c o n (OpResult.Fails i) s t h asked does = stays c n s t h does.stays
 
 -- a host whose first poll may find this
 host_of : FirstPoll → HostDef
@@ -166,6 +166,6 @@ pub hosts_keep : HostsKeep
 unfolding HostsKeep
 hosts_keep c found q n r s t h did = called_done c found q n s t h r (running_is s n h.runs (λ k. Does (hosts_rule q found s.core k) k s r t) did)
 
-pub asks_keep : AsksKeep
-unfolding AsksKeep
-asks_keep c o n r s t h asked did = asked_done c o n r s t h asked (running_is s n h.runs (λ k. Does (scripted_rule_of c o s.core k) k s r t) did)
+pub host_ops_keep : HostOpsKeep
+unfolding HostOpsKeep
+host_ops_keep c o n r s t h asked did = host_op_done c o n r s t h asked (running_is s n h.runs (λ k. Does (scripted_rule_of c o s.core k) k s r t) did)

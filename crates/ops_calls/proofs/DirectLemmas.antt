@@ -11,9 +11,9 @@ use Rattle.machine_data.specs.declared.trap.Trap.TheVariants as trap
 use Rattle.machine_rules.specs.Calls.{enter_rule, enter_runs, next_thread}
 use Rattle.machine_rules.specs.Finish.{Doer, SomeHost}
 use Rattle.machine_rules.specs.Scripts.{export_kind}
-use Rattle.ops_calls.proofs.AskLemmas.{current_runs, did_rule, not_stopped}
+use Rattle.ops_calls.proofs.HostOpLemmas.{current_runs, did_rule, not_stopped}
 use Rattle.ops_calls.proofs.AtOnceLemmas.{IsFree, goes_on}
-use Rattle.ops_calls.specs.Asks.{Did}
+use Rattle.ops_calls.specs.HostOps.{Did}
 use Rattle.ops_calls.specs.OpAnswers.{answered, has_stopped}
 use Rattle.ops_calls.specs.declared.answer_calls.Step.TheVariants as step
 use Rattle.ops_dispatch.proofs.OpLemmas.{tags_told, told_names}

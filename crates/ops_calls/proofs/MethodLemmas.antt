@@ -11,8 +11,8 @@ use Rattle.laws_order.specs.Pieces.{ExitKeeps, IsPrepared, KeepsOrder, PrepareKe
 use Rattle.ops_state.specs.declared.error.TaskError.{TaskError}
 use Rattle.std.specs.Prelude.{Err, Ok, Result}
 use Rattle.ops_subtasks.specs.Starts.{call_starts}
-use Rattle.ops_calls.proofs.AskLemmas.{running_is}
-use Rattle.ops_calls.specs.Asks.{Did, Does, CoreInOrderAs, turn_for}
+use Rattle.ops_calls.proofs.HostOpLemmas.{running_is}
+use Rattle.ops_calls.specs.HostOps.{Did, Does, CoreInOrderAs, turn_for}
 use Rattle.ops_calls.specs.OpAnswers.{answered}
 use Rattle.ops_calls.specs.declared.answer_calls.Step.{Step}
 use Rattle.machine_data.specs.declared.op.Op.{Op}

@@ -7,8 +7,8 @@ use Rattle.laws_order.specs.Given.{HostInstances, given}
 use Rattle.std.proofs.Common.{ap, arith, refl, subst, sym, ◌∙◌}
 use Rattle.std.proofs.lemmas.Bool.Decides.{nat_tests}
 use Rattle.std.specs.Prelude.{Bool, None, Option, Some, false, if◌then◌else◌, is_some, option_map, true, ℕ, ◌==◌, ◌≡◌}
-use Rattle.ops_calls.proofs.AskLemmas.{meets_progresses, running_is}
-use Rattle.ops_calls.specs.Asks.{HasPaused, IsRunningIn, row_at, runs_after, turn_for}
+use Rattle.ops_calls.proofs.HostOpLemmas.{meets_progresses, running_is}
+use Rattle.ops_calls.specs.HostOps.{HasPaused, IsRunningIn, op_rule_at, runs_after, turn_for}
 use Rattle.laws_states.specs.Order.{FitsAs, InOrder, InOrderAs, ThreadFits}
 use Rattle.machine_data.specs.Core.{Core, Main, State, Unscripted}
 use Rattle.machine_data.specs.Labels.{choice_of}
@@ -166,13 +166,13 @@ module _ (c : Component) (n : ℕ) (s t : StateView) (sits : CoreInOrder c (turn
         handles = λ i low. same.handles i ∙ sits.handles i low;
       }
 
-  rule_of_place : (r : OpResult) → Implements (row_at c s.core n (choice_of (label_of n r))) s.core r t.core → is_going r ≡ true → (m : Main) →
+  rule_of_place : (r : OpResult) → Implements (op_rule_at c s.core n (choice_of (label_of n r))) s.core r t.core → is_going r ≡ true → (m : Main) →
       Progresses (before m) s.core n (rule (label_of n r)) (label_of n r) (state_at t.core m (turn_after r))
   rule_of_place r met on m =
       subst (Progresses (before m) s.core n (rule (label_of n r)) (label_of n r)) (settled r s.core m (turn.Run n) t.core)
       (meets_progresses (before m) n (rule (label_of n r)) r t.core met on)
 
-  pub host_in_order : (r : OpResult) → Implements (row_at c s.core n (choice_of (label_of n r))) s.core r t.core → StaysAfter r s t → CoreInOrder c (turn_for (runs_after n r)) t.core
+  pub host_in_order : (r : OpResult) → Implements (op_rule_at c s.core n (choice_of (label_of n r))) s.core r t.core → StaysAfter r s t → CoreInOrder c (turn_for (runs_after n r)) t.core
   host_in_order (op_result.Continues l m said) met stays = along l (turn.Run m) (rule_of_place (op_result.Continues l m said) met refl)
   host_in_order (op_result.Stops l) met stays = along l turn.Main (rule_of_place (op_result.Stops l) met refl)
   host_in_order (op_result.Traps why) met stays = subst (λ (v : StateView). CoreInOrder c (turn.Run n) v.core) (sym stays) sits

@@ -1,7 +1,7 @@
 //! The two halves of a call by a thread whose start is queued.
 ghost use Rattle.ops_dispatch.specs.ContinuesDispatch.{given};
 ghost use Rattle.std.specs.Prelude.{◌≡◌, ◌<◌, ◌^◌, IfSome, IsSome, List, None, Ok, Some, length, ℕ};
-ghost use Rattle.ops_calls.specs.Asks.{IsRunningIn};
+ghost use Rattle.ops_calls.specs.HostOps.{IsRunningIn};
 ghost use Rattle.ops_calls.specs.Prepared.{CanStart, Prepared, Prepares, goal_for, starts_in};
 ghost use Rattle.machine_data.specs.Read.{fits};
 ghost use Rattle.machine_data.specs.declared.component.Callee.{Callee};

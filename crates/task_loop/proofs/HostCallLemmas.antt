@@ -8,7 +8,7 @@ use Rattle.ops_dispatch.proofs.CallLemmas.{host_makes_none, sync_host_makes_none
 use Rattle.ops_state.specs.declared.error.TaskError.{TaskError}
 use Rattle.ops_state.specs.declared.error.TaskError.TheVariants as task_error
 use Rattle.ops_calls.specs.OpAnswers.{answered, at_once, number_answered, value_answered}
-use Rattle.ops_calls.specs.Asks.{Answers, Did, Does}
+use Rattle.ops_calls.specs.HostOps.{Answers, Did, Does}
 use Rattle.ops_calls.specs.PolledCalls.{blocks_rule, polls_rule}
 use Rattle.ops_calls.specs.declared.answer_calls.Step.{Step}
 use Rattle.ops_calls.specs.declared.answer_calls.Step.TheVariants as step

@@ -9,7 +9,7 @@ use Rattle.std.proofs.Common.{ap, refl, subst}
 use Rattle.std.specs.Prelude.{Bool, Err, IfSome, List, None, Ok, OnErr, Option, Result, Some, false, true, ℕ, ◌==◌, ◌≡◌, not}
 use Rattle.ops_calls.specs.OpAnswers.{answered}
 use Rattle.ops_dispatch.specs.Makes.{takes_memory}
-use Rattle.ops_calls.specs.Asks.{Answers, AnswersHere, AnswersOp, Does, IsRunningIn, row_at, scripted_rule_of, takes_here}
+use Rattle.ops_calls.specs.HostOps.{Answers, AnswersHere, AnswersOp, Does, IsRunningIn, row_at, scripted_rule_of, takes_here}
 use Rattle.ops_calls.specs.MainCalls.{Returned, Returns}
 use Rattle.ops_calls.specs.Directs.{enters_rule, exits_rule}
 use Rattle.ops_calls.specs.PolledCalls.{blocks_rule, polls_rule}

@@ -6,7 +6,7 @@ use Rattle.ops_state.specs.Named.{IsLive}
 use Rattle.ops_state.specs.declared.name_calls.QualifiedThreadId.{QualifiedThreadId}
 use Rattle.std.specs.Prelude.{Bool, IfOk, IfSome, IsSome, List, None, Ok, Result, Some, cond, length, min, true, ℕ, ◌<◌, ◌==◌, ◌≡◌, ◌≢◌, ◌⊎◌}
 use Rattle.ops_calls.specs.OpAnswers.{whole_answer, at_once, number_answered, value_answered}
-use Rattle.ops_calls.specs.Asks.{Answers, AnswersHere, AnswersOp, scripted_rule_of, turn_in}
+use Rattle.ops_calls.specs.HostOps.{Answers, AnswersHere, AnswersOp, scripted_rule_of, turn_in}
 use Rattle.ops_calls.specs.MainCalls.{Returns}
 use Rattle.ops_calls.specs.Directs.{entered, enters_rule, exits_rule, thread_entered}
 use Rattle.ops_calls.specs.PolledCalls.{blocks_rule, polls_rule}
@@ -17,7 +17,7 @@ use Rattle.ops_calls.specs.declared.answer_calls.Step.{Step}
 use Rattle.ops_calls.specs.declared.answer_calls.Step.TheVariants as step
 use Rattle.ops_calls.specs.declared.intrinsics.ResumeThread.{ResumeThread}
 use Rattle.ops_calls.specs.declared.intrinsics.ResumeThread.TheVariants as resume
-use Rattle.task_store.specs.HeldBorrows.{Comes, UnlessLent, cancel_holds_borrows, exit_holds_borrows, return_holds_borrows}
+use Rattle.task_store.specs.HeldBorrows.{Comes, UnlessBorrowed, cancel_holds_borrows, exit_holds_borrows, return_holds_borrows}
 use Rattle.task_loop.specs.Lent.{RuleAnswers}
 use Rattle.task_loop.specs.Told.{TellsCall, groups_before_call, refused_by_hook}
 use Rattle.machine_data.specs.Core.{Core}
@@ -131,7 +131,7 @@ resume_later_op h = op.Thread (thread_op.ResumeLater (operand.Number h))
 -- ---- Methods that end a task, unless it still lends something
 
 abbrev pub UnlessHoldsBorrows : (ℕ → Core → Bool) → (ℕ → Comes) → StateView → ComesOf (Unit {0})
-UnlessHoldsBorrows lends comes s a t = IfSome (running_of s) (λ n. UnlessLent (lends n s.core) (comes n) s a t)
+UnlessHoldsBorrows lends comes s a t = IfSome (running_of s) (λ n. UnlessBorrowed (lends n s.core) (comes n) s a t)
 
 -- the running thread's task returned the value, of its own type or not
 abbrev pub DoesReturn : {T H G : Type 0} → Bool → (own_type : Bool) → (value : ℕ) → DoesOn (Unit {0}) T H G

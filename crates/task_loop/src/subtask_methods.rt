@@ -1,7 +1,7 @@
 //! Calls of other instances and their subtasks, as an instance's calls begin, cancel and drop them.
 ghost use Rattle.std.specs.Prelude.{◌≡◌, ◌<◌, IfSome, IsSome, false, true, ◌^◌};
 ghost use Rattle.ops_calls.specs.OpAnswers.{at_once, nothing_answered, number_answered};
-ghost use Rattle.ops_calls.specs.Asks.{CanAsk, IsRunningIn};
+ghost use Rattle.ops_calls.specs.HostOps.{MayDoHostOp, IsRunningIn};
 ghost use Rattle.ops_calls.specs.Directs.{IsDirect};
 ghost use Rattle.ops_calls.specs.Intrinsics.{cancel_op};
 ghost use Rattle.ops_calls.specs.Prepared.{CanStart};
@@ -17,8 +17,8 @@ use crate::instance::Instance;
 use core_primitives::View;
 use machine_data::{CallOp, Component, Op, Operand, Trap};
 use ops_calls::{
-    QualifiedThreadId, Step, TaskError, ask_nothing, begin_number, cancel_op, enter_call,
-    exit_call, prepare_call, start_prepared,
+    QualifiedThreadId, Step, TaskError, begin_number, cancel_op, enter_call, exit_call,
+    host_op_nothing, prepare_call, start_prepared,
 };
 use task_group::TaskGroupHook;
 use task_store::{Store, exit_holds_borrows};
@@ -36,7 +36,7 @@ impl Instance {
         subtask: u32,
     ) -> Result<Step<u32>, TaskError>
         requires running { IsRunningIn component.now store.old.state }
-        requires asks { CanAsk self.index store.old.state }
+        requires asks { MayDoHostOp self.index store.old.state }
         requires caller { caller ≡ self.index }
         ensures does { DoesHostOp G.listens component.now (cancel_op async_ subtask) may_pause number_answered store.old result store.new }
     {
@@ -57,7 +57,7 @@ impl Instance {
         subtask: u32,
     ) -> Result<(), TaskError>
         requires running { IsRunningIn component.now store.old.state }
-        requires asks { CanAsk self.index store.old.state }
+        requires asks { MayDoHostOp self.index store.old.state }
         requires caller { caller ≡ self.index }
         ensures does { DoesHostOp G.listens component.now (drop_subtask_op subtask) at_once nothing_answered store.old result store.new }
     {
@@ -67,7 +67,7 @@ impl Instance {
             subtask: Operand::Number(u64::from(subtask)),
         });
         let before = asked(&store.state);
-        let answer = ask_nothing(component, &mut store.state, op);
+        let answer = host_op_nothing(component, &mut store.state, op);
         tell_call(&mut store.state, &mut store.listeners, &before, answer)
     }
 
@@ -83,7 +83,7 @@ impl Instance {
     ) -> Result<QualifiedThreadId, TaskError>
         requires running { IsRunningIn component.now store.old.state }
         requires few { given store.old.state.core < 2 ^ 61 }
-        requires asks { CanAsk self.index store.old.state }
+        requires asks { MayDoHostOp self.index store.old.state }
         requires callee { CanCall component.now self.index (callee_of callee) params.now }
         requires direct { is_async_lifted (export_kind component.now (callee_of callee)) ≡ false }
         ensures does { EntersCall G.listens component.now (callee_of callee) params.now store.old result store.new }
@@ -105,7 +105,7 @@ impl Instance {
         value: u64,
     ) -> Result<(), TaskError>
         requires running { IsRunningIn component.now store.old.state }
-        requires asks { CanAsk self.index store.old.state }
+        requires asks { MayDoHostOp self.index store.old.state }
         requires direct { IfSome (running_of store.old.state) (λ n. IsDirect n store.old.state.core) }
         ensures does { ExitsCall G.listens component.now value store.old result store.new }
     {
@@ -136,7 +136,7 @@ impl Instance {
     ) -> Result<QualifiedThreadId, TaskError>
         requires running { IsRunningIn component.now store.old.state }
         requires few { given store.old.state.core < 2 ^ 61 }
-        requires asks { CanAsk self.index store.old.state }
+        requires asks { MayDoHostOp self.index store.old.state }
         requires callee { CanCall component.now self.index (callee_of callee) params.now }
         requires register { register < 16 }
         requires queued { async_caller ≡ false → is_async_lifted (export_kind component.now (callee_of callee)) ≡ true }
@@ -164,7 +164,7 @@ impl Instance {
         store: &mut Store<T, H, G>,
         callee: QualifiedThreadId,
     ) -> Result<Step<u64>, TaskError>
-        requires asks { CanAsk self.index store.old.state }
+        requires asks { MayDoHostOp self.index store.old.state }
         requires runs { IsSome (running_of store.old.state) }
         requires prepared { IfSome (running_of store.old.state) (λ n. CanStart n callee store.old.state) }
         ensures does { StartsCall G.listens callee store.old result store.new }

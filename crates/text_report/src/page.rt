@@ -91,7 +91,7 @@ impl Page {
     }
 
     /// Takes the bytes of a full page away. What is behind them moves to the front.
-    pub fn turn(&mut self)
+    pub fn take_full(&mut self)
         requires { PAGE ≤ length self.old }
         ensures rest { self.new ≡ drop PAGE self.old }
         ensures room { length self.new ≤ PAGE }

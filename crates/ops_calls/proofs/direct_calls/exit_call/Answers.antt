@@ -1,9 +1,9 @@
 use Rattle.std.proofs.Common.{inl, refl, subst, sym, ◌∙◌}
 use Rattle.std.specs.Prelude.{◌<◌}
-use Rattle.ops_calls.proofs.AskLemmas.{did_rule}
+use Rattle.ops_calls.proofs.HostOpLemmas.{did_rule}
 use Rattle.ops_calls.proofs.DirectLemmas.{all_back, direct_under, exits_trapped, written_runs}
 use Rattle.ops_calls.proofs.direct_calls.exit_call.Goals as goal
-use Rattle.ops_calls.specs.Asks.{Did}
+use Rattle.ops_calls.specs.HostOps.{Did}
 use Rattle.ops_calls.specs.Directs.{exits_rule}
 use Rattle.machine_data.specs.Write.{set_register}
 use Rattle.ops_guests.specs.OpResult.{Implements}

@@ -1,7 +1,7 @@
 -- The running thread asks, and a thread that is resumed later gets its entry by the rule.
 use Rattle.std.proofs.Common.{ap, refl, subst, sym, ◌∙◌}
 use Rattle.std.specs.Prelude.{option_map}
-use Rattle.ops_calls.proofs.AskLemmas.{met_same, same_current, same_tags}
+use Rattle.ops_calls.proofs.HostOpLemmas.{met_same, same_current, same_tags}
 use Rattle.ops_calls.proofs.AtOnceLemmas.{never_stops}
 use Rattle.ops_calls.proofs.ResumeLemmas.{later_resumed}
 use Rattle.ops_calls.proofs.resume_calls.resume_thread.Goals as goal

@@ -1,7 +1,7 @@
 use Rattle.std.proofs.Common.{arith, subst, sym, ◌∙◌}
 use Rattle.std.proofs.lemmas.Bool.Decides.{nat_tests}
 use Rattle.std.specs.Prelude.{true, ◌≡◌}
-use Rattle.ops_calls.proofs.AskLemmas.{met_same, same_current, same_tags}
+use Rattle.ops_calls.proofs.HostOpLemmas.{met_same, same_current, same_tags}
 use Rattle.ops_calls.proofs.ReturnLemmas.{ret_goes_on, returned}
 use Rattle.ops_calls.specs.MainCalls.{Returns, is_own_type}
 use Rattle.ops_turns.proofs.OrderLemmas.{number_at, runner}

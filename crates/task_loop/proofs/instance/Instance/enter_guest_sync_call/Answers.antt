@@ -3,9 +3,9 @@ use Rattle.ops_state.specs.Named.{IsLive}
 use Rattle.std.proofs.Common.{ap, subst}
 use Rattle.std.specs.Prelude.{IfOk, true}
 use Rattle.ops_calls.specs.OpAnswers.{at_once}
-use Rattle.ops_calls.specs.Asks.{Answers}
+use Rattle.ops_calls.specs.HostOps.{Answers}
 use Rattle.ops_calls.specs.Directs.{entered, enters_rule, thread_entered}
-use Rattle.task_loop.proofs.AskHoldLemmas.{by_answers, entered_holds}
+use Rattle.task_loop.proofs.HostOpHoldLemmas.{by_answers, entered_holds}
 use Rattle.task_loop.proofs.InstanceCallLemmas.{does_call}
 use Rattle.task_loop.proofs.RuleTrapLemmas.{entered_not}
 use Rattle.task_loop.proofs.instance.Instance.enter_guest_sync_call.Goals as goal

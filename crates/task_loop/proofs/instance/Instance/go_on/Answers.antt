@@ -1,7 +1,7 @@
 -- The op at the place is taken further.
 use Rattle.ops_calls.specs.OpAnswers.{whole_answer}
-use Rattle.ops_calls.specs.Asks.{AnswersHere, row_at, takes_here}
-use Rattle.task_loop.proofs.AskHoldLemmas.{gone_on_holds}
+use Rattle.ops_calls.specs.HostOps.{AnswersHere, row_at, takes_here}
+use Rattle.task_loop.proofs.HostOpHoldLemmas.{gone_on_holds}
 use Rattle.task_loop.proofs.InstanceCallLemmas.{does_call}
 use Rattle.task_loop.proofs.TrackedLemmas.{answers_known}
 use Rattle.task_loop.proofs.RuleTrapLemmas.{here_not}

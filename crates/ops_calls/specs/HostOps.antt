@@ -47,8 +47,8 @@ pub record IsRunningIn (c : Component) (s : StateView) : Type 0 where
   pub home : instance_of number s.core < length c.instances
 
 -- The thread is of this instance, and no op of it is under way.
-abbrev pub CanAsk : ℕ → StateView → Type 0
-CanAsk i s = IfSome (running_of s) (λ n. (instance_of n s.core ≡ i) × (op_progress_of n s.core ≡ op_progress.Fresh))
+abbrev pub MayDoHostOp : ℕ → StateView → Type 0
+MayDoHostOp i s = IfSome (running_of s) (λ n. (instance_of n s.core ≡ i) × (op_progress_of n s.core ≡ op_progress.Fresh))
 
 -- The thread is of this instance, and an op of it is under way.
 abbrev pub HasPaused : ℕ → StateView → Type 0
@@ -82,8 +82,8 @@ pub record Does (row : Choice → Progress) (n : ℕ) (s : StateView) (r : OpRes
 abbrev pub scripted_rule_of : Component → Op → Core → ℕ → Choice → Progress
 scripted_rule_of c o s n ch = op_rule SomeHost c n s ch o
 
-abbrev pub row_at : Component → Core → ℕ → Choice → Progress
-row_at c s n ch = scripted_rule_of c (op_of c n s) s n ch
+abbrev pub op_rule_at : Component → Core → ℕ → Choice → Progress
+op_rule_at c s n ch = scripted_rule_of c (op_of c n s) s n ch
 
 -- the running thread did its rule
 abbrev pub Did : (ℕ → Choice → Progress) → StateView → OpResult → StateView → Type 0
@@ -106,7 +106,7 @@ takes_here c s = option_map_or (λ n. takes_memory (op_of c n s.core)) (running_
 
 -- and that op was done
 abbrev pub AnswersHere : {A : Type 0} → Component → (OpAnswer → A) → StateView → Result (Step A) TaskError → StateView → Type 0
-AnswersHere c f s a t = Answers (takes_here c s) (row_at c s.core) f s a t
+AnswersHere c f s a t = Answers (takes_here c s) (op_rule_at c s.core) f s a t
 
 -- ---- Order
 

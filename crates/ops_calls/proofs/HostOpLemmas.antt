@@ -9,7 +9,7 @@ use Rattle.std.specs.Prelude.{IfSome, Option, Some, false, option_map, true, ℕ
 use Rattle.ops_dispatch.specs.ContinuesDispatch.{DoesOp, OpGoesOn, running_of}
 use Rattle.ops_calls.proofs.AtOnceLemmas.{never_stops}
 use Rattle.ops_calls.specs.OpAnswers.{has_stopped}
-use Rattle.ops_calls.specs.Asks.{Did, Does, after, is_at_once, left_by, scripted_rule_of, runs_after, turn_for, turn_in}
+use Rattle.ops_calls.specs.HostOps.{Did, Does, after, is_at_once, left_by, scripted_rule_of, runs_after, turn_for, turn_in}
 use Rattle.machine_data.specs.declared.op.Op.{Op}
 use Rattle.machine_data.specs.Core.{Core, Main, State}
 use Rattle.machine_data.specs.Labels.{Choice, choice_of}

@@ -3,10 +3,10 @@ use Rattle.ops_dispatch.specs.Rules.{rule_of}
 use Rattle.std.proofs.Common.{ap, refl, subst, sym, ◌∙◌}
 use Rattle.std.specs.Option.{option_map_or}
 use Rattle.std.specs.Prelude.{None, Option, Some, false, length, option_copied, slice_get, true, ℕ, ◌<◌, ◌≡◌}
-use Rattle.ops_calls.proofs.AskLemmas.{left, left_did, left_met, left_order, left_stays}
+use Rattle.ops_calls.proofs.HostOpLemmas.{left, left_did, left_met, left_order, left_stays}
 use Rattle.ops_calls.proofs.PausedLemmas.{at_end, host_in_order, is_plain, makes_none, not_there}
-use Rattle.ops_calls.proofs.asks.take_on.Goals as goal
-use Rattle.ops_calls.specs.Asks.{Did, row_at, scripted_rule_of, turn_in}
+use Rattle.ops_calls.proofs.host_ops.take_on.Goals as goal
+use Rattle.ops_calls.specs.HostOps.{Did, op_rule_at, scripted_rule_of, turn_in}
 use Rattle.machine_data.specs.Labels.{choice_of}
 use Rattle.machine_data.specs.Read.{op_progress_of, instance_of, task_of}
 use Rattle.machine_data.specs.declared.op.Op.{Op}
@@ -112,8 +112,8 @@ returns-clause-did g c =
     let number = number_at q.number s q.runs c.in-Some.thread current in
     let is = op_is comp n s.core r.thread r.here c.script_ops-script.result.now c.at-point.result.callee (task_of n s.core) c.at-point.result.position c.at-point.result.script c.at-point.ensures.callee refl (c.at-point.ensures.script r.thread r.here) c.script_ops-script.ensures c.at-point.ensures.position (Some o) (sym (ap option_copied c.in-Some-op_at.is) ∙ c.op_at.ensures) in
     let here = ap (λ (k : ℕ). op_of comp k s.core) (sym number) ∙ is in
-    subst (Did (row_at comp s.core) s op_result) (sym c.leave.ensures)
-    (left_did comp (rule_of comp o) c.in-Some.thread q.number op_result s t c.in-Ok.ensures.does.does number q.runs (row_at comp s.core) (λ ch. ap (λ (x : Op). scripted_rule_of comp x s.core q.number ch) here))
+    subst (Did (op_rule_at comp s.core) s op_result) (sym c.leave.ensures)
+    (left_did comp (rule_of comp o) c.in-Some.thread q.number op_result s t c.in-Ok.ensures.does.does number q.runs (op_rule_at comp s.core) (λ ch. ap (λ (x : Op). scripted_rule_of comp x s.core q.number ch) here))
 
 pub returns-clause-order : goal.returns-clause-order
 returns-clause-order g c =

@@ -1,6 +1,6 @@
 -- What a store holds of host works stays over an op that an instance has its running thread do.
 use Rattle.laws_order.proofs.CellLemmas.{nobody, nothing_spawned}
-use Rattle.ops_calls.proofs.AskLemmas.{met_progresses}
+use Rattle.ops_calls.proofs.HostOpLemmas.{met_progresses}
 use Rattle.machine_rules.proofs.WalkSteps.{host_rules_walk}
 use Rattle.machine_rules.specs.Chains.{HostRulesAreWalks}
 use Rattle.machine_rules.specs.Finish.{SomeHost}
@@ -21,7 +21,7 @@ use Rattle.ops_state.specs.declared.name_calls.QualifiedThreadId.{QualifiedThrea
 use Rattle.ops_subtasks.specs.Starts.{call_starts}
 use Rattle.ops_dispatch.specs.Makes.{makes, takes_memory}
 use Rattle.ops_calls.proofs.PausedLemmas.{is_plain}
-use Rattle.ops_calls.specs.Asks.{Answers, AnswersHere, AnswersOp, Does, HasPaused, IsRunningIn, is_apart, row_at, scripted_rule_of, takes_here}
+use Rattle.ops_calls.specs.HostOps.{Answers, AnswersHere, AnswersOp, Does, HasPaused, IsRunningIn, is_apart, row_at, scripted_rule_of, takes_here}
 use Rattle.ops_calls.proofs.DirectLemmas.{goes_base}
 use Rattle.ops_calls.specs.MainCalls.{Returned, Returns}
 use Rattle.ops_calls.specs.Directs.{IsDirect, exits_rule}

@@ -1,6 +1,6 @@
 use Rattle.std.proofs.Common.{◌∙◌, ◌-◌, ◌≤◌, ℕ, List, ap, arith, drop, length, take}
 use Rattle.text_report.proofs.Pages.{turned, used_up_to}
-use Rattle.text_report.proofs.page.Page.turn.Goals as goal
+use Rattle.text_report.proofs.page.Page.take_full.Goals as goal
 
 pub returns-clause-rest : goal.returns-clause-rest
 returns-clause-rest c =

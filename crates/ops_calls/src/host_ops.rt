@@ -4,7 +4,7 @@ ghost use Rattle.ops_dispatch.specs.ContinuesDispatch.{given};
 ghost use Rattle.ops_dispatch.specs.Makes.{takes_memory};
 ghost use Rattle.std.specs.Prelude.{◌≡◌, ◌<◌, ◌^◌, ℕ, IfErr, IfOk, OnErr, false, true};
 ghost use Rattle.ops_calls.specs.OpAnswers.{at_once, event_answered, nothing_answered, number_answered, whole_answer};
-ghost use Rattle.ops_calls.specs.Asks.{AnswersHere, AnswersOp, Did, HasPaused, IsRunningIn, is_at_once, left_by, row_at, scripted_rule_of, takes_here, turn_in};
+ghost use Rattle.ops_calls.specs.HostOps.{AnswersHere, AnswersOp, Did, HasPaused, IsRunningIn, is_at_once, left_by, op_rule_at, scripted_rule_of, takes_here, turn_in};
 ghost use Rattle.ops_turns.specs.Turn.{CoreInOrder};
 ghost use Rattle.core_primitives.specs.StateView.{thread_of};
 
@@ -33,7 +33,11 @@ pub(crate) fn leave<W: Primitives>(w: &mut W, thread: ThreadId, op_result: OpRes
 
 // The running thread does the op, which isn't on registers and memory cells and calls no host, whatever the op at its place is: its
 // registers and its place in its script stay. If it is out of memory, nothing is changed.
-fn ask<W: Primitives>(component: &Component, w: &mut W, op: Op) -> Result<OpResult, TaskError>
+fn do_host_op<W: Primitives>(
+    component: &Component,
+    w: &mut W,
+    op: Op,
+) -> Result<OpResult, TaskError>
     requires running { IsRunningIn component.now (W.view w.old) }
     requires other { is_data_op op ≡ false }
     requires plain { calls_host op ≡ false }
@@ -56,35 +60,43 @@ fn ask<W: Primitives>(component: &Component, w: &mut W, op: Op) -> Result<OpResu
 
 /// Has the running thread do an op that answers nothing at once, whatever the op at its place is, or refused as its rule says; then
 /// nothing is changed.
-pub fn ask_nothing<W: Primitives>(component: &Component, w: &mut W, op: Op) -> Result<(), TaskError>
+pub fn host_op_nothing<W: Primitives>(
+    component: &Component,
+    w: &mut W,
+    op: Op,
+) -> Result<(), TaskError>
     requires running { IsRunningIn component.now (W.view w.old) }
     requires at_once { is_at_once op ≡ true }
     requires fits { op_fits component.now op ≡ true }
     requires few { takes_memory op ≡ true → given (W.view w.old).core < 2 ^ 61 }
     ensures answers { AnswersOp component.now op nothing_answered (W.view w.old) (at_once result) (W.view w.new) }
 {
-    let op_result = ask(component, w, op)?;
+    let op_result = do_host_op(component, w, op)?;
     let _answer = at_once(op_result)?;
     Ok(())
 }
 
 /// Has the running thread do an op that answers a handle, a packed status or an end at once, whatever the op at its place is, or
 /// refused as its rule says; then nothing is changed. No register is written.
-pub fn ask_number<W: Primitives>(component: &Component, w: &mut W, op: Op) -> Result<u32, TaskError>
+pub fn host_op_number<W: Primitives>(
+    component: &Component,
+    w: &mut W,
+    op: Op,
+) -> Result<u32, TaskError>
     requires running { IsRunningIn component.now (W.view w.old) }
     requires at_once { is_at_once op ≡ true }
     requires fits { op_fits component.now op ≡ true }
     requires few { takes_memory op ≡ true → given (W.view w.old).core < 2 ^ 61 }
     ensures answers { AnswersOp component.now op number_answered (W.view w.old) (at_once result) (W.view w.new) }
 {
-    let op_result = ask(component, w, op)?;
+    let op_result = do_host_op(component, w, op)?;
     let answer = at_once(op_result)?;
     Ok(number_answered(answer))
 }
 
 /// Returns an op that answers an event: its code, handle and result, done at once by the running thread, whatever the op at its
 /// place is, or refused as its rule says; then nothing is changed. No register is written.
-pub fn ask_event<W: Primitives>(
+pub fn host_op_event<W: Primitives>(
     component: &Component,
     w: &mut W,
     op: Op,
@@ -95,7 +107,7 @@ pub fn ask_event<W: Primitives>(
     requires few { takes_memory op ≡ true → given (W.view w.old).core < 2 ^ 61 }
     ensures answers { AnswersOp component.now op event_answered (W.view w.old) (at_once result) (W.view w.new) }
 {
-    let op_result = ask(component, w, op)?;
+    let op_result = do_host_op(component, w, op)?;
     let answer = at_once(op_result)?;
     Ok(event_answered(answer))
 }
@@ -113,7 +125,7 @@ pub fn begin_nothing<W: Primitives>(
     requires few { takes_memory op ≡ true → given (W.view w.old).core < 2 ^ 61 }
     ensures answers { AnswersOp component.now op nothing_answered (W.view w.old) result (W.view w.new) }
 {
-    let op_result = ask(component, w, op)?;
+    let op_result = do_host_op(component, w, op)?;
     match stepped(op_result)? {
         Step::Done(_) => Ok(Step::Done(())),
         Step::Pause => Ok(Step::Pause),
@@ -133,7 +145,7 @@ pub fn begin_number<W: Primitives>(
     requires few { takes_memory op ≡ true → given (W.view w.old).core < 2 ^ 61 }
     ensures answers { AnswersOp component.now op number_answered (W.view w.old) result (W.view w.new) }
 {
-    let op_result = ask(component, w, op)?;
+    let op_result = do_host_op(component, w, op)?;
     match stepped(op_result)? {
         Step::Done(answer) => Ok(Step::Done(number_answered(answer))),
         Step::Pause => Ok(Step::Pause),
@@ -153,7 +165,7 @@ pub fn begin_event<W: Primitives>(
     requires few { takes_memory op ≡ true → given (W.view w.old).core < 2 ^ 61 }
     ensures answers { AnswersOp component.now op event_answered (W.view w.old) result (W.view w.new) }
 {
-    let op_result = ask(component, w, op)?;
+    let op_result = do_host_op(component, w, op)?;
     match stepped(op_result)? {
         Step::Done(answer) => Ok(Step::Done(event_answered(answer))),
         Step::Pause => Ok(Step::Pause),
@@ -165,7 +177,7 @@ pub fn begin_event<W: Primitives>(
 fn take_on<W: Primitives>(component: &Component, w: &mut W) -> Result<OpResult, TaskError>
     requires running { IsRunningIn component.now (W.view w.old) }
     requires paused { (i : ℕ) × HasPaused i (W.view w.old) }
-    ensures did { IfOk result (λ op_result. Did (row_at component.now (W.view w.old).core) (W.view w.old) op_result (W.view w.new)) }
+    ensures did { IfOk result (λ op_result. Did (op_rule_at component.now (W.view w.old).core) (W.view w.old) op_result (W.view w.new)) }
     ensures order { CoreInOrder component.now (turn_in (W.view w.new)) (W.view w.new).core }
     ensures err { OnErr result ((takes_here component.now (W.view w.old) ≡ true) × (W.view w.new ≡ W.view w.old)) }
     ensures why { IfErr result (λ e. e ≡ TaskError.NoMemory) }

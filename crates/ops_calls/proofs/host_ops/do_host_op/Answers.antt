@@ -1,8 +1,8 @@
 use Rattle.ops_dispatch.specs.Rules.{rule_of}
 use Rattle.std.proofs.Common.{refl, subst, sym, ◌∙◌}
-use Rattle.ops_calls.proofs.AskLemmas.{left_did}
-use Rattle.ops_calls.proofs.asks.ask.Goals as goal
-use Rattle.ops_calls.specs.Asks.{Did, scripted_rule_of}
+use Rattle.ops_calls.proofs.HostOpLemmas.{left_did}
+use Rattle.ops_calls.proofs.host_ops.do_host_op.Goals as goal
+use Rattle.ops_calls.specs.HostOps.{Did, scripted_rule_of}
 use Rattle.ops_turns.proofs.OrderLemmas.{number_at, runner}
 
 pub do_plain_op-requires-clause-runner : goal.do_plain_op-requires-clause-runner
