@@ -21,7 +21,7 @@ use Rattle.ops_state.specs.declared.name_calls.QualifiedThreadId.{QualifiedThrea
 use Rattle.ops_subtasks.specs.Starts.{call_starts}
 use Rattle.ops_dispatch.specs.Makes.{makes, takes_memory}
 use Rattle.ops_calls.proofs.PausedLemmas.{is_plain}
-use Rattle.ops_calls.specs.HostOps.{Answers, AnswersHere, AnswersOp, Does, HasPaused, IsRunningIn, is_apart, row_at, scripted_rule_of, takes_here}
+use Rattle.ops_calls.specs.HostOps.{Answers, AnswersHere, AnswersOp, Does, HasPaused, IsRunningIn, is_apart, op_rule_at, scripted_rule_of, takes_here}
 use Rattle.ops_calls.proofs.DirectLemmas.{goes_base}
 use Rattle.ops_calls.specs.MainCalls.{Returned, Returns}
 use Rattle.ops_calls.specs.Directs.{IsDirect, exits_rule}
@@ -197,7 +197,7 @@ module _ (left : ℕ → Option HeldWork) (s t : StateView) (h : HoldsWorks left
         let n = running.number in
         let far = (subst (λ (o : Option ℕ). IfSome o (λ k. (instance_of k s.core ≡ i) × (op_progress_of k s.core ≡ op_progress.Fresh → ⊥))) running.runs paused).1 in
         let can = can_be_there c s running in
-        by_answers (takes_here c s) (row_at c s.core) f a n running.runs (λ r d. did_quiet left s t n works h c (op_of c n s.core) (is_plain c s running (i, paused)).1 (paused_none (op_of c n s.core) (op_progress_of n s.core) can far) r d.meets d.stays) answers
+        by_answers (takes_here c s) (op_rule_at c s.core) f a n running.runs (λ r d. did_quiet left s t n works h c (op_of c n s.core) (is_plain c s running (i, paused)).1 (paused_none (op_of c n s.core) (op_progress_of n s.core) can far) r d.meets d.stays) answers
 
 pub apart_pressure : (up : Bool) → is_apart (pressure_op up) ≡ true
 apart_pressure true = refl

@@ -9,7 +9,7 @@ use Rattle.std.proofs.Common.{ap, refl, subst}
 use Rattle.std.specs.Prelude.{Bool, Err, IfSome, List, None, Ok, OnErr, Option, Result, Some, false, true, ℕ, ◌==◌, ◌≡◌, not}
 use Rattle.ops_calls.specs.OpAnswers.{answered}
 use Rattle.ops_dispatch.specs.Makes.{takes_memory}
-use Rattle.ops_calls.specs.HostOps.{Answers, AnswersHere, AnswersOp, Does, IsRunningIn, row_at, scripted_rule_of, takes_here}
+use Rattle.ops_calls.specs.HostOps.{Answers, AnswersHere, AnswersOp, Does, IsRunningIn, op_rule_at, scripted_rule_of, takes_here}
 use Rattle.ops_calls.specs.MainCalls.{Returned, Returns}
 use Rattle.ops_calls.specs.Directs.{enters_rule, exits_rule}
 use Rattle.ops_calls.specs.PolledCalls.{blocks_rule, polls_rule}
@@ -108,7 +108,7 @@ module _ (s t : StateView) where
 
     -- that of the op at the place, as a host has it done
     pub here_not : {A : Type 0} (f : OpAnswer → A) (a : Result (Step A) TaskError) → AnswersHere c f s a t → Failed a → ⊥
-    here_not f a answers = answers_not (takes_here c s) (row_at c s.core) f a running.number running.runs (λ ch. op_own SomeHost c running.number s.core ch (op_of c running.number s.core)) answers
+    here_not f a answers = answers_not (takes_here c s) (op_rule_at c s.core) f a running.number running.runs (λ ch. op_own SomeHost c running.number s.core ch (op_of c running.number s.core)) answers
 
     -- those of a direct call
     pub entered_not : {A : Type 0} (e : Callee) (words : List ℕ) (f : OpAnswer → A) (a : Result (Step A) TaskError) → Answers true (enters_rule c e words s.core) f s a t → Failed a → ⊥
