@@ -38,5 +38,6 @@ pub(crate) fn nodes_have_order_keys(parts: &CoreParts, chain: usize)
     ensures linked { AreLinked parts.now.places chain (entries parts.now.places chain) }
     ensures links { IsLinks parts.now.places }
 {
+    // read so that the proof knows the invariant of `places`
     let _first = parts.places.first(chain);
 }

@@ -129,7 +129,7 @@ pub fn await_spawn<W: Primitives>(w: &W, line: u32, work: WorkId) -> Acted
     }
 }
 
-/// Does `quiet`
+/// Does `quiet`: main waits as long as a task is interesting.
 pub fn quiet<W: Primitives>(w: &W) -> Acted
     ensures { (c : Component) → (k : ℕ) → MainImplements (main_rule c k (W.view w.now).core Quiet) (W.view w.now).core result (W.view w.now).core }
 {
@@ -152,10 +152,11 @@ pub fn ready<W: Primitives>(w: &W, instance: u32) -> Acted
     }
 }
 
-/// Does `answer X`
+/// Does `answer X`: main's last op.
 pub fn answer<W: Primitives>(w: &W, value: u64) -> Acted
     ensures { (c : Component) → (k : ℕ) → MainImplements (main_rule c k (W.view w.now).core (Answer value)) (W.view w.now).core result (W.view w.now).core }
 {
+    // only the contract speaks of `w`
     let _state = w;
     Acted::Answers(value)
 }

@@ -64,6 +64,7 @@ impl<'a> ScriptMain<'a> {
         requires few { length self.now.ops.now < 2 ^ 32 }
         ensures { result ≡ length self.now.starts.items + 1 }
     {
+        // read so that the proof knows the invariant of `self`
         let _before = self.at;
         self.starts.len() as u32 + 1
     }
@@ -99,6 +100,7 @@ impl<'a> ScriptMain<'a> {
         requires few { length self.now.ops.now < 2 ^ 32 }
         ensures { result ≡ length self.now.spawns.items + 1 }
     {
+        // read so that the proof knows the invariant of `self`
         let _before = self.at;
         self.spawns.len() as u32 + 1
     }
