@@ -17,7 +17,7 @@ use ops_guests::{OpResult, exit_direct};
 use ops_state::{QualifiedThreadId, TaskError};
 use ops_subtasks::enter;
 
-/// Returns the first half of a direct call: the callee is made with these words, 0 to 16, as many as it takes, and its thread,
+/// Begins a direct call: the callee is made with these words, 0 to 16, as many as it takes, and its thread,
 /// which is answered, runs on top of the calling one. Refused with trap 18 where its three entries don't fit into the table, and
 /// else with trap 17 if no handle may be given. Where it is refused, or it is out of memory, nothing is changed.
 pub fn enter_call<W: Primitives>(

@@ -94,8 +94,8 @@ pub fn host_op_number<W: Primitives>(
     Ok(number_answered(answer))
 }
 
-/// Returns an op that answers an event: its code, handle and result, done at once by the running thread, whatever the op at its
-/// place is, or refused as its rule says; then nothing is changed. No register is written.
+/// Has the running thread do an op that answers an event at once, by its code, handle and result, whatever the op at its place
+/// is, or refused as its rule says; then nothing is changed. No register is written.
 pub fn host_op_event<W: Primitives>(
     component: &Component,
     w: &mut W,

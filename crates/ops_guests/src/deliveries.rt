@@ -56,7 +56,7 @@ fn activated(mark: Mark, thread: u64, given: Given, woken: Option<u64>) -> OpRes
     }
 }
 
-/// Returns a delivery of a yield or of a cancel, which is admitted.
+/// Makes a delivery of a yield or of a cancel, which is admitted.
 #[inline(always)]
 pub fn deliver_own<W: Primitives>(w: &mut W, mark: Mark, thread: ThreadId) -> OpResult
     ensures meets { Implements (own_delivered mark (thread_of (W.view w.old) thread) (W.view w.old).core (picked_task_event_only (task_of (thread_of (W.view w.old) thread) (W.view w.old).core) (W.view w.old).core)) (W.view w.old).core result (W.view w.new).core }
@@ -71,7 +71,7 @@ pub fn deliver_own<W: Primitives>(w: &mut W, mark: Mark, thread: ThreadId) -> Op
     activated(mark, number, given, None)
 }
 
-/// Returns a resumption, or the start of an explicit thread: the thread goes on.
+/// Resumes a thread, or starts an explicit one: the thread goes on.
 #[tactic(auto, unfolding(machine_rules::specs::Takes::running))]
 pub fn resume<W: Primitives>(w: &mut W, mark: Mark, thread: ThreadId) -> OpResult
     ensures label { result ≡ goes_as (take_label mark (thread_of (W.view w.old) thread) None) (thread_of (W.view w.old) thread) }
@@ -86,7 +86,7 @@ pub fn resume<W: Primitives>(w: &mut W, mark: Mark, thread: ThreadId) -> OpResul
     )
 }
 
-/// Returns a delivery that is not admitted: the thread is held with its entry, and its strand stops.
+/// Holds a delivery that is not admitted: the thread is held with its entry, and its strand stops.
 pub fn hold_delivery<W: Primitives>(w: &mut W, mark: Mark, thread: ThreadId) -> OpResult
     requires live { 0 < thread_of (W.view w.old) thread }
     requires taken { IsTaken (thread_of (W.view w.old) thread) (why_of (thread_of (W.view w.old) thread) (W.view w.old).core) (W.view w.old).core }
@@ -113,7 +113,7 @@ fn wait_again<W: Primitives>(w: &mut W, thread: ThreadId, set: SetId)
     w.set_place(thread, PlaceId::Waiting { set, by_callback });
 }
 
-/// Returns a delivery for the set, which is admitted.
+/// Makes a delivery for the set, which is admitted.
 #[tactic(auto, unfolding(machine_rules::specs::Takes::activated_woken))]
 pub fn deliver_set<W: Primitives>(w: &mut W, mark: Mark, thread: ThreadId, set: SetId) -> OpResult
     requires live { 0 < thread_of (W.view w.old) thread }

@@ -69,7 +69,7 @@ fn place_after(context: &ThreadContext, left: Operand, right: Operand, ops: u32,
     place.min(end as u64) as u32
 }
 
-/// Returns a thread that is there, of this instance and at this context before its script's end, does an op on registers and memory
+/// Has a thread that is there, of this instance and at this context before its script's end, do an op on registers and memory
 /// cells. Its record keeps the context of before. It is inlined so that a label is made where it is.
 #[inline(always)]
 pub(crate) fn computes_in<W: Primitives>(

@@ -346,7 +346,7 @@ impl<P: Copy> Links<P> {
         self.unused = index;
     }
 
-    /// Returns a new empty chain. Where there is no memory for it, all is as before.
+    /// Makes a new empty chain. Where there is no memory for it, all is as before.
     #[inline(always)]
     pub fn make_chain(&mut self) -> Result<usize, NoMemory>
         ensures made { IfOk result (λ chain. Renames self.old self.new chain Unmade (ChainOf [])) }
@@ -369,7 +369,7 @@ impl<P: Copy> Links<P> {
         self.drop_name(chain);
     }
 
-    /// Returns a new node, which is free. Where there is no memory for it, all is as before.
+    /// Makes a new node, which is free. Where there is no memory for it, all is as before.
     #[inline(always)]
     pub fn make_node(&mut self) -> Result<Node, NoMemory>
         ensures made { IfOk result (λ node. Renames self.old self.new node.index Unmade FreeNode) }

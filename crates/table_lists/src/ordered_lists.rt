@@ -263,7 +263,7 @@ impl OrderedLists {
         }
     }
 
-    /// Returns a new empty chain. Where there is no memory for it, all is as before.
+    /// Makes a new empty chain. Where there is no memory for it, all is as before.
     #[inline(always)]
     pub fn make_chain(&mut self) -> Result<usize, NoMemory>
         ensures made { IfOk result (λ chain. Renames self.old self.new chain Unmade (ChainOf [])) }
@@ -272,7 +272,7 @@ impl OrderedLists {
         self.links.make_chain()
     }
 
-    /// Returns a new node, which is free. Where there is no memory for it, all is as before.
+    /// Makes a new node, which is free. Where there is no memory for it, all is as before.
     #[inline(always)]
     pub fn make_node(&mut self) -> Result<Node, NoMemory>
         ensures made { IfOk result (λ node. Renames self.old self.new node.index Unmade FreeNode) }

@@ -53,7 +53,7 @@ impl OwnCell {
         }
     }
 
-    /// Returns the step of `Abortable::running`: whether it found `Running`, so that the work may be polled.
+    /// Takes the step of `Abortable::running`, and answers whether it found `Running`, so that the work may be polled.
     #[inline(always)]
     pub fn running(&mut self) -> bool
         ensures call { (found : Phase) × Calls PollFuture (own_view self.old) found (own_view self.new) × ((result ≡ true) ↔ (found ≡ Running)) }

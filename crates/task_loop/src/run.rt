@@ -553,7 +553,7 @@ impl RunConcurrent {
         }
     }
 
-    /// Ends the run: it no longer rests on the store.
+    /// Ends the run: it is no longer active on the store.
     pub fn end<T, H, G: TaskGroupHook>(self, store: &mut Store<T, H, G>)
         ensures { store.new ≡ record store.old { running = false } }
     {

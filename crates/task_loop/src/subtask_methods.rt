@@ -71,7 +71,7 @@ impl Instance {
         tell_call(&mut store.state, &mut store.listeners, &before, answer)
     }
 
-    /// Returns a direct call's first half: the callee, of a sync or blocking export of an earlier instance, is made with as many
+    /// Begins a direct call: the callee, of a sync or blocking export of an earlier instance, is made with as many
     /// words as it takes, and its thread, which is answered, runs on top of the current one. Refused with trap 18 where its three
     /// entries don't fit into the table, and else with trap 17 if no handle may be given.
     pub fn enter_guest_sync_call<T, H, G: TaskGroupHook>(
@@ -121,7 +121,7 @@ impl Instance {
         tell_call(&mut store.state, &mut store.listeners, &before, answer)
     }
 
-    /// Returns a call's first half, of an export of an earlier instance: it is made with as many words as the callee takes, and its
+    /// Prepares a call of an export of an earlier instance: it is made with as many words as the callee takes, and its
     /// first thread, which is New, is answered. The result of an async caller's call goes to the register, 0 to 15. Refused with
     /// trap 18 exactly where its three entries don't fit into the table. Where it is refused, or it is out of memory, nothing is
     /// changed.
@@ -155,7 +155,7 @@ impl Instance {
         tell_call(&mut store.state, &mut store.listeners, &before, answer)
     }
 
-    /// Returns a call's second half, of a call that the current thread has prepared: its start becomes the switch entry, and the
+    /// Starts a call that the current thread has prepared: its start becomes the switch entry, and the
     /// current thread goes behind the callee's, as `call` does where it begins. The strand has stopped, which is answered; `go_on`
     /// takes the call further once the current thread is resumed.
     pub fn start_call<T, H, G: TaskGroupHook>(

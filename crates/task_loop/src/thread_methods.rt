@@ -36,7 +36,7 @@ impl Instance {
         tell_call(&mut store.state, &mut store.listeners, &before, answer)
     }
 
-    /// Returns a thread more of the task, which isn't started, with the context in r0; answers its handle. Refused with trap 13 if
+    /// Makes a further thread of the task, which isn't started, with the context in r0, and answers its handle. Refused with trap 13 if
     /// the slot has no line, with trap 14 if it is a bad one, with trap 18 where its two entries don't fit into the table, and with
     /// trap 17 if no handle may be given, in this order. A slot above 255 is as 255.
     pub fn thread_new_indirect<T, H, G: TaskGroupHook>(

@@ -13,7 +13,7 @@ use task_group::TaskGroupHook;
 use task_store::Store;
 
 impl Instance {
-    /// Returns a new set of the instance; answers its handle. Refused with trap 18 where its entry doesn't fit into the table, and
+    /// Makes a new set of the instance, and answers its handle. Refused with trap 18 where its entry doesn't fit into the table, and
     /// else with trap 17 if no handle may be given.
     pub fn waitable_set_new<T, H, G: TaskGroupHook>(
         self,
@@ -61,8 +61,8 @@ impl Instance {
         tell_call(&mut store.state, &mut store.listeners, &before, answer)
     }
 
-    /// Returns the task event, else that of a ready member of the set (the least one, as `first_ready` of `core_places` picks it),
-    /// is taken: its code, handle and result; 0, 0, 0 where nothing is there. Refused with trap 16 if the handle names no set.
+    /// Takes the task event, else that of a ready member of the set (the least one, as `first_ready` of `core_places` picks it), and
+    /// answers its code, handle and result; 0, 0, 0 if nothing is there. Refused with trap 16 if the handle names no set.
     pub fn waitable_set_poll<T, H, G: TaskGroupHook>(
         self,
         component: &Component,
