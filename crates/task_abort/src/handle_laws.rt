@@ -14,7 +14,7 @@ ghost use Rattle.task_abort.specs.declared.log.PhaseCall.TheVariants.{Abort, Fin
 use crate::cell::JoinPass;
 
 /// States that the first pass, once it has met each pass that was split off from it and none of these was ever split,
-/// has seen the calls of its callers and no others. (By the line of the rule on names that go on from a name.).
+/// has seen the calls of its callers and no others. (By the line of the rule on names that go on from a name.)
 pub fn known_callers(pass: &JoinPass)
     requires { HasMetAll (view_of pass.now) }
     ensures { AllKnown (view_of pass.now) }
@@ -24,7 +24,7 @@ pub fn known_callers(pass: &JoinPass)
 }
 
 /// States that the log put together by stages from the lists of such a pass and of the passes that it met, which made
-/// aborts alone, is legal. (By the one legal log that the pass has seen.).
+/// aborts alone, is legal. (By the one legal log that the pass has seen.)
 pub fn staged_log_is_legal(pass: &JoinPass)
     requires { AllKnown (view_of pass.now) }
     ensures { (own : List CallMade) (aborters : List Aborter) (n : ℕ) → Lists (view_of pass.now) own aborters → LastRound (view_of pass.now) n → IsLegal (staged own aborters n) }
@@ -34,7 +34,7 @@ pub fn staged_log_is_legal(pass: &JoinPass)
 }
 
 /// States that such a staged log has just the entries of each list, in the list's order, where the aborters are in the order of their
-/// numbers. (What one caller's calls find never falls.).
+/// numbers. (What one caller's calls find never falls.)
 pub fn staged_log_keeps_lists(pass: &JoinPass)
     requires { AllKnown (view_of pass.now) }
     ensures run { (own : List CallMade) (aborters : List Aborter) (n : ℕ) → Lists (view_of pass.now) own aborters → LastRound (view_of pass.now) n → Numbered 0 aborters → by_number 0 (staged own aborters n) ≡ entered n (any_abort aborters) false own }
@@ -45,7 +45,7 @@ pub fn staged_log_keeps_lists(pass: &JoinPass)
 }
 
 /// States that such a staged log has the calls of caller 0 after its first n last, behind every entry of an aborter. (All
-/// aborts were made before them.).
+/// aborts were made before them.)
 pub fn late_calls_stand_last(pass: &JoinPass)
     requires { AllKnown (view_of pass.now) }
     ensures { (own : List CallMade) (aborters : List Aborter) (n : ℕ) → Lists (view_of pass.now) own aborters → LastRound (view_of pass.now) n → staged own aborters n ≡ by_stages (all_aborts aborters ++ take n (entered n (any_abort aborters) false own)) ++ drop n (entered n (any_abort aborters) false own) }
@@ -56,7 +56,7 @@ pub fn late_calls_stand_last(pass: &JoinPass)
 
 /// States that before its own finish no call of such a pass finds `Complete`, where the passes that it met made aborts
 /// alone. So a poll of the future that found another phase than `Running` found `AbortRequested`. (Only a finish makes a
-/// phase `Complete`.).
+/// phase `Complete`.)
 pub fn unfinished_calls(pass: &JoinPass)
     requires { AllKnown (view_of pass.now) }
     ensures { (aborters : List Aborter) (before rest : Log) (e : LogEntry Name) → OnlyAborted (view_of pass.now).met aborters → (view_of pass.now).own.calls ≡ before ++ e ∷ rest → ((m : ℕ) (x : LogEntry Name) → get_elem? before m ≡ some x → x.call ≢ Finish) → e.answer ≢ Complete }
@@ -66,7 +66,7 @@ pub fn unfinished_calls(pass: &JoinPass)
 }
 
 /// States that a pass that has seen an abort has seen a phase other than `Running`, and one that has seen a finish has
-/// seen `Complete`. (No call lowers the phase.).
+/// seen `Complete`. (No call lowers the phase.)
 pub fn phases_of_seen_calls(pass: &JoinPass)
     ensures aborted { (m : ℕ) (e : LogEntry Name) → get_elem? (view_of pass.now).seen m ≡ some e → e.call ≡ Abort → phase (view_of pass.now).seen ≢ Running }
     ensures finished { (m : ℕ) (e : LogEntry Name) → get_elem? (view_of pass.now).seen m ≡ some e → e.call ≡ Finish → phase (view_of pass.now).seen ≡ Complete }
