@@ -1,5 +1,5 @@
-//! The ops of guests over the primitives of a core: each is its rule of the machine. It makes the rule's tests in the rule's order, then the
-//! rule's moves in their order.
+//! The ops of guests over the primitives of a core: each is its rule of the machine. It makes the rule's tests in the rule's order, then
+//! the rule's moves in their order.
 #![tactic(auto)]
 
 mod codes;

@@ -22,6 +22,7 @@ fn way_down<W: Primitives>(w: &W, thread: ThreadId) -> ThreadId
         // the loop counts its steps, so that it ends
         // the loop counts its steps, so that it ends
         // the loop counts its steps, so that it ends
+        // the loop counts its steps, so that it ends
         let _ = step;
     }
     foot

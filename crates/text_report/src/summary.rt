@@ -85,6 +85,7 @@ fn count(labels: &Labels<'_>) -> Counts
     // read so that the proof knows how many labels there are at most
     // read so that the proof knows how many labels there are at most
     // read so that the proof knows how many labels there are at most
+    // read so that the proof knows how many labels there are at most
     let _total = labels.len();
     let mut left = labels.rest();
     'labels: while let Some((head, _)) = Labels::take(&mut left) {
