@@ -20,9 +20,6 @@ fn way_down<W: Primitives>(w: &W, thread: ThreadId) -> ThreadId
         };
         foot = below;
         // the loop counts its steps, so that it ends
-        // the loop counts its steps, so that it ends
-        // the loop counts its steps, so that it ends
-        // the loop counts its steps, so that it ends
         let _ = step;
     }
     foot
