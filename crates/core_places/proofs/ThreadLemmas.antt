@@ -1,4 +1,4 @@
--- Words on one thread: its record is read, or there is none.
+-- Primitives on one thread: its record is read, or there is none.
 use Rattle.core_records.proofs.Core.{ap, AtPlace, change, changed, entry_of, get, OpProgress, op_progress_target, IsSoundCore, item_at, item_of, mapped-with_entry_same, None, number_in, Ok, on_core, on_item, on_thread, option_map, option_map_or, Option, parts_of, Place, ready_why, record_at, refl, Result, seen, set_of, set_place, SetKey, Some, StateView, subst, sym, TableId, Thread, thread_key, thread_of, ThreadKey, Why, why_of, why_target, with_entry, ℕ, ◌∙◌, ◌≡◌}
 use Rattle.core_records.specs.declared.{parts.CoreParts.CoreParts, thread_records.GuestThread.GuestThread}
 use Rattle.core_records.proofs.HomeLemmas.{place_bare, thread_home}

@@ -17,7 +17,7 @@ use Rattle.machine_rules.proofs.Machine.{Choice, Given, IfSome, Label, List, Non
 use Rattle.machine_data.specs.Moves.{given_own}
 use Rattle.machine_rules.specs.Texts.{answer_text, event_text, given_text, label_text, op_text, set_text, take_text, taken_text, task_text, wakes}
 
--- ---- Words
+-- ---- Tokens
 
 spaced : (front ds : List ℕ) → has (front ++ 32 ∷ ds) 32 ≡ true
 spaced [] ds = grind (arith, nat_tests)

@@ -88,7 +88,7 @@ module _ (x : Setting) (first : State) (l : Label) where
     leads = d.leads ∙ (ap (after d.moves) c.leads ∙ sym (after_more c.moves d.moves q));
   }
 
-  -- ---- Words that move threads
+  -- ---- Primitives that move threads
 
   put_high_moves : (n : ℕ) (w : Why) (s : Core) → Others s.queues (put_high n w s).queues
   unfolding put_high push_high set_place on_thread
@@ -175,7 +175,7 @@ module _ (x : Setting) (first : State) (l : Label) where
       result_same (caller.Async n q) (Some v) u = refl
       result_same c v u = refl
 
--- ---- Words, where the turn takes no entry of a work
+-- ---- Primitives, where the turn takes no entry of a work
 
 -- what the label says of ends is the same, wherever the taken entry is
 says_there : (x : Setting) (first : State) (l : Label) (o : Option SubtaskEnd) → written_as (ops_of x.component first.core) (base_at first.turn first.core) l (base_at first.turn first.core) ≡ o →

@@ -11,7 +11,7 @@ is_rest _ = false
 abbrev pub Rests : Place → ℕ → Core → Type 0
 Rests q n s = place_of n s ≡ Some q
 
--- ---- Words
+-- ---- Primitives
 
 moved_rests : (may : Why → Type 0) (o p : Option Place) (q : Place) → is_rest q ≡ true → Moved may o p → p ≡ Some q → o ≡ Some q
 moved_rests may o p (Place.Waiting x c) kind came is = grind arith

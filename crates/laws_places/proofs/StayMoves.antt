@@ -62,7 +62,7 @@ unqueued_place : (k : ℕ) (s : Core) (j : ℕ) → place_of j (unqueued k s) �
 unfolding unqueued set_high set_low
 unqueued_place k s j = grind arith
 
--- ---- Words
+-- ---- Primitives
 
 module _ (a : Scene) {n : ℕ} {q : Option Place} {s : Core} (st : Stand (watch a) n q [] s) where
   -- what is at switch is ready

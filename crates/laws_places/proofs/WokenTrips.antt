@@ -18,7 +18,7 @@ Wends (Place.Held w) p = (p ≡ Some (Place.Held w)) ⊎ ReadyFor w p
 Wends (Place.Waiting x c) p = (p ≡ Some (Place.Waiting x c)) ⊎ (ReadyFor (wake_why x c) p ⊎ ReadyFor (Why.Delivery Delivery.Cancel) p)
 Wends _ p = Unit {0}
 
--- ---- Words
+-- ---- Primitives
 
 put_held : (n : ℕ) (v w : Why) (s : Core) → MayPut n v s → place_of n s ≡ Some (Place.Held w) → v ≡ w
 put_held n v w s ok at = grind arith

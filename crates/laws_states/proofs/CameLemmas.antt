@@ -94,7 +94,7 @@ module _ (may : ℕ → Why → Type 0) where
     unfolding stopped set_callers
     stopped_shifted f s = passed_shifted s.queues.switch (callers_of f s) (record s { callers = insert s.callers f [] })
 
--- ---- Words
+-- ---- Primitives
 
 -- Why a primitive leaves an entry of the thread.
 abbrev pub MayStand : Scene → Core → ℕ → Why → Type 0

@@ -6,7 +6,7 @@ no_truth : (b : Bool) → (b ≡ true → ⊥) → b ≡ false
 no_truth true never = absurd (never refl)
 no_truth false never = refl
 
--- ---- Words
+-- ---- Primitives
 
 -- the course after a primitive is that before, or an end, or that of a work that the primitive makes or lets pend
 module _ (a : Scene) (settled : IsSettled (component_of a) a.main) where

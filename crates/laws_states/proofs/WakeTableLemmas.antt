@@ -41,7 +41,7 @@ member_rule x sub a s t threads ready others = record {
   waiters = waiters_as x s t threads;
 }
 
--- ---- Words
+-- ---- Primitives
 
 event_others : (x : ℕ) (d sub : Subtask) (e : Option Status) (s : Core) → same_subtask d sub ≡ false → is_ready_member x d (set_event sub e s) ≡ is_ready_member x d s
 unfolding set_event on_call on_work

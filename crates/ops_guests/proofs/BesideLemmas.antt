@@ -134,7 +134,7 @@ module _ (n : ℕ) (q : Place) (busy : is_busy q ≡ true) where
   released_good [] s st = st
   released_good (m ∷ ns) s st = released_good ns (released_one m (held_why_of m s) s) (released_one_good m (place_of m s) s refl st)
 
--- ---- Words that leave places alone, and a stop
+-- ---- Primitives that leave places alone, and a stop
 
 pub quiet_stand : (n : ℕ) (q : Place) (xs : List ℕ) (s t : Core) → Untouched s t → Stand n q xs s → Stand n q xs t
 quiet_stand n q xs s t u st = stops.quiet_stand n (Some q) xs s t u st

@@ -109,7 +109,7 @@ all_waits : (waiter : Option (TableId ThreadKey)) (i : ℕ) (order : List ℕ) (
 all_waits None i order s h = tt
 all_waits (Some id) i order s h = open_waits (thread_of s id) i order s.core h
 
--- ---- In the words of what contracts see
+-- ---- As contracts see it
 
 module _ (n : TableId ThreadKey) (k : TableId GuestTaskKey) (waiter : Option (TableId ThreadKey)) (i : ℕ) (s t : StateView) (st : IsRunning (thread_of s n) s.core) (opens : InSomeOrder i (end_reopens i) s t) where
   abbrev N : ℕ

@@ -193,7 +193,7 @@ none_under n s none = go (under_of n s) refl
     go None e = e
     go (Some j) e = absurd (none j (under_place n j s e))
 
--- ---- In the words of what contracts see
+-- ---- As contracts see it
 
 started_quiet : (k : ℕ) (s : Core) → Quiet s (set_started k s)
 unfolding set_started

@@ -142,7 +142,7 @@ next_top n m s top e = record {
     same_number : (j p : ℕ) → place.Under j ≡ place.Under p → j ≡ p
     same_number j p d = cc
 
--- ---- In the words of what contracts see
+-- ---- As contracts see it
 
 -- one more is gone
 pub record Removed (a b : TableId ThreadKey) (s t : StateView) : Type 0 where

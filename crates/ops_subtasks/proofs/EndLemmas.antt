@@ -97,7 +97,7 @@ refused_same mode n sub s t a =
     ∙ (ap (λ (o : Option Status). if subtask_ended sub s then refused_end (undelivered_end o) else refused_block mode n t) (a.events sub)
     ∙ ap (λ (o : Option Trap). if subtask_ended sub s then refused_end (undelivered_end (event_of sub s)) else o) (block_same mode n s t a))
 
--- ---- In the words of what contracts see
+-- ---- As contracts see it
 
 module _ (mode : Mode) (n : TableId ThreadKey) (r : Doer) (sub : SubtaskId) (f : Core → Core) (s t : StateView) (e : t ≡ on_core f s) where
   pub refused_on : (o : Option Trap) → refused mode (thread_of s n) (subtask_in s.tags sub) (f s.core) ≡ o → refused mode (thread_of t n) (subtask_in t.tags sub) t.core ≡ o

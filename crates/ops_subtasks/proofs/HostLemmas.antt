@@ -106,7 +106,7 @@ module _ (f : WorkCaller) (host : HostDef) (g : Option ℕ) where
   unfolding work_queued push_high add_work count_work
   queued_untouched s = record { places = λ k. refl; switch = λ k. refl; high = λ k. let e = entries-append k s.queues.high (entry.Push (next_work s)) in omega (arith, e); low = λ k. refl; callers = refl; made = le_refl _ }
 
--- ---- In the words of what contracts see
+-- ---- As contracts see it
 
 pub thread_left : (n : TableId ThreadKey) (i : ℕ) (s t : StateView) → 0 < thread_of s n → KeepsBut (lost_work i) s.tags t.tags → thread_of t n ≡ thread_of s n
 thread_left n i s t live keeps = keeps.threads n (λ e. absurd (none (subst (λ m. 0 < m) e live)))

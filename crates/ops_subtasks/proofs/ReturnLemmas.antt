@@ -87,7 +87,7 @@ resumed_untouched n k s = go (saved_callee_of n s)
     go None = record { places = λ m. refl; switch = λ m. refl; high = λ m. refl; low = λ m. refl; callers = refl; made = le_refl _ }
     go (Some b) = record { places = λ m. refl; switch = λ m. refl; high = λ m. refl; low = λ m. refl; callers = refl; made = le_refl _ }
 
--- ---- In the words of what contracts see
+-- ---- As contracts see it
 
 module _ (n : TableId ThreadKey) where
   pub thread_kept : (q : ℕ) (s t : StateView) → 0 < thread_of s n → KeepsBut (lost_call q) s.tags t.tags → thread_of t n ≡ thread_of s n

@@ -117,7 +117,7 @@ caller_live (work_caller.Async n r) None s t zero same = refl
 caller_live work_caller.Spawn v s t zero same = refl
 caller_live (work_caller.Sync n) v s t zero same = refl
 
--- ---- In the words of what contracts see
+-- ---- As contracts see it
 
 staged_quiet : (i : ℕ) (x : Stage) (s : Core) → Quiet s (set_stage i x s)
 unfolding set_stage on_work
