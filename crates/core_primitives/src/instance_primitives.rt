@@ -1,6 +1,6 @@
 ghost use Rattle.std.specs.Prelude.{◌≡◌, ◌<◌, ◌^◌, IfOk, IfSome, IsSome, OnErr, OnOk, false, option_map};
-ghost use Rattle.machine_data.specs.Read.{at_handle_limit, backpressure_of, may_not_enter, may_not_suspend, new_handle, new_thread_handle, subtask_at, word_of};
-ghost use Rattle.machine_data.specs.Write.{free_handle, set_backpressure, set_do_not_enter, set_do_not_suspend, set_word};
+ghost use Rattle.machine_data.specs.Read.{at_handle_limit, backpressure_of, may_not_enter, may_not_suspend, new_handle, new_thread_handle, subtask_at, memory_cell_of};
+ghost use Rattle.machine_data.specs.Write.{free_handle, set_backpressure, set_do_not_enter, set_do_not_suspend, set_memory_cell};
 ghost use Rattle.core_primitives.specs.Names.{subtask_in};
 ghost use Rattle.core_primitives.specs.StateView.{on_core, thread_of, thread_if_any, set_if_any};
 ghost use Rattle.core_primitives.specs.Live.{live_subtask_at, live_set_at, live_thread_at};
