@@ -3,7 +3,7 @@ ghost use Rattle.ops_dispatch.specs.ContinuesDispatch.{given};
 ghost use Rattle.std.specs.Prelude.{◌≡◌, ◌<◌, ◌^◌, IfOk, IfSome, IsSome, false, length};
 ghost use Rattle.ops_state.specs.Named.{IsLive};
 ghost use Rattle.ops_calls.specs.OpAnswers.{at_once, nothing_answered};
-ghost use Rattle.ops_calls.specs.Asks.{Answers, IsRunningIn};
+ghost use Rattle.ops_calls.specs.HostOps.{Answers, IsRunningIn};
 ghost use Rattle.ops_calls.specs.Directs.{IsDirect, exits_rule, AnswersEntered};
 ghost use Rattle.machine_data.specs.Read.{is_async_lifted};
 ghost use Rattle.machine_rules.specs.Scripts.{export_at, export_kind};

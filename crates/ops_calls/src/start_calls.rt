@@ -1,7 +1,7 @@
 //! The two halves of a call by a thread whose start is queued.
 ghost use Rattle.ops_dispatch.specs.ContinuesDispatch.{given};
 ghost use Rattle.std.specs.Prelude.{◌≡◌, ◌<◌, ◌^◌, IfSome, IsSome, None, Ok, Some, length};
-ghost use Rattle.ops_calls.specs.Asks.{IsRunningIn};
+ghost use Rattle.ops_calls.specs.HostOps.{IsRunningIn};
 ghost use Rattle.ops_calls.specs.Prepared.{CanStart, goal_for, PreparesHere, QueuesAsWhole, StartsHere};
 ghost use Rattle.machine_data.specs.declared.component.Callee.{Callee};
 ghost use Rattle.machine_data.specs.declared.component.Component.{Component};

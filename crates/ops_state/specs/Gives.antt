@@ -43,7 +43,7 @@ is_ready_in (Some x) sub s = is_ready_member x sub s
 abbrev pub IsAsyncIfCancellable : (cancellable : Bool) → ℕ → Core → Type 0
 IsAsyncIfCancellable cancellable k s = cancellable ≡ true → is_async_lifted (kind_of k s) ≡ true
 
--- The gift was taken, and what it hands out is the answer.
+-- The picked event was taken, and what it hands out is the answer.
 pub record Gives (cancellable : Bool) (k : ℕ) (set : Option ℕ) (s : StateView) (r : Option (Event × ℕ)) (t : StateView) :
     Type 0 where
   pub chosen : Option Subtask

@@ -5,7 +5,7 @@ ghost use Rattle.ops_state.specs.Items.{CanGet, IsItemOf, MayPut, MayQueue, Take
 ghost use Rattle.ops_state.specs.Named.{IsLive};
 ghost use Rattle.machine_data.specs.Moves.{why_of};
 ghost use Rattle.machine_data.specs.Read.{next_entry};
-ghost use Rattle.machine_data.specs.declared.words.Mark.{Mark};
+ghost use Rattle.machine_data.specs.declared.statuses.Mark.{Mark};
 ghost use Rattle.machine_data.specs.declared.records.Why.TheVariants as whys;
 ghost use Rattle.machine_rules.specs.Places.{Placed};
 ghost use Rattle.machine_rules.specs.Primitives.{put_at};
