@@ -329,46 +329,46 @@ pub returns-in_default-clause-keeps : goal.returns-in_default-clause-keeps
 returns-in_default-clause-keeps g c =
     let come = c.turns.invariant.come in
     let kept = c.turn.ensures.keeps in
-    record { script = kept.script ∙ come.keeps.script; idle = come.keeps.idle; standing = kept.standing ∙ come.keeps.standing }
+    record { script = kept.script ∙ come.keeps.script; idle = come.keeps.idle; constants = kept.constants ∙ come.keeps.constants }
 
 pub returns-in_default-all-clause-keeps : goal.returns-in_default-all-clause-keeps
 returns-in_default-all-clause-keeps g c =
     let come = c.turns.invariant.come in
     let kept = c.turn.ensures.keeps in
-    record { script = kept.script ∙ come.keeps.script; idle = come.keeps.idle; standing = kept.standing ∙ come.keeps.standing }
+    record { script = kept.script ∙ come.keeps.script; idle = come.keeps.idle; constants = kept.constants ∙ come.keeps.constants }
 
 pub returns-in-None-clause-keeps : goal.returns-in-None-clause-keeps
 returns-in-None-clause-keeps g c =
     let come = c.turns.invariant.come in
     let kept = c.turn.ensures.keeps in
-    record { script = kept.script ∙ come.keeps.script; idle = ap (λ (r : RunConcurrent). r.trap_on_idle) c.ends.ensures.new ∙ come.keeps.idle; standing = kept.standing ∙ come.keeps.standing }
+    record { script = kept.script ∙ come.keeps.script; idle = ap (λ (r : RunConcurrent). r.trap_on_idle) c.ends.ensures.new ∙ come.keeps.idle; constants = kept.constants ∙ come.keeps.constants }
 
 pub returns-in-Some-Over-clause-keeps : goal.returns-in-Some-Over-clause-keeps
 returns-in-Some-Over-clause-keeps g c =
     let come = c.turns.invariant.come in
     let kept = c.turn.ensures.keeps in
-    record { script = kept.script ∙ come.keeps.script; idle = ap (λ (r : RunConcurrent). r.trap_on_idle) c.ends-in-Some-Over.ensures.new ∙ come.keeps.idle; standing = kept.standing ∙ come.keeps.standing }
+    record { script = kept.script ∙ come.keeps.script; idle = ap (λ (r : RunConcurrent). r.trap_on_idle) c.ends-in-Some-Over.ensures.new ∙ come.keeps.idle; constants = kept.constants ∙ come.keeps.constants }
 
 pub returns-then-rests-clause-keeps : goal.returns-then-rests-clause-keeps
 returns-then-rests-clause-keeps g c =
     let come = c.turns.invariant.come in
     let kept = c.turn.ensures.keeps in
-    record { script = kept.script ∙ come.keeps.script; idle = come.keeps.idle; standing = kept.standing ∙ come.keeps.standing }
+    record { script = kept.script ∙ come.keeps.script; idle = come.keeps.idle; constants = kept.constants ∙ come.keeps.constants }
 
 pub returns-then-yields_by-clause-keeps : goal.returns-then-yields_by-clause-keeps
 returns-then-yields_by-clause-keeps g c =
     let come = c.turns.invariant.come in
-    record { script = come.keeps.script; idle = come.keeps.idle; standing = come.keeps.standing }
+    record { script = come.keeps.script; idle = come.keeps.idle; constants = come.keeps.constants }
 
 pub returns-then-is_idle-clause-keeps : goal.returns-then-is_idle-clause-keeps
 returns-then-is_idle-clause-keeps g c =
     let come = c.turns.invariant.come in
-    record { script = come.keeps.script; idle = ap (λ (r : RunConcurrent). r.trap_on_idle) c.ends-then-is_idle.ensures.new ∙ come.keeps.idle; standing = come.keeps.standing }
+    record { script = come.keeps.script; idle = ap (λ (r : RunConcurrent). r.trap_on_idle) c.ends-then-is_idle.ensures.new ∙ come.keeps.idle; constants = come.keeps.constants }
 
 pub returns-clause-keeps : goal.returns-clause-keeps
 returns-clause-keeps g c =
     let come = c.turns.invariant.come in
-    record { script = come.keeps.script; idle = ap (λ (r : RunConcurrent). r.trap_on_idle) c.ends-2.ensures.new ∙ come.keeps.idle; standing = come.keeps.standing }
+    record { script = come.keeps.script; idle = ap (λ (r : RunConcurrent). r.trap_on_idle) c.ends-2.ensures.new ∙ come.keeps.idle; constants = come.keeps.constants }
 
 -- the yield budget stays if the policy never stops the turns
 pub returns-in_default-clause-kept : goal.returns-in_default-clause-kept
