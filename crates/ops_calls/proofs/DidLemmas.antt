@@ -8,7 +8,7 @@ use Rattle.laws_order.specs.Given.{HostCallsDone, HostCallsKeep, HostDone, HostI
 use Rattle.laws_order.specs.Pieces.{SameInstances}
 use Rattle.std.proofs.Common.{arith, refl, subst, sym, ◌∙◌}
 use Rattle.std.specs.Prelude.{None, Option, Some, false, suc, true, ℕ, ◌≡◌}
-use Rattle.ops_calls.proofs.HostOpLemmas.{meets_progresses, met_progresses, order_still, running_is}
+use Rattle.ops_calls.proofs.HostOpLemmas.{implements_progresses, met_progresses, order_still, running_is}
 use Rattle.ops_calls.specs.HostOps.{Does, CoreInOrderAs, scripted_rule_of, turn_for}
 use Rattle.laws_states.specs.Order.{InOrderAs}
 use Rattle.machine_data.specs.Core.{Core, Main, State, Unscripted}
@@ -39,7 +39,7 @@ pub progressed : (p : Progress) (n : ℕ) (r : OpResult) (s t : Core) → Implem
     Progresses (state_at s m (Turn.Run n)) s n p (label_of n r) (state_at t m (turn_after r))
 progressed p n r s t h on m =
     let before = state_at s m (Turn.Run n) in
-    subst (Progresses before s n p (label_of n r)) (settled r s m (Turn.Run n) t) (meets_progresses before n p r t h on)
+    subst (Progresses before s n p (label_of n r)) (settled r s m (Turn.Run n) t) (implements_progresses before n p r t h on)
 
 -- nothing is changed
 pub stays : (c : Component) (n : ℕ) (s t : StateView) → Rests c n s → t ≡ s → InTurn c t
@@ -114,15 +114,15 @@ unfolding OpsKeep
 ops_keep c o n r s t h plain other did = by r (running_is s n h.runs (λ k. Does (scripted_rule_of c o s.core k) k s r t) did)
   where
     by : (r : OpResult) → Does (scripted_rule_of c o s.core n) n s r t → KeepsFor c o n r t
-    by (OpResult.Continues l m said) does = went_as c n s h o l (Turn.Run m) t.core plain other (met_progresses c o n (OpResult.Continues l m said) s.core t.core does.meets refl)
-    by (OpResult.Stops l) does = went_as c n s h o l Turn.Main t.core plain other (met_progresses c o n (OpResult.Stops l) s.core t.core does.meets refl)
+    by (OpResult.Continues l m said) does = went_as c n s h o l (Turn.Run m) t.core plain other (met_progresses c o n (OpResult.Continues l m said) s.core t.core does.implements refl)
+    by (OpResult.Stops l) does = went_as c n s h o l Turn.Main t.core plain other (met_progresses c o n (OpResult.Stops l) s.core t.core does.implements refl)
     by (OpResult.Traps why) does = stays c n s t h does.stays
     by (OpResult.Fails i) does = stays c n s t h does.stays
 
 -- one of is_host_op
 host_op_done : (c : Component) (o : Op) (n : ℕ) (r : OpResult) (s t : StateView) → Rests c n s → is_host_op o ≡ true → Does (scripted_rule_of c o s.core n) n s r t → KeepsDone c o n r t
-host_op_done c o n (OpResult.Continues l m said) s t h asked does = then_runs c n m t does.running (done_as c n s h o l m t.core asked (met_progresses c o n (OpResult.Continues l m said) s.core t.core does.meets refl)).1
-host_op_done c o n (OpResult.Stops l) s t h asked does = went_as c n s h o l Turn.Main t.core (unending o asked) (not_data o asked) (met_progresses c o n (OpResult.Stops l) s.core t.core does.meets refl)
+host_op_done c o n (OpResult.Continues l m said) s t h asked does = then_runs c n m t does.running (done_as c n s h o l m t.core asked (met_progresses c o n (OpResult.Continues l m said) s.core t.core does.implements refl)).1
+host_op_done c o n (OpResult.Stops l) s t h asked does = went_as c n s h o l Turn.Main t.core (unending o asked) (not_data o asked) (met_progresses c o n (OpResult.Stops l) s.core t.core does.implements refl)
 host_op_done c o n (OpResult.Traps why) s t h asked does = stays c n s t h does.stays
 host_op_done c o n (OpResult.Fails i) s t h asked does = stays c n s t h does.stays
 
@@ -134,27 +134,27 @@ host_of (Later (host_def.Settled None v)) = host_def.Settled None v
 host_of (Later (host_def.Settled (Some k) v)) = host_def.Settled (Some (suc k)) v
 host_of (Later host_def.Open) = host_def.Open
 
-found_meets : (found : FirstPoll) (next : FirstPoll → Progress) (s t : Core) (r : OpResult) → Implements (next found) s r t → Implements (first_polled (host_of found) next) s r t
+found_implements : (found : FirstPoll) (next : FirstPoll → Progress) (s t : Core) (r : OpResult) → Implements (next found) s r t → Implements (first_polled (host_of found) next) s r t
 unfolding host_of
-found_meets (AtOnce v) next s t r m = m
-found_meets Failing next s t r m = m
-found_meets (Later (host_def.Settled None v)) next s t r m = m
-found_meets (Later (host_def.Settled (Some k) v)) next s t r m = m
-found_meets (Later host_def.Open) next s t r m = (host_poll.Pending, m)
+found_implements (AtOnce v) next s t r m = m
+found_implements Failing next s t r m = m
+found_implements (Later (host_def.Settled None v)) next s t r m = m
+found_implements (Later (host_def.Settled (Some k) v)) next s t r m = m
+found_implements (Later host_def.Open) next s t r m = (host_poll.Pending, m)
 
 -- a call of a host
 module _ (c : Component) (found : FirstPoll) (q : Option ℕ) (n : ℕ) (s t : StateView) (h : Rests c n s) where
   host : HostDef
   host = host_of found
 
-  meets : (q : Option ℕ) (r : OpResult) → Implements (hosts_rule q found s.core n (choice_of (label_of n r))) s.core r t.core → Implements (host_rule q host n s.core) s.core r t.core
+  implements : (q : Option ℕ) (r : OpResult) → Implements (hosts_rule q found s.core n (choice_of (label_of n r))) s.core r t.core → Implements (host_rule q host n s.core) s.core r t.core
   unfolding host
-  meets (Some k) r m = found_meets found (call_host_by SomeHost n k s.core) s.core t.core r m
-  meets None r m = found_meets found (call_sync_host_by SomeHost n s.core) s.core t.core r m
+  implements (Some k) r m = found_implements found (call_host_by SomeHost n k s.core) s.core t.core r m
+  implements None r m = found_implements found (call_sync_host_by SomeHost n s.core) s.core t.core r m
 
   row : (r : OpResult) → Does (hosts_rule q found s.core n) n s r t → is_going r ≡ true → (m : Main) →
       Progresses (state_at s.core m (Turn.Run n)) s.core n (host_rule q host n s.core) (label_of n r) (state_at t.core m (turn_after r))
-  row r does on = progressed (host_rule q host n s.core) n r s.core t.core (meets q r does.meets) on
+  row r does on = progressed (host_rule q host n s.core) n r s.core t.core (implements q r does.implements) on
 
   called_done : (r : OpResult) → Does (hosts_rule q found s.core n) n s r t → KeepsDone c (host_op q) n r t
   called_done (OpResult.Continues l m said) does = then_runs c n m t does.running (called_on c n s h host q l m t.core (row (OpResult.Continues l m said) does refl))

@@ -131,10 +131,10 @@ module _ (c : Component) (e : Callee) (words : List ℕ) (x : ExportKind) (kind 
 
   pub enters_on : has_stopped r ≡ false
   enters_on = goes_on (enter_rule (thread_of s id) e x words s.core) s.core r (ended SomeHost (thread_of s id) r t.core)
-      (entering_free full limit (thread_of s id) (next_thread s.core) runs_then) (does.meets SomeHost)
+      (entering_free full limit (thread_of s id) (next_thread s.core) runs_then) (does.implements SomeHost)
 
   enters_met : Implements (enter_rule (thread_of s id) e x words s.core) s.core r t.core
-  enters_met = entering_met full limit (thread_of s id) (next_thread s.core) runs_then s.core SomeHost (thread_of s id) r t.core (does.meets SomeHost)
+  enters_met = entering_met full limit (thread_of s id) (next_thread s.core) runs_then s.core SomeHost (thread_of s id) r t.core (does.implements SomeHost)
 
   pub enters_did : Did (enters_rule c e words s.core) s r t
   enters_did =

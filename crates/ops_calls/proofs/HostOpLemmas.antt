@@ -3,7 +3,7 @@ use Rattle.ops_guests.specs.Does.{Rule, SameNames}
 use Rattle.task_wait.specs.declared.keys.ThreadKey.{ThreadKey}
 use Rattle.task_table.specs.declared.id.TableId.{TableId}
 use Rattle.ops_guests.specs.Ended.{ended}
-use Rattle.ops_dispatch.proofs.EndLemmas.{end_goes, end_meets, end_stays, end_works}
+use Rattle.ops_dispatch.proofs.EndLemmas.{end_goes, end_implements, end_stays, end_works}
 use Rattle.std.proofs.Common.{ap, arith, refl, subst, sym, ⊎_elim, ◌∙◌}
 use Rattle.std.specs.Prelude.{IfSome, Option, Some, false, option_map, true, ℕ, ◌≡◌, ◌⊎◌}
 use Rattle.ops_dispatch.specs.ContinuesDispatch.{DoesOp, OpGoesOn, running_of}
@@ -88,7 +88,7 @@ module _ (c : Component) (n : ℕ) (r : OpResult) (s t : StateView) (runs : runn
   -- the running thread did the rule
   pub did_rule : (R : ℕ → Choice → Progress) → NamesTold s t → Implements (R n (choice_of (label_of n r))) s.core r t.core → Did R s r (after r t)
   did_rule R works h = if_running (λ k. Does (R k) k s r (after r t)) (record {
-    meets = subst (λ (u : Core). Implements (R n (choice_of (label_of n r))) s.core r u) (sym (core_then r t)) h;
+    implements = subst (λ (u : Core). Implements (R n (choice_of (label_of n r))) s.core r u) (sym (core_then r t)) h;
     running = runs_then n r s t runs goes stays;
     stays = stays_then r s t stays;
     works = works_then r s t works;
@@ -112,7 +112,7 @@ module _ (c : Component) (rule : Rule) (id : TableId ThreadKey) (n : ℕ) (r : O
   left_stays = end_stays NamesTold rule SomeHost id s t left r did refl
 
   pub left_met : Implements (rule SomeHost n (choice_of (label_of n r)) s.core) s.core r left.core
-  left_met = subst (λ (k : ℕ). Implements (rule SomeHost k (choice_of (label_of k r)) s.core) s.core r left.core) number (end_meets NamesTold rule SomeHost id s t left r did refl)
+  left_met = subst (λ (k : ℕ). Implements (rule SomeHost k (choice_of (label_of k r)) s.core) s.core r left.core) number (end_implements NamesTold rule SomeHost id s t left r did refl)
 
   pub left_did : (R : ℕ → Choice → Progress) → ((ch : Choice) → R n ch ≡ rule SomeHost n ch s.core) → Did R s r (left_by (thread_of t id) r t)
   left_did R alike = did_rule c n r s left runs left_runs left_stays R (end_works NamesTold rule SomeHost id s t left r did refl did.kept)
@@ -144,17 +144,17 @@ module _ (s : StateView) (n : ℕ) (runs : running_of s ≡ Some n) where
   running_is P p = subst (λ (o : Option ℕ). IfSome o P) runs p
 
 -- what did a rule and wasn't refused comes of it
-pub meets_progresses : (x : State) (n : ℕ) (p : Progress) (r : OpResult) (t : Core) → Implements p x.core r t → is_going r ≡ true →
+pub implements_progresses : (x : State) (n : ℕ) (p : Progress) (r : OpResult) (t : Core) → Implements p x.core r t → is_going r ≡ true →
     Progresses x x.core n p (label_of n r) (goes_to x t (turn_after r))
-meets_progresses x n (Continues l new m) (op_result.Continues k j said) t h on = let e = h.0 in let is = h.1 in (cc, cc)
-meets_progresses x n (Stops l new) (op_result.Stops k) t h on = let e = h.0 in let is = h.1 in (cc, cc)
-meets_progresses x n (Ordered ns next) r t h on = (h.0, (h.1.0, meets_progresses x n (next h.0) r t h.1.1 on))
-meets_progresses x n (Asks next) r t h on = (h.0, meets_progresses x n (next h.0) r t h.1 on)
-meets_progresses x n Never r t h on = absurd h
-meets_progresses x n (Continues l new m) r t h on = absurd (let e = h.0 in cc)
-meets_progresses x n (Stops l new) r t h on = absurd (let e = h.0 in cc)
-meets_progresses x n (Traps why) r t h on = absurd (let e = h.0 in cc)
-meets_progresses x n (Fails i) r t h on = absurd (let e = h.0 in cc)
+implements_progresses x n (Continues l new m) (op_result.Continues k j said) t h on = let e = h.0 in let is = h.1 in (cc, cc)
+implements_progresses x n (Stops l new) (op_result.Stops k) t h on = let e = h.0 in let is = h.1 in (cc, cc)
+implements_progresses x n (Ordered ns next) r t h on = (h.0, (h.1.0, implements_progresses x n (next h.0) r t h.1.1 on))
+implements_progresses x n (Asks next) r t h on = (h.0, implements_progresses x n (next h.0) r t h.1 on)
+implements_progresses x n Never r t h on = absurd h
+implements_progresses x n (Continues l new m) r t h on = absurd (let e = h.0 in cc)
+implements_progresses x n (Stops l new) r t h on = absurd (let e = h.0 in cc)
+implements_progresses x n (Traps why) r t h on = absurd (let e = h.0 in cc)
+implements_progresses x n (Fails i) r t h on = absurd (let e = h.0 in cc)
 
 -- the same, whatever main's part is
 pub met_progresses : (c : Component) (o : Op) (n : ℕ) (r : OpResult) (s t : Core) → Implements (scripted_rule_of c o s n (choice_of (label_of n r))) s r t → is_going r ≡ true → (m : Main) →
@@ -162,7 +162,7 @@ pub met_progresses : (c : Component) (o : Op) (n : ℕ) (r : OpResult) (s t : Co
 met_progresses c o n r s t h on m =
     let before = state_at s m (turn.Run n) in
     subst (Progresses before s n (op_rule SomeHost c n s (choice_of (label_of n r)) o) (label_of n r)) (settled r s m (turn.Run n) t)
-    (meets_progresses before n (op_rule SomeHost c n s (choice_of (label_of n r)) o) r t h on)
+    (implements_progresses before n (op_rule SomeHost c n s (choice_of (label_of n r)) o) r t h on)
 
 -- where nothing is changed the state is in order as before
 pub order_still : (c : Component) (n : ℕ) (s t : StateView) → running_of s ≡ Some n → CoreInOrder c (turn.Run n) s.core → t ≡ s → CoreInOrder c (turn_in t) t.core
@@ -173,4 +173,4 @@ order_still c n s t runs sits same =
 pub went_on : (c : Component) (o : Op) (n : ℕ) (s t : StateView) (r : OpResult) → running_of s ≡ Some n → is_at_once o ≡ true → Did (scripted_rule_of c o s.core) s r t → has_stopped r ≡ false
 went_on c o n s t r runs once did =
     let does = subst (λ (m : Option ℕ). IfSome m (λ k. Does (scripted_rule_of c o s.core k) k s r t)) runs did in
-    never_stops c n s.core (choice_of (label_of n r)) o once r t.core does.meets
+    never_stops c n s.core (choice_of (label_of n r)) o once r t.core does.implements

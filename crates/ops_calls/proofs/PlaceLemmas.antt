@@ -87,7 +87,7 @@ unfolding HostOpsLeaveInPlace HostLeavesInPlace
 host_ops_leave_in_place c o n r s t run sits finished apart plain d =
     let does = running_is s n run (λ k. Does (scripted_rule_of c o s.core k) k s r t) d in
     met_in_place n (op_rule SomeHost c n s.core (choice_of (label_of n r)) o) s.core t.core r
-    (host_leaves_in_place c n s.core (choice_of (label_of n r)) o finished apart (is_under_way c n s.core sits) (λ is. absurd (let no = sym is ∙ plain in cc))) does.meets
+    (host_leaves_in_place c n s.core (choice_of (label_of n r)) o finished apart (is_under_way c n s.core sits) (λ is. absurd (let no = sym is ∙ plain in cc))) does.implements
 
 returned_in_place : (n : ℕ) (p : Progress) (s t : StateView) (r : Result (Unit {0}) TaskError) → IsInPlace n (in_script n s.core) p → Returned p s r t → in_script n t.core ≡ in_script n s.core
 returned_in_place n (Continues l new m) s t r h e = ap (λ (v : StateView). in_script n v.core) e.1 ∙ h

@@ -75,7 +75,7 @@ left_by n r s = after r (on_core (ended SomeHost n r) s)
 
 -- The thread n did a rule: t is what the rule says, and the thread that goes on runs. Where it was refused, nothing is changed.
 pub record Does (row : Choice → Progress) (n : ℕ) (s : StateView) (r : OpResult) (t : StateView) : Type 0 where
-  pub meets : Implements (row (choice_of (label_of n r))) s.core r t.core
+  pub implements : Implements (row (choice_of (label_of n r))) s.core r t.core
   pub running : running_of t ≡ runs_after n r
   pub stays : StaysAfter r s t
   pub works : NamesTold s t

@@ -31,7 +31,7 @@ StandsBefore end c n s = (position_of n s < end) Ã— (length (script_of c n s) â‰
 
 -- The op was done and ended: t is what its rule says, a thread that goes on runs, and what polled is so.
 pub record DidOp (answer : HostPoll) (c : Component) (o : Op) (id : TableId ThreadKey) (s : StateView) (done : Done) (t : StateView) : Type 0 where
-  pub meets : Implements (scripted_rule_of c o id s done.op_result) s.core done.op_result t.core
+  pub implements : Implements (scripted_rule_of c o id s done.op_result) s.core done.op_result t.core
   pub goes : OpGoesOn done.op_result t
   pub stays : StaysAfter done.op_result s t
   pub polls : Polls answer c (op_progress_of (thread_of s id) s.core) o s done t

@@ -67,8 +67,8 @@ unended (Ordered ns next) s r t none h d n u = unended (next h.0) s r t (none h.
 unended (Asks next) s r t none h d n u = unended (next h.0) s r t (none h.0) h.1 d n u
 
 -- what implements such a rule implements it once the op is ended too
-pub meets_ended : (p : Progress) (s : Core) (r : OpResult) (t : Core) → IsUnanswered p → Implements p s r t → (d : Doer) (n : ℕ) → Implements p s r (ended d n r t)
-meets_ended p s r t none h d n = subst (λ (u : Core). Implements p s r u) (sym (unended p s r t none h d n t)) h
+pub implements_ended : (p : Progress) (s : Core) (r : OpResult) (t : Core) → IsUnanswered p → Implements p s r t → (d : Doer) (n : ℕ) → Implements p s r (ended d n r t)
+implements_ended p s r t none h d n = subst (λ (u : Core). Implements p s r u) (sym (unended p s r t none h d n t)) h
 
 -- and no answer is due
 pub undue : (p : Progress) (s : Core) (r : OpResult) (t : Core) → IsUnanswered p → Implements p s r t → ends_op r ≡ false

@@ -1,5 +1,5 @@
 pub mod BesideLemmas
-pub mod MeetLemmas
+pub mod ImplementLemmas
 pub mod RunLemmas
 pub mod PositionLemmas
 pub mod DoesLemmas

@@ -333,9 +333,9 @@ new_rule_is d n x v ops s room limit =
     ap (λ b. trap_if (not b) trap.TableFull (trap_if (at_handle_limit s) trap.HandleLimit (Continues (thread_new_label n s) (thread_made d n x v s) n))) room
     ∙ ap (λ b. trap_if b trap.HandleLimit (Continues (thread_new_label n s) (thread_made d n x v s) n)) limit
 
-pub thread_new_meets : (n : TableId ThreadKey) (r : Doer) (x v k h m o : ℕ) (line : Slot) (ops : Seq Op) (s t : StateView) → line ≡ slot.Script ops → fits 2 s.core ≡ true → at_handle_limit s.core ≡ false → k ≡ task_of (thread_of s n) s.core → h ≡ new_thread_handle (instance_of (thread_of s n) s.core) s.core → m ≡ thread_of s n → o ≡ next_thread s.core → t.core ≡ with_thread (call_instance k s.core) k x v s.core → Implements (thread_new_rule r (thread_of s n) x v s.core line) s.core (goes_as (label.Thread (thread_label.New h m o)) m) (finish r (thread_of s n) (OneNumber h) t.core)
+pub thread_new_implements : (n : TableId ThreadKey) (r : Doer) (x v k h m o : ℕ) (line : Slot) (ops : Seq Op) (s t : StateView) → line ≡ slot.Script ops → fits 2 s.core ≡ true → at_handle_limit s.core ≡ false → k ≡ task_of (thread_of s n) s.core → h ≡ new_thread_handle (instance_of (thread_of s n) s.core) s.core → m ≡ thread_of s n → o ≡ next_thread s.core → t.core ≡ with_thread (call_instance k s.core) k x v s.core → Implements (thread_new_rule r (thread_of s n) x v s.core line) s.core (goes_as (label.Thread (thread_label.New h m o)) m) (finish r (thread_of s n) (OneNumber h) t.core)
 unfolding thread_added
-thread_new_meets n r x v k h m o line ops s t is room limit task handle number other e =
+thread_new_implements n r x v k h m o line ops s t is room limit task handle number other e =
     let N = thread_of s n in
     let I = instance_of N s.core in
     let core = ap (λ (c : Core). finish r N (OneNumber h) c) e ∙ ap₂ (λ (j g : ℕ). finish r N (OneNumber g) (with_thread (call_instance j s.core) j x v s.core)) task handle in

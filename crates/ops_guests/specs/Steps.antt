@@ -45,8 +45,8 @@ core_after n (op_result.Traps why) t = unwound n t
 core_after n (op_result.Fails i) t = unwound n t
 
 -- each op that implements its rule is a step of the machine
-abbrev pub MeetingIsStep : Type 0
-MeetingIsStep =
+abbrev pub ImplementingIsStep : Type 0
+ImplementingIsStep =
     (x : Setting) (s : State) (n : ℕ) (r : OpResult) (t : Core) → s.turn ≡ turn.Run n →
     Implements (did x.component n s.core (choice_of (label_of n r))) s.core r t →
     Step x s (label_of n r) (goes_to s (core_after n r t) (turn_after r))

@@ -33,7 +33,7 @@ fn skip_equal<W: Primitives>(
     end: u32,
 ) -> OpResult
     requires { position_of (thread_of (W.view w.old) thread) (W.view w.old).core < end }
-    ensures meets { (c : Component) → length (script_of c (thread_of (W.view w.old) thread) (W.view w.old).core) ≡ end → Implements (data_rule c (thread_of (W.view w.old) thread) (W.view w.old).core (data_ops.SkipEq left right ops)) (W.view w.old).core result (W.view w.new).core }
+    ensures implements { (c : Component) → length (script_of c (thread_of (W.view w.old) thread) (W.view w.old).core) ≡ end → Implements (data_rule c (thread_of (W.view w.old) thread) (W.view w.old).core (data_ops.SkipEq left right ops)) (W.view w.old).core result (W.view w.new).core }
     ensures tags { (W.view w.new).tags ≡ (W.view w.old).tags }
     ensures current { (W.view w.new).current ≡ (W.view w.old).current }
 {
@@ -55,7 +55,7 @@ fn skip_equal<W: Primitives>(
 #[tactic(auto, using(crate::proofs::PositionLemmas::position_memory_cell), unfolding(machine_rules::specs::Data::stored))]
 fn store<W: Primitives>(w: &mut W, thread: ThreadId, cell: u8, value: Operand, end: u32) -> OpResult
     requires { position_of (thread_of (W.view w.old) thread) (W.view w.old).core < end }
-    ensures meets { (c : Component) → length (script_of c (thread_of (W.view w.old) thread) (W.view w.old).core) ≡ end → Implements (data_rule c (thread_of (W.view w.old) thread) (W.view w.old).core (data_ops.Store word value)) (W.view w.old).core result (W.view w.new).core }
+    ensures implements { (c : Component) → length (script_of c (thread_of (W.view w.old) thread) (W.view w.old).core) ≡ end → Implements (data_rule c (thread_of (W.view w.old) thread) (W.view w.old).core (data_ops.Store word value)) (W.view w.old).core result (W.view w.new).core }
     ensures tags { (W.view w.new).tags ≡ (W.view w.old).tags }
     ensures current { (W.view w.new).current ≡ (W.view w.old).current }
 {
@@ -74,7 +74,7 @@ fn store<W: Primitives>(w: &mut W, thread: ThreadId, cell: u8, value: Operand, e
 #[tactic(auto, using(crate::proofs::PositionLemmas::position_memory_cell))]
 pub fn compute<W: Primitives>(w: &mut W, thread: ThreadId, op: DataOp, end: u32) -> OpResult
     requires { position_of (thread_of (W.view w.old) thread) (W.view w.old).core < end }
-    ensures meets { (c : Component) → length (script_of c (thread_of (W.view w.old) thread) (W.view w.old).core) ≡ end → Implements (data_rule c (thread_of (W.view w.old) thread) (W.view w.old).core op) (W.view w.old).core result (W.view w.new).core }
+    ensures implements { (c : Component) → length (script_of c (thread_of (W.view w.old) thread) (W.view w.old).core) ≡ end → Implements (data_rule c (thread_of (W.view w.old) thread) (W.view w.old).core op) (W.view w.old).core result (W.view w.new).core }
     ensures tags { (W.view w.new).tags ≡ (W.view w.old).tags }
     ensures current { (W.view w.new).current ≡ (W.view w.old).current }
 {

@@ -184,8 +184,8 @@ module _ (n : TableId ThreadKey) (id : SubtaskId) (i h : ℕ) (s a b c : StateVi
 
 -- ---- The rule
 
-pub drop_meets : (d : Doer) (n h m : ℕ) (q : Subtask) (s u : Core) → m ≡ n → is_watched (join_of q s) ≡ false → subtask_ended q s ≡ true → is_some (event_of q s) ≡ false → u ≡ unnamed n h q s → Implements (drop_by d n h s q) s (goes_as (label.Call (call_label.Drop m)) m) (finish d n NoAnswer u)
-drop_meets d n h m q s u number apart ended quiet core =
+pub drop_implements : (d : Doer) (n h m : ℕ) (q : Subtask) (s u : Core) → m ≡ n → is_watched (join_of q s) ≡ false → subtask_ended q s ≡ true → is_some (event_of q s) ≡ false → u ≡ unnamed n h q s → Implements (drop_by d n h s q) s (goes_as (label.Call (call_label.Drop m)) m) (finish d n NoAnswer u)
+drop_implements d n h m q s u number apart ended quiet core =
     let done = Continues (label.Call (call_label.Drop n)) (dropped d n h q s) n in
     let row : drop_by d n h s q ≡ done =
     ap (λ (b : Bool). trap_if b trap.WaitableSyncAndAsync (trap_if (not (subtask_ended q s)) trap.SubtaskDropNotResolved (trap_if (is_some (event_of q s)) trap.SubtaskDropNotResolved done))) apart

@@ -104,13 +104,13 @@ module _ (mode : Mode) (n : TableId ThreadKey) (r : Doer) (sub : SubtaskId) (f :
   refused_on o h = ap (λ (v : StateView). refused mode (thread_of v n) (subtask_in v.tags sub) v.core) e ∙ h
 
   pub finished : (c : OpResult) (u : Core) → refused mode (thread_of s n) (subtask_in s.tags sub) (f s.core) ≡ None → Implements (after_cancel_by r mode (thread_of t n) (subtask_in t.tags sub) t.core) t.core c (ended r (thread_of t n) c u) → Implements (after_cancel_by r mode (thread_of s n) (subtask_in s.tags sub) (f s.core)) s.core c (ended r (thread_of s n) c u)
-  finished c u may meets =
+  finished c u may implements =
       let_go mode (thread_of s n) r (subtask_in s.tags sub) (f s.core) (f s.core) s.core c (ended r (thread_of s n) c u) may
-      (subst (λ (v : StateView). Implements (after_cancel_by r mode (thread_of v n) (subtask_in v.tags sub) v.core) v.core c (ended r (thread_of v n) c u)) e meets)
+      (subst (λ (v : StateView). Implements (after_cancel_by r mode (thread_of v n) (subtask_in v.tags sub) v.core) v.core c (ended r (thread_of v n) c u)) e implements)
 
 -- it traps, and nothing has changed
-pub trapped_meets : (mode : Mode) (n : ℕ) (r : Doer) (q : Subtask) (s t : Core) (y : Trap) → refused mode n q t ≡ Some y → Implements (after_cancel_by r mode n q t) s (op_result.Traps y) s
-trapped_meets mode n r q s t y e = subst (λ (p : Progress). Implements p s (op_result.Traps y) s) (sym (refused_rule mode n r q t y e)) (refl, refl)
+pub trapped_implements : (mode : Mode) (n : ℕ) (r : Doer) (q : Subtask) (s t : Core) (y : Trap) → refused mode n q t ≡ Some y → Implements (after_cancel_by r mode n q t) s (op_result.Traps y) s
+trapped_implements mode n r q s t y e = subst (λ (p : Progress). Implements p s (op_result.Traps y) s) (sym (refused_rule mode n r q t y e)) (refl, refl)
 
 -- ---- It answers
 

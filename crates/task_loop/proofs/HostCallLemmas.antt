@@ -175,14 +175,14 @@ module _ (host : HostDef) (told : HostPoll) (tells : MayTell host told) (s t : S
 
   -- what is held after a call that goes on
   pub polled_holds : (q : ℕ) (a : Result ℕ TaskError) → Answers true (polls_rule q (first_heard host told) s.core) number_answered s (at_once a) t → ((i : ℕ) → right i ≡ cond (next_work s.core == i) (settled (is_ok a) told (running host)) (left i)) → HoldsWorks right t.core
-  polled_holds q (Ok v) answers is = let did = answers.1.0 in polled is q (step.Done v) answers.0 answers.1.1 (first_heard host told) refl (does_of (polls_rule q (first_heard host told) s.core) answers.0 did).meets
+  polled_holds q (Ok v) answers is = let did = answers.1.0 in polled is q (step.Done v) answers.0 answers.1.1 (first_heard host told) refl (does_of (polls_rule q (first_heard host told) s.core) answers.0 did).implements
   polled_holds q (Err task_error.NoMemory) answers is = as_before answers.1 is
   polled_holds q (Err (task_error.Trap w)) answers is = refused number_answered (polls_rule q (first_heard host told) s.core) (task_error.Trap w) answers.0 answers.1.0 answers.1.1 is
   polled_holds q (Err (task_error.HostFailed i)) answers is = refused number_answered (polls_rule q (first_heard host told) s.core) (task_error.HostFailed i) answers.0 answers.1.0 answers.1.1 is
 
   -- and after one that waits for its value
   pub blocked_holds : (a : Result (Step ℕ) TaskError) → Answers true (blocks_rule (first_heard host told) s.core) value_answered s a t → ((i : ℕ) → right i ≡ cond (next_work s.core == i) (settled (is_ok a) told (running host)) (left i)) → HoldsWorks right t.core
-  blocked_holds (Ok v) answers is = let did = answers.1.0 in blocked is v answers.0 answers.1.1 (first_heard host told) refl (does_of (blocks_rule (first_heard host told) s.core) answers.0 did).meets
+  blocked_holds (Ok v) answers is = let did = answers.1.0 in blocked is v answers.0 answers.1.1 (first_heard host told) refl (does_of (blocks_rule (first_heard host told) s.core) answers.0 did).implements
   blocked_holds (Err task_error.NoMemory) answers is = as_before answers.1 is
   blocked_holds (Err (task_error.Trap w)) answers is = refused value_answered (blocks_rule (first_heard host told) s.core) (task_error.Trap w) answers.0 answers.1.0 answers.1.1 is
   blocked_holds (Err (task_error.HostFailed i)) answers is = refused value_answered (blocks_rule (first_heard host told) s.core) (task_error.HostFailed i) answers.0 answers.1.0 answers.1.1 is

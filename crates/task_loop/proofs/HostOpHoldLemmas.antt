@@ -189,7 +189,7 @@ module _ (left : ℕ → Option HeldWork) (s t : StateView) (h : HoldsWorks left
     -- an op that names neither an export nor a host
     pub asked_holds : {A : Type 0} (o : Op) (f : OpAnswer → A) (a : Result (Answer A) TaskError) → is_apart o ≡ true → AnswersOp c o f s a t → HoldsWorks left t.core
     asked_holds o f a apart answers =
-        by_answers (takes_memory o) (scripted_rule_of c o s.core) f a running.number running.runs (λ r d. did_apart left s t running.number works h c o apart r d.meets d.stays) answers
+        by_answers (takes_memory o) (scripted_rule_of c o s.core) f a running.number running.runs (λ r d. did_apart left s t running.number works h c o apart r d.implements d.stays) answers
 
     -- the op at the place, that has paused
     pub gone_on_holds : {A : Type 0} (f : OpAnswer → A) (a : Result (Answer A) TaskError) (i : ℕ) → HasPaused i s → AnswersHere c f s a t → HoldsWorks left t.core
@@ -197,7 +197,7 @@ module _ (left : ℕ → Option HeldWork) (s t : StateView) (h : HoldsWorks left
         let n = running.number in
         let far = (subst (λ (o : Option ℕ). IfSome o (λ k. (instance_of k s.core ≡ i) × (op_progress_of k s.core ≡ op_progress.Fresh → ⊥))) running.runs paused).1 in
         let can = can_be_there c s running in
-        by_answers (takes_here c s) (op_rule_at c s.core) f a n running.runs (λ r d. did_quiet left s t n works h c (op_of c n s.core) (is_plain c s running (i, paused)).1 (paused_none (op_of c n s.core) (op_progress_of n s.core) can far) r d.meets d.stays) answers
+        by_answers (takes_here c s) (op_rule_at c s.core) f a n running.runs (λ r d. did_quiet left s t n works h c (op_of c n s.core) (is_plain c s running (i, paused)).1 (paused_none (op_of c n s.core) (op_progress_of n s.core) can far) r d.implements d.stays) answers
 
 pub apart_pressure : (up : Bool) → is_apart (pressure_op up) ≡ true
 apart_pressure true = refl

@@ -99,7 +99,7 @@ module _ (s t : StateView) where
   answers_not takes row f (Err (task_error.Trap w)) n runs shows answers failed =
       let r : OpResult = answers.0 in
       let did : Does (row n) n s r t = subst (λ (o : Option ℕ). IfSome o (λ k. Does (row k) k s r t)) runs answers.1.0 in
-      not_of_rule w (met_trap (row n (choice_of (label_of n r))) (shows (choice_of (label_of n r))) s.core r t.core did.meets w (trapped_as f r w answers.1.1)) (cc)
+      not_of_rule w (met_trap (row n (choice_of (label_of n r))) (shows (choice_of (label_of n r))) s.core r t.core did.implements w (trapped_as f r w answers.1.1)) (cc)
 
   module _ (c : Component) (running : IsRunningIn c s) where
     -- an op's

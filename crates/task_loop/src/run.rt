@@ -24,7 +24,7 @@ use ops_turns::{
     MainStep, RunStep, StepResult, compute, is_idle, made_by_main, put, step_call, step_run, take,
 };
 use run_trace::{
-    Driven, PackedLabels, Policy, YieldBudget, ended_by, paced_by, rests_with, yields_by,
+    Driven, PackedLabels, Policy, YieldBudget, ended_by, rests_with, spent_by, yields_by,
 };
 use task_group::TaskGroupHook;
 use task_store::{Access, AccessorTask, ActiveRun, FromHost, HostWork, Store};
@@ -477,7 +477,7 @@ impl RunConcurrent {
                 }
                 Some(StepResult::Continues { turn, computed }) => {
                     self.turn = turn;
-                    self.yield_budget = paced_by::<P>(self.yield_budget, next);
+                    self.yield_budget = spent_by::<P>(self.yield_budget, next);
                     if rests {
                         return Ok(Stop::Rests);
                     }

@@ -42,4 +42,4 @@ returns-clause-did g c =
 pub returns-clause-goes : goal.returns-clause-goes
 returns-clause-goes g c =
     let s = g.W.View.view c.args.w.now in
-    host_goes_on (thread_of s c.in-Some.thread) c.args.register (first_heard c.args.host c.args.answer) s.core c.in-Ok.op_result _ (c.in-Ok.ensures.does.meets SomeHost)
+    host_goes_on (thread_of s c.in-Some.thread) c.args.register (first_heard c.args.host c.args.answer) s.core c.in-Ok.op_result _ (c.in-Ok.ensures.does.implements SomeHost)

@@ -44,5 +44,5 @@ returns g c =
           (λ failed. entered_not s.state u d q e words thread_entered answers enter.ensures.answers (ap (λ r. at_once (entered u r)) failed))
           (λ left h.
           by_answers left s.state u h true row thread_entered answers n q.runs
-          (λ r did. entered_holds left s.state u h n e (export_kind d e) words r did.meets) enter.ensures.answers) told);
+          (λ r did. entered_holds left s.state u h n e (export_kind d e) words r did.implements) enter.ensures.answers) told);
     }

@@ -38,7 +38,7 @@ returns g c =
           (λ e. exited_not s.state u d q v nothing_answered (at_once exit.result) exit.ensures.answers (ap at_once e))
           (λ left h.
           by_answers left s.state u h false row nothing_answered (at_once exit.result) n q.runs
-          (λ r did. exited_holds left s.state u h d q v direct r did.meets did.stays) exit.ensures.answers) told;
+          (λ r did. exited_holds left s.state u h d q v direct r did.implements did.stays) exit.ensures.answers) told;
     }
 
 pub returns-then-exit_holds_borrows : goal.returns-then-exit_holds_borrows

@@ -2,7 +2,7 @@
 use Rattle.std.proofs.Common.{refl, subst, sym}
 use Rattle.std.specs.Prelude.{Option, ℕ, ◌≡◌}
 use Rattle.ops_guests.specs.OpResult.{Implements}
-use Rattle.ops_guests.specs.Steps.{ActingIsStep, MeetingIsStep, TakingIsStep, core_after, label_of, main_after, main_label_of, turn_after}
+use Rattle.ops_guests.specs.Steps.{ActingIsStep, ImplementingIsStep, TakingIsStep, core_after, label_of, main_after, main_label_of, turn_after}
 use Rattle.ops_guests.specs.declared.op_result.OpResult.{OpResult}
 use Rattle.machine_data.specs.Core.{Core, Main, MainPlace, State}
 use Rattle.machine_data.specs.declared.records.Turn.{Turn}
@@ -21,25 +21,25 @@ use Rattle.machine_data.specs.declared.statuses.Mark.{Mark}
 came_as : (s : State) (base : Core) (n : ℕ) (p : Progress) (r q : OpResult) (t u : Core) → r ≡ q → t ≡ u → Progresses s base n p (label_of n q) (goes_to s (core_after n q u) (turn_after q)) → Progresses s base n p (label_of n r) (goes_to s (core_after n r t) (turn_after r))
 came_as s base n p r q t u e d h = subst (λ (v : OpResult). Progresses s base n p (label_of n v) (goes_to s (core_after n v t) (turn_after v))) (sym e) (subst (λ (v : Core). Progresses s base n p (label_of n q) (goes_to s (core_after n q v) (turn_after q))) (sym d) h)
 
-meets_progresses : (s : State) (base : Core) (n : ℕ) (p : Progress) (r : OpResult) (t : Core) → Implements p base r t → Progresses s base n p (label_of n r) (goes_to s (core_after n r t) (turn_after r))
-meets_progresses s base n (Continues l new m) r t h = came_as s base n (Continues l new m) r _ t _ h.0 h.1 (refl, refl)
-meets_progresses s base n (Stops l new) r t h = came_as s base n (Stops l new) r _ t _ h.0 h.1 (refl, refl)
-meets_progresses s base n (Traps why) r t h = came_as s base n (Traps why) r _ t _ h.0 h.1 (refl, refl)
-meets_progresses s base n (Fails i) r t h = came_as s base n (Fails i) r _ t _ h.0 h.1 (refl, refl)
-meets_progresses s base n Never r t h = absurd h
-meets_progresses s base n (Ordered ns next) r t h = (h.0, (h.1.0, meets_progresses s base n (next h.0) r t h.1.1))
-meets_progresses s base n (Asks next) r t h = (h.0, meets_progresses s base n (next h.0) r t h.1)
+implements_progresses : (s : State) (base : Core) (n : ℕ) (p : Progress) (r : OpResult) (t : Core) → Implements p base r t → Progresses s base n p (label_of n r) (goes_to s (core_after n r t) (turn_after r))
+implements_progresses s base n (Continues l new m) r t h = came_as s base n (Continues l new m) r _ t _ h.0 h.1 (refl, refl)
+implements_progresses s base n (Stops l new) r t h = came_as s base n (Stops l new) r _ t _ h.0 h.1 (refl, refl)
+implements_progresses s base n (Traps why) r t h = came_as s base n (Traps why) r _ t _ h.0 h.1 (refl, refl)
+implements_progresses s base n (Fails i) r t h = came_as s base n (Fails i) r _ t _ h.0 h.1 (refl, refl)
+implements_progresses s base n Never r t h = absurd h
+implements_progresses s base n (Ordered ns next) r t h = (h.0, (h.1.0, implements_progresses s base n (next h.0) r t h.1.1))
+implements_progresses s base n (Asks next) r t h = (h.0, implements_progresses s base n (next h.0) r t h.1)
 
-pub meeting_is_step : MeetingIsStep
+pub implementing_is_step : ImplementingIsStep
 unfolding Step
-meeting_is_step x s n r t at h = subst (λ (u : Turn). TurnStep x s u (label_of n r) (goes_to s (core_after n r t) (turn_after r))) (sym at) (meets_progresses s s.core n (did x.component n s.core (choice_of (label_of n r))) r t h)
+implementing_is_step x s n r t at h = subst (λ (u : Turn). TurnStep x s u (label_of n r) (goes_to s (core_after n r t) (turn_after r))) (sym at) (implements_progresses s s.core n (did x.component n s.core (choice_of (label_of n r))) r t h)
 
 pub taking_is_step : TakingIsStep
 unfolding Step
 taking_is_step x s ended e r t at next h =
     let l = label_of (entry_number e.1) r in
     let u = goes_to s (core_after (entry_number e.1) r t) (turn_after r) in
-    let taken = meets_progresses s (popped e.0 s.core) (entry_number e.1) (take_rule e.0 (choice_of l) (popped e.0 s.core) e.1) r t h in
+    let taken = implements_progresses s (popped e.0 s.core) (entry_number e.1) (take_rule e.0 (choice_of l) (popped e.0 s.core) e.1) r t h in
     subst (λ (y : Turn). TurnStep x s y l u) (sym at) (subst (λ (o : Option (Mark × Entry)). TakeStep x s o l u) (sym next) taken)
 
 -- ---- Main
