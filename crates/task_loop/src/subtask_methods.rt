@@ -96,7 +96,7 @@ impl Instance {
 
     /// Does a direct call's second half, by its first thread: its task ends as returned with the value, the thread ends, and the
     /// one under it runs; the caller's op is under way, and `go_on` takes it to its answer. Refused with trap 9 if the export is
-    /// blocking and a check of its instance fails, and else with trap 19 if the task still lends something (`call_context` of the
+    /// blocking and a check of its instance fails, and else with trap 19 if the task still holds borrows (`call_context` of the
     /// state). Nothing is changed then.
     pub fn exit_guest_sync_call<T, H, G: TaskGroupHook>(
         self,
