@@ -14,7 +14,7 @@ mod work_counts;
 pub use endings::{count_ended, ended, forget_ended, has_ended};
 pub use limit_counts::{
     at_handle_limit, count_work, current, fits, has_interesting, made, set_current, set_trapped,
-    set_uninteresting, trapped, want,
+    set_uninteresting, trapped,
 };
 pub use member_counts::{
     has_member, has_waiters, is_deletable, is_last_thread, set_number, threads,

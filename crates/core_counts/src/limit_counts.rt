@@ -4,12 +4,11 @@ ghost use Rattle.machine_data.specs.Read.{at_handle_limit, fits};
 ghost use Rattle.machine_data.specs.Write.{count_work, set_trapped, set_uninteresting};
 ghost use Rattle.core_records.specs.Seen.{IsSoundCore, seen};
 ghost use Rattle.machine_rules.specs.MainOps.{has_interesting};
-ghost use Rattle.core_primitives.specs.Preferences.{wanted_of};
-ghost use Rattle.core_primitives.specs.StateView.{call_of, on_core, with_current, with_wanted};
+ghost use Rattle.core_primitives.specs.StateView.{call_of, on_core, with_current};
 
 use crate::endings::end_groups;
 use crate::entries::give_groups;
-use core_primitives::{CallId, ThreadId, WantedId};
+use core_primitives::{CallId, ThreadId};
 use core_records::CoreParts;
 use machine_data::MadeCounts;
 
@@ -83,15 +82,6 @@ pub fn set_current(parts: &mut CoreParts, thread: Option<ThreadId>)
     ensures new { seen parts.new ≡ with_current thread (seen parts.old) }
 {
     parts.current = thread;
-}
-
-/// Makes this what is picked first.
-pub fn want(parts: &mut CoreParts, wanted: WantedId)
-    requires { IsSoundCore parts.old }
-    ensures sound { IsSoundCore parts.new }
-    ensures new { seen parts.new ≡ with_wanted (wanted_of wanted) (seen parts.old) }
-{
-    parts.wanted = wanted;
 }
 
 /// Counts the work of a host that was ready at its first poll: it has its number, and no record.

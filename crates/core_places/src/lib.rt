@@ -9,7 +9,6 @@ mod event_states;
 mod join_states;
 mod moves;
 mod place_states;
-mod set_states;
 mod stages;
 mod step_states;
 mod targets;
@@ -20,7 +19,6 @@ pub use join_states::set_join;
 pub use place_states::{
     delivered_set, hold, place, set_mark, set_place, stand_at, suspend, unhold, why,
 };
-pub use set_states::{first_ready, first_waiter, has_ready_member};
 pub use stages::set_stage;
 pub use step_states::{activate, advance, assign, move_to, set_context, set_op_progress};
 pub use unders::{run_first, stand_under};

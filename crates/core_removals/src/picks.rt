@@ -1,12 +1,14 @@
+//! What is picked first: what is wanted, then the least by the places of the resource table.
 ghost use Rattle.core_places.specs.Picks.{IsLeastMember, IsLeastWaiter, IsWantedMember, IsWantedWaiter};
 ghost use Rattle.std.specs.Prelude.{◌≡◌, ◌<◌, IfNone, IfSome, false, true};
 ghost use Rattle.machine_data.specs.Read.{has_ready_member, has_waiter, is_in_set, is_ready_member, is_waiter};
 ghost use Rattle.core_records.specs.Seen.{IsSoundCore, seen};
 ghost use Rattle.core_primitives.specs.Names.{subtask_in};
 ghost use Rattle.core_primitives.specs.Changes.{ComesFirst, MemberComesFirst};
-ghost use Rattle.core_primitives.specs.StateView.{set_of, thread_of};
+ghost use Rattle.core_primitives.specs.Preferences.{wanted_of};
+ghost use Rattle.core_primitives.specs.StateView.{set_of, thread_of, with_wanted};
 
-use core_primitives::{SetId, SubtaskId, ThreadId};
+use core_primitives::{SetId, SubtaskId, ThreadId, WantedId};
 use core_records::{CoreParts, call_at, thread_at, work_at};
 use machine_data::{Join, Place};
 
@@ -15,7 +17,7 @@ fn waits_on(parts: &CoreParts, thread: ThreadId, set: u64) -> bool
     requires { IsSoundCore parts.now }
     ensures { result ≡ is_waiter set (thread_of (seen parts.now) thread) (seen parts.now).core }
 {
-    match crate::place(parts, thread) {
+    match core_places::place(parts, thread) {
         Some(
             Place::Waiting {
                 set: on,
@@ -168,4 +170,13 @@ pub fn has_ready_member(parts: &CoreParts, set: SetId) -> bool
         Some(_) => true,
         None => false,
     }
+}
+
+/// Makes this what is picked first.
+pub fn want(parts: &mut CoreParts, wanted: WantedId)
+    requires { IsSoundCore parts.old }
+    ensures sound { IsSoundCore parts.new }
+    ensures new { seen parts.new ≡ with_wanted (wanted_of wanted) (seen parts.old) }
+{
+    parts.wanted = wanted;
 }
