@@ -7,7 +7,7 @@ ghost use Rattle.task_abort.specs.PhaseLog.{Name, phase};
 ghost use Rattle.task_abort.specs.Rule.{HasMetAll, AllKnown};
 ghost use Rattle.task_abort.specs.Staged.{LateStandLast, StagedIsLegal, StagedKeepsAborters, StagedKeepsOwn, UnfinishedBefore};
 ghost use Rattle.task_abort.specs.declared.log.LogEntry.{LogEntry};
-ghost use Rattle.machine_data.specs.declared.words.Phase.TheVariants.{Running, Complete};
+ghost use Rattle.machine_data.specs.declared.statuses.Phase.TheVariants.{Running, Complete};
 ghost use Rattle.task_abort.specs.declared.log.PhaseCall.TheVariants.{Abort, Finish};
 
 use crate::cell::JoinPass;

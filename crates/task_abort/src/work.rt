@@ -6,8 +6,8 @@ ghost use Rattle.futures.specs.Task.{Covers, Keeps};
 ghost use Rattle.task_abort.specs.Cells.{work_cell, pass_cell, abort_source, work_of, view_of, AreMadeOf};
 ghost use Rattle.task_abort.specs.PhaseLog.{first_view, phase};
 ghost use Rattle.task_abort.specs.Rule.{Calls, PollsFuture};
-ghost use Rattle.machine_data.specs.declared.words.Phase.{Phase};
-ghost use Rattle.machine_data.specs.declared.words.Phase.TheVariants.{Running};
+ghost use Rattle.machine_data.specs.declared.statuses.Phase.{Phase};
+ghost use Rattle.machine_data.specs.declared.statuses.Phase.TheVariants.{Running};
 ghost use Rattle.task_abort.specs.declared.log.PhaseCall.TheVariants.{PollFuture, Finish};
 
 use crate::cell::{Abortable, JoinHandle, JoinPass, PhaseCell, Wakers};

@@ -6,7 +6,7 @@ ghost use Rattle.run_trace.specs.Labels.{label_of};
 ghost use Rattle.run_trace.specs.Opened.{all, data_of, handle_of, loop_of, main_of, own_of, set_of, take_of, task_of, thread_of};
 ghost use Rattle.machine_data.specs.Moves.{given_own};
 ghost use Rattle.machine_data.specs.Statuses.{status_code};
-ghost use Rattle.machine_data.specs.declared.words.Given.TheVariants as Given;
+ghost use Rattle.machine_data.specs.declared.statuses.Given.TheVariants as Given;
 ghost use Rattle.machine_rules.specs.Texts.{mark_text, phase_text, given_text, wakes, refused, main_text, future_text, loop_text, taken_text, event_text, take_text, data_text, task_text, set_text, thread_text, label_text, line_text, outcome_text};
 
 use crate::piece::{digits, number, numbers, small_number, thread_number, words, words_over};
