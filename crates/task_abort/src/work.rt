@@ -63,7 +63,7 @@ impl<F> Abortable<F> {
     ghost use Rattle.std.specs.Borrow.{sem};
     ghost use Rattle.task_abort.specs.Lends.{LendsWork};
 
-    /// Returns the poll of a work that isn't a `Future`: none exactly where it found another phase than `Running`, else the work,
+    /// Polls a work that isn't a `Future`: none exactly where it found another phase than `Running`, else the work,
     /// which the caller polls. It is the step of `poll`, which reads the word, and takes no lock and no memory.
     pub fn running(&mut self, pass: &mut JoinPass) -> Option<&mut F>
         requires { pass_cell pass.old ≡ work_cell self.old }
@@ -86,7 +86,7 @@ impl<F> Abortable<F> {
 }
 
 impl<F> Abortable<F> {
-    /// Returns the step of `running`, told as the phase that it found: the work may be polled where that is `Running`.
+    /// Takes the step of `running`, and answers the phase that it found: the work may be polled where that is `Running`.
     pub fn phase(&self, pass: &mut JoinPass) -> Phase
         requires { pass_cell pass.old ≡ work_cell self.now }
         ensures same { pass_cell pass.new ≡ pass_cell pass.old }
