@@ -9,7 +9,7 @@ ghost use Rattle.machine_data.specs.Statuses.{status_code};
 ghost use Rattle.machine_data.specs.declared.statuses.Given.TheVariants as Given;
 ghost use Rattle.machine_rules.specs.Texts.{mark_text, phase_text, given_text, wakes, refused, main_text, future_text, loop_text, taken_text, event_text, take_text, data_text, task_text, set_text, thread_text, label_text, line_text, outcome_text};
 
-use crate::piece::{digits, number, numbers, small_number, thread_number, literal, literal_over};
+use crate::piece::{digits, literal, literal_over, number, numbers, small_number, thread_number};
 use machine_data::{Mark, Outcome, Phase, Status, TaskEvent, Trap};
 use run_trace::{
     CallKind, DataKind, HandleKind, Head, LabelKind, LoopKind, MainKind, OwnKind, SetKind,
