@@ -1,7 +1,6 @@
 ghost use Rattle.std.specs.Prelude.{◌≡◌, ◌<◌, None, Ok, false};
 ghost use Rattle.table_lists.specs.GivenPlaces.{given};
 ghost use Rattle.machine_data.specs.Maps.{get};
-ghost use Rattle.machine_data.specs.Moves.{group_settled};
 ghost use Rattle.machine_data.specs.Read.{call_group, has_thread, join_of};
 ghost use Rattle.machine_data.specs.Write.{remove_call, set_join};
 ghost use Rattle.machine_data.specs.declared.records.Join.TheVariants as joins;
@@ -12,8 +11,8 @@ ghost use Rattle.core_records.specs.Seen.{IsSoundCore, seen};
 ghost use Rattle.core_records.specs.declared.call_records.GuestTask.{GuestTask};
 ghost use Rattle.task_table.specs.TableAnswers.{item_at};
 ghost use Rattle.task_table.specs.Records.{number_of};
-ghost use Rattle.core_primitives.specs.BecomesRecord.{BecomesBut};
-ghost use Rattle.core_primitives.specs.StateView.{call_of, lost_call};
+ghost use Rattle.core_primitives.specs.StateView.{call_of};
+ghost use Rattle.core_primitives.specs.Records.{LosesCallBy, call_deleted};
 
 use crate::chains_removals::{close_order_keys, drop_order_key};
 use crate::group_removals::{group_unchecked, one_if, settle_counted};
@@ -33,7 +32,7 @@ fn drop_call(parts: &mut CoreParts, call: CallId) -> (TableId<GroupKey>, TaskGro
     requires last { has_thread (call_of (seen parts.old) call) (seen parts.old).core ≡ false }
     requires join { join_of (subtasks.Guest (call_of (seen parts.old) call)) (seen parts.old).core ≡ joins.Nowhere }
     ensures sound { IsSoundCore parts.new }
-    ensures new { BecomesBut (lost_call (call_of (seen parts.old) call)) (remove_call (call_of (seen parts.old) call) (seen parts.old).core) (seen parts.old) (seen parts.new) }
+    ensures new { LosesCallBy remove_call call (seen parts.old) (seen parts.new) }
     ensures item { Ok result.1 ≡ item_at item_of parts.new.groups result.0.rep result.0.serial }
     ensures group { number_of group_key parts.new.groups result.0.rep result.0.serial ≡ call_group (call_of (seen parts.old) call) (seen parts.old).core }
     ensures positive { 0 < call_group (call_of (seen parts.old) call) (seen parts.old).core }
@@ -73,7 +72,7 @@ fn delete_outlined(parts: &mut CoreParts, call: CallId)
     requires last { has_thread (call_of (seen parts.old) call) (seen parts.old).core ≡ false }
     requires join { join_of (subtasks.Guest (call_of (seen parts.old) call)) (seen parts.old).core ≡ joins.Nowhere }
     ensures sound { IsSoundCore parts.new }
-    ensures new { BecomesBut (lost_call (call_of (seen parts.old) call)) (group_settled (call_group (call_of (seen parts.old) call) (seen parts.old).core) (remove_call (call_of (seen parts.old) call) (seen parts.old).core)) (seen parts.old) (seen parts.new) }
+    ensures new { LosesCallBy call_deleted call (seen parts.old) (seen parts.new) }
 {
     let found = core_records::call_there(parts, call);
     let number = found.number;
@@ -90,7 +89,7 @@ fn delete_joined(parts: &mut CoreParts, call: CallId)
     requires live { 0 < call_of (seen parts.old) call }
     requires last { has_thread (call_of (seen parts.old) call) (seen parts.old).core ≡ false }
     ensures sound { IsSoundCore parts.new }
-    ensures new { BecomesBut (lost_call (call_of (seen parts.old) call)) (group_settled (call_group (call_of (seen parts.old) call) (seen parts.old).core) (remove_call (call_of (seen parts.old) call) (seen parts.old).core)) (seen parts.old) (seen parts.new) }
+    ensures new { LosesCallBy call_deleted call (seen parts.old) (seen parts.new) }
 {
     set_join(parts, SubtaskId::Guest(call), JoinId::Nowhere);
     delete_outlined(parts, call);
@@ -102,7 +101,7 @@ pub fn delete_call(parts: &mut CoreParts, call: CallId)
     requires live { 0 < call_of (seen parts.old) call }
     requires last { has_thread (call_of (seen parts.old) call) (seen parts.old).core ≡ false }
     ensures sound { IsSoundCore parts.new }
-    ensures new { BecomesBut (lost_call (call_of (seen parts.old) call)) (group_settled (call_group (call_of (seen parts.old) call) (seen parts.old).core) (remove_call (call_of (seen parts.old) call) (seen parts.old).core)) (seen parts.old) (seen parts.new) }
+    ensures new { LosesCallBy call_deleted call (seen parts.old) (seen parts.new) }
 {
     match core_records::call_there(parts, call).call.join {
         Join::Nowhere => delete_outlined(parts, call),

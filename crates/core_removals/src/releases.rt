@@ -149,7 +149,7 @@ fn release_some(parts: &mut CoreParts, instance: u32, held: usize, starts: usize
     requires starts { place_chain (bare (parts_of parts.old)) (StartsIn instance) ≡ Some starts }
     requires kept_out { (may_not_enter instance (seen parts.old).core || nat_lt 0 (backpressure_of instance (seen parts.old).core)) ≡ kept_out }
     ensures sound { IsSoundCore parts.new }
-    ensures new { (order : List ℕ) × (IsPermutation (admitted_held instance (seen parts.old).core) order × (seen parts.new ≡ on_core (released order) (seen parts.old))) }
+    ensures new { ReleasesHeld instance (seen parts.old) (seen parts.new) }
     ensures picks { (order : List ℕ) × (AreInOrder parts.old order × (IsPermutation (admitted_held instance (seen parts.old).core) order × (seen parts.new ≡ on_core (released order) (seen parts.old)))) }
 {
     parts.places.no_node_is_twice();
@@ -167,7 +167,7 @@ pub fn release(parts: &mut CoreParts, instance: u32)
     requires sound { IsSoundCore parts.old }
     requires placed { Placed (seen parts.old).core }
     ensures sound { IsSoundCore parts.new }
-    ensures new { (order : List ℕ) × (IsPermutation (admitted_held instance (seen parts.old).core) order × (seen parts.new ≡ on_core (released order) (seen parts.old))) }
+    ensures new { ReleasesHeld instance (seen parts.old) (seen parts.new) }
     ensures picks { (order : List ℕ) × (AreInOrder parts.old order × (IsPermutation (admitted_held instance (seen parts.old).core) order × (seen parts.new ≡ on_core (released order) (seen parts.old)))) }
 {
     if let Some(found) = core_records::instance(parts, instance) {

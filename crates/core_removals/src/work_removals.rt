@@ -12,8 +12,8 @@ ghost use Rattle.core_records.specs.declared.work_records.WorkRecord.{WorkRecord
 ghost use Rattle.machine_rules.specs.Calls.{work_deleted, work_group};
 ghost use Rattle.task_table.specs.TableAnswers.{item_at};
 ghost use Rattle.core_primitives.specs.Apart.{work_entries};
-ghost use Rattle.core_primitives.specs.BecomesRecord.{BecomesBut};
-ghost use Rattle.core_primitives.specs.StateView.{lost_work, on_core, work_of};
+ghost use Rattle.core_primitives.specs.StateView.{on_core, work_of};
+ghost use Rattle.core_primitives.specs.Records.{LosesWorkBy};
 
 use crate::chains_removals::{close_order_keys, drop_order_key};
 use crate::group_removals::{lower_group, one_if, settle_group};
@@ -42,7 +42,7 @@ fn drop_work(parts: &mut CoreParts, work: WorkId) -> Option<TableId<GroupKey>>
     requires join { join_of (subtasks.Host (work_of (seen parts.old) work)) (seen parts.old).core ≡ joins.Nowhere }
     requires stage { stage_of (work_of (seen parts.old) work) (seen parts.old).core ≡ stages.Ended }
     ensures sound { IsSoundCore parts.new }
-    ensures new { BecomesBut (lost_work (work_of (seen parts.old) work)) (remove_work (work_of (seen parts.old) work) (seen parts.old).core) (seen parts.old) (seen parts.new) }
+    ensures new { LosesWorkBy remove_work work (seen parts.old) (seen parts.new) }
     ensures group { IsNamedBy parts.new.groups (work_group (work_of (seen parts.old) work) (seen parts.old).core) result }
     ensures places { (w : WorkRecord) → Ok w ≡ item_at item_of parts.old.works work.rep work.serial → parts.new.table_places ≡ (if is_host_call w.work then given w.entry parts.old.table_places else parts.old.table_places) }
 {
@@ -85,7 +85,7 @@ pub fn delete_work(parts: &mut CoreParts, work: WorkId)
     requires live { 0 < work_of (seen parts.old) work }
     requires unqueued { work_entries (work_of (seen parts.old) work) (seen parts.old).core.queues.high ≡ 0 }
     ensures sound { IsSoundCore parts.new }
-    ensures new { BecomesBut (lost_work (work_of (seen parts.old) work)) (work_deleted (work_of (seen parts.old) work) (seen parts.old).core) (seen parts.old) (seen parts.new) }
+    ensures new { LosesWorkBy work_deleted work (seen parts.old) (seen parts.new) }
 {
     set_join(parts, SubtaskId::Host(work), JoinId::Nowhere);
     end_stage(parts, work);

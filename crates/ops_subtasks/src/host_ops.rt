@@ -12,8 +12,8 @@ ghost use Rattle.ops_guests.specs.Does.{DoesRule, KeepsNames};
 ghost use Rattle.ops_guests.specs.Running.{IsRunning};
 ghost use Rattle.machine_rules.specs.Calls.{Later, call_sync_host_stops, host_valued, host_with_handle, next_work};
 ghost use Rattle.core_primitives.specs.Apart.{work_entries};
-ghost use Rattle.core_primitives.specs.BecomesRecord.{MakesRecord, names_work};
 ghost use Rattle.core_primitives.specs.StateView.{Keeps, on_core, thread_of, work_of};
+ghost use Rattle.core_primitives.specs.Records.{MakesWork};
 
 use crate::returns::stop_blocked;
 use crate::takes::value_of_work;
@@ -180,7 +180,7 @@ fn stop_on_host<W: Primitives>(
     requires running { IsRunning (thread_of (W.view w.old) thread) (W.view w.old).core }
     requires few { (W.view w.old).core.made.works + 1 < 2 ^ 64 }
     requires room { fits 1 (W.view w.old).core ≡ true }
-    ensures { MakesRecord (names_work (next_work (W.view w.old).core)) (call_sync_host_stops (thread_of (W.view w.old) thread) host (W.view w.old).core) (W.view w.old) result (W.view w.new) }
+    ensures { MakesWork (call_sync_host_stops (thread_of (W.view w.old) thread) host) (W.view w.old) result (W.view w.new) }
 {
     let instance = w.instance_of(thread);
     let work = w.queue_sync_call(thread, host)?;

@@ -10,8 +10,8 @@ ghost use Rattle.ops_guests.specs.Does.{DoesRule};
 ghost use Rattle.ops_guests.specs.Running.{IsRunning};
 ghost use Rattle.machine_rules.specs.Calls.{call_resumes, call_stops, call_sync_stops, status_found};
 ghost use Rattle.core_primitives.specs.Names.{subtask_in};
-ghost use Rattle.core_primitives.specs.BecomesRecord.{BecomesBut};
 ghost use Rattle.core_primitives.specs.StateView.{KeepsBut, call_of, lost_call, on_core, thread_of};
+ghost use Rattle.core_primitives.specs.Records.{LosesCallBy};
 
 use core_primitives::{CallId, NoMemory, OpProgressId, PlaceId, Primitives, SubtaskId, ThreadId};
 use machine_data::{CallLabel, Label, Status, ThreadLabel, Trap};
@@ -73,7 +73,7 @@ pub(crate) fn stop_blocked<W: Primitives>(w: &mut W, thread: ThreadId, subtask: 
 fn take_return<W: Primitives>(w: &mut W, thread: ThreadId, call: CallId)
     requires live { 0 < thread_of (W.view w.old) thread }
     requires call { 0 < call_of (W.view w.old) call }
-    ensures { BecomesBut (lost_call (call_of (W.view w.old) call)) (return_taken (thread_of (W.view w.old) thread) (call_of (W.view w.old) call) (W.view w.old).core) (W.view w.old) (W.view w.new) }
+    ensures { LosesCallBy (return_taken (thread_of (W.view w.old) thread)) call (W.view w.old) (W.view w.new) }
 {
     resume(w, thread, call);
     settle_call(w, call);
