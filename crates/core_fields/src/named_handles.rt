@@ -1,5 +1,4 @@
 ghost use Rattle.std.specs.Prelude.{◌≡◌, ◌<◌, IfOk, OnErr, OnOk, Some};
-ghost use Rattle.machine_data.specs.Read.{instance_of, thread_at};
 ghost use Rattle.machine_data.specs.Write.{set_thread_handle};
 ghost use Rattle.core_records.specs.Seen.{IsSoundCore, parts_of, seen};
 ghost use Rattle.core_primitives.specs.StateView.{on_core, thread_of};

@@ -1,6 +1,7 @@
 ghost use Rattle.std.specs.Prelude.{◌≡◌, ◌+◌, ◌<◌, ◌≤◌, ◌^◌, IfOk, IsSome, OnErr, OnOk, length, true};
 ghost use Rattle.core_makes.specs.Restored.{IsRestored};
 ghost use Rattle.core_makes.specs.Ends.{HasEndRoom};
+ghost use Rattle.core_makes.specs.Fresh.{requested, requested_grouped, requested_with_handle};
 ghost use Rattle.core_makes.specs.LooseCalls.{AreStrandLoose};
 ghost use Rattle.core_makes.specs.Pushed.{MayAdd, PushesStrand};
 ghost use Rattle.machine_data.specs.Maps.{get};

@@ -1,5 +1,6 @@
 ghost use Rattle.std.specs.Prelude.{◌≡◌, ◌+◌, ◌-◌, ◌<◌, ◌≤◌, ◌^◌, IfOk, None, Ok, OnErr, OnOk, is_some, length, true};
-ghost use Rattle.core_makes.specs.LooseCalls.{AreThreadLoose};
+ghost use Rattle.core_makes.specs.Counted.{IsMemberLess};
+ghost use Rattle.core_makes.specs.LooseCalls.{AreThreadLoose, thread_nodes_of};
 ghost use Rattle.core_makes.specs.Member.{IsMember};
 ghost use Rattle.core_makes.specs.Pushed.{PushesThread};
 ghost use Rattle.machine_data.specs.Maps.{get};
@@ -65,7 +66,7 @@ fn push_thread(
     requires room { fits 2 (seen parts.old).core ≡ true }
     requires call { Ok call ≡ item_at item_of parts.old.calls task.rep task.serial }
     requires member { IsMember (bare (parts_of parts.old)) (bare_call call) task.rep (bare_thread thread) }
-    requires loose { AreThreadLoose (bare (parts_of parts.old)) (record { node = thread.node; mark = thread.mark; instance_queue = thread.instance_queue; caller = thread.caller; callers = thread.callers; under = thread.under }) }
+    requires loose { AreThreadLoose (bare (parts_of parts.old)) (thread_nodes_of thread) }
     requires unnamed { thread.thread.handle ≡ None }
     ensures sound { IsSoundCore parts.new }
     ensures new { OnOk result (BecomesRecord (add_thread thread.thread (seen parts.old).core) (seen parts.old) (seen parts.new)) }
@@ -96,7 +97,7 @@ fn drop_member(parts: &mut CoreParts, task: CallId, call: GuestTask, new: Thread
     ensures table { IsTable parts.new.threads }
     ensures threads { parts.new.threads ≡ deleted new.rep parts.old.threads }
     ensures calls { parts.new.calls ≡ with_entry task.rep (entry_of call) parts.old.calls }
-    ensures only { parts.new ≡ record parts.old { threads = parts.new.threads; calls = parts.new.calls; made = record parts.old.made { threads = parts.old.made.threads - 1 }; kept = record parts.old.kept { used = parts.old.kept.used - 2 } } }
+    ensures only { IsMemberLess parts.old parts.new }
 {
     let more = one_thread_more(call);
     drop_thread(&mut parts.threads, new);

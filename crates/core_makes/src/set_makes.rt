@@ -1,3 +1,4 @@
+ghost use Rattle.core_makes.specs.Counted.{IsSetLess, IsSetMore};
 ghost use Rattle.core_makes.specs.Loose.{AreSetLoose};
 ghost use Rattle.std.specs.Prelude.{◌≡◌, ◌+◌, ◌-◌, ◌<◌, ◌^◌, IfOk, OnErr, OnOk, is_some, length, true};
 ghost use Rattle.machine_data.specs.Maps.{get};
@@ -34,7 +35,7 @@ fn push_set(parts: &mut CoreParts, set: WaitSet) -> Result<SetId, NoMemory>
     ensures set { IfOk result (λ id. set_of (seen parts.new) id ≡ (seen parts.old).core.made.sets + 1) }
     ensures rep { IfOk result (λ id. id.rep ≡ next_place parts.old.sets) }
     ensures pushed { OnOk result (parts.new.sets ≡ pushed (entry_of set) parts.old.sets) }
-    ensures only { OnOk result (parts.new ≡ record parts.old { sets = parts.new.sets; made = record parts.old.made { sets = parts.old.made.sets + 1 }; kept = record parts.old.kept { used = parts.old.kept.used + 1 } }) }
+    ensures only { OnOk result (IsSetMore parts.old parts.new) }
     ensures err { OnErr result (parts.new ≡ parts.old) }
 {
     match parts.sets.push::<SetKey>(set) {
@@ -55,7 +56,7 @@ fn take_back(parts: &mut CoreParts, set: SetId)
     requires used { 0 < parts.old.kept.used }
     ensures table { IsTable parts.new.sets }
     ensures deleted { parts.new.sets ≡ deleted set.rep parts.old.sets }
-    ensures only { parts.new ≡ record parts.old { sets = parts.new.sets; made = record parts.old.made { sets = parts.old.made.sets - 1 }; kept = record parts.old.kept { used = parts.old.kept.used - 1 } } }
+    ensures only { IsSetLess parts.old parts.new }
 {
     match parts.sets.delete(set) {
         Ok(_) => {}

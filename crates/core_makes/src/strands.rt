@@ -1,6 +1,7 @@
 ghost use Rattle.std.specs.Prelude.{◌≡◌, ◌+◌, ◌-◌, ◌<◌, ◌≤◌, ◌^◌, IfOk, None, Ok, OnErr, OnOk, true};
 ghost use Rattle.core_makes.specs.Restored.{IsRestored};
-ghost use Rattle.core_makes.specs.LooseCalls.{AreStrandLoose};
+ghost use Rattle.core_makes.specs.Counted.{IsStrandLess};
+ghost use Rattle.core_makes.specs.LooseCalls.{AreStrandLoose, call_nodes_of, thread_nodes_of};
 ghost use Rattle.core_makes.specs.Pushed.{PushesStrand};
 ghost use Rattle.core_makes.specs.Strand.{IsStrand};
 ghost use Rattle.machine_data.specs.Read.{fits};
@@ -91,7 +92,7 @@ pub fn push_call_with_thread(
     requires place { call.group ≡ id.rep }
     requires of_group { group.number ≡ call.call.group }
     requires strand { IsStrand (bare (parts_of parts.old)) (bare_call (record call { first = next_place parts.old.threads })) (bare_thread (record thread { task = next_place parts.old.calls })) }
-    requires loose { AreStrandLoose (bare (parts_of parts.old)) (record { ready = call.ready; blocked = call.blocked }) (record { node = thread.node; mark = thread.mark; instance_queue = thread.instance_queue; caller = thread.caller; callers = thread.callers; under = thread.under }) }
+    requires loose { AreStrandLoose (bare (parts_of parts.old)) (call_nodes_of call) (thread_nodes_of thread) }
     requires unnamed { thread.thread.handle ≡ None }
     requires interests { call.call.interesting ≡ true }
     ensures sound { IsSoundCore parts.new }
@@ -148,7 +149,7 @@ pub fn drop_call_with_thread(
     ensures threads { parts.new.threads ≡ deleted first.rep parts.old.threads }
     ensures calls { parts.new.calls ≡ deleted task.rep parts.old.calls }
     ensures groups { parts.new.groups ≡ with_entry id.rep (entry_of group) parts.old.groups }
-    ensures only { parts.new ≡ record parts.old { threads = parts.new.threads; calls = parts.new.calls; groups = parts.new.groups; made = record parts.old.made { threads = parts.old.made.threads - 1 }; kept = record parts.old.kept { used = parts.old.kept.used - 3; interesting = parts.old.kept.interesting - 1 } } }
+    ensures only { IsStrandLess parts.old parts.new }
 {
     drop_thread(&mut parts.threads, first);
     drop_call(&mut parts.calls, task);

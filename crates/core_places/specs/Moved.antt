@@ -169,7 +169,7 @@ begun g code handle status = record g { thread = to_begun code handle status g.t
 -- The record of the thread that the id names, if it names one, is what this makes of it.
 abbrev pub WritesThread : (GuestThread → GuestThread) → TableId ThreadKey → (old new : Table (Single GuestThread)) → Type 0
 WritesThread change id old new =
-  (g : GuestThread) → Ok g ≡ item_at item_of old id.rep id.serial → new ≡ with_entry id.rep (entry_of (change g)) old
+    (g : GuestThread) → Ok g ≡ item_at item_of old id.rep id.serial → new ≡ with_entry id.rep (entry_of (change g)) old
 
 -- the thread at this place
 abbrev pub placed_at : TableId ThreadKey → Place → StateView → StateView

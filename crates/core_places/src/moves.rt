@@ -6,13 +6,12 @@ ghost use Rattle.table_lists.specs.Index.{Refiles};
 ghost use Rattle.table_links.specs.Links.{is_made, link_of, list_of, removed};
 ghost use Rattle.machine_data.specs.declared.records.OpProgress.{OpProgress};
 ghost use Rattle.machine_data.specs.Write.{on_thread, set_op_progress};
-ghost use Rattle.core_records.specs.Kinds.{entry_of, item_of};
+ghost use Rattle.core_records.specs.Kinds.{item_of};
 ghost use Rattle.core_records.specs.Names.{AtPlace, op_progress_target, place_target};
 ghost use Rattle.core_records.specs.RecordPlaces.{member_order_key, thread_order_key};
 ghost use Rattle.core_records.specs.Seen.{IsSoundCore, parts_of, seen};
 ghost use Rattle.core_records.specs.declared.thread_records.GuestThread.{GuestThread};
 ghost use Rattle.task_table.specs.TableAnswers.{item_at};
-ghost use Rattle.task_table.specs.Changes.{with_entry};
 ghost use Rattle.core_primitives.specs.StateView.{thread_of};
 
 use crate::entry_states::{entry_set, no_set, recount};

@@ -1,22 +1,18 @@
-ghost use Rattle.std.specs.Prelude.{◌≡◌, Bool, IsSome, None, Ok, Some, option_map, ℕ};
-ghost use Rattle.table_links.specs.Links.{removed};
+ghost use Rattle.std.specs.Prelude.{◌≡◌, Bool, IsSome, None, option_map, ℕ};
 ghost use Rattle.machine_data.specs.Moves.{held_why_of, ready_why, stand, why_of};
 ghost use Rattle.machine_data.specs.Read.{place_of};
-ghost use Rattle.machine_data.specs.Write.{on_thread, set_place};
-ghost use Rattle.core_places.specs.Moved.{LeavesChain, RaisesHeld, placed_at, stood_at, to_stand};
+ghost use Rattle.machine_data.specs.Write.{set_place};
+ghost use Rattle.core_places.specs.Moved.{LeavesChain, RaisesHeld, placed_at, stood_at};
 ghost use Rattle.machine_data.specs.declared.records.Place.TheVariants as places;
 ghost use Rattle.machine_data.specs.declared.records.Why.{Why};
 ghost use Rattle.machine_data.specs.declared.words.Mark.TheVariants as marks;
 ghost use Rattle.core_records.specs.Keys.{thread_key};
-ghost use Rattle.core_records.specs.Kinds.{item_of};
 ghost use Rattle.core_records.specs.Names.{AtPlace, place_target, why_target};
 ghost use Rattle.core_records.specs.RecordPlaces.{where_at};
 ghost use Rattle.core_records.specs.Seen.{IsSoundCore, parts_of, seen};
-ghost use Rattle.core_records.specs.declared.thread_records.GuestThread.{GuestThread};
-ghost use Rattle.task_table.specs.TableAnswers.{item_at};
 ghost use Rattle.task_table.specs.Records.{number_in, record_at};
 ghost use Rattle.core_primitives.specs.Live.{delivered_set, live_set, live_delivered_set};
-ghost use Rattle.core_primitives.specs.Names.{op_progress_in, place_in, why_in};
+ghost use Rattle.core_primitives.specs.Names.{place_in, why_in};
 ghost use Rattle.core_primitives.specs.StateView.{on_core, set_of, thread_of, set_if_any};
 ghost use Rattle.core_primitives.specs.Changes.{with_place, standing_at, with_mark, with_held};
 
@@ -222,7 +218,7 @@ fn stand_anywhere(
 fn stand_under(parts: &mut CoreParts, thread: ThreadId, callee: ThreadId, op_progress: OpProgressId)
     requires { IsSoundCore parts.old }
     ensures sound { IsSoundCore parts.new }
-    ensures new { seen parts.new ≡ on_core (on_thread (thread_of (seen parts.old) thread) (to_stand (places.Under (thread_of (seen parts.old) callee)) (op_progress_in (seen parts.old).tags op_progress))) (seen parts.old) }
+    ensures new { seen parts.new ≡ stood_at thread (places.Under (thread_of (seen parts.old) callee)) op_progress (seen parts.old) }
 {
     let called = number(parts, callee);
     let chain = under_chain(parts, callee);
@@ -261,7 +257,7 @@ fn stand_waiting(
 )
     requires { IsSoundCore parts.old }
     ensures sound { IsSoundCore parts.new }
-    ensures new { seen parts.new ≡ on_core (on_thread (thread_of (seen parts.old) thread) (to_stand (places.Waiting (set_of (seen parts.old) set) by_callback) (op_progress_in (seen parts.old).tags op_progress))) (seen parts.old) }
+    ensures new { seen parts.new ≡ stood_at thread (places.Waiting (set_of (seen parts.old) set) by_callback) op_progress (seen parts.old) }
 {
     let number = set_number(parts, set);
     let chain = waiters_chain(parts, set);

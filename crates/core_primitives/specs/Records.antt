@@ -31,7 +31,8 @@ abbrev pub MakesCall : {E : Type 0} → (Core → Core) → StateView → Result
 MakesCall change s = MakesRecord (names_call (next_thread s.core)) (change s.core) s
 
 -- a call in a group of its own
-abbrev pub MakesGroupedCall : {E : Type 0} → (Core → Core) → StateView → Result (TableId ThreadKey × TableId GuestTaskKey) E → StateView → Type 0
+abbrev pub MakesGroupedCall :
+    {E : Type 0} → (Core → Core) → StateView → Result (TableId ThreadKey × TableId GuestTaskKey) E → StateView → Type 0
 MakesGroupedCall change s = MakesGrouped (names_call (next_thread s.core)) (change s.core) s
 
 abbrev pub MakesThread : {E : Type 0} → (Core → Core) → StateView → Result (TableId ThreadKey) E → StateView → Type 0

@@ -26,4 +26,6 @@ count_given es = sum_by weight (values_of es)
 -- There is room for the call's result, with what was given of it; all other rooms are as before.
 abbrev pub MakesRoom : (call : ℕ) → (old new : List (ℕ × ResultRoom)) → Type 0
 MakesRoom k old new = (q : ℕ) → lookup (is_at (nat_cmp q)) new ≡
-    (if is_at (nat_cmp k) q then Some (record { given = given_in (lookup (is_at (nat_cmp k)) old); lives = true }) else lookup (is_at (nat_cmp q)) old)
+    (if is_at (nat_cmp k) q
+    then Some (record { given = given_in (lookup (is_at (nat_cmp k)) old); lives = true })
+    else lookup (is_at (nat_cmp q)) old)

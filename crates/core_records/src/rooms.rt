@@ -2,7 +2,7 @@ ghost use Rattle.core_records.specs.Rooms.{MakesRoom, count_given, given_in, wan
 ghost use Rattle.std.specs.BTreeMap.{is_at};
 ghost use Rattle.std.specs.Map.{lookup};
 ghost use Rattle.std.specs.Ordering.{nat_cmp};
-ghost use Rattle.std.specs.Prelude.{◌≡◌, [], Bool, IsSome, None, OnErr, OnOk, Some, false, if◌then◌else◌, true, ℕ};
+ghost use Rattle.std.specs.Prelude.{◌≡◌, [], Bool, IsSome, None, OnErr, OnOk, false, if◌then◌else◌, true, ℕ};
 
 use machine_data::NoMemory;
 use std::alloc::Global;

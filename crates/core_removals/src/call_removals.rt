@@ -1,5 +1,5 @@
+ghost use Rattle.core_removals.specs.Gone.{FreesCall};
 ghost use Rattle.std.specs.Prelude.{◌≡◌, ◌<◌, None, Ok, false};
-ghost use Rattle.table_lists.specs.GivenPlaces.{given};
 ghost use Rattle.machine_data.specs.Maps.{get};
 ghost use Rattle.machine_data.specs.Read.{call_group, has_thread, join_of};
 ghost use Rattle.machine_data.specs.Write.{remove_call, set_join};
@@ -8,7 +8,6 @@ ghost use Rattle.machine_data.specs.declared.records.Subtask.TheVariants as subt
 ghost use Rattle.core_records.specs.Keys.{group_key};
 ghost use Rattle.core_records.specs.Kinds.{item_of};
 ghost use Rattle.core_records.specs.Seen.{IsSoundCore, seen};
-ghost use Rattle.core_records.specs.declared.call_records.GuestTask.{GuestTask};
 ghost use Rattle.task_table.specs.TableAnswers.{item_at};
 ghost use Rattle.task_table.specs.Records.{number_of};
 ghost use Rattle.core_primitives.specs.StateView.{call_of};
@@ -36,7 +35,7 @@ fn drop_call(parts: &mut CoreParts, call: CallId) -> (TableId<GroupKey>, TaskGro
     ensures item { Ok result.1 ≡ item_at item_of parts.new.groups result.0.rep result.0.serial }
     ensures group { number_of group_key parts.new.groups result.0.rep result.0.serial ≡ call_group (call_of (seen parts.old) call) (seen parts.old).core }
     ensures positive { 0 < call_group (call_of (seen parts.old) call) (seen parts.old).core }
-    ensures places { (g : GuestTask) → Ok g ≡ item_at item_of parts.old.calls call.rep call.serial → parts.new.table_places ≡ given g.entry parts.old.table_places }
+    ensures places { FreesCall call parts.old parts.new }
 {
     let found = *core_records::call_there(parts, call);
     parts.calls.take(call);

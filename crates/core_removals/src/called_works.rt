@@ -10,6 +10,7 @@ ghost use Rattle.task_table.specs.TableAnswers.{item_at};
 ghost use Rattle.task_table.specs.Changes.{deleted, with_entry};
 ghost use Rattle.task_table.specs.Table.{IsTable};
 ghost use Rattle.core_primitives.specs.StateView.{on_core, thread_of, work_of};
+ghost use Rattle.core_removals.specs.Raised.{IsWorkLess, requested_work};
 ghost use Rattle.core_removals.specs.LooseWorks.{AreWorkLoose};
 ghost use Rattle.core_primitives.specs.Records.{MakesWork, async_work};
 
@@ -59,7 +60,7 @@ fn drop_work(parts: &mut CoreParts, id: TableId<GroupKey>, group: TaskGroup, new
     ensures table { IsTable parts.new.works }
     ensures works { parts.new.works ≡ deleted new.rep parts.old.works }
     ensures groups { parts.new.groups ≡ with_entry id.rep (entry_of group) parts.old.groups }
-    ensures only { parts.new ≡ record parts.old { works = parts.new.works; groups = parts.new.groups; made = record parts.old.made { works = parts.old.made.works - 1 }; kept = record parts.old.kept { used = parts.old.kept.used - 1 } } }
+    ensures only { IsWorkLess parts.old parts.new }
 {
     match parts.works.delete(new) {
         Ok(_) => {}
@@ -88,7 +89,7 @@ fn call_work(
     requires high { IsSome parts.old.high }
     requires live { IsSome parts.old.live }
     ensures sound { IsSoundCore parts.new }
-    ensures new { MakesWork (requested_with_handle instance request group) (seen parts.old) result (seen parts.new) }
+    ensures new { MakesWork (requested_work instance request group) (seen parts.old) result (seen parts.new) }
     ensures small { OnOk result (new_handle instance (seen parts.old).core < 2 ^ 28) }
 {
     let number = parts.made.works + 1;

@@ -1,15 +1,15 @@
 //! The taking of a start.
+ghost use Rattle.ops_guests.specs.Rules.{takes_start};
+ghost use Rattle.ops_guests.specs.Does.{Meets};
 ghost use Rattle.std.specs.Prelude.{◌≡◌, ◌<◌, IfOk, IfSome, None, OnErr, OnOk, false, true};
-ghost use Rattle.machine_data.specs.Labels.{choice_of, held_label, take_label};
+ghost use Rattle.machine_data.specs.Labels.{held_label, take_label};
 ghost use Rattle.machine_data.specs.Read.{admits, at_handle_limit, task_of, under_of};
 ghost use Rattle.machine_data.specs.declared.records.Subtask.TheVariants as subtasks;
 ghost use Rattle.machine_data.specs.declared.records.Why.TheVariants as whys;
 ghost use Rattle.ops_moves.specs.Idle.{CanPublish, IsJoinThere, IsWaiting};
-ghost use Rattle.ops_guests.specs.OpResult.{Implements};
 ghost use Rattle.ops_guests.specs.Running.{IsStartTaken};
 ghost use Rattle.ops_guests.specs.Shown.{goes_as};
-ghost use Rattle.ops_guests.specs.Steps.{label_of};
-ghost use Rattle.machine_rules.specs.Takes.{may_tell_starting, start_begins, start_holds, start_rule, start_sets_flags, starting_is_published, starting_told};
+ghost use Rattle.machine_rules.specs.Takes.{may_tell_starting, start_begins, start_holds, start_sets_flags, starting_is_published, starting_told};
 ghost use Rattle.core_primitives.specs.StateView.{call_of, on_core, thread_of, thread_if_any};
 
 use crate::op_result::{OpAnswer, OpResult};
@@ -164,7 +164,7 @@ pub fn take_start<W: Primitives>(
     requires taken { IsStartTaken (thread_of (W.view w.old) thread) (W.view w.old).core }
     requires bottom { under_of (thread_of (W.view w.old) thread) (W.view w.old).core ≡ None }
     requires there { IsJoinThere (subtasks.Guest (task_of (thread_of (W.view w.old) thread) (W.view w.old).core)) (W.view w.old).core }
-    ensures meets { IfOk result (λ op_result. Implements (start_rule mark (thread_of (W.view w.old) thread) (choice_of (label_of (thread_of (W.view w.old) thread) op_result)).woken (W.view w.old).core (admits (thread_of (W.view w.old) thread) (W.view w.old).core whys.Start)) (W.view w.old).core op_result (W.view w.new).core) }
+    ensures meets { IfOk result (λ op_result. Meets (takes_start mark) thread (W.view w.old) op_result (W.view w.new)) }
     ensures tags { (W.view w.new).tags ≡ (W.view w.old).tags }
     ensures current { (W.view w.new).current ≡ (W.view w.old).current }
     ensures err { OnErr result (W.view w.new ≡ W.view w.old) }

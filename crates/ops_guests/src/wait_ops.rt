@@ -1,5 +1,6 @@
 //! Waiting on a set.
-ghost use Rattle.std.specs.Prelude.{◌≡◌, ◌<◌, true};
+ghost use Rattle.ops_moves.specs.Wakes.{MayHandOn, handed_to};
+ghost use Rattle.std.specs.Prelude.{◌≡◌, ◌<◌};
 ghost use Rattle.machine_data.specs.Labels.{own_given, wait_label};
 ghost use Rattle.machine_data.specs.Moves.{handed_on, may_hand_on};
 ghost use Rattle.machine_data.specs.Read.{instance_of};
@@ -11,7 +12,7 @@ ghost use Rattle.ops_guests.specs.Running.{IsRunning, SetsThere};
 ghost use Rattle.ops_guests.specs.Shown.{goes_as};
 ghost use Rattle.machine_rules.specs.Sets.{finds_nothing, wait_stops};
 ghost use Rattle.core_primitives.specs.Apart.{AreWaitersUnqueued};
-ghost use Rattle.core_primitives.specs.StateView.{on_core, set_of, thread_of, thread_if_any};
+ghost use Rattle.core_primitives.specs.StateView.{on_core, set_of, thread_of};
 
 use crate::names::set_named;
 use crate::op_result::{OpAnswer, OpResult};
@@ -30,8 +31,8 @@ pub(crate) fn hand_on<W: Primitives>(
 ) -> Option<ThreadId>
     requires live { 0 < set_of (W.view w.old) set }
     requires unqueued { AreWaitersUnqueued (set_of (W.view w.old) set) (W.view w.old).core }
-    ensures choice { may_hand_on (set_of (W.view w.old) set) (picked_event_in (W.view w.old).tags picked_event) (thread_if_any (W.view w.old) result) (W.view w.old).core ≡ true }
-    ensures new { W.view w.new ≡ on_core (handed_on (set_of (W.view w.old) set) (picked_event_in (W.view w.old).tags picked_event) (thread_if_any (W.view w.old) result)) (W.view w.old) }
+    ensures choice { MayHandOn set (picked_event_in (W.view w.old).tags picked_event) result (W.view w.old) }
+    ensures new { W.view w.new ≡ handed_to set (picked_event_in (W.view w.old).tags picked_event) result (W.view w.old) }
 {
     match picked_event {
         PickedEvent::Own(_) => hand_wake_on(w, set),

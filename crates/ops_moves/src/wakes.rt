@@ -1,4 +1,5 @@
 //! Wakes: who waits on a set, or is blocked on a subtask, gets an entry at high.
+ghost use Rattle.ops_moves.specs.Wakes.{MayHandOn, handed_to};
 ghost use Rattle.std.specs.Prelude.{◌≡◌, ◌<◌, IfSome, true};
 ghost use Rattle.machine_data.specs.Moves.{PickedTaskEvent, behind_one, handed_on, is_callback_waiter, may_hand_on, may_wake, unblocked, wake, waken_by};
 ghost use Rattle.machine_data.specs.Read.{blocked_on};
@@ -72,8 +73,8 @@ pub fn wake<W: Primitives>(w: &mut W, set: SetId) -> Option<ThreadId>
 pub fn hand_wake_on<W: Primitives>(w: &mut W, set: SetId) -> Option<ThreadId>
     requires named { 0 < set_of (W.view w.old) set }
     requires unqueued { AreWaitersUnqueued (set_of (W.view w.old) set) (W.view w.old).core }
-    ensures choice { (event : TaskEvent) → may_hand_on (set_of (W.view w.old) set) (PickedTaskEvent event) (thread_if_any (W.view w.old) result) (W.view w.old).core ≡ true }
-    ensures new { (event : TaskEvent) → W.view w.new ≡ on_core (handed_on (set_of (W.view w.old) set) (PickedTaskEvent event) (thread_if_any (W.view w.old) result)) (W.view w.old) }
+    ensures choice { (event : TaskEvent) → MayHandOn set (PickedTaskEvent event) result (W.view w.old) }
+    ensures new { (event : TaskEvent) → W.view w.new ≡ handed_to set (PickedTaskEvent event) result (W.view w.old) }
 {
     if w.has_ready_member(set) {
         wake(w, set)

@@ -3,13 +3,13 @@ ghost use Rattle.std.specs.Prelude.{◌≡◌, ◌+◌, ◌<◌, ◌≤◌, ◌^
 ghost use Rattle.machine_data.specs.Maps.{get};
 ghost use Rattle.machine_data.specs.Read.{fits, place_of};
 ghost use Rattle.ops_subtasks.specs.Rules.{queues_call};
-ghost use Rattle.ops_subtasks.specs.Starts.{call_starts};
+ghost use Rattle.ops_subtasks.specs.Starts.{call_started};
 ghost use Rattle.machine_data.specs.declared.records.Place.TheVariants as places;
 ghost use Rattle.ops_guests.specs.OpResult.{IsCurrent};
 ghost use Rattle.ops_guests.specs.Does.{DoesRule, KeepsNames};
 ghost use Rattle.ops_guests.specs.Running.{IsRunning};
 ghost use Rattle.machine_rules.specs.Calls.{call_clears_flag, call_queues};
-ghost use Rattle.core_primitives.specs.StateView.{call_of, on_core, thread_of};
+ghost use Rattle.core_primitives.specs.StateView.{on_core, thread_of};
 ghost use Rattle.core_primitives.specs.Records.{MakesThread};
 
 use core_primitives::{CallId, NoMemory, OpProgressId, Primitives, SubtaskId, ThreadId, WhyId};
@@ -42,7 +42,7 @@ pub fn start_made<W: Primitives>(
     requires running { IsRunning (thread_of (W.view w.old) thread) (W.view w.old).core }
     requires other { 0 < thread_of (W.view w.old) other }
     requires new { place_of (thread_of (W.view w.old) other) (W.view w.old).core ≡ Some places.New }
-    ensures { W.view w.new ≡ on_core (call_starts (thread_of (W.view w.old) thread) (thread_of (W.view w.old) other) (call_of (W.view w.old) call) instance kind) (W.view w.old) }
+    ensures { W.view w.new ≡ call_started thread other call instance kind (W.view w.old) }
 {
     put_switch(w, other, WhyId::Start);
     clear_flag(w, thread, instance, kind);
