@@ -1,6 +1,5 @@
-use Rattle.machine_data.specs.declared.records.Caller.{Caller}
 use Rattle.core_makes.proofs.RestoreLemmas.{image_restored, item_restored, sound_restored}
-use Rattle.core_records.proofs.Core.{add_group, ap, arith, AtPlace, bare, call_made, caller_target, fits, get, HasRoom, IsSome, IsSoundCore, Keeps, parts_of, seen, StateView, subst, sym, true, ◌+◌, ◌<◌, ◌^◌, ◌∙◌, ◌≡◌}
+use Rattle.core_records.proofs.Core.{add_group, ap, arith, bare, call_made, fits, get, HasRoom, IsSome, IsSoundCore, Keeps, parts_of, seen, StateView, subst, sym, true, ◌+◌, ◌<◌, ◌^◌, ◌∙◌, ◌≡◌}
 use Rattle.core_records.specs.declared.{parts.CoreParts.CoreParts}
 use Rattle.core_makes.proofs.MainLemmas.{fits_fewer, fits_grouped, group_restored, keeps_grouped, strand_loose_beside}
 use Rattle.core_makes.proofs.call_makes.add_main_strand.Goals as goal
@@ -32,9 +31,6 @@ add_call_with_thread_outlined-requires-clause-add c =
       loose = subst (λ (y : CoreParts). AreStrandLoose (bare (parts_of y)) c.args.nodes.0 c.args.nodes.1) (sym c.in-Ok.ensures.pushes.only)
           (strand_loose_beside a c.push_group.new.parts.groups (record a.made { groups = a.made.groups + 1 }) (record a.kept { used = a.kept.used + 1; groups = a.kept.groups + 1 }) c.args.nodes.0 c.args.nodes.1 c.requires.add.loose);
     }
-
-pub add_call_with_thread_outlined-requires-clause-caller : goal.add_call_with_thread_outlined-requires-clause-caller
-add_call_with_thread_outlined-requires-clause-caller c = subst (λ (x : Caller). AtPlace (parts_of c.push_group.new.parts) c.args.request.maker (caller_target x)) (sym c.requires.add.caller) tt
 
 pub drop_group-requires-clause-item : goal.drop_group-requires-clause-item
 drop_group-requires-clause-item c = c.in-Ok.ensures.pushes.group ∙ sym (item_restored c.push_group.new.parts.groups c.add_call_with_thread_outlined.new.parts.groups c.in-Err-add_call_with_thread_outlined.ensures.err.groups c.in-Ok.id.rep c.in-Ok.id.serial)
