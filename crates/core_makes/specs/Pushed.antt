@@ -106,7 +106,7 @@ pub record DropsStrand
 
 -- The thread of the call at the place is as it is to be, and what it has hangs on nothing yet.
 pub record MayPushThread (a : CoreParts) (id : TableId GuestTaskKey) (call : GuestTask) (thread : GuestThread) : Type 0 where
-  pub there : Ok call ≡ item_at item_of a.calls id.rep id.serial
+  pub call : Ok call ≡ item_at item_of a.calls id.rep id.serial
   pub member : IsMember (bare (parts_of a)) (bare_call call) id.rep (bare_thread thread)
   pub loose : AreThreadLoose (bare (parts_of a)) (thread_nodes_of thread)
   pub unnamed : thread.thread.handle ≡ None

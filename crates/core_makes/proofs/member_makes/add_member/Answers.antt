@@ -16,7 +16,7 @@ push_thread-requires-clause-may c =
     let a = c.args.parts.now in
     let thread = c.thread_record-thread.ensures in
     record {
-      there = c.call_there-call.ensures.item;
+      call = c.call_there-call.ensures.item;
       member =
           request_member a (call_of (seen a) c.args.task) c.call_there-call.result.now c.args.task.rep (Script.Slot c.args.slot) (registers_for c.args.words.now) c.thread_record-thread.result
           (ap (λ (h : GuestThread). h.number) thread) (ap (λ (h : GuestThread). h.thread) thread ∙ c.new_thread-thread.ensures) (ap (λ (h : GuestThread). h.task) thread ∙ c.rep.ensures) (ap (λ (h : GuestThread). h.instance) thread) (ap (λ (h : GuestThread). h.barred) thread)
