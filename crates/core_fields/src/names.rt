@@ -52,7 +52,7 @@ pub fn op_progress(parts: &CoreParts, thread: ThreadId) -> OpProgressId
     ensures { op_progress_in (seen parts.now).tags result ≡ live_op_progress_of (thread_of (seen parts.now) thread) (seen parts.now).core }
 {
     match core_records::thread(parts, thread) {
-        Some(entry) => op_progress_id(parts, entry.awaited, entry.thread.op_progress),
+        Some(entry) => op_progress_id(parts, entry.op_target, entry.thread.op_progress),
         None => OpProgressId::Fresh,
     }
 }

@@ -31,7 +31,7 @@ pub(crate) fn take_thread(places: &mut TablePlaces, task: u32) -> Result<Entries
 
 // The places of a call and then of its first thread. If it is out of memory, none is taken.
 #[inline(always)]
-pub(crate) fn take_strand(places: &mut TablePlaces) -> Result<Entries, NoMemory>
+pub(crate) fn take_call_entries(places: &mut TablePlaces) -> Result<Entries, NoMemory>
     ensures entries { IfOk result (λ e. e ≡ next_entries places.old) }
     ensures places { OnOk result (places.new ≡ taken (taken (taken places.old))) }
 {
@@ -54,7 +54,7 @@ pub(crate) fn give_thread(places: &mut TablePlaces, entries: Entries)
 }
 
 // The places of the thread and then of the call are free.
-pub(crate) fn give_strand(places: &mut TablePlaces, entries: Entries)
+pub(crate) fn give_call_entries(places: &mut TablePlaces, entries: Entries)
     ensures { places.new ≡ given entries.task (given entries.set (given entries.thread places.old)) }
 {
     give_thread(places, entries);

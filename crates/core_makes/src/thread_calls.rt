@@ -7,9 +7,9 @@ ghost use Rattle.task_table.specs.TableAnswers.{item_at};
 ghost use Rattle.core_primitives.specs.StateView.{thread_of};
 ghost use Rattle.core_primitives.specs.Records.{MakesCall, call_by, direct_call_by};
 
-use crate::call_entries::{Entries, give_strand, take_strand};
+use crate::call_entries::{Entries, give_call_entries, take_call_entries};
 use crate::call_makes::{
-    add_call_with_thread_outlined, add_named_strand, prepare, prepare_outlined,
+    add_call_with_thread_outlined, add_named_call, prepare, prepare_outlined,
 };
 use crate::record_makes::Request;
 use core_fields::number;
@@ -93,11 +93,11 @@ pub fn make_call(
     ensures sound { IsSoundCore parts.new }
     ensures new { MakesCall (call_by (thread_of (seen parts.old) thread) callee kind goal words.now) (seen parts.old) result (seen parts.new) }
 {
-    let entries = take_strand(&mut parts.table_places)?;
+    let entries = take_call_entries(&mut parts.table_places)?;
     match make_call_with(parts, thread, callee, kind, goal, words, entries) {
         Ok(ids) => Ok(ids),
         Err(why) => {
-            give_strand(&mut parts.table_places, entries);
+            give_call_entries(&mut parts.table_places, entries);
             Err(why)
         }
     }
@@ -134,7 +134,7 @@ fn make_direct_call_with(
     match prepare(parts, request.goal) {
         Ok(nodes) => {
             let (id, group) = group_of(parts, thread);
-            match add_named_strand(parts, id, group, request, words, nodes) {
+            match add_named_call(parts, id, group, request, words, nodes) {
                 Ok(ids) => Ok(ids),
                 Err(why) => Err(why),
             }
@@ -163,11 +163,11 @@ pub fn make_direct_call(
     ensures new { MakesCall (direct_call_by (thread_of (seen parts.old) thread) callee kind words.now) (seen parts.old) result (seen parts.new) }
 {
     let number = number(parts, thread);
-    let entries = take_strand(&mut parts.table_places)?;
+    let entries = take_call_entries(&mut parts.table_places)?;
     match make_direct_call_with(parts, thread, number, callee, kind, words, entries) {
         Ok(ids) => Ok(ids),
         Err(why) => {
-            give_strand(&mut parts.table_places, entries);
+            give_call_entries(&mut parts.table_places, entries);
             Err(why)
         }
     }

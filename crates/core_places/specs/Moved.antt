@@ -45,7 +45,7 @@ still t = record t { place = place.New; op_progress = op_progress.Fresh }
 
 -- a thread without where it is and how far it has come
 abbrev pub still_thread : GuestThread → GuestThread
-still_thread g = record g { thread = still g.thread; beside = 0; awaited = 0 }
+still_thread g = record g { thread = still g.thread; state_target = 0; op_target = 0 }
 
 -- a set without the numbers of its entries and of its members
 abbrev pub uncounted : WaitSet → WaitSet
@@ -121,18 +121,18 @@ live_key x = if is_stage_live x then Some tt else None
 
 -- a thread at another place, with where what it names there is
 abbrev pub placed : GuestThread → Place → ℕ → GuestThread
-placed g p beside = record g { thread = record g.thread { place = p }; beside = beside }
+placed g p state_target = record g { thread = record g.thread { place = p }; state_target = state_target }
 
 -- a thread that has come to another point of its op, with where what it names there is
 abbrev pub arrived : GuestThread → OpProgress → ℕ → GuestThread
-arrived g h awaited = record g { thread = record g.thread { op_progress = h }; awaited = awaited }
+arrived g h op_target = record g { thread = record g.thread { op_progress = h }; op_target = op_target }
 
 -- a thread at another place, that has come to another point of its op
 abbrev pub to_stand : Place → OpProgress → Thread → Thread
 to_stand p h t = record t { place = p; op_progress = h }
 
-abbrev pub standing : GuestThread → Place → (beside : ℕ) → OpProgress → (awaited : ℕ) → GuestThread
-standing g p beside h awaited = record g { thread = to_stand p h g.thread; beside = beside; awaited = awaited }
+abbrev pub standing : GuestThread → Place → (state_target : ℕ) → OpProgress → (op_target : ℕ) → GuestThread
+standing g p state_target h op_target = record g { thread = to_stand p h g.thread; state_target = state_target; op_target = op_target }
 
 -- a thread with these registers
 abbrev pub with_registers : (registers : List ℕ) → Thread → Thread
@@ -143,14 +143,14 @@ abbrev pub to_op : (position : ℕ) → Thread → Thread
 to_op p t = record t { position = p; op_progress = op_progress.Fresh }
 
 abbrev pub at_op : GuestThread → (position : ℕ) → GuestThread
-at_op g p = record g { thread = to_op p g.thread; awaited = 0 }
+at_op g p = record g { thread = to_op p g.thread; op_target = 0 }
 
 -- the same, with an answer in a register
 abbrev pub to_answer : (register : ℕ) → (value : ℕ) → (position : ℕ) → Thread → Thread
 to_answer r v p t = record t { registers = slice_set t.registers r v; position = p; op_progress = op_progress.Fresh }
 
 abbrev pub at_answer : GuestThread → (register : ℕ) → (value : ℕ) → (position : ℕ) → GuestThread
-at_answer g r v p = record g { thread = to_answer r v p g.thread; awaited = 0 }
+at_answer g r v p = record g { thread = to_answer r v p g.thread; op_target = 0 }
 
 -- a thread that begins an activation, with these words in r0, r1 and r2
 abbrev pub to_begun : (code : ℕ) → (handle : ℕ) → (status : ℕ) → Thread → Thread
@@ -164,7 +164,7 @@ to_begun code handle status t =
     }
 
 abbrev pub begun : GuestThread → (code : ℕ) → (handle : ℕ) → (status : ℕ) → GuestThread
-begun g code handle status = record g { thread = to_begun code handle status g.thread; beside = 0; awaited = 0 }
+begun g code handle status = record g { thread = to_begun code handle status g.thread; state_target = 0; op_target = 0 }
 
 -- The record of the thread that the id names, if it names one, is what this makes of it.
 abbrev pub WritesThread : (GuestThread → GuestThread) → TableId ThreadKey → (old new : Table (Single GuestThread)) → Type 0

@@ -24,8 +24,8 @@ pub fn set_op_progress(parts: &mut CoreParts, thread: ThreadId, op_progress: OpP
     ensures sound { IsSoundCore parts.new }
     ensures new { seen parts.new ≡ with_op_progress thread op_progress (seen parts.old) }
 {
-    let (named, awaited) = op_progress_from_id(parts, op_progress);
-    put_there(parts, thread, named, awaited);
+    let (named, op_target) = op_progress_from_id(parts, op_progress);
+    put_there(parts, thread, named, op_target);
 }
 
 /// Moves the thread to the op at this position.

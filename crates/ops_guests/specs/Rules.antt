@@ -11,7 +11,7 @@ use Rattle.machine_data.specs.declared.records.Delivery.TheVariants as delivery
 use Rattle.machine_data.specs.declared.records.OpProgress.{OpProgress}
 use Rattle.machine_data.specs.declared.records.Why.TheVariants as why
 use Rattle.machine_data.specs.declared.trap.Trap.{Trap}
-use Rattle.machine_data.specs.declared.words.Mark.{Mark}
+use Rattle.machine_data.specs.declared.statuses.Mark.{Mark}
 use Rattle.ops_guests.specs.Answered.{goes_by}
 use Rattle.ops_guests.specs.Does.{NumberRule, Rule}
 use Rattle.ops_guests.specs.OpResult.{Implements}

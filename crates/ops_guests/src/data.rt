@@ -50,8 +50,8 @@ fn skip_equal<W: Primitives>(
 }
 
 // `store W X`
-#[tactic(auto, using(crate::proofs::PositionLemmas::position_word), unfolding(machine_rules::specs::Data::stored))]
-fn store<W: Primitives>(w: &mut W, thread: ThreadId, word: u8, value: Operand, end: u32) -> OpResult
+#[tactic(auto, using(crate::proofs::PositionLemmas::position_memory_cell), unfolding(machine_rules::specs::Data::stored))]
+fn store<W: Primitives>(w: &mut W, thread: ThreadId, cell: u8, value: Operand, end: u32) -> OpResult
     requires { position_of (thread_of (W.view w.old) thread) (W.view w.old).core < end }
     ensures meets { MeetsData end (data_ops.Store word value) thread (W.view w.old) result (W.view w.new) }
     ensures tags { (W.view w.new).tags ≡ (W.view w.old).tags }
@@ -59,7 +59,7 @@ fn store<W: Primitives>(w: &mut W, thread: ThreadId, word: u8, value: Operand, e
 {
     let number = w.number(thread);
     let answer = value_of(w, thread, value);
-    w.set_word(w.instance_of(thread), word, answer);
+    w.set_memory_cell(w.instance_of(thread), cell, answer);
     w.advance(thread);
     OpResult::Continues(
         Label::Data(DataLabel::Store(number, answer)),
@@ -69,7 +69,7 @@ fn store<W: Primitives>(w: &mut W, thread: ThreadId, word: u8, value: Operand, e
 }
 
 /// Returns an op on registers and memory cells, of a script that ends at `end`.
-#[tactic(auto, using(crate::proofs::PositionLemmas::position_word))]
+#[tactic(auto, using(crate::proofs::PositionLemmas::position_memory_cell))]
 pub fn compute<W: Primitives>(w: &mut W, thread: ThreadId, op: DataOp, end: u32) -> OpResult
     requires { position_of (thread_of (W.view w.old) thread) (W.view w.old).core < end }
     ensures meets { MeetsData end op thread (W.view w.old) result (W.view w.new) }
@@ -95,12 +95,12 @@ pub fn compute<W: Primitives>(w: &mut W, thread: ThreadId, op: DataOp, end: u32)
             w.assign(thread, to, answer);
             DataLabel::Handle(number, answer)
         }
-        DataOp::Load { to, word } => {
-            let answer = w.word(w.instance_of(thread), word);
+        DataOp::Load { to, cell } => {
+            let answer = w.memory_cell(w.instance_of(thread), cell);
             w.assign(thread, to, answer);
             DataLabel::Load(number, answer)
         }
-        DataOp::Store { word, value } => return store(w, thread, word, value, end),
+        DataOp::Store { cell, value } => return store(w, thread, cell, value, end),
         DataOp::SkipEq { left, right, ops } => {
             return skip_equal(w, thread, left, right, ops, end);
         }

@@ -1,6 +1,6 @@
 -- The work that a call of a host has made.
 use Rattle.task_wait.specs.declared.keys.ThreadKey.{ThreadKey}
-use Rattle.machine_data.specs.declared.words.Status.TheVariants as status
+use Rattle.machine_data.specs.declared.statuses.Status.TheVariants as status
 use Rattle.machine_data.specs.Statuses.{packed}
 use Rattle.std.specs.Prelude.{None, Option, Some, option_map, ℕ, ◌≡◌}
 use Rattle.machine_data.specs.Core.{Core}

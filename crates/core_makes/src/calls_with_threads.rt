@@ -1,9 +1,9 @@
 ghost use Rattle.std.specs.Prelude.{◌≡◌, ◌+◌, ◌-◌, ◌<◌, ◌≤◌, ◌^◌, IfOk, None, Ok, OnErr, OnOk, true};
 ghost use Rattle.core_makes.specs.Restored.{IsRestored};
 ghost use Rattle.core_makes.specs.Counted.{IsStrandLess};
-ghost use Rattle.core_makes.specs.LooseCalls.{AreStrandLoose, call_nodes_of, thread_nodes_of};
-ghost use Rattle.core_makes.specs.Pushed.{PushesStrand};
-ghost use Rattle.core_makes.specs.Strand.{IsStrand};
+ghost use Rattle.core_makes.specs.LooseCalls.{AreCallAndThreadLoose, call_nodes_of, thread_nodes_of};
+ghost use Rattle.core_makes.specs.Pushed.{PushesCallWithThread};
+ghost use Rattle.core_makes.specs.CallThread.{IsCallWithThread};
 ghost use Rattle.machine_data.specs.Read.{fits};
 ghost use Rattle.machine_data.specs.Write.{add_call, add_thread};
 ghost use Rattle.core_records.specs.Keys.{call_key, thread_key};
@@ -91,15 +91,15 @@ pub fn push_call_with_thread(
     requires group { Ok group ≡ item_at item_of parts.old.groups id.rep id.serial }
     requires place { call.group ≡ id.rep }
     requires of_group { group.number ≡ call.call.group }
-    requires strand { IsStrand (bare (parts_of parts.old)) (bare_call (record call { first = next_place parts.old.threads })) (bare_thread (record thread { task = next_place parts.old.calls })) }
-    requires loose { AreStrandLoose (bare (parts_of parts.old)) (call_nodes_of call) (thread_nodes_of thread) }
+    requires strand { IsCallWithThread (bare (parts_of parts.old)) (bare_call (record call { first = next_place parts.old.threads })) (bare_thread (record thread { task = next_place parts.old.calls })) }
+    requires loose { AreCallAndThreadLoose (bare (parts_of parts.old)) (call_nodes_of call) (thread_nodes_of thread) }
     requires unnamed { thread.thread.handle ≡ None }
     requires interests { call.call.interesting ≡ true }
     ensures sound { IsSoundCore parts.new }
     ensures new { OnOk result (BecomesRecord (add_thread thread.thread (add_call call.number call.call (seen parts.old).core)) (seen parts.old) (seen parts.new)) }
     ensures thread { IfOk result (λ ids. thread_of (seen parts.new) ids.0 ≡ parts.old.made.threads + 1) }
     ensures call { IfOk result (λ ids. call_of (seen parts.new) ids.1 ≡ parts.old.made.threads + 1) }
-    ensures pushes { IfOk result (λ ids. PushesStrand parts.old parts.new id group ids.0 ids.1) }
+    ensures pushes { IfOk result (λ ids. PushesCallWithThread parts.old parts.new id group ids.0 ids.1) }
     ensures err { OnErr result (IsRestored (parts_of parts.old) (parts_of parts.new)) }
 {
     let Some(place) = parts.threads.next_place() else {
