@@ -22,7 +22,7 @@ Rule = Doer → ℕ → Choice → Core → Progress
 -- A trap has changed nothing, and of the names that much is kept.
 pub record DoesRule (AreKept : StateView → StateView → Type 0) (rule : Rule) (id : TableId ThreadKey) (s : StateView) (r : OpResult)
     (t : StateView) : Type 0 where
-  pub meets : (d : Doer) → Implements (rule d (thread_of s id) (choice_of (label_of (thread_of s id) r)) s.core) s.core r
+  pub implements : (d : Doer) → Implements (rule d (thread_of s id) (choice_of (label_of (thread_of s id) r)) s.core) s.core r
       (ended d (thread_of s id) r t.core)
   pub stays : StaysAfter r s t
   pub kept : AreKept s t

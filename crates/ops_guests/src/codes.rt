@@ -21,7 +21,7 @@ use ops_moves::{check, end_thread, foot_of, put_high, put_low};
 fn code_exits<W: Primitives>(w: &mut W, thread: ThreadId, label: Label) -> OpResult
     requires live { 0 < thread_of (W.view w.old) thread }
     requires running { IsRunning (thread_of (W.view w.old) thread) (W.view w.old).core }
-    ensures meets { (rest : ℕ) → Meets (ends_by_code label zero rest) thread (W.view w.old) result (W.view w.new) }
+    ensures implements { (rest : ℕ) → Meets (ends_by_code label zero rest) thread (W.view w.old) result (W.view w.new) }
     ensures stays { StaysAfter result (W.view w.old) (W.view w.new) }
     ensures current { (W.view w.new).current ≡ (W.view w.old).current }
     ensures works { KeepsTold (W.view w.old) (W.view w.new) }
@@ -45,7 +45,7 @@ fn code_exits<W: Primitives>(w: &mut W, thread: ThreadId, label: Label) -> OpRes
 fn code_yields<W: Primitives>(w: &mut W, thread: ThreadId)
     requires live { 0 < thread_of (W.view w.old) thread }
     requires running { IsRunning (thread_of (W.view w.old) thread) (W.view w.old).core }
-    ensures meets { (label : Label) → (rest : ℕ) → Meets (ends_by_code label (suc zero) rest) thread (W.view w.old) (OpResult.Stops label) (W.view w.new) }
+    ensures implements { (label : Label) → (rest : ℕ) → Meets (ends_by_code label (suc zero) rest) thread (W.view w.old) (OpResult.Stops label) (W.view w.new) }
     ensures current { (W.view w.new).current ≡ (W.view w.old).current }
     ensures works { KeepsTold (W.view w.old) (W.view w.new) }
 {
@@ -70,7 +70,7 @@ fn code_waits<W: Primitives>(w: &mut W, thread: ThreadId, label: Label, handle: 
     requires live { 0 < thread_of (W.view w.old) thread }
     requires running { IsRunning (thread_of (W.view w.old) thread) (W.view w.old).core }
     requires there { SetsThere (W.view w.old).core }
-    ensures meets { Meets (ends_by_code label (suc (suc zero)) handle) thread (W.view w.old) result (W.view w.new) }
+    ensures implements { Meets (ends_by_code label (suc (suc zero)) handle) thread (W.view w.old) result (W.view w.new) }
     ensures stays { StaysAfter result (W.view w.old) (W.view w.new) }
     ensures current { (W.view w.new).current ≡ (W.view w.old).current }
     ensures works { KeepsTold (W.view w.old) (W.view w.new) }
@@ -106,7 +106,7 @@ pub fn end_activation<W: Primitives>(
     requires live { 0 < thread_of (W.view w.old) thread }
     requires running { IsRunning (thread_of (W.view w.old) thread) (W.view w.old).core }
     requires there { SetsThere (W.view w.old).core }
-    ensures meets { Implements (code_rule label (thread_of (W.view w.old) thread) (W.view w.old).core code) (W.view w.old).core result (W.view w.new).core }
+    ensures implements { Implements (code_rule label (thread_of (W.view w.old) thread) (W.view w.old).core code) (W.view w.old).core result (W.view w.new).core }
     ensures stays { StaysAfter result (W.view w.old) (W.view w.new) }
     ensures current { (W.view w.new).current ≡ (W.view w.old).current }
     ensures works { KeepsTold (W.view w.old) (W.view w.new) }

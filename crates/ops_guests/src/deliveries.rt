@@ -14,7 +14,7 @@ ghost use Rattle.core_primitives.specs.StateView.{call_of, on_core, set_of, thre
 
 use crate::op_result::{OpAnswer, OpResult};
 use crate::picked_events::{PickedEvent, given, picked_event_for, picked_task_event_only, take};
-use crate::wait_ops::{hand_on, own_given};
+use crate::wait_ops::{hand_on, given_task_event};
 use core_primitives::{CallId, PlaceId, Primitives, SetId, ThreadId};
 use machine_data::{Given, Label, Mark, TakeLabel};
 use ops_moves::{foot_of, stop};
@@ -48,7 +48,7 @@ fn activated(mark: Mark, thread: u64, given: Given, woken: Option<u64>) -> OpRes
             OpAnswer::NoneDue,
         ),
         Some(woken) => OpResult::Continues(
-            Label::Take(TakeLabel::EventWakes(mark, own_given(given), thread, woken)),
+            Label::Take(TakeLabel::EventWakes(mark, given_task_event(given), thread, woken)),
             thread,
             OpAnswer::NoneDue,
         ),
@@ -58,7 +58,7 @@ fn activated(mark: Mark, thread: u64, given: Given, woken: Option<u64>) -> OpRes
 /// Returns a delivery of a yield or of a cancel, which is admitted.
 #[inline(always)]
 pub fn deliver_own<W: Primitives>(w: &mut W, mark: Mark, thread: ThreadId) -> OpResult
-    ensures meets { Meets (delivers_own mark) thread (W.view w.old) result (W.view w.new) }
+    ensures implements { Meets (delivers_own mark) thread (W.view w.old) result (W.view w.new) }
     ensures tags { (W.view w.new).tags ≡ (W.view w.old).tags }
     ensures current { (W.view w.new).current ≡ (W.view w.old).current }
 {
@@ -120,7 +120,7 @@ pub fn deliver_set<W: Primitives>(w: &mut W, mark: Mark, thread: ThreadId, set: 
     requires taken { IsTaken (thread_of (W.view w.old) thread) (why_of (thread_of (W.view w.old) thread) (W.view w.old).core) (W.view w.old).core }
     requires unqueued { AreWaitersUnqueued (set_of (W.view w.old) set) (W.view w.old).core }
     requires members { MembersNamed (instance_of (thread_of (W.view w.old) thread) (W.view w.old).core) (set_of (W.view w.old) set) (W.view w.old).core }
-    ensures meets { Meets (delivers_set mark (set_of (W.view w.old) set)) thread (W.view w.old) result (W.view w.new) }
+    ensures implements { Meets (delivers_set mark (set_of (W.view w.old) set)) thread (W.view w.old) result (W.view w.new) }
     ensures tags { (W.view w.new).tags ≡ (W.view w.old).tags }
     ensures current { (W.view w.new).current ≡ (W.view w.old).current }
 {

@@ -51,7 +51,7 @@ pub fn start<W: Primitives>(
     requires words { length words.now ≤ 16 }
     requires few { (W.view w.old).core.made.threads + 1 < 2 ^ 64 }
     requires groups { (W.view w.old).core.made.groups + 1 < 2 ^ 64 }
-    ensures meets { IfOk result (λ acted. StartsMain line callee kind words.now (W.view w.old) acted (W.view w.new)) }
+    ensures implements { IfOk result (λ acted. StartsMain line callee kind words.now (W.view w.old) acted (W.view w.new)) }
     ensures tags { KeepsStarted result (W.view w.old) (W.view w.new) }
     ensures current { (W.view w.new).current ≡ (W.view w.old).current }
     ensures asked { OnErr result (start_refusal (W.view w.old).core ≡ None) }
@@ -68,7 +68,7 @@ pub fn start<W: Primitives>(
 
 /// Does `finish K R`, of the start that made this call, or was refused.
 pub fn finish<W: Primitives>(w: &mut W, line: u32, call: u64) -> Acted
-    ensures meets { MeetsMain line (Finish (Began call)) (W.view w.old) result (W.view w.new) }
+    ensures implements { MeetsMain line (Finish (Began call)) (W.view w.old) result (W.view w.new) }
     ensures tags { (W.view w.new).tags ≡ (W.view w.old).tags }
     ensures current { (W.view w.new).current ≡ (W.view w.old).current }
 {
@@ -85,7 +85,7 @@ pub fn finish<W: Primitives>(w: &mut W, line: u32, call: u64) -> Acted
 #[tactic(auto, unfolding(machine_rules::specs::MainOps::main_spawned))]
 pub fn spawn<W: Primitives>(w: &mut W, line: u32, host: HostDef) -> Result<Acted, NoMemory>
     requires few { (W.view w.old).core.made.works + 1 < 2 ^ 64 }
-    ensures meets { IfOk result (λ acted. SpawnsMain line host (W.view w.old) acted (W.view w.new)) }
+    ensures implements { IfOk result (λ acted. SpawnsMain line host (W.view w.old) acted (W.view w.new)) }
     ensures tags { Keeps (W.view w.old).tags (W.view w.new).tags }
     ensures current { (W.view w.new).current ≡ (W.view w.old).current }
     ensures err { OnErr result (W.view w.new ≡ W.view w.old) }
@@ -107,7 +107,7 @@ fn aborted(phase: Phase) -> Phase
 /// Does `abort K`, of the spawn that made this work.
 #[tactic(auto, unfolding(machine_rules::specs::MainOps::main_aborted))]
 pub fn abort<W: Primitives>(w: &mut W, line: u32, work: WorkId) -> Acted
-    ensures meets { MeetsMain line (Abort (work_of (W.view w.old) work)) (W.view w.old) result (W.view w.new) }
+    ensures implements { MeetsMain line (Abort (work_of (W.view w.old) work)) (W.view w.old) result (W.view w.new) }
     ensures tags { (W.view w.new).tags ≡ (W.view w.old).tags }
     ensures current { (W.view w.new).current ≡ (W.view w.old).current }
 {

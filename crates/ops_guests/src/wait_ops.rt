@@ -1,7 +1,7 @@
 //! Waiting on a set.
 ghost use Rattle.ops_moves.specs.Wakes.{MayHandOn, handed_to};
 ghost use Rattle.std.specs.Prelude.{◌≡◌, ◌<◌};
-ghost use Rattle.machine_data.specs.Labels.{own_given, wait_label};
+ghost use Rattle.machine_data.specs.Labels.{given_task_event, wait_label};
 ghost use Rattle.machine_data.specs.Moves.{handed_on, may_hand_on};
 ghost use Rattle.machine_data.specs.Read.{instance_of};
 ghost use Rattle.machine_data.specs.declared.records.OpProgress.TheVariants as op_progresses;
@@ -100,8 +100,8 @@ pub fn begin_wait<W: Primitives>(w: &mut W, thread: ThreadId, handle: u64) -> Op
 }
 
 // The task event that was given.
-pub(crate) fn own_given(given: Given) -> TaskEvent
-    ensures { result ≡ own_given given }
+pub(crate) fn given_task_event(given: Given) -> TaskEvent
+    ensures { result ≡ given_task_event given }
 {
     match given {
         Given::Cancelled => TaskEvent::Cancelled,

@@ -96,7 +96,7 @@ pub fn poll_work<W: Primitives>(w: &mut W, work: WorkId, told: PollNews) -> Poll
     requires told { TellsPoll told (poll_of (work_of (W.view w.old) work) (W.view w.old).core) }
     requires blocked { IsBlockedUnqueued (subtasks.Host (work_of (W.view w.old) work)) (W.view w.old).core }
     requires unqueued { work_entries (work_of (W.view w.old) work) (W.view w.old).core.queues.high ≡ 0 }
-    ensures meets { PollsWork work (W.view w.old) result (W.view w.new) }
+    ensures implements { PollsWork work (W.view w.old) result (W.view w.new) }
     ensures core { PollsWorkTo told work (W.view w.old) (W.view w.new) }
     ensures tags { (W.view w.new).tags ≡ (W.view w.old).tags }
     ensures current { (W.view w.new).current ≡ (W.view w.old).current }

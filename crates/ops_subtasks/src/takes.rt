@@ -76,7 +76,7 @@ pub fn take_host<W: Primitives>(w: &mut W, mark: Mark, work: WorkId) -> OpResult
     requires live { 0 < work_of (W.view w.old) work }
     requires placed { Placed (W.view w.old).core }
     requires there { IsJoinThere (subtasks.Host (work_of (W.view w.old) work)) (W.view w.old).core }
-    ensures meets { MeetsAt (by_woken (scripted_host_rule mark)) (work_of (W.view w.old) work) (W.view w.old) result (W.view w.new) }
+    ensures implements { MeetsAt (by_woken (scripted_host_rule mark)) (work_of (W.view w.old) work) (W.view w.old) result (W.view w.new) }
     ensures stays { StaysAfter result (W.view w.old) (W.view w.new) }
     ensures tags { (W.view w.new).tags ≡ (W.view w.old).tags }
     ensures current { (W.view w.new).current ≡ (W.view w.old).current }
