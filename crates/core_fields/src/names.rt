@@ -45,7 +45,7 @@ fn op_progress_id(parts: &CoreParts, place: u32, op_progress: OpProgress) -> OpP
     }
 }
 
-/// Returns how far the op at a thread's position has come.
+/// Returns the op progress of a thread: how far the op at its position has come.
 #[inline(always)]
 pub fn op_progress(parts: &CoreParts, thread: ThreadId) -> OpProgressId
     requires { IsSoundCore parts.now }

@@ -168,7 +168,7 @@ fn make_thread_with(
     }
 }
 
-/// Makes a thread of a call that runs the script of a slot of the call's instance with these words, and gives it its handle. If it
+/// Makes a thread of a call that runs the script of a slot of the call's instance with these values, and gives it its handle. If it
 /// is out of memory, all is as before.
 #[tactic(auto, unfolding(core_records::specs::Seen::seen, core_records::specs::Seen::IsSoundCore))]
 pub fn make_thread(

@@ -23,7 +23,7 @@ pub struct Request {
     pub entries: Entries,
 }
 
-// The registers of a thread that begins with these words. Mostly that is one word, which is written alone.
+// The registers of a thread that begins with these values. Mostly there is one, which is written alone.
 #[inline(always)]
 pub fn registers_of(words: &[u64]) -> [u64; 16]
     requires { length words.now ≤ 16 }

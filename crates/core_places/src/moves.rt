@@ -156,7 +156,7 @@ fn write_answer(
     }
 }
 
-// The beginning of an activation, with these words in r0, r1 and r2.
+// The beginning of an activation, with these values in r0, r1 and r2.
 #[inline(always)]
 fn write_begun(threads: &mut RecordTable<Single<GuestThread>>, id: ThreadId, words: (u64, u64, u64))
     ensures { WritesThread (λ g. begun g words.0 words.1 words.2) id threads.old threads.new }
@@ -329,7 +329,7 @@ pub(crate) fn put(
     }
 }
 
-// The thread has come to another point of its op, where it is, which may be where a set counts it.
+// The thread gets another op progress where it is, which may be where a set counts it.
 #[inline(never)]
 fn put_there_counted(parts: &mut CoreParts, id: ThreadId, op_progress: OpProgress, op_target: u32)
     requires sound { IsSoundCore parts.old }

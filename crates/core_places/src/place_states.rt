@@ -299,7 +299,7 @@ pub fn stand_at(parts: &mut CoreParts, thread: ThreadId, place: PlaceId, op_prog
     }
 }
 
-/// Records that the thread's entry is at this mark, for the same reason as before.
+/// Moves the thread's entry to this mark. Why it is queued stays.
 pub fn set_mark(parts: &mut CoreParts, thread: ThreadId, mark: Mark)
     requires { IsSoundCore parts.old }
     ensures sound { IsSoundCore parts.new }
@@ -326,7 +326,7 @@ pub fn hold(parts: &mut CoreParts, thread: ThreadId)
     }
 }
 
-/// Queues the entry of a held thread at high, for the same reason as before.
+/// Queues the entry of a held thread at high. Why it was held is why it is queued.
 #[inline(always)]
 pub fn unhold(parts: &mut CoreParts, thread: ThreadId)
     requires sound { IsSoundCore parts.old }

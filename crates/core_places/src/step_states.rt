@@ -1,4 +1,4 @@
-//! How far threads have come.
+//! The op progress of threads.
 ghost use Rattle.std.specs.Prelude.{◌≡◌, ◌+◌, ◌<◌, ◌^◌};
 ghost use Rattle.machine_data.specs.Read.{position_of};
 ghost use Rattle.core_places.specs.Moved.{with_registers};
@@ -83,7 +83,7 @@ pub fn assign(parts: &mut CoreParts, thread: ThreadId, register: u8, value: u64)
     put_answer(parts, thread, register, value, at + 1);
 }
 
-// The primitives that an activation is given: code, handle and result.
+// The values that an activation is given: code, handle and result.
 #[inline(always)]
 fn words_of(given: Given) -> (u64, u64, u64)
     ensures code { result.0 ≡ given_code given }

@@ -68,7 +68,7 @@ fn store<W: Primitives>(w: &mut W, thread: ThreadId, cell: u8, value: Operand, e
     )
 }
 
-/// Returns an op on registers and memory cells, of a script that ends at `end`.
+/// Does an op on registers and memory cells, of a script that ends at `end`.
 #[tactic(auto, using(crate::proofs::PositionLemmas::position_memory_cell))]
 pub fn compute<W: Primitives>(w: &mut W, thread: ThreadId, op: DataOp, end: u32) -> OpResult
     requires { position_of (thread_of (W.view w.old) thread) (W.view w.old).core < end }

@@ -19,7 +19,7 @@ use core_primitives::{CallId, PlaceId, Primitives, SetId, ThreadId};
 use machine_data::{Given, Label, Mark, TakeLabel};
 use ops_moves::{foot_of, stop};
 
-// What the gift hands out is in r0, r1 and r2, and the react script runs.
+// What the picked event hands out is in r0, r1 and r2, and the react script runs.
 #[tactic(auto, unfolding(machine_rules::specs::Takes::activated, core_primitives::specs::Context::activating))]
 #[inline(always)]
 fn activate<W: Primitives>(
@@ -55,7 +55,7 @@ fn activated(mark: Mark, thread: u64, given: Given, woken: Option<u64>) -> OpRes
     }
 }
 
-/// Returns a delivery of a yield or of a cancel, which is admitted.
+/// Makes a delivery of a yield or of a cancel, which is admitted.
 #[inline(always)]
 pub fn deliver_own<W: Primitives>(w: &mut W, mark: Mark, thread: ThreadId) -> OpResult
     ensures implements { Meets (delivers_own mark) thread (W.view w.old) result (W.view w.new) }
@@ -70,7 +70,7 @@ pub fn deliver_own<W: Primitives>(w: &mut W, mark: Mark, thread: ThreadId) -> Op
     activated(mark, number, given, None)
 }
 
-/// Returns a resumption, or the start of an explicit thread: the thread goes on.
+/// Resumes a thread, or starts an explicit one: the thread goes on.
 #[tactic(auto, unfolding(machine_rules::specs::Takes::running))]
 pub fn resume<W: Primitives>(w: &mut W, mark: Mark, thread: ThreadId) -> OpResult
     ensures label { result ≡ goes_as (take_label mark (thread_of (W.view w.old) thread) None) (thread_of (W.view w.old) thread) }
@@ -85,7 +85,7 @@ pub fn resume<W: Primitives>(w: &mut W, mark: Mark, thread: ThreadId) -> OpResul
     )
 }
 
-/// Returns a delivery that is not admitted: the thread is held with its entry, and its strand stops.
+/// Holds a delivery that is not admitted: the thread is held with its entry, and its strand stops.
 pub fn hold_delivery<W: Primitives>(w: &mut W, mark: Mark, thread: ThreadId) -> OpResult
     requires live { 0 < thread_of (W.view w.old) thread }
     requires taken { IsTaken (thread_of (W.view w.old) thread) (why_of (thread_of (W.view w.old) thread) (W.view w.old).core) (W.view w.old).core }
@@ -112,7 +112,7 @@ fn wait_again<W: Primitives>(w: &mut W, thread: ThreadId, set: SetId)
     w.set_place(thread, PlaceId::Waiting { set, by_callback });
 }
 
-/// Returns a delivery for the set, which is admitted.
+/// Makes a delivery for the set, which is admitted.
 #[tactic(auto, unfolding(machine_rules::specs::Takes::activated_woken))]
 pub fn deliver_set<W: Primitives>(w: &mut W, mark: Mark, thread: ThreadId, set: SetId) -> OpResult
     requires live { 0 < thread_of (W.view w.old) thread }

@@ -38,7 +38,7 @@ pub(crate) fn stop_and_end<W: Primitives>(w: &mut W, thread: ThreadId)
     end_thread(w, thread);
 }
 
-/// Returns the exit of an explicit thread, or of a stackful export.
+/// Makes the exit of an explicit thread, or of a stackful export.
 #[inline(always)]
 pub fn exit_thread<W: Primitives>(w: &mut W, thread: ThreadId) -> OpResult
     requires live { 0 < thread_of (W.view w.old) thread }

@@ -52,7 +52,7 @@ fn leave<W: Primitives>(w: &mut W, thread: ThreadId, waiter: Option<ThreadId>)
     end_thread(w, thread);
 }
 
-/// Returns the exit of a sync export that was not called directly.
+/// Makes the exit of a sync export that was not called directly.
 pub fn exit_sync<W: Primitives>(w: &mut W, thread: ThreadId) -> OpResult
     requires live { 0 < thread_of (W.view w.old) thread }
     requires running { IsRunning (thread_of (W.view w.old) thread) (W.view w.old).core }
@@ -141,7 +141,7 @@ fn leave_direct<W: Primitives>(w: &mut W, thread: ThreadId, call: CallId) -> Res
     Ok(to)
 }
 
-/// Returns the exit of the first thread of this direct call, with a thread under it, which is current from then on.
+/// Makes the exit of the first thread of this direct call, with a thread under it, which is current from then on.
 #[inline(always)]
 pub fn exit_direct<W: Primitives>(w: &mut W, thread: ThreadId, call: CallId) -> OpResult
     requires live { 0 < thread_of (W.view w.old) thread }
@@ -212,7 +212,7 @@ fn leave_open<W: Primitives>(w: &mut W, thread: ThreadId, waiter: Option<ThreadI
     stop_and_end(w, thread);
 }
 
-/// Returns the exit of a blocking export that was not called directly.
+/// Makes the exit of a blocking export that was not called directly.
 pub fn exit_blocking<W: Primitives>(w: &mut W, thread: ThreadId) -> OpResult
     requires live { 0 < thread_of (W.view w.old) thread }
     requires running { IsRunning (thread_of (W.view w.old) thread) (W.view w.old).core }

@@ -127,7 +127,7 @@ pub fn await_spawn<W: Primitives>(w: &W, line: u32, work: WorkId) -> Acted
     }
 }
 
-/// `quiet`
+/// Does `quiet`.
 pub fn quiet<W: Primitives>(w: &W) -> Acted
     ensures { MeetsMainAnywhere Quiet (W.view w.now) result (W.view w.now) }
 {
@@ -150,10 +150,11 @@ pub fn ready<W: Primitives>(w: &W, instance: u32) -> Acted
     }
 }
 
-/// `answer X`
+/// Does `answer X`.
 pub fn answer<W: Primitives>(w: &W, value: u64) -> Acted
     ensures { MeetsMainAnywhere (Answer value) (W.view w.now) result (W.view w.now) }
 {
+    // only the contract speaks of `w`
     let _state = w;
     Acted::Answers(value)
 }

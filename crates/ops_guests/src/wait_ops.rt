@@ -66,7 +66,7 @@ fn stop_waiting<W: Primitives>(w: &mut W, thread: ThreadId, set: SetId)
     );
 }
 
-/// Does `wait R X`, as it begins
+/// Does `wait R X`, as it begins.
 #[tactic(auto, unfolding(machine_rules::specs::Sets::wait_stops_checked))]
 pub fn begin_wait<W: Primitives>(w: &mut W, thread: ThreadId, handle: u64) -> OpResult
     requires live { 0 < thread_of (W.view w.old) thread }
@@ -142,7 +142,7 @@ fn waited(thread: u64, given: Given, woken: Option<u64>) -> OpResult
     }
 }
 
-/// Does `wait R X`, resumed inside it, whatever its handle names by then
+/// Does `wait R X`, resumed inside it, whatever its handle names by then.
 pub fn go_on_waiting<W: Primitives>(w: &mut W, thread: ThreadId, set: SetId) -> OpResult
     requires live { 0 < thread_of (W.view w.old) thread }
     requires set { 0 < set_of (W.view w.old) set }

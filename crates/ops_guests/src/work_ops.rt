@@ -36,7 +36,7 @@ pub enum Polled {
     Fails,
 }
 
-/// Returns the push of a work: it is live.
+/// Takes the push entry of a work: it is live.
 #[tactic(auto, unfolding(machine_rules::specs::Takes::pushed))]
 pub fn take_push<W: Primitives>(w: &mut W, mark: Mark, work: WorkId) -> OpResult
     ensures label { result ≡ OpResult.Stops (labels.Take (take_labels.Push mark (work_of (W.view w.old) work))) }

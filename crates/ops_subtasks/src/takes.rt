@@ -70,8 +70,8 @@ fn end_host<W: Primitives>(w: &mut W, work: WorkId, waiter: Option<ThreadId>)
     give_value(w, caller, value);
 }
 
-/// Returns the entry of a host call that has ended, taken from the mark: the call is done, which is published, and its value goes
-/// to the calling thread.
+/// Takes the entry of a host call that has ended from the mark: the call is done, which is published, and its value goes to the
+/// calling thread.
 pub fn take_host<W: Primitives>(w: &mut W, mark: Mark, work: WorkId) -> OpResult
     requires live { 0 < work_of (W.view w.old) work }
     requires placed { Placed (W.view w.old).core }
