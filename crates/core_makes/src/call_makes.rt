@@ -15,10 +15,10 @@ ghost use Rattle.core_records.specs.Sound.{bare};
 ghost use Rattle.core_primitives.specs.Records.{MakesCall, MakesGroupedCall, grouped_call};
 
 use crate::call_entries::{Entries, give_call_entries, take_call_entries};
+use crate::calls_with_threads::{drop_call_with_thread, push_call_with_thread};
 use crate::group_makes::{drop_group, push_group, reserve_end};
 use crate::node_makes::{CallNodes, ThreadNodes, new_call_thread_nodes};
 use crate::record_makes::{Request, bars, call_record, new_call, new_thread, thread_record};
-use crate::calls_with_threads::{drop_call_with_thread, push_call_with_thread};
 use core_counts::make_room;
 use core_fields::name_thread;
 use core_primitives::{CallId, ThreadId};

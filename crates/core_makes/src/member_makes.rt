@@ -18,9 +18,9 @@ ghost use Rattle.core_primitives.specs.StateView.{call_of, thread_of};
 ghost use Rattle.core_primitives.specs.Records.{MakesThread, with_member};
 
 use crate::call_entries::{Entries, give_thread, take_thread};
+use crate::calls_with_threads::drop_thread;
 use crate::node_makes::{ThreadNodes, new_thread_nodes};
 use crate::record_makes::{new_thread, thread_record};
-use crate::calls_with_threads::drop_thread;
 use core_fields::name_thread;
 use core_primitives::{CallId, ThreadId};
 use core_records::{CoreParts, GuestTask, GuestThread, Single};

@@ -8,9 +8,7 @@ ghost use Rattle.core_primitives.specs.StateView.{thread_of};
 ghost use Rattle.core_primitives.specs.Records.{MakesCall, call_by, direct_call_by};
 
 use crate::call_entries::{Entries, give_call_entries, take_call_entries};
-use crate::call_makes::{
-    add_call_with_thread_outlined, add_named_call, prepare, prepare_outlined,
-};
+use crate::call_makes::{add_call_with_thread_outlined, add_named_call, prepare, prepare_outlined};
 use crate::record_makes::Request;
 use core_fields::number;
 use core_primitives::{CallId, ThreadId};

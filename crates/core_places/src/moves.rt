@@ -353,7 +353,12 @@ fn put_there_counted(parts: &mut CoreParts, id: ThreadId, op_progress: OpProgres
 
 /// Sets the progress of the op of a thread that runs: no set counts such a thread. An id that names no thread changes nothing.
 #[inline(always)]
-pub(crate) fn put_there(parts: &mut CoreParts, id: ThreadId, op_progress: OpProgress, op_target: u32)
+pub(crate) fn put_there(
+    parts: &mut CoreParts,
+    id: ThreadId,
+    op_progress: OpProgress,
+    op_target: u32,
+)
     requires sound { IsSoundCore parts.old }
     requires op_progress { AtPlace (parts_of parts.old) op_target (op_progress_target op_progress) }
     ensures { BecomesBy parts.old parts.new (set_op_progress (thread_of (seen parts.old) id) op_progress) }
@@ -398,7 +403,14 @@ pub(crate) fn put_stand_counted(
             found.op_target,
         );
         let to = entry_set(parts, &place, state_target, &op_progress, op_target);
-        write_stand(&mut parts.threads, id, place, state_target, op_progress, op_target);
+        write_stand(
+            &mut parts.threads,
+            id,
+            place,
+            state_target,
+            op_progress,
+            op_target,
+        );
         recount(&mut parts.sets, from, to);
         refresh_key(&mut parts.places, node, chain, order_key);
     }
@@ -421,7 +433,15 @@ fn put_stand_away(
     requires chain { IsChainAt parts.old id place chain }
     ensures { BecomesBy parts.old parts.new (on_thread (thread_of (seen parts.old) id) (to_stand place op_progress)) }
 {
-    put_stand_counted(parts, id, place, state_target, op_progress, op_target, chain);
+    put_stand_counted(
+        parts,
+        id,
+        place,
+        state_target,
+        op_progress,
+        op_target,
+        chain,
+    );
 }
 
 /// Moves the thread to another place, and into the chain of that place, and sets the progress of its op. An id that names no thread
@@ -447,11 +467,26 @@ pub(crate) fn put_stand(
             let (node, order_key) = (found.node, thread_order_key(id.rep(), found));
             let from = no_set(parts);
             let to = entry_set(parts, &place, state_target, &op_progress, op_target);
-            write_stand(&mut parts.threads, id, place, state_target, op_progress, op_target);
+            write_stand(
+                &mut parts.threads,
+                id,
+                place,
+                state_target,
+                op_progress,
+                op_target,
+            );
             recount(&mut parts.sets, from, to);
             file_in(&mut parts.places, node, chain, order_key);
         } else {
-            put_stand_away(parts, id, place, state_target, op_progress, op_target, chain);
+            put_stand_away(
+                parts,
+                id,
+                place,
+                state_target,
+                op_progress,
+                op_target,
+                chain,
+            );
         }
     }
 }

@@ -308,7 +308,13 @@ pub fn set_mark(parts: &mut CoreParts, thread: ThreadId, mark: Mark)
     if let Some(found) = core_records::thread(parts, thread) {
         let state_target = found.state_target;
         let why = ready_why(found.thread.place);
-        put(parts, thread, Place::Ready { mark, why }, state_target, None);
+        put(
+            parts,
+            thread,
+            Place::Ready { mark, why },
+            state_target,
+            None,
+        );
     }
 }
 
@@ -322,7 +328,13 @@ pub fn hold(parts: &mut CoreParts, thread: ThreadId)
         let state_target = found.state_target;
         let why = ready_why(found.thread.place);
         let chain = held_chain_unchecked(parts, found.instance, found.barred, why);
-        put(parts, thread, Place::Held { why }, state_target, Some(chain));
+        put(
+            parts,
+            thread,
+            Place::Held { why },
+            state_target,
+            Some(chain),
+        );
     }
 }
 
@@ -343,7 +355,13 @@ pub fn unhold(parts: &mut CoreParts, thread: ThreadId)
     match found.thread.place {
         Place::Held { why } => {
             let mark = Mark::High;
-            put_counted(parts, thread, Place::Ready { mark, why }, state_target, None);
+            put_counted(
+                parts,
+                thread,
+                Place::Ready { mark, why },
+                state_target,
+                None,
+            );
         }
         _ => unreachable!(),
     }

@@ -14,7 +14,7 @@ ghost use Rattle.core_primitives.specs.StateView.{call_of, on_core, set_of, thre
 
 use crate::op_result::{OpAnswer, OpResult};
 use crate::picked_events::{PickedEvent, given, picked_event_for, picked_task_event_only, take};
-use crate::wait_ops::{hand_on, given_task_event};
+use crate::wait_ops::{given_task_event, hand_on};
 use core_primitives::{CallId, PlaceId, Primitives, SetId, ThreadId};
 use machine_data::{Given, Label, Mark, TakeLabel};
 use ops_moves::{foot_of, stop};
