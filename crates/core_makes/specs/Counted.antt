@@ -40,8 +40,8 @@ IsMemberLess a b = b ≡ record a {
 }
 
 -- a call, its first thread and that thread's own set
-abbrev pub IsStrandLess : (old new : CoreParts) → Type 0
-IsStrandLess a b = b ≡ record a {
+abbrev pub IsCallWithThreadLess : (old new : CoreParts) → Type 0
+IsCallWithThreadLess a b = b ≡ record a {
   threads = b.threads;
   calls = b.calls;
   groups = b.groups;
