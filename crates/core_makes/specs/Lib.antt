@@ -4,7 +4,9 @@ pub mod Instances
 pub mod Restored
 pub mod LooseCalls
 pub mod Extends
-pub mod Strand
+pub mod CallThread
 pub mod Pushed
 pub mod Member
 pub mod Ends
+pub mod Fresh
+pub mod Counted

@@ -1,6 +1,9 @@
 -- What a make of records asks, and what it changed, so that it can be taken back.
+use Rattle.machine_data.specs.Write.{add_call, add_thread}
+use Rattle.machine_data.specs.Core.{Core}
+use Rattle.core_makes.specs.CallThread.{IsCallWithThread}
 use Rattle.std.specs.Prelude.{◌≡◌, ◌+◌, ◌<◌, ◌≤◌, ◌^◌, ℕ, IsSome, List, Ok, length, true}
-use Rattle.core_makes.specs.LooseCalls.{AreStrandLoose}
+use Rattle.core_makes.specs.LooseCalls.{AreCallAndThreadLoose}
 use Rattle.core_makes.specs.declared.node_makes.CallNodes.{CallNodes}
 use Rattle.core_makes.specs.declared.node_makes.ThreadNodes.{ThreadNodes}
 use Rattle.core_makes.specs.declared.record_makes.Request.{Request}
@@ -10,7 +13,7 @@ use Rattle.machine_data.specs.declared.records.Goal.TheVariants as goals
 use Rattle.core_records.specs.Image.{HasRoom}
 use Rattle.core_records.specs.Kinds.{entry_of, item_of}
 use Rattle.core_records.specs.Seen.{IsSoundCore, parts_of, seen}
-use Rattle.core_records.specs.Sound.{bare}
+use Rattle.core_records.specs.Sound.{bare, bare_call, bare_thread}
 use Rattle.core_records.specs.declared.call_records.GuestTask.{GuestTask}
 use Rattle.core_records.specs.declared.call_records.TaskGroup.{TaskGroup}
 use Rattle.core_records.specs.declared.parts.CoreParts.{CoreParts}
@@ -32,10 +35,10 @@ pub record MayAdd
   pub group : Ok of ≡ item_at item_of a.groups id.rep id.serial
   pub there : IsSome (get (seen a).core.instances request.callee.instance)
   pub result : request.goal ≡ goals.Main → HasRoom (a.made.threads + 1) a.results
-  pub loose : AreStrandLoose (bare (parts_of a)) nodes.0 nodes.1
+  pub loose : AreCallAndThreadLoose (bare (parts_of a)) nodes.0 nodes.1
 
 -- A call more, of this group, and its first thread.
-pub record PushesStrand
+pub record PushesCallWithThread
     (a b : CoreParts) (id : TableId GroupKey) (group : TaskGroup) (first : TableId ThreadKey) (task : TableId GuestTaskKey) : Type 0 where
   pub thread : GuestThread
   pub call : GuestTask
@@ -64,3 +67,12 @@ pub record PushesThread (a b : CoreParts) (id : TableId GuestTaskKey) (call : Gu
     made = record a.made { threads = a.made.threads + 1 };
     kept = record a.kept { used = a.kept.used + 2 };
   }
+
+-- The call and its first thread are the next ones, once each has the place of the other.
+abbrev pub MayBeNext : CoreParts → GuestTask → GuestThread → Type 0
+MayBeNext a call thread = IsCallWithThread (bare (parts_of a)) (bare_call (record call { first = next_place a.threads }))
+    (bare_thread (record thread { task = next_place a.calls }))
+
+-- a call more, with its first thread
+abbrev pub with_call_and_thread : GuestTask → GuestThread → Core → Core
+with_call_and_thread call thread s = add_thread thread.thread (add_call call.number call.call s)

@@ -1,11 +1,11 @@
-ghost use Rattle.core_makes.specs.Makes.{MakesChain, MakesNode};
+ghost use Rattle.core_makes.specs.Makes.{MakesChain, MakesNode, with_instance_queues_of};
 ghost use Rattle.core_records.specs.Seen.{IsSoundCore};
 
 use core_records::CoreParts;
 use machine_data::NoMemory;
 use table_links::Node;
 
-/// Returns a new chain among the entries of marks, which hangs on nothing yet. If it is out of memory, all is as before.
+/// Makes a new chain among the entries of marks, which hangs on nothing yet. If it is out of memory, all is as before.
 #[inline(always)]
 pub fn make_mark_chain(parts: &mut CoreParts) -> Result<usize, NoMemory>
     requires { IsSoundCore parts.old }
@@ -17,7 +17,7 @@ pub fn make_mark_chain(parts: &mut CoreParts) -> Result<usize, NoMemory>
     }
 }
 
-/// Returns a new node among the entries of marks, which hangs on nothing yet. If it is out of memory, all is as before.
+/// Makes a new node among the entries of marks, which hangs on nothing yet. If it is out of memory, all is as before.
 #[inline(always)]
 pub fn make_mark_node(parts: &mut CoreParts) -> Result<Node, NoMemory>
     requires { IsSoundCore parts.old }
@@ -29,12 +29,12 @@ pub fn make_mark_node(parts: &mut CoreParts) -> Result<Node, NoMemory>
     }
 }
 
-/// Returns a new chain among the entries of instances at a mark, which hangs on nothing yet. If it is out of memory, all is as
+/// Makes a new chain among the entries of instances at a mark, which hangs on nothing yet. If it is out of memory, all is as
 /// before.
 #[inline(always)]
 pub fn make_instance_queue_chain(parts: &mut CoreParts) -> Result<usize, NoMemory>
     requires { IsSoundCore parts.old }
-    ensures { MakesChain parts.old.instance_queues parts.new.instance_queues parts.old parts.new (record parts.old { instance_queues = parts.new.instance_queues }) result }
+    ensures { MakesChain parts.old.instance_queues parts.new.instance_queues parts.old parts.new (with_instance_queues_of parts.new parts.old) result }
 {
     match parts.instance_queues.make_chain() {
         Ok(chain) => Ok(chain),
@@ -42,12 +42,12 @@ pub fn make_instance_queue_chain(parts: &mut CoreParts) -> Result<usize, NoMemor
     }
 }
 
-/// Returns a new node among the entries of instances at a mark, which hangs on nothing yet. If it is out of memory, all is as
+/// Makes a new node among the entries of instances at a mark, which hangs on nothing yet. If it is out of memory, all is as
 /// before.
 #[inline(always)]
 pub fn make_instance_queue_node(parts: &mut CoreParts) -> Result<Node, NoMemory>
     requires { IsSoundCore parts.old }
-    ensures { MakesNode parts.old.instance_queues parts.new.instance_queues parts.old parts.new (record parts.old { instance_queues = parts.new.instance_queues }) result }
+    ensures { MakesNode parts.old.instance_queues parts.new.instance_queues parts.old parts.new (with_instance_queues_of parts.new parts.old) result }
 {
     match parts.instance_queues.make_node() {
         Ok(node) => Ok(node),

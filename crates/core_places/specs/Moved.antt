@@ -9,7 +9,9 @@ use Rattle.machine_data.specs.declared.records.Join.{Join}
 use Rattle.machine_data.specs.declared.records.Join.TheVariants as join
 use Rattle.machine_data.specs.declared.records.Place.{Place}
 use Rattle.machine_data.specs.declared.records.Place.TheVariants as place
+use Rattle.machine_data.specs.Moves.{held_why_of}
 use Rattle.machine_data.specs.Read.{is_stage_live}
+use Rattle.machine_data.specs.Write.{on_thread, set_place}
 use Rattle.machine_data.specs.declared.records.Stage.{Stage}
 use Rattle.machine_data.specs.declared.records.Stage.TheVariants as stage
 use Rattle.machine_data.specs.declared.records.Script.TheVariants as script
@@ -30,13 +32,20 @@ use Rattle.task_table.specs.Mapped.{mapped}
 use Rattle.task_table.specs.Table.{Table}
 use Rattle.task_table.specs.declared.error.ResourceTableError.{ResourceTableError}
 use Rattle.core_primitives.specs.Live.{delivered_set, kept_in}
+use Rattle.core_primitives.specs.Names.{op_progress_in}
+use Rattle.core_primitives.specs.StateView.{StateView, on_core, thread_of}
+use Rattle.core_primitives.specs.declared.names.OpProgressId.{OpProgressId}
+use Rattle.core_records.specs.declared.parts.CoreParts.{CoreParts}
+use Rattle.table_links.specs.Links.{removed}
+use Rattle.task_table.specs.declared.id.TableId.{TableId}
+use Rattle.task_wait.specs.declared.keys.ThreadKey.{ThreadKey}
 
 abbrev pub still : Thread → Thread
 still t = record t { place = place.New; op_progress = op_progress.Fresh }
 
 -- a thread without where it is and how far it has come
 abbrev pub still_thread : GuestThread → GuestThread
-still_thread g = record g { thread = still g.thread; beside = 0; awaited = 0 }
+still_thread g = record g { thread = still g.thread; state_target = 0; op_target = 0 }
 
 -- a set without the numbers of its entries and of its members
 abbrev pub uncounted : WaitSet → WaitSet
@@ -110,20 +119,20 @@ still_work w = record w { work = quiet_work w.work; joined = 0 }
 abbrev pub live_key : Stage → Option (Unit {0})
 live_key x = if is_stage_live x then Some tt else None
 
--- a thread at another place, with where what it names there is
+-- a thread at another place, and the index of the record that this place names
 abbrev pub placed : GuestThread → Place → ℕ → GuestThread
-placed g p beside = record g { thread = record g.thread { place = p }; beside = beside }
+placed g p state_target = record g { thread = record g.thread { place = p }; state_target = state_target }
 
--- a thread that has come to another point of its op, with where what it names there is
+-- a thread with another op progress, and the index of the record that this names
 abbrev pub arrived : GuestThread → OpProgress → ℕ → GuestThread
-arrived g h awaited = record g { thread = record g.thread { op_progress = h }; awaited = awaited }
+arrived g h op_target = record g { thread = record g.thread { op_progress = h }; op_target = op_target }
 
--- a thread at another place, that has come to another point of its op
+-- a thread at another place, with another op progress
 abbrev pub to_stand : Place → OpProgress → Thread → Thread
 to_stand p h t = record t { place = p; op_progress = h }
 
-abbrev pub standing : GuestThread → Place → (beside : ℕ) → OpProgress → (awaited : ℕ) → GuestThread
-standing g p beside h awaited = record g { thread = to_stand p h g.thread; beside = beside; awaited = awaited }
+abbrev pub standing : GuestThread → Place → (state_target : ℕ) → OpProgress → (op_target : ℕ) → GuestThread
+standing g p state_target h op_target = record g { thread = to_stand p h g.thread; state_target = state_target; op_target = op_target }
 
 -- a thread with these registers
 abbrev pub with_registers : (registers : List ℕ) → Thread → Thread
@@ -134,16 +143,16 @@ abbrev pub to_op : (position : ℕ) → Thread → Thread
 to_op p t = record t { position = p; op_progress = op_progress.Fresh }
 
 abbrev pub at_op : GuestThread → (position : ℕ) → GuestThread
-at_op g p = record g { thread = to_op p g.thread; awaited = 0 }
+at_op g p = record g { thread = to_op p g.thread; op_target = 0 }
 
--- the same, with an answer in a register
+-- a thread that is about to begin the op at this position, with an answer in a register
 abbrev pub to_answer : (register : ℕ) → (value : ℕ) → (position : ℕ) → Thread → Thread
 to_answer r v p t = record t { registers = slice_set t.registers r v; position = p; op_progress = op_progress.Fresh }
 
 abbrev pub at_answer : GuestThread → (register : ℕ) → (value : ℕ) → (position : ℕ) → GuestThread
-at_answer g r v p = record g { thread = to_answer r v p g.thread; awaited = 0 }
+at_answer g r v p = record g { thread = to_answer r v p g.thread; op_target = 0 }
 
--- a thread that begins an activation, with these words in r0, r1 and r2
+-- a thread that begins an activation, with these values in r0, r1 and r2
 abbrev pub to_begun : (code : ℕ) → (handle : ℕ) → (status : ℕ) → Thread → Thread
 to_begun code handle status t =
     record t {
@@ -155,4 +164,25 @@ to_begun code handle status t =
     }
 
 abbrev pub begun : GuestThread → (code : ℕ) → (handle : ℕ) → (status : ℕ) → GuestThread
-begun g code handle status = record g { thread = to_begun code handle status g.thread; beside = 0; awaited = 0 }
+begun g code handle status = record g { thread = to_begun code handle status g.thread; state_target = 0; op_target = 0 }
+
+-- The record of the thread that the id names, if it names one, is what this makes of it.
+abbrev pub WritesThread : (GuestThread → GuestThread) → TableId ThreadKey → (old new : Table (Single GuestThread)) → Type 0
+WritesThread change id old new =
+    (g : GuestThread) → Ok g ≡ item_at item_of old id.rep id.serial → new ≡ with_entry id.rep (entry_of (change g)) old
+
+-- the thread at this place
+abbrev pub placed_at : TableId ThreadKey → Place → StateView → StateView
+placed_at id at s = on_core (set_place (thread_of s id) at) s
+
+-- at this place, and its op got this far
+abbrev pub stood_at : TableId ThreadKey → Place → OpProgressId → StateView → StateView
+stood_at id at progress s = on_core (on_thread (thread_of s id) (to_stand at (op_progress_in s.tags progress))) s
+
+-- A thread that is held becomes this for what it is held for.
+abbrev pub RaisesHeld : (ℕ → Why → Core → Core) → (n : ℕ) → (old new : StateView) → Type 0
+RaisesHeld change n s t = (w : Why) → held_why_of n s.core ≡ Some w → t ≡ on_core (change n w) s
+
+-- The node of the thread that the id names, if it names one, is in no chain of places any more.
+abbrev pub LeavesChain : TableId ThreadKey → (old new : CoreParts) → Type 0
+LeavesChain id a b = (g : GuestThread) → Ok g ≡ item_at item_of a.threads id.rep id.serial → b.places ≡ removed g.node.index a.places

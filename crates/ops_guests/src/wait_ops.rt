@@ -1,6 +1,7 @@
 //! Waiting on a set.
-ghost use Rattle.std.specs.Prelude.{◌≡◌, ◌<◌, option_map, true};
-ghost use Rattle.machine_data.specs.Labels.{own_given, wait_label};
+ghost use Rattle.ops_moves.specs.Wakes.{MayHandOn, handed_to};
+ghost use Rattle.std.specs.Prelude.{◌≡◌, ◌<◌};
+ghost use Rattle.machine_data.specs.Labels.{given_task_event, wait_label};
 ghost use Rattle.machine_data.specs.Moves.{handed_on, may_hand_on};
 ghost use Rattle.machine_data.specs.Read.{instance_of};
 ghost use Rattle.machine_data.specs.declared.records.OpProgress.TheVariants as op_progresses;
@@ -30,8 +31,8 @@ pub(crate) fn hand_on<W: Primitives>(
 ) -> Option<ThreadId>
     requires live { 0 < set_of (W.view w.old) set }
     requires unqueued { AreWaitersUnqueued (set_of (W.view w.old) set) (W.view w.old).core }
-    ensures choice { may_hand_on (set_of (W.view w.old) set) (picked_event_in (W.view w.old).tags picked_event) (option_map (λ id. thread_of (W.view w.old) id) result) (W.view w.old).core ≡ true }
-    ensures new { W.view w.new ≡ on_core (handed_on (set_of (W.view w.old) set) (picked_event_in (W.view w.old).tags picked_event) (option_map (λ id. thread_of (W.view w.old) id) result)) (W.view w.old) }
+    ensures choice { MayHandOn set (picked_event_in (W.view w.old).tags picked_event) result (W.view w.old) }
+    ensures new { W.view w.new ≡ handed_to set (picked_event_in (W.view w.old).tags picked_event) result (W.view w.old) }
 {
     match picked_event {
         PickedEvent::Own(_) => hand_wake_on(w, set),
@@ -65,7 +66,7 @@ fn stop_waiting<W: Primitives>(w: &mut W, thread: ThreadId, set: SetId)
     );
 }
 
-/// Does `wait R X`, as it begins
+/// Does `wait R X`, as it begins.
 #[tactic(auto, unfolding(machine_rules::specs::Sets::wait_stops_checked))]
 pub fn begin_wait<W: Primitives>(w: &mut W, thread: ThreadId, handle: u64) -> OpResult
     requires live { 0 < thread_of (W.view w.old) thread }
@@ -99,8 +100,8 @@ pub fn begin_wait<W: Primitives>(w: &mut W, thread: ThreadId, handle: u64) -> Op
 }
 
 // The task event that was given.
-pub(crate) fn own_given(given: Given) -> TaskEvent
-    ensures { result ≡ own_given given }
+pub(crate) fn given_task_event(given: Given) -> TaskEvent
+    ensures { result ≡ given_task_event given }
 {
     match given {
         Given::Cancelled => TaskEvent::Cancelled,
@@ -141,7 +142,7 @@ fn waited(thread: u64, given: Given, woken: Option<u64>) -> OpResult
     }
 }
 
-/// Does `wait R X`, resumed inside it, whatever its handle names by then
+/// Does `wait R X`, resumed inside it, whatever its handle names by then.
 pub fn go_on_waiting<W: Primitives>(w: &mut W, thread: ThreadId, set: SetId) -> OpResult
     requires live { 0 < thread_of (W.view w.old) thread }
     requires set { 0 < set_of (W.view w.old) set }
