@@ -58,7 +58,7 @@ impl PlacePrimitives for TaskCore {
     }
 
     fn first_waiter(&self, set: SetId) -> Option<ThreadId> {
-        core_removals::first_waiter(&self.parts, set)
+        core_picks::first_waiter(&self.parts, set)
     }
 
     fn has_callers(&self, thread: ThreadId) -> bool {

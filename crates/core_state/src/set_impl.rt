@@ -8,7 +8,7 @@ impl SetPrimitives for TaskCore {
     }
 
     fn has_ready_member(&self, set: SetId) -> bool {
-        core_removals::has_ready_member(&self.parts, set)
+        core_picks::has_ready_member(&self.parts, set)
     }
 
     fn has_waiters(&self, set: SetId) -> bool {
@@ -16,7 +16,7 @@ impl SetPrimitives for TaskCore {
     }
 
     fn first_ready(&self, set: SetId) -> Option<SubtaskId> {
-        core_removals::first_ready(&self.parts, set)
+        core_picks::first_ready(&self.parts, set)
     }
 
     fn open_set(&mut self, instance: u32) -> Result<SetId, NoMemory> {

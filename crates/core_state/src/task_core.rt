@@ -58,7 +58,7 @@ impl View for TaskCore {
     }
 
     fn want(&mut self, wanted: WantedId) {
-        core_removals::want(&mut self.parts, wanted);
+        core_picks::want(&mut self.parts, wanted);
     }
 
     fn none_is_zero(&self) {

@@ -1,5 +1,5 @@
 use Rattle.core_places.proofs.WantedLemmas.{unwanted_first, wanted_first, waiter_live}
-use Rattle.core_removals.proofs.picks.first_waiter.Goals as goal
+use Rattle.core_picks.proofs.picks.first_waiter.Goals as goal
 use Rattle.core_places.specs.Picks.{IsLeastWaiter}
 use Rattle.core_primitives.specs.Preferences.{preference}
 use Rattle.core_primitives.specs.StateView.{set_of}

@@ -1,7 +1,7 @@
 use Rattle.core_places.proofs.FirstLemmas.{first_held, none_held}
 use Rattle.core_places.proofs.PickLemmas.{least_waiter}
 use Rattle.core_places.proofs.WaiterLemmas.{no_waiter, waiter_held, waiters_live}
-use Rattle.core_removals.proofs.picks.least_waiter.Goals as goal
+use Rattle.core_picks.proofs.picks.least_waiter.Goals as goal
 
 pub first-requires : goal.first-requires
 first-requires c = waiters_live c.args.parts.now c.requires.sound c.args.set.rep c.args.set.serial c.set_there-found.result.now c.set_there-found.ensures.item

@@ -1,7 +1,7 @@
 use Rattle.core_places.proofs.FirstLemmas.{first_held, none_held}
 use Rattle.core_places.proofs.MemberPickLemmas.{least_call, least_work, no_work_ready}
 use Rattle.core_places.proofs.ReadyLemmas.{call_held, none_ready, ready_calls_live, ready_works_live, work_held}
-use Rattle.core_removals.proofs.picks.least_ready.Goals as goal
+use Rattle.core_picks.proofs.picks.least_ready.Goals as goal
 
 pub first-requires : goal.first-requires
 first-requires c = ready_works_live c.args.parts.now c.requires.sound c.args.set.rep c.args.set.serial c.set_there-found.result.now c.set_there-found.ensures.item

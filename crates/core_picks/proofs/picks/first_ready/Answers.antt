@@ -1,5 +1,5 @@
 use Rattle.core_places.proofs.WantedLemmas.{unwanted_member_first, wanted_member_first}
-use Rattle.core_removals.proofs.picks.first_ready.Goals as goal
+use Rattle.core_picks.proofs.picks.first_ready.Goals as goal
 use Rattle.core_places.specs.Picks.{IsLeastMember}
 use Rattle.core_primitives.specs.Names.{subtask_in}
 use Rattle.core_primitives.specs.Preferences.{preference}

@@ -1,4 +1,4 @@
-use Rattle.core_removals.proofs.picks.want.Goals as goal
+use Rattle.core_picks.proofs.picks.want.Goals as goal
 use Rattle.core_records.proofs.Core.{IsSoundCore, refl, seen}
 
 pub returns-clause-sound : goal.returns-clause-sound
