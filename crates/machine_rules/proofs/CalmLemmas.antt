@@ -49,13 +49,13 @@ use Rattle.machine_rules.specs.Data.{data_rule, skip_rule}
 use Rattle.machine_rules.specs.Ends.{blocking_exit_rule, code_kind_rule, code_rule, code_wait_rule, direct_exit_to, exit_rule_for, has_event_for, held_by_flag, implicit_exit_rule, kind_exit_rule, leaves_no_result, may_tell, passes_after_return, passes_after_stop, sync_exit_rule, thread_exit_rule}
 use Rattle.machine_rules.specs.Finish.{Doer}
 use Rattle.machine_rules.specs.OpParts.{is_data_op}
-use Rattle.machine_rules.specs.Progress.{Progress, or_trap, trap_if}
+use Rattle.machine_rules.specs.Progress.{Progress, may, or_never, or_trap, trap_if}
 use Rattle.machine_rules.specs.Scripts.{export_kind, host_at, op_of, slot_at, value_of, values_in}
-use Rattle.machine_rules.specs.Sets.{chosen, finds_nothing, handed_out, join_done_by, join_to_by, may_wake_new, set_drop_by, set_new_rule, set_rule, wait_begins_by, wait_goes_on_by, wait_rule}
+use Rattle.machine_rules.specs.Sets.{chosen, finds_nothing, handed_out, join_done_by, join_to_by, may_wake_new, poll_rule, set_drop_by, set_new_rule, set_rule, wait_begins_by, wait_goes_on_by, wait_rule}
 use Rattle.machine_rules.specs.Step.{did, op_rule, own_script}
 use Rattle.machine_rules.specs.Task.{dec_by, inc_rule, ret_bad_rule, ret_rule, task_cancel_rule, task_rule}
 use Rattle.machine_rules.specs.Threads.{Halt, Suspension, Yielding, halt_rule, halting_by, halts_by, has_yielded, resume_later_by, resume_why, resumed_by, then_promote_by, then_promote_found_by, then_promote_rule, then_resume_found, then_resume_rule, thread_new_rule, thread_rule}
-use Rattle.machine_rules.specs.Picks.{LeavesNoChoice, Silent}
+use Rattle.machine_rules.specs.Picks.{LeavesNoChoice, ReleasesNone, Silent}
 use Rattle.machine_data.specs.declared.trap.Trap.{Trap}
 
 pub trap_if_calm : (b : Bool) (t : Trap) (p : Progress) → LeavesNoChoice p → LeavesNoChoice (trap_if b t p)
@@ -278,3 +278,83 @@ module _ (d : Doer) (n : ℕ) (s : Core) where
   thread_calm c (thread_op.YieldThenPromote x) =
       let l = thread_label.YieldThenPromote n in
       halting_calm l (λ l. then_promote_rule d Yielding n (value_of n s x) l s) (then_promote_calm d n (label.Thread l) (refl, refl) s Yielding (value_of n s x))
+
+-- ---- Rules that release no thread, and whose labels may show a choice
+
+trap_if_none : (b : Bool) (t : Trap) (p : Progress) → ReleasesNone p → ReleasesNone (trap_if b t p)
+trap_if_none true t p none = tt
+trap_if_none false t p none = none
+
+or_trap_none : {X : Type 0} (o : Option X) (t : Trap) (next : X → Progress) → ((x : X) → ReleasesNone (next x)) → ReleasesNone (or_trap o t next)
+or_trap_none None t next none = tt
+or_trap_none (Some x) t next none = none x
+
+may_none : (b : Bool) (p : Progress) → ReleasesNone p → ReleasesNone (may b p)
+may_none true p none = none
+may_none false p none = tt
+
+or_never_none : {X : Type 0} (o : Option X) (next : X → Progress) → ((x : X) → ReleasesNone (next x)) → ReleasesNone (or_never o next)
+or_never_none None next none = tt
+or_never_none (Some x) next none = none x
+
+module _ (d : Doer) (n : ℕ) (s : Core) where
+  abbrev check_fails : Bool
+  check_fails = not (passes_check (instance_of n s) s)
+
+  pub thread_exit_none : ReleasesNone (thread_exit_rule n s)
+  thread_exit_none = trap_if_none check_fails _ _ (trap_if_none (leaves_no_result n s) _ _ tt)
+
+  pub sync_exit_none : (w : Option ℕ) → ReleasesNone (sync_exit_rule n w s)
+  sync_exit_none w = may_none (may_tell (task_of n s) w s) _ tt
+
+  pub direct_exit_none : (x : ExportKind) (m : Option ℕ) → ReleasesNone (direct_exit_to n x s m)
+  direct_exit_none x None = tt
+  direct_exit_none kind.Sync (Some m) = tt
+  direct_exit_none kind.Blocking (Some m) = trap_if_none check_fails _ _ tt
+  direct_exit_none kind.Stackful (Some m) = trap_if_none check_fails _ _ tt
+  direct_exit_none kind.Callback (Some m) = trap_if_none check_fails _ _ tt
+
+  pub ret_none : (v : ℕ) (w : Option ℕ) → ReleasesNone (ret_rule d n v w s)
+  ret_none v w =
+      trap_if_none (has_ended (task_of n s) s) _ _ (
+      trap_if_none (not (is_async_lifted (kind_of (task_of n s) s))) _ _ (
+      may_none (may_tell (task_of n s) w s) _ tt))
+
+  pub task_cancel_none : (w : Option ℕ) → ReleasesNone (task_cancel_rule d n w s)
+  task_cancel_none w =
+      trap_if_none (not (cancel_was_delivered (task_of n s) s)) _ _ (
+      trap_if_none (has_ended (task_of n s) s) _ _ (
+      may_none (may_tell (task_of n s) w s) _ tt))
+
+  pub wait_on_none : (x : ℕ) (ch : Choice) (g : PickedEvent) → ReleasesNone (wait_goes_on_by d n x ch s g)
+  wait_on_none x ch NothingPicked = tt
+  wait_on_none x ch (PickedTaskEvent e) =
+      may_none (may_hand_on x (PickedTaskEvent e) ch.woken s) _ tt
+  wait_on_none x ch (PickedMember sub) =
+      may_none (may_hand_on x (PickedMember sub) ch.woken s) _ tt
+
+  abbrev picked_event_here : Choice → ℕ → Option PickedEvent
+  picked_event_here ch x = picked_event false (task_of n s) x (chosen n ch s) s
+
+  pub wait_begins_none : (ch : Choice) (x : ℕ) (b : Bool) → ReleasesNone (wait_begins_by d n ch s x b)
+  wait_begins_none ch x true = trap_if_none check_fails _ _ tt
+  wait_begins_none ch x false = or_never_none (picked_event_here ch x) _ (λ g. tt)
+
+  pub wait_found_none : (h : ℕ) (ch : Choice) → ReleasesNone (or_trap (set_at (instance_of n s) h s) trap.BadHandle (λ x. wait_begins_by d n ch s x (finds_nothing n x s)))
+  wait_found_none h ch = or_trap_none (set_at (instance_of n s) h s) _ _ (λ x. wait_begins_none ch x (finds_nothing n x s))
+
+  pub wait_none : (h : ℕ) (ch : Choice) (far : OpProgress) → ReleasesNone (wait_rule d n h ch s far)
+  wait_none h ch (op_progress.Waits x) = or_never_none (picked_event_here ch x) _ (λ g. wait_on_none x ch g)
+  wait_none h ch _ = wait_found_none h ch
+
+  pub join_done_none : (sub : Subtask) (w : Option ℕ) (x : Option ℕ) → ReleasesNone (join_done_by d n sub w s x)
+  join_done_none sub w x =
+      trap_if_none (is_watched (join_of sub s)) _ _ (
+      may_none (may_wake_new (event_of sub s) x w s) _ tt)
+
+  pub join_to_none : (h : ℕ) (w : Option ℕ) (sub : Subtask) → ReleasesNone (join_to_by d n h w s sub)
+  join_to_none zero w sub = join_done_none sub w None
+  join_to_none (suc h) w sub = or_trap_none (set_at (instance_of n s) (suc h) s) _ _ (λ x. join_done_none sub w (Some x))
+
+  pub poll_none : (h : ℕ) (ch : Choice) → ReleasesNone (poll_rule d n h ch s)
+  poll_none h ch = or_trap_none (set_at (instance_of n s) h s) _ _ (λ y. or_never_none (picked_event_here ch y) _ (λ g. tt))

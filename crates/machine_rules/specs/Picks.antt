@@ -167,6 +167,12 @@ TurnStepIn p x s q l t = TurnStep x s q l t
 unfoldable pub StepIn : Preference → Setting → State → Label → State → Type 0
 StepIn p x s l t = TurnStepIn p x s s.turn l t
 
+-- the row releases no thread
+abbrev pub ReleasesNone : Progress → Type 0
+ReleasesNone (Ordered ns next) = ⊥
+ReleasesNone (Asks next) = (answer : HostPoll) → ReleasesNone (next answer)
+ReleasesNone _ = Unit {0}
+
 -- the label shows nothing of a choice
 abbrev pub Silent : Label → Type 0
 Silent l = (woken_of l ≡ None) × (taken_of l ≡ None)
