@@ -3,7 +3,7 @@ use Rattle.std.proofs.Common.{subst, sym}
 use Rattle.std.specs.Prelude.{IfSome, Option, refl, ℕ, ◌≡◌}
 use Rattle.machine_data.specs.Core.{Core}
 use Rattle.machine_data.specs.declared.label.Label.{Label}
-use Rattle.machine_rules.specs.Picks.{LeavesNoChoice, Preference, ShowsFirst, Silent, TakesFirst, WakesFirst, in_order}
+use Rattle.machine_rules.specs.Picks.{LeavesNoChoice, Preference, ReleasesNone, ShowsFirst, Silent, TakesFirst, WakesFirst, in_order}
 use Rattle.machine_data.specs.Read.{instance_of}
 use Rattle.machine_rules.specs.Progress.{Asks, Continues, Fails, Never, Ordered, Progress, Stops, Traps}
 use Rattle.ops_guests.specs.OpResult.{Implements, PicksFirst}
@@ -19,14 +19,23 @@ silent_shows p s l silent = record {
 }
 
 -- a rule that releases no thread does so in any order
-pub calm_order : (p : Preference) (row : Progress) (s : Core) (r : OpResult) (t : Core) → LeavesNoChoice row → Implements row s r t → Implements (in_order p row) s r t
-calm_order p (Continues l new m) s r t calm h = h
-calm_order p (Stops l new) s r t calm h = h
-calm_order p (Traps why) s r t calm h = h
-calm_order p (Fails i) s r t calm h = h
-calm_order p Never s r t calm h = h
-calm_order p (Ordered ns next) s r t calm h = absurd calm
-calm_order p (Asks next) s r t calm h = (h.0, calm_order p (next h.0) s r t (calm h.0) h.1)
+pub loose_order : (p : Preference) (row : Progress) (s : Core) (r : OpResult) (t : Core) → ReleasesNone row → Implements row s r t → Implements (in_order p row) s r t
+loose_order p (Continues l new m) s r t none h = h
+loose_order p (Stops l new) s r t none h = h
+loose_order p (Traps why) s r t none h = h
+loose_order p (Fails i) s r t none h = h
+loose_order p Never s r t none h = h
+loose_order p (Ordered ns next) s r t none h = absurd none
+loose_order p (Asks next) s r t none h = (h.0, loose_order p (next h.0) s r t (none h.0) h.1)
+
+calm_releases : (row : Progress) → LeavesNoChoice row → ReleasesNone row
+calm_releases (Continues l new m) calm = tt
+calm_releases (Stops l new) calm = tt
+calm_releases (Traps why) calm = tt
+calm_releases (Fails i) calm = tt
+calm_releases Never calm = tt
+calm_releases (Ordered ns next) calm = absurd calm
+calm_releases (Asks next) calm = λ answer. calm_releases (next answer) (calm answer)
 
 -- the label of what it resulted in
 label_silent : (n : ℕ) (row : Progress) (s : Core) (r : OpResult) (t : Core) → LeavesNoChoice row → Implements row s r t → Silent (label_of n r)
@@ -39,4 +48,4 @@ label_silent n (Ordered ns next) s r t calm h = absurd calm
 label_silent n (Asks next) s r t calm h = label_silent n (next h.0) s r t (calm h.0) h.1
 
 pub calm_picks : (p : Preference) (n : ℕ) (row : Progress) (s : Core) (r : OpResult) (t : Core) → LeavesNoChoice row → Implements row s r t → PicksFirst p row (label_of n r) s r t
-calm_picks p n row s r t calm h = record { shows = silent_shows p s (label_of n r) (label_silent n row s r t calm h); order = calm_order p row s r t calm h }
+calm_picks p n row s r t calm h = record { shows = silent_shows p s (label_of n r) (label_silent n row s r t calm h); order = loose_order p row s r t (calm_releases row calm) h }
