@@ -10,3 +10,4 @@ pub mod RunLemmas
 pub mod LineLemmas
 pub mod OpenLemmas
 pub mod AnswerLemmas
+pub mod WantedLemmas

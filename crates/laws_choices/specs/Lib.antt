@@ -5,3 +5,4 @@ pub mod Steps
 pub mod Runs
 pub mod Lines
 pub mod ChoiceAnswers
+pub mod Wanted

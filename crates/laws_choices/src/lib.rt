@@ -9,6 +9,7 @@ mod offers;
 mod rules;
 mod run_laws;
 mod step_laws;
+mod wanted;
 
 pub use answer_laws::{chosen_run_comes_to_one, runs_are_reported};
 pub use lines::{line_tells_choice, lines_are_read_back, lines_show_choices};
@@ -16,3 +17,4 @@ pub use offers::{first_choice_fits, open_offers_have_two};
 pub use rules::{ops_choose, takings_choose};
 pub use run_laws::{choices_make_runs, chosen_run_is_one, outcomes_come_last, runs_have_choices};
 pub use step_laws::{choices_make_steps, step_is_determined, steps_choose};
+pub use wanted::wanted_is_picked;
