@@ -126,14 +126,14 @@ down_from (label.Loop (loop_label.Trap t n)) s = strand_of n s
 down_from (label.Call (call_label.Fails n i)) s = strand_of n s
 down_from _ s = numbers s.threads
 
--- threads first, then calls, host works and sets, and groups in the end
-abbrev pub given_back : Label → Core → Core → TablePlaces → TablePlaces
-given_back l s t p =
+-- threads first, in this order, then calls, host works and sets, and groups in the end
+abbrev pub given_back : List ℕ → Core → Core → TablePlaces → TablePlaces
+given_back threads s t p =
     each give_group (filter (λ g. not (is_in t.groups g)) s.groups)
     (each give_set (but_in s.sets t.sets)
     (each give_work (works_but_in s.works t.works)
     (each give_call (but_in s.calls t.calls)
-    (each give_thread (filter (λ n. is_none (get t.threads n)) (down_from l s)) p))))
+    (each give_thread (filter (λ n. is_none (get t.threads n)) threads) p))))
 
 -- the group first, then the call, then threads; host works and sets take one each
 abbrev pub given_out : Core → Core → TablePlaces → TablePlaces
@@ -144,8 +144,12 @@ given_out s t p =
     (each take_call (but_in t.calls s.calls)
     (each take_group (filter (λ g. not (is_in s.groups g)) t.groups) p))))
 
+-- from one core to another one
+abbrev pub moved_places : List ℕ → Core → Core → TablePlaces → TablePlaces
+moved_places threads s t p = given_out s t (given_back threads s t p)
+
 abbrev pub reseated : Moment → TablePlaces → TablePlaces
-reseated k p = given_out k.before.core k.after.core (given_back k.label k.before.core k.after.core p)
+reseated k p = moved_places (down_from k.label k.before.core) k.before.core k.after.core p
 
 -- ---- A run
 
