@@ -8,6 +8,9 @@ use Rattle.machine_data.specs.declared.records.Place.{Place}
 use Rattle.machine_data.specs.declared.statuses.Mark.{Mark}
 use Rattle.machine_rules.specs.Picks.{Preference, goes_in_order, held_before, listed_before, thread_before}
 use Rattle.std.proofs.lemmas.List.Sorted.{IsPermutation-refl}
+use Rattle.std.proofs.lemmas.List.{at_drop_all, at_drop_more}
+use Rattle.std.specs.List.{get_or}
+use Rattle.std.specs.Prelude.{drop, length, ◌+◌, ◌<◌, ◌≤◌}
 use Rattle.std.specs.Prelude.{IsPermutation}
 use Rattle.table_lists.proofs.Members.{IsMembers-same, members_permute}
 use Rattle.table_lists.specs.Members.{IsMembers, Once}
@@ -256,6 +259,10 @@ raised_in_order p i (n ∷ ns) pre rest s is past left order = by (is_admitted i
         (λ m admitted. one_more m n pre (past m admitted) (λ same. let never : false ≡ true = sym off ∙ (ap (is_admitted i s) (sym same) ∙ admitted) in absurd (cc)))
         left order
 
+pub no_items : {X : Type 0} (items : List X) → (length items == 0) ≡ true → items ≡ []
+no_items [] none = refl
+no_items (x ∷ xs) none = absurd (cc)
+
 -- ---- Places
 
 module _ (a : CoreParts) (sound : IsSoundCore a) where
@@ -380,12 +387,47 @@ put_unqueued i n w s free m held = by (cases_eq m n)
     by (inl same) = let never : false ≡ true = sym (and_false (instance_of m (put_high n w s) == i)) ∙ (ap (λ o. (instance_of m (put_high n w s) == i) && is_some o) (sym (here same)) ∙ held) in absurd (cc)
     by (inr other) = (put_others m n w s s other (record { thread = refl; unqueued = free m (was other) })).unqueued
 
--- one step of the list
-pub raised_step : (i n : ℕ) (rest : List ℕ) (w : Why) (s t : StateView) → is_admitted i s.core n ≡ true → held_why_of n s.core ≡ Some w → t ≡ on_core (put_high n w) s → on_core (raised i rest) t ≡ on_core (raised i (n ∷ rest)) s
-unfolding released
-raised_step i n rest w s t on at is =
-    ap (on_core (raised i rest)) is
-    ∙ ap (λ c. with_core (raised i rest c) s) (sym (ap (λ b. cond b (released (n ∷ []) s.core) s.core) on ∙ ap (λ o. released_one n o s.core) at))
+pub put_free : (i n : ℕ) (w : Why) (s t : StateView) → AreHeldUnqueued i s.core → t ≡ on_core (put_high n w) s → AreHeldUnqueued i t.core
+put_free i n w s t free is = subst (AreHeldUnqueued i) (sym (ap (λ (v : StateView). v.core) is)) (put_unqueued i n w s.core free)
 
-pub stays_step : (i n : ℕ) (rest : List ℕ) (s : StateView) → is_admitted i s.core n ≡ false → on_core (raised i rest) s ≡ on_core (raised i (n ∷ rest)) s
-stays_step i n rest s off = ap (λ c. with_core (raised i rest c) s) (sym (ap (λ b. cond b (released (n ∷ []) s.core) s.core) off))
+-- who is admitted is held in the instance
+pub admitted_is_held : (i n : ℕ) (s : Core) → is_admitted i s n ≡ true → is_held_in i s n ≡ true
+admitted_is_held i n s is = by (held_why_of n s) refl is
+  where
+    left : (a b : Bool) → (a && b) ≡ true → a ≡ true
+    left true b is = refl
+    left false b is = absurd (cc)
+
+    by : (o : Option Why) → held_why_of n s ≡ o → is_held_admitted i s n o ≡ true → is_held_in i s n ≡ true
+    by None at is = absurd (cc)
+    by (Some w) at is = ap₂ (λ b o. b && is_some o) (left (instance_of n s == i) _ is) at
+
+-- one is raised who is admitted, or nobody
+pub one_is_raised : (i n : ℕ) (w : Why) (s t : StateView) → is_admitted i s.core n ≡ true → held_why_of n s.core ≡ Some w → t ≡ on_core (put_high n w) s → t ≡ on_core (raised_one i n) s
+unfolding released
+one_is_raised i n w s t on at is =
+    is ∙ ap (λ c. with_core c s) (sym (ap (λ b. cond b (released (n ∷ []) s.core) s.core) on ∙ ap (λ o. released_one n o s.core) at))
+
+pub none_is_raised : (i n : ℕ) (s : StateView) → is_admitted i s.core n ≡ false → s ≡ on_core (raised_one i n) s
+none_is_raised i n s off = ap (λ c. with_core c s) (sym (ap (λ b. cond b (released (n ∷ []) s.core) s.core) off))
+
+-- what is left of the list, from one step to the next
+module _ (a b : CoreParts) (i k : ℕ) (again : on_core (raised i (map (thread_number (seen a).tags) (drop k a.wanted.held.items))) (seen b) ≡ on_core (raised i (preference (seen a)).held) (seen a)) where
+  pub same_wanted : b.wanted.held.items ≡ a.wanted.held.items
+  unfolding seen
+  same_wanted = ap (λ (v : StateView). v.tags.wanted.held) again
+
+  pub wanted_bound : k < length a.wanted.held.items → k < length b.wanted.held.items
+  wanted_bound below = subst (λ l. k < length l) (sym same_wanted) below
+
+  pub next_raised : (c : CoreParts) (d : TableId ThreadKey) → k < length a.wanted.held.items → seen c ≡ on_core (raised_one i (thread_of (seen b) (get_or b.wanted.held.items k d))) (seen b)
+      → on_core (raised i (map (thread_number (seen a).tags) (drop (k + 1) a.wanted.held.items))) (seen c) ≡ on_core (raised i (preference (seen a)).held) (seen a)
+  next_raised c d below is =
+      let f = thread_number (seen a).tags in
+      let rest = map f (drop (k + 1) a.wanted.held.items) in
+      ap (on_core (raised i rest)) is
+      ∙ (ap₂ (λ t l. on_core (raised i rest) (on_core (raised_one i (thread_number t (get_or l k d))) (seen b))) (ap (λ (v : StateView). v.tags) again) same_wanted
+      ∙ (sym (at_drop_more (λ l. on_core (raised i (map f l)) (seen b)) a.wanted.held.items k d below) ∙ again))
+
+  pub all_raised : length a.wanted.held.items ≤ k → seen b ≡ on_core (raised i (preference (seen a)).held) (seen a)
+  all_raised over = sym (at_drop_all (λ l. on_core (raised i (map (thread_number (seen a).tags) l)) (seen b)) a.wanted.held.items k over) ∙ again

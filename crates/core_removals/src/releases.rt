@@ -13,7 +13,7 @@ ghost use Rattle.core_primitives.specs.StateView.{on_core, thread_of};
 ghost use Rattle.core_places.specs.Moved.{LeavesChain, RaisesHeld};
 ghost use Rattle.core_primitives.specs.Changes.{ReleasesHeld};
 ghost use Rattle.core_primitives.specs.Preferences.{preference};
-ghost use Rattle.core_removals.specs.Held.{AreHeldUnqueued, RaisesAdmitted, is_admitted, raised};
+ghost use Rattle.core_removals.specs.Held.{AreHeldUnqueued, RaisesAdmitted, is_admitted, raised, raised_one};
 ghost use Rattle.core_removals.specs.Merged.{first_of_both, of_both};
 ghost use Rattle.core_removals.specs.Order.{AreInOrder, ReleasesInOrder};
 ghost use Rattle.core_removals.specs.Walks.{at_place, of_chain, of_node};
@@ -178,6 +178,20 @@ fn release_least(parts: &mut CoreParts, instance: u32)
     }
 }
 
+// The thread is put at high, if it is held in the instance and admitted.
+fn raise_one(parts: &mut CoreParts, instance: u32, thread: ThreadId)
+    requires sound { IsSoundCore parts.old }
+    requires unqueued { AreHeldUnqueued instance (seen parts.old).core }
+    ensures sound { IsSoundCore parts.new }
+    ensures new { seen parts.new ≡ on_core (raised_one instance (thread_of (seen parts.old) thread)) (seen parts.old) }
+    ensures unqueued { AreHeldUnqueued instance (seen parts.new).core }
+    ensures numbers { (r : ℕ) → at_place parts.new r ≡ at_place parts.old r }
+{
+    if is_admitted(parts, instance, thread) {
+        put_high(parts, thread);
+    }
+}
+
 // Puts the held threads of the instance that are wanted and admitted at high, in the order in which they are wanted.
 fn raise_wanted(parts: &mut CoreParts, instance: u32)
     requires sound { IsSoundCore parts.old }
@@ -189,9 +203,7 @@ fn raise_wanted(parts: &mut CoreParts, instance: u32)
 {
     for index in 0..parts.wanted.held.len() {
         let thread = parts.wanted.held[index];
-        if is_admitted(parts, instance, thread) {
-            put_high(parts, thread);
-        }
+        raise_one(parts, instance, thread);
     }
 }
 

@@ -1,5 +1,5 @@
-use Rattle.core_records.proofs.Core.{seen}
-use Rattle.core_removals.proofs.RaisedLemmas.{least_released}
+use Rattle.core_records.proofs.Core.{seen, sym, ◌∙◌}
+use Rattle.core_removals.proofs.RaisedLemmas.{least_released, no_items}
 use Rattle.core_removals.proofs.ReleaseLemmas.{held_unqueued}
 use Rattle.core_removals.proofs.releases.release.Goals as goal
 

@@ -1,0 +1,37 @@
+use Rattle.core_records.proofs.Core.{refl, ◌∙◌}
+use Rattle.core_removals.proofs.RaisedLemmas.{all_raised, next_raised, wanted_bound}
+use Rattle.core_removals.proofs.releases.raise_wanted.Goals as goal
+use Rattle.std.proofs.Common.{arith}
+
+pub loop-index-init : goal.loop-index-init
+unfolding seen
+loop-index-init c = record { sound = c.requires.sound; again = refl; free = c.requires.unqueued; places = λ r. refl }
+
+pub index-requires : goal.index-requires
+index-requires c = wanted_bound c.args.parts.now c.loop-index.parts c.args.instance c.loop-index.index c.loop-index.invariant.again c.loop-index-test.true
+
+pub raise_one-requires-clause-sound : goal.raise_one-requires-clause-sound
+raise_one-requires-clause-sound c = c.loop-index.invariant.sound
+
+pub raise_one-requires-clause-unqueued : goal.raise_one-requires-clause-unqueued
+raise_one-requires-clause-unqueued c = c.loop-index.invariant.free
+
+pub loop-index-preserved : goal.loop-index-preserved
+loop-index-preserved c = record {
+  sound = c.raise_one.ensures.sound;
+  again = next_raised c.args.parts.now c.loop-index.parts c.args.instance c.loop-index.index c.loop-index.invariant.again c.raise_one.new.parts _ c.loop-index-test.true c.raise_one.ensures.new;
+  free = c.raise_one.ensures.unqueued;
+  places = λ r. c.raise_one.ensures.numbers r ∙ c.loop-index.invariant.places r;
+}
+
+pub returns-clause-sound : goal.returns-clause-sound
+returns-clause-sound c = c.loop-index.invariant.sound
+
+pub returns-clause-new : goal.returns-clause-new
+returns-clause-new c = all_raised c.args.parts.now c.loop-index.parts c.args.instance c.loop-index.index c.loop-index.invariant.again (omega (arith, c.loop-index-test.false))
+
+pub returns-clause-unqueued : goal.returns-clause-unqueued
+returns-clause-unqueued c = c.loop-index.invariant.free
+
+pub returns-clause-numbers : goal.returns-clause-numbers
+returns-clause-numbers c r = c.loop-index.invariant.places r
