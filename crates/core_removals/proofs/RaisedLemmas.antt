@@ -420,14 +420,15 @@ module _ (a b : CoreParts) (i k : ℕ) (again : on_core (raised i (map (thread_n
   pub wanted_bound : k < length a.wanted.held.items → k < length b.wanted.held.items
   wanted_bound below = subst (λ l. k < length l) (sym same_wanted) below
 
-  pub next_raised : (c : CoreParts) (d : TableId ThreadKey) → k < length a.wanted.held.items → seen c ≡ on_core (raised_one i (thread_of (seen b) (get_or b.wanted.held.items k d))) (seen b)
+  pub next_raised : (c : CoreParts) (id : TableId ThreadKey) → k < length a.wanted.held.items → id ≡ get_or b.wanted.held.items k id → seen c ≡ on_core (raised_one i (thread_of (seen b) id)) (seen b)
       → on_core (raised i (map (thread_number (seen a).tags) (drop (k + 1) a.wanted.held.items))) (seen c) ≡ on_core (raised i (preference (seen a)).held) (seen a)
-  next_raised c d below is =
+  next_raised c id below at is =
       let f = thread_number (seen a).tags in
       let rest = map f (drop (k + 1) a.wanted.held.items) in
+      let here : id ≡ get_or a.wanted.held.items k id = at ∙ ap (λ l. get_or l k id) same_wanted in
       ap (on_core (raised i rest)) is
-      ∙ (ap₂ (λ t l. on_core (raised i rest) (on_core (raised_one i (thread_number t (get_or l k d))) (seen b))) (ap (λ (v : StateView). v.tags) again) same_wanted
-      ∙ (sym (at_drop_more (λ l. on_core (raised i (map f l)) (seen b)) a.wanted.held.items k d below) ∙ again))
+      ∙ (ap₂ (λ t x. on_core (raised i rest) (on_core (raised_one i (thread_number t x)) (seen b))) (ap (λ (v : StateView). v.tags) again) here
+      ∙ (sym (at_drop_more (λ l. on_core (raised i (map f l)) (seen b)) a.wanted.held.items k id below) ∙ again))
 
   pub all_raised : length a.wanted.held.items ≤ k → seen b ≡ on_core (raised i (preference (seen a)).held) (seen a)
   all_raised over = sym (at_drop_all (λ l. on_core (raised i (map (thread_number (seen a).tags) l)) (seen b)) a.wanted.held.items k over) ∙ again

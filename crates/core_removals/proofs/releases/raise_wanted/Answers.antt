@@ -8,7 +8,11 @@ unfolding seen
 loop-index-init c = record { sound = c.requires.sound; again = refl; free = c.requires.unqueued; places = λ r. refl }
 
 pub index-requires : goal.index-requires
-index-requires c = wanted_bound c.args.parts.now c.loop-index.parts c.args.instance c.loop-index.index c.loop-index.invariant.again c.loop-index-test.true
+index-requires c =
+    let same = c.args.parts.now.wanted.held.ok.0 in
+    let now = c.loop-index.parts.wanted.held.ok.0 in
+    let below = wanted_bound c.args.parts.now c.loop-index.parts c.args.instance c.loop-index.index c.loop-index.invariant.again (omega (arith, c.loop-index-test.true, c.len.ensures, same)) in
+    omega (arith, below, now)
 
 pub raise_one-requires-clause-sound : goal.raise_one-requires-clause-sound
 raise_one-requires-clause-sound c = c.loop-index.invariant.sound
@@ -17,9 +21,9 @@ pub raise_one-requires-clause-unqueued : goal.raise_one-requires-clause-unqueued
 raise_one-requires-clause-unqueued c = c.loop-index.invariant.free
 
 pub loop-index-preserved : goal.loop-index-preserved
-loop-index-preserved c = record {
+loop-index-preserved c = let same = c.args.parts.now.wanted.held.ok.0 in record {
   sound = c.raise_one.ensures.sound;
-  again = next_raised c.args.parts.now c.loop-index.parts c.args.instance c.loop-index.index c.loop-index.invariant.again c.raise_one.new.parts _ c.loop-index-test.true c.raise_one.ensures.new;
+  again = next_raised c.args.parts.now c.loop-index.parts c.args.instance c.loop-index.index c.loop-index.invariant.again c.raise_one.new.parts c.index.result.now (omega (arith, c.loop-index-test.true, c.len.ensures, same)) c.index.ensures c.raise_one.ensures.new;
   free = c.raise_one.ensures.unqueued;
   places = λ r. c.raise_one.ensures.numbers r ∙ c.loop-index.invariant.places r;
 }
@@ -28,7 +32,7 @@ pub returns-clause-sound : goal.returns-clause-sound
 returns-clause-sound c = c.loop-index.invariant.sound
 
 pub returns-clause-new : goal.returns-clause-new
-returns-clause-new c = all_raised c.args.parts.now c.loop-index.parts c.args.instance c.loop-index.index c.loop-index.invariant.again (omega (arith, c.loop-index-test.false))
+returns-clause-new c = let same = c.args.parts.now.wanted.held.ok.0 in all_raised c.args.parts.now c.loop-index.parts c.args.instance c.loop-index.index c.loop-index.invariant.again (omega (arith, c.loop-index-test.false, c.len.ensures, same))
 
 pub returns-clause-unqueued : goal.returns-clause-unqueued
 returns-clause-unqueued c = c.loop-index.invariant.free
