@@ -53,7 +53,7 @@ fn skip_equal<W: Primitives>(
 #[tactic(auto, using(crate::proofs::PositionLemmas::position_memory_cell), unfolding(machine_rules::specs::Data::stored))]
 fn store<W: Primitives>(w: &mut W, thread: ThreadId, cell: u8, value: Operand, end: u32) -> OpResult
     requires { position_of (thread_of (W.view w.old) thread) (W.view w.old).core < end }
-    ensures implements { MeetsData end (data_ops.Store word value) thread (W.view w.old) result (W.view w.new) }
+    ensures implements { MeetsData end (data_ops.Store cell value) thread (W.view w.old) result (W.view w.new) }
     ensures tags { (W.view w.new).tags ≡ (W.view w.old).tags }
     ensures current { (W.view w.new).current ≡ (W.view w.old).current }
 {
