@@ -45,7 +45,7 @@ fn code_exits<W: Primitives>(w: &mut W, thread: ThreadId, label: Label) -> OpRes
 fn code_yields<W: Primitives>(w: &mut W, thread: ThreadId)
     requires live { 0 < thread_of (W.view w.old) thread }
     requires running { IsRunning (thread_of (W.view w.old) thread) (W.view w.old).core }
-    ensures implements { (label : Label) → (rest : ℕ) → ImplementsRule (ends_by_code label (suc zero) rest) thread (W.view w.old) (OpResult.Stops label) (W.view w.new) }
+    ensures implements { (l : Label) → (rest : ℕ) → ImplementsRule (ends_by_code l (suc zero) rest) thread (W.view w.old) (OpResult.Stops l) (W.view w.new) }
     ensures current { (W.view w.new).current ≡ (W.view w.old).current }
     ensures works { KeepsTold (W.view w.old) (W.view w.new) }
 {
