@@ -6,6 +6,7 @@ use Rattle.machine_data.specs.Read.{op_progress_of}
 use Rattle.machine_data.specs.declared.component.Component.{Component}
 use Rattle.machine_data.specs.declared.component.HostDef.{HostDef}
 use Rattle.machine_data.specs.declared.label.Label.{Label}
+use Rattle.machine_data.specs.declared.op.DataOp.{DataOp}
 use Rattle.machine_data.specs.declared.op.Op.{Op}
 use Rattle.machine_data.specs.declared.op.Op.TheVariants as op
 use Rattle.machine_data.specs.declared.op.TaskOp.TheVariants as task_op
@@ -85,6 +86,10 @@ pub record RuleShown (row : OpResult → Progress) (id : TableId ThreadKey) (s :
 -- so it is of an op of the thread's script
 abbrev pub OpShown : Component → Op → TableId ThreadKey → StateView → List Label → StepResult → StateView → List Label → Type 0
 OpShown c o id s before stepped t after = RuleShown (scripted_rule_of c o id s) id s before stepped t after
+
+-- of one on registers and memory cells
+abbrev pub DataShown : Component → DataOp → TableId ThreadKey → StateView → List Label → StepResult → StateView → List Label → Type 0
+DataShown c o id s before stepped t after = OpShown c (op.Data o) id s before stepped t after
 
 -- and of its exit, whatever the component is
 abbrev pub ExitShown : TableId ThreadKey → StateView → List Label → StepResult → StateView → List Label → Type 0

@@ -5,11 +5,10 @@ ghost use Rattle.ops_dispatch.specs.RunnerDispatch.{Runner};
 ghost use Rattle.std.specs.Prelude.{◌≡◌, ◌+◌, ◌<◌, ◌^◌, IfNone, IfOk, IfSome, OnErr, OnOk, OnSome, Some, is_some, true};
 ghost use Rattle.machine_data.specs.Maps.{get};
 ghost use Rattle.machine_data.specs.Read.{op_progress_of, instance_of, position_of};
-ghost use Rattle.machine_data.specs.declared.op.Op.TheVariants as ops;
 ghost use Rattle.ops_guests.specs.Works.{KeepsTold, NamesTold};
 ghost use Rattle.machine_rules.specs.Scripts.{op_of};
 ghost use Rattle.ops_turns.specs.Ran.{DidHere, MakesFew, StandsBefore, WantsMemory, WorkMade, scripted_rule_of};
-ghost use Rattle.ops_turns.specs.StepResult.{ExitShown, OpPolls, OpShown, OpStep, RanFree, RuleRan, RunStepped, Shown, stepped_by};
+ghost use Rattle.ops_turns.specs.StepResult.{DataShown, ExitShown, OpPolls, OpShown, OpStep, RanFree, RuleRan, RunStepped, Shown, stepped_by};
 ghost use Rattle.ops_turns.specs.Turn.{CanUnwind, OpGoesOn, CoreInOrder, given, running_of};
 ghost use Rattle.ops_turns.specs.WellFormed.{IsWellFormed};
 ghost use Rattle.core_primitives.specs.StateView.{thread_of};
@@ -64,7 +63,7 @@ fn run_data<W: Primitives>(
 ) -> PackedStep
     requires runner { Runner thread (W.view w.old) }
     requires within { StandsBefore end component.now (thread_of (W.view w.old) thread) (W.view w.old).core }
-    ensures shown { IfSome (stepped_by result trace.new) (λ q. OpShown component.now (ops.Data op.now) thread (W.view w.old) trace.old q (W.view w.new) trace.new) }
+    ensures shown { IfSome (stepped_by result trace.new) (λ q. DataShown component.now op.now thread (W.view w.old) trace.old q (W.view w.new) trace.new) }
     ensures works { OnSome (stepped_by result trace.new) (KeepsTold (W.view w.old) (W.view w.new)) }
     ensures err { IfNone (stepped_by result trace.new) (trace.new ≡ trace.old) }
 {
