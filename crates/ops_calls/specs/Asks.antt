@@ -37,6 +37,8 @@ use Rattle.machine_rules.specs.Step.{op_rule}
 use Rattle.ops_turns.specs.Turn.{CoreInOrder, state_at}
 use Rattle.ops_turns.specs.WellFormed.{IsWellFormed}
 use Rattle.core_primitives.specs.StateView.{StateView, on_core, with_current}
+use Rattle.ops_dispatch.specs.Polls.{polled_host}
+use Rattle.machine_data.specs.declared.component.HostDef.{HostDef}
 
 -- A thread of a well formed component runs, in one of its instances, and the core is in order.
 pub record IsRunningIn (c : Component) (s : StateView) : Type 0 where
@@ -84,6 +86,10 @@ scripted_rule_of c o s n ch = op_rule SomeHost c n s ch o
 
 abbrev pub row_at : Component → Core → ℕ → Choice → Progress
 row_at c s n ch = scripted_rule_of c (op_of c n s) s n ch
+
+-- the host that the op at the thread's place polls first; None: none
+abbrev pub polled_here : Component → ℕ → Core → Option HostDef
+polled_here c n s = polled_host c (op_progress_of n s) (op_of c n s)
 
 -- the running thread did its rule
 abbrev pub Did : (ℕ → Choice → Progress) → StateView → OpResult → StateView → Type 0
