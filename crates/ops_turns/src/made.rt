@@ -13,7 +13,7 @@ use core_primitives::{Primitives, ThreadId, WorkId};
 use machine_data::{
     CallLabel, HostDef, Label, LoopLabel, MainLabel, NoMemory, Outcome, Trap, Turn,
 };
-use ops_guests::{OpResult, strike};
+use ops_guests::{OpResult, unwind_thread};
 use run_trace::PackedLabels;
 
 /// A step that was made: its label, and whose turn it is then.
@@ -176,7 +176,7 @@ fn fell<W: Primitives>(w: &mut W, thread: ThreadId, label: Label) -> MadeStep
     ensures made { result ≡ record { label = label; turn = Turn.Over } }
     ensures works { KeepsTold (W.view w.old) (W.view w.new) }
 {
-    strike(w, thread);
+    unwind_thread(w, thread);
     w.set_current(None);
     MadeStep {
         label,
