@@ -3,7 +3,7 @@ ghost use Rattle.laws_labels.specs.Own.{next_mark};
 ghost use Rattle.ops_dispatch.specs.Fits.{calls_host};
 ghost use Rattle.run_trace.specs.YieldBudget.{unless_yielded};
 ghost use Rattle.task_loop.specs.HasRun.{DriveGives, Keeps, MainHalted, MainTurned, MayRun, MayStep, MayTurn, StepsTo, TurnGives, TurnsGive, at};
-ghost use Rattle.task_loop.specs.Standing.{standing};
+ghost use Rattle.task_loop.specs.Constants.{constants};
 ghost use Rattle.task_loop.specs.Threads.{FailsPoll, FailsTake, FailsThread, PollsTold, RanThread, RunsThread};
 ghost use Rattle.task_loop.specs.Threads.{StepsUntold, TakesTold};
 ghost use Rattle.task_loop.specs.Told.{group_running};
@@ -23,7 +23,7 @@ use ops_turns::{
     MainStep, RunStep, StepResult, compute, is_idle, made_by_main, put, step_call, step_run, take,
 };
 use run_trace::{
-    Driven, PackedLabels, Policy, YieldBudget, ended_by, paced_by, rests_with, yields_by,
+    Driven, PackedLabels, Policy, YieldBudget, ended_by, spent_by, rests_with, yields_by,
 };
 use task_group::TaskGroupHook;
 use task_store::{Access, AccessorTask, ActiveRun, FromHost, HostWork, Store};
@@ -33,7 +33,7 @@ use task_store::{Access, AccessorTask, ActiveRun, FromHost, HostWork, Store};
 pub struct RunConcurrent {
     pub(crate) turn: Turn,
     pub(crate) trap_on_idle: bool,
-    standing: ActiveRun,
+    active: ActiveRun,
     pub(crate) yield_budget: YieldBudget,
 }
 
@@ -52,10 +52,10 @@ pub fn run_concurrent<T, H, G: TaskGroupHook>(
     ensures store { store.new ≡ record store.old { running = true } }
 {
     match store.begin_run() {
-        Ok(standing) => Ok(RunConcurrent {
+        Ok(active) => Ok(RunConcurrent {
             turn: Turn::Main,
             trap_on_idle,
-            standing,
+            active,
             yield_budget: YieldBudget::new(),
         }),
         Err(trap) => Err(trap),
@@ -92,7 +92,7 @@ fn ask_main<T, H: HostWork, G: TaskGroupHook, M: MainTask<T, H, G>>(
     main: &mut M,
 ) -> Result<MainStep, TaskError>
     requires may { MayStep M.says H.course component.now main.old store.old }
-    ensures stands { standing store.new ≡ standing store.old }
+    ensures stands { constants store.new ≡ constants store.old }
     ensures script { M.says.script main.new ≡ M.says.script main.old }
     ensures steps { StepsTo M.says H.course component.now result main.old store.old main.new store.new }
 {
@@ -110,7 +110,7 @@ fn step_main<T, H: HostWork, G: TaskGroupHook, M: MainTask<T, H, G>>(
 ) -> Result<StepResult, Halted>
     requires may { MayStep M.says H.course component.now main.old store.old }
     requires why { why.old ≡ Halt.NoMemory }
-    ensures stands { standing store.new ≡ standing store.old }
+    ensures stands { constants store.new ≡ constants store.old }
     ensures script { M.says.script main.new ≡ M.says.script main.old }
     ensures turned { IfOk result (λ q.
         MainTurned M.says H.course component.now q main.old store.old trace.old main.new store.new trace.new) }
@@ -152,7 +152,7 @@ fn call_host_outlined<T, H: AccessorTask<T> + FromHost, G: TaskGroupHook>(
 ) -> Result<StepResult, NoMemory>
     requires runs { RunsThread H.course component.now thread store.old }
     requires calls { calls_host (op_of component.now thread store.old.state.core) ≡ true }
-    ensures stands { standing store.new ≡ standing store.old }
+    ensures stands { constants store.new ≡ constants store.old }
     ensures steps { IfOk result (λ stepped. StepsUntold H.course component.now thread store.old stepped store.new trace.old trace.new) }
     ensures listeners { OnOk result (store.new.listeners ≡ store.old.listeners) }
     ensures err { OnErr result (trace.new ≡ trace.old) }
@@ -175,7 +175,7 @@ fn call_host<T, H: AccessorTask<T> + FromHost, G: TaskGroupHook>(
 ) -> Result<StepResult, NoMemory>
     requires runs { RunsThread H.course component.now thread store.old }
     requires calls { calls_host (op_of component.now thread store.old.state.core) ≡ true }
-    ensures stands { standing store.new ≡ standing store.old }
+    ensures stands { constants store.new ≡ constants store.old }
     ensures steps { IfOk result (λ stepped. StepsUntold H.course component.now thread store.old stepped store.new trace.old trace.new) }
     ensures listeners { OnOk result (store.new.listeners ≡ store.old.listeners) }
     ensures err { OnErr result (trace.new ≡ trace.old) }
@@ -193,7 +193,7 @@ fn step_thread<T, H: AccessorTask<T> + FromHost, G: TaskGroupHook>(
     trace: &mut PackedLabels,
 ) -> Result<StepResult, NoMemory>
     requires runs { RunsThread H.course component.now thread store.old }
-    ensures stands { standing store.new ≡ standing store.old }
+    ensures stands { constants store.new ≡ constants store.old }
     ensures steps { IfOk result (λ stepped. StepsUntold H.course component.now thread store.old stepped store.new trace.old trace.new) }
     ensures listeners { OnOk result (store.new.listeners ≡ store.old.listeners) }
     ensures err { OnErr result (trace.new ≡ trace.old) }
@@ -222,7 +222,7 @@ fn run_thread<T, H: AccessorTask<T> + FromHost, G: TaskGroupHook>(
     requires running { running.old ≡ group_running store.old.state (Turn.Run thread) }
     requires asked { IsAsked store.old.state }
     requires why { why.old ≡ Halt.NoMemory }
-    ensures stands { standing store.new ≡ standing store.old }
+    ensures stands { constants store.new ≡ constants store.old }
     ensures ran { IfOk result (λ stepped.
         RanThread H.course component.now thread store.old stepped running.new store.new trace.old trace.new) }
     ensures why { OnOk result (why.new ≡ Halt.NoMemory) }
@@ -264,7 +264,7 @@ fn poll_work<T, H: AccessorTask<T> + FromHost, G: TaskGroupHook>(
     requires hosts { HoldsHosts H.course store.old }
     requires asked { IsAsked store.old.state }
     requires why { why.old ≡ Halt.NoMemory }
-    ensures stands { standing store.new ≡ standing store.old }
+    ensures stands { constants store.new ≡ constants store.old }
     ensures works { KeepsWorks store.old.state store.new.state × HoldsHosts H.course store.new }
     ensures polled { IfOk result (λ stepped.
         PollsTold (Turn.Futures polled) running.new store.old stepped store.new trace.old trace.new) }
@@ -462,7 +462,7 @@ impl RunConcurrent {
                 }
                 Some(StepResult::Continues { turn, computed }) => {
                     self.turn = turn;
-                    self.yield_budget = paced_by::<P>(self.yield_budget, next);
+                    self.yield_budget = spent_by::<P>(self.yield_budget, next);
                     if rests {
                         return Ok(Stop::Rests);
                     }
@@ -542,6 +542,6 @@ impl RunConcurrent {
     pub fn end<T, H, G: TaskGroupHook>(self, store: &mut Store<T, H, G>)
         ensures { store.new ≡ record store.old { running = false } }
     {
-        store.end_run(self.standing);
+        store.end_run(self.active);
     }
 }
