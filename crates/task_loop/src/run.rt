@@ -23,7 +23,7 @@ use ops_turns::{
     MainStep, RunStep, StepResult, compute, is_idle, made_by_main, put, step_call, step_run, take,
 };
 use run_trace::{
-    Driven, PackedLabels, Policy, YieldBudget, ended_by, spent_by, rests_with, yields_by,
+    Driven, PackedLabels, Policy, YieldBudget, ended_by, rests_with, spent_by, yields_by,
 };
 use task_group::TaskGroupHook;
 use task_store::{Access, AccessorTask, ActiveRun, FromHost, HostWork, Store};
