@@ -1,4 +1,7 @@
 -- What a make of records asks, and what it changed, so that it can be taken back.
+use Rattle.machine_data.specs.Write.{add_call, add_thread}
+use Rattle.machine_data.specs.Core.{Core}
+use Rattle.core_makes.specs.CallThread.{IsCallWithThread}
 use Rattle.std.specs.Prelude.{◌≡◌, ◌+◌, ◌<◌, ◌≤◌, ◌^◌, ℕ, IsSome, List, Ok, length, true}
 use Rattle.core_makes.specs.LooseCalls.{AreCallAndThreadLoose}
 use Rattle.core_makes.specs.declared.node_makes.CallNodes.{CallNodes}
@@ -10,7 +13,7 @@ use Rattle.machine_data.specs.declared.records.Goal.TheVariants as goals
 use Rattle.core_records.specs.Image.{HasRoom}
 use Rattle.core_records.specs.Kinds.{entry_of, item_of}
 use Rattle.core_records.specs.Seen.{IsSoundCore, parts_of, seen}
-use Rattle.core_records.specs.Sound.{bare}
+use Rattle.core_records.specs.Sound.{bare, bare_call, bare_thread}
 use Rattle.core_records.specs.declared.call_records.GuestTask.{GuestTask}
 use Rattle.core_records.specs.declared.call_records.TaskGroup.{TaskGroup}
 use Rattle.core_records.specs.declared.parts.CoreParts.{CoreParts}
@@ -64,3 +67,12 @@ pub record PushesThread (a b : CoreParts) (id : TableId GuestTaskKey) (call : Gu
     made = record a.made { threads = a.made.threads + 1 };
     kept = record a.kept { used = a.kept.used + 2 };
   }
+
+-- The call and its first thread are the next ones, once each has the place of the other.
+abbrev pub MayBeNext : CoreParts → GuestTask → GuestThread → Type 0
+MayBeNext a call thread = IsCallWithThread (bare (parts_of a)) (bare_call (record call { first = next_place a.threads }))
+    (bare_thread (record thread { task = next_place a.calls }))
+
+-- a call more, with its first thread
+abbrev pub with_call_and_thread : GuestTask → GuestThread → Core → Core
+with_call_and_thread call thread s = add_thread thread.thread (add_call call.number call.call s)

@@ -1,8 +1,10 @@
 -- A host work that is made, and its group, if it is a call.
 use Rattle.std.specs.Option.{option_map_or}
-use Rattle.std.specs.Prelude.{◌≡◌, ◌+◌, ◌<◌, ℕ, Ok, Option, None, Some, option_map}
+use Rattle.std.specs.Prelude.{◌≡◌, ◌+◌, ◌-◌, ◌<◌, ℕ, Ok, Option, None, Some, option_map}
+use Rattle.machine_data.specs.Core.{Core}
 use Rattle.machine_data.specs.declared.records.Join.TheVariants as join
 use Rattle.machine_data.specs.declared.records.Stage.TheVariants as stage
+use Rattle.machine_data.specs.declared.records.Subtask.TheVariants as subtask
 use Rattle.core_records.specs.Image.{CoreImage}
 use Rattle.core_records.specs.Keys.{group_key}
 use Rattle.core_records.specs.Kinds.{entry_of, item_of}
@@ -11,7 +13,7 @@ use Rattle.core_records.specs.declared.call_records.TaskGroup.{TaskGroup}
 use Rattle.core_records.specs.declared.parts.CoreParts.{CoreParts}
 use Rattle.core_records.specs.declared.single.Single.{Single}
 use Rattle.core_records.specs.declared.work_records.WorkRecord.{WorkRecord}
-use Rattle.machine_rules.specs.Calls.{new_work}
+use Rattle.machine_rules.specs.Calls.{new_work, next_work, with_handle, work_queued}
 use Rattle.task_table.specs.TableAnswers.{item_at}
 use Rattle.task_table.specs.Changes.{next_place, pushed, with_entry}
 use Rattle.task_table.specs.Table.{Table}
@@ -65,6 +67,19 @@ record_for number q group nodes = record {
   live = nodes.live;
   mark = nodes.mark;
   blocked = nodes.blocked;
+}
+
+-- The work that is asked for, with its push and its handle in an instance.
+abbrev pub requested_work : (instance : ℕ) → WorkRequest → TableId GroupKey × TaskGroup → Core → Core
+requested_work i q group s = with_handle i (subtask.Host (next_work s)) (work_queued q.caller q.host (group_name (Some group)) s)
+
+-- One work less, and its handle's room, is counted: all else but the tables of works and of groups is as before.
+abbrev pub IsWorkLess : (old new : CoreParts) → Type 0
+IsWorkLess a b = b ≡ record a {
+  works = b.works;
+  groups = b.groups;
+  made = record a.made { works = a.made.works - 1 };
+  kept = record a.kept { used = a.kept.used - 1 };
 }
 
 -- What the push of a work's record changed.

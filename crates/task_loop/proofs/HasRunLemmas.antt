@@ -257,7 +257,7 @@ module _ {M T H G : Type 0} (says : Says M) (course : H → HostDef) (c : Compon
     pub come_lost : (v : At M T H G) (why : Halt) (steps : ℕ) → n ≤ steps → why ≡ halt.NoMemory → HasHalted says course c why u v → IsLost says course c steps a v
     come_lost v why steps few is halted = lost steps v.trace few (subst (λ (k : Halt). HasHalted says course c k u v) is halted)
 
-    -- the turns before were heeded whole, and the hook failed in this one
+    -- in the turns before the hook answered no error, and it failed in this one
     stopped : (v : At M T H G) (steps : ℕ) → n < steps → FailsTurn says course c u v → HasStopped says course c steps a v.main v.trace v.store.state v.store.listeners
     stopped v steps room fails =
         let main = fails.main in
