@@ -8,7 +8,7 @@ ghost use Rattle.machine_data.specs.declared.records.Place.TheVariants as places
 ghost use Rattle.machine_data.specs.declared.records.Subtask.TheVariants as subtasks;
 ghost use Rattle.ops_moves.specs.Idle.{CanPublish, IsJoinThere};
 ghost use Rattle.ops_guests.specs.OpResult.{IsCurrent};
-ghost use Rattle.ops_guests.specs.Running.{IsRunning};
+ghost use Rattle.ops_guests.specs.Running.{IsRunning, IsTaskOf};
 ghost use Rattle.ops_guests.specs.Stays.{StaysAfter};
 ghost use Rattle.ops_guests.specs.OpWakes.{WaitersTogether, is_of, wakes_in};
 ghost use Rattle.ops_guests.specs.Works.{KeepsTold};
@@ -89,8 +89,7 @@ fn leave_to<W: Primitives>(
     value: u64,
 )
     requires live { 0 < thread_of (W.view w.old) thread }
-    requires named { 0 < call_of (W.view w.old) call }
-    requires call { call_of (W.view w.old) call ≡ task_of (thread_of (W.view w.old) thread) (W.view w.old).core }
+    requires task { IsTaskOf call thread (W.view w.old) }
     requires below { 0 < thread_of (W.view w.old) below }
     requires running { IsRunning (thread_of (W.view w.old) thread) (W.view w.old).core }
     requires under { place_of (thread_of (W.view w.old) below) (W.view w.old).core ≡ Some (places.Under (thread_of (W.view w.old) thread)) }
