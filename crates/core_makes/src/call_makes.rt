@@ -1,9 +1,8 @@
 ghost use Rattle.std.specs.Prelude.{◌≡◌, ◌+◌, ◌<◌, ◌≤◌, ◌^◌, IfOk, IsSome, OnErr, OnOk, length, true};
 ghost use Rattle.core_makes.specs.Restored.{IsRestored};
-ghost use Rattle.core_makes.specs.Ends.{HasEndRoom};
 ghost use Rattle.core_makes.specs.Fresh.{requested, requested_grouped, requested_with_handle};
 ghost use Rattle.core_makes.specs.LooseCalls.{AreCallAndThreadLoose};
-ghost use Rattle.core_makes.specs.Pushed.{MayAdd, PushesCallWithThread};
+ghost use Rattle.core_makes.specs.Pushed.{MayAdd, PushesCallWithThread, MayAddByMain};
 ghost use Rattle.machine_data.specs.Maps.{get};
 ghost use Rattle.machine_data.specs.Read.{fits};
 ghost use Rattle.machine_data.specs.declared.records.Caller.TheVariants as callers;
@@ -134,15 +133,7 @@ fn add_main_call(
     nodes: (CallNodes, ThreadNodes),
 ) -> Result<(ThreadId, CallId), NoMemory>
     requires sound { IsSoundCore parts.old }
-    requires words { length words.now ≤ 16 }
-    requires few { (seen parts.old).core.made.threads + 1 < 2 ^ 64 }
-    requires groups { (seen parts.old).core.made.groups + 1 < 2 ^ 64 }
-    requires room { fits 4 (seen parts.old).core ≡ true }
-    requires end_room { HasEndRoom parts.old }
-    requires caller { request.caller ≡ callers.Main }
-    requires there { IsSome (get (seen parts.old).core.instances request.callee.instance) }
-    requires result { request.goal ≡ goals.Main → HasRoom (parts.old.made.threads + 1) parts.old.results }
-    requires loose { AreCallAndThreadLoose (bare (parts_of parts.old)) nodes.0 nodes.1 }
+    requires add { MayAddByMain parts.old request words.now nodes }
     ensures sound { IsSoundCore parts.new }
     ensures new { MakesGroupedCall (requested_grouped request words.now) (seen parts.old) result (seen parts.new) }
 {

@@ -1,12 +1,12 @@
-ghost use Rattle.core_makes.specs.Counted.{IsGroupLess, IsGroupMore};
+ghost use Rattle.core_makes.specs.Pushed.{PushesGroup};
+ghost use Rattle.core_makes.specs.Counted.{IsGroupLess};
 ghost use Rattle.core_makes.specs.Ends.{HasEndRoom};
-ghost use Rattle.core_makes.specs.Fresh.{new_group};
 ghost use Rattle.std.specs.Prelude.{◌≡◌, ◌+◌, ◌-◌, ◌<◌, ◌^◌, IfOk, Ok, OnErr, OnOk, true};
 ghost use Rattle.machine_data.specs.Read.{fits};
-ghost use Rattle.core_records.specs.Kinds.{entry_of, item_of};
+ghost use Rattle.core_records.specs.Kinds.{item_of};
 ghost use Rattle.core_records.specs.Seen.{IsSoundCore, seen};
 ghost use Rattle.task_table.specs.TableAnswers.{item_at};
-ghost use Rattle.task_table.specs.Changes.{deleted, next_place, pushed};
+ghost use Rattle.task_table.specs.Changes.{deleted};
 ghost use Rattle.task_table.specs.Table.{IsTable};
 ghost use Rattle.core_primitives.specs.Groups.{with_group};
 
@@ -40,10 +40,7 @@ pub fn push_group(parts: &mut CoreParts, entry: u32) -> Result<TableId<GroupKey>
     requires end_room { HasEndRoom parts.old }
     ensures sound { IsSoundCore parts.new }
     ensures new { OnOk result (seen parts.new ≡ with_group (seen parts.old)) }
-    ensures group { IfOk result (λ id. Ok (new_group parts.old entry) ≡ item_at item_of parts.new.groups id.rep id.serial) }
-    ensures rep { IfOk result (λ id. id.rep ≡ next_place parts.old.groups) }
-    ensures pushed { OnOk result (parts.new.groups ≡ pushed (entry_of (new_group parts.old entry)) parts.old.groups) }
-    ensures only { OnOk result (IsGroupMore parts.old parts.new) }
+    ensures pushes { IfOk result (λ id. PushesGroup parts.old parts.new entry id) }
     ensures err { OnErr result (parts.new ≡ parts.old) }
 {
     let number = parts.made.groups + 1;

@@ -1,14 +1,13 @@
-ghost use Rattle.std.specs.Prelude.{◌≡◌, ◌+◌, ◌-◌, ◌<◌, ◌≤◌, ◌^◌, IfOk, None, Ok, OnErr, OnOk, is_some, length, true};
+ghost use Rattle.std.specs.Prelude.{◌≡◌, ◌+◌, ◌-◌, ◌<◌, ◌≤◌, ◌^◌, IfOk, Ok, OnErr, OnOk, is_some, length, true};
 ghost use Rattle.core_makes.specs.Counted.{IsMemberLess};
-ghost use Rattle.core_makes.specs.LooseCalls.{AreThreadLoose, thread_nodes_of};
-ghost use Rattle.core_makes.specs.Member.{IsMember};
-ghost use Rattle.core_makes.specs.Pushed.{PushesThread};
+ghost use Rattle.core_makes.specs.LooseCalls.{AreThreadLoose};
+ghost use Rattle.core_makes.specs.Pushed.{PushesThread, MayPushThread};
 ghost use Rattle.machine_data.specs.Maps.{get};
 ghost use Rattle.machine_data.specs.Read.{call_instance, fits};
 ghost use Rattle.machine_data.specs.Write.{add_thread};
 ghost use Rattle.core_records.specs.Kinds.{entry_of, item_of};
 ghost use Rattle.core_records.specs.Seen.{IsSoundCore, parts_of, seen};
-ghost use Rattle.core_records.specs.Sound.{bare, bare_call, bare_thread};
+ghost use Rattle.core_records.specs.Sound.{bare};
 ghost use Rattle.machine_rules.specs.Calls.{new_thread, next_thread};
 ghost use Rattle.task_table.specs.TableAnswers.{item_at};
 ghost use Rattle.task_table.specs.Changes.{deleted, with_entry};
@@ -64,10 +63,7 @@ fn push_thread(
     requires sound { IsSoundCore parts.old }
     requires few { parts.old.made.threads + 1 < 2 ^ 64 }
     requires room { fits 2 (seen parts.old).core ≡ true }
-    requires call { Ok call ≡ item_at item_of parts.old.calls task.rep task.serial }
-    requires member { IsMember (bare (parts_of parts.old)) (bare_call call) task.rep (bare_thread thread) }
-    requires loose { AreThreadLoose (bare (parts_of parts.old)) (thread_nodes_of thread) }
-    requires unnamed { thread.thread.handle ≡ None }
+    requires may { MayPushThread parts.old task call thread }
     ensures sound { IsSoundCore parts.new }
     ensures new { OnOk result (BecomesRecord (add_thread thread.thread (seen parts.old).core) (seen parts.old) (seen parts.new)) }
     ensures thread { IfOk result (λ id. thread_of (seen parts.new) id ≡ next_thread (seen parts.old).core) }

@@ -1,13 +1,13 @@
-ghost use Rattle.core_makes.specs.Counted.{IsSetLess, IsSetMore};
+ghost use Rattle.core_makes.specs.Pushed.{IsSetNext, PushesSet};
+ghost use Rattle.core_makes.specs.Counted.{IsSetLess};
 ghost use Rattle.core_makes.specs.Loose.{AreSetLoose};
 ghost use Rattle.std.specs.Prelude.{◌≡◌, ◌+◌, ◌-◌, ◌<◌, ◌^◌, IfOk, OnErr, OnOk, is_some, length, true};
 ghost use Rattle.machine_data.specs.Maps.{get};
 ghost use Rattle.machine_data.specs.Read.{fits};
 ghost use Rattle.machine_data.specs.Write.{add_set};
-ghost use Rattle.core_records.specs.Kinds.{entry_of};
 ghost use Rattle.core_records.specs.Seen.{IsSoundCore, parts_of, seen};
 ghost use Rattle.core_records.specs.Sound.{bare};
-ghost use Rattle.task_table.specs.Changes.{deleted, next_place, pushed};
+ghost use Rattle.task_table.specs.Changes.{deleted};
 ghost use Rattle.task_table.specs.Table.{IsTable};
 ghost use Rattle.core_primitives.specs.BecomesRecord.{BecomesRecord};
 ghost use Rattle.core_primitives.specs.StateView.{set_of};
@@ -24,18 +24,13 @@ use task_wait::SetKey;
 // The record of a set, with its chains.
 fn push_set(parts: &mut CoreParts, set: WaitSet) -> Result<SetId, NoMemory>
     requires sound { IsSoundCore parts.old }
-    requires next { set.number ≡ parts.old.made.sets + 1 }
     requires few { (seen parts.old).core.made.sets + 1 < 2 ^ 64 }
     requires room { fits 1 (seen parts.old).core ≡ true }
-    requires loose { AreSetLoose (bare (parts_of parts.old)) set }
-    requires members { set.members ≡ 0 }
-    requires entries { set.entries ≡ 0 }
+    requires next { IsSetNext parts.old set }
     ensures sound { IsSoundCore parts.new }
     ensures new { OnOk result (BecomesRecord (add_set set.set (seen parts.old).core) (seen parts.old) (seen parts.new)) }
     ensures set { IfOk result (λ id. set_of (seen parts.new) id ≡ (seen parts.old).core.made.sets + 1) }
-    ensures rep { IfOk result (λ id. id.rep ≡ next_place parts.old.sets) }
-    ensures pushed { OnOk result (parts.new.sets ≡ pushed (entry_of set) parts.old.sets) }
-    ensures only { OnOk result (IsSetMore parts.old parts.new) }
+    ensures pushes { IfOk result (λ id. PushesSet parts.old parts.new set id) }
     ensures err { OnErr result (parts.new ≡ parts.old) }
 {
     match parts.sets.push::<SetKey>(set) {
@@ -70,12 +65,9 @@ fn take_back(parts: &mut CoreParts, set: SetId)
 fn name_set(parts: &mut CoreParts, instance: u32, set: WaitSet) -> Result<SetId, NoMemory>
     requires sound { IsSoundCore parts.old }
     requires there { instance < length parts.old.instances.items }
-    requires next { set.number ≡ parts.old.made.sets + 1 }
     requires few { (seen parts.old).core.made.sets + 1 < 2 ^ 64 }
     requires room { fits 1 (seen parts.old).core ≡ true }
-    requires loose { AreSetLoose (bare (parts_of parts.old)) set }
-    requires members { set.members ≡ 0 }
-    requires entries { set.entries ≡ 0 }
+    requires next { IsSetNext parts.old set }
     ensures sound { IsSoundCore parts.new }
     ensures new { MakesSet (with_named_set instance set.set) (seen parts.old) result (seen parts.new) }
 {

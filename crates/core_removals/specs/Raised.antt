@@ -1,6 +1,12 @@
 -- A host work that is made, and its group, if it is a call.
+use Rattle.task_wait.specs.declared.keys.HostTaskKey.{HostTaskKey}
+use Rattle.core_primitives.specs.Apart.{work_entries}
+use Rattle.core_primitives.specs.StateView.{StateView, work_of}
+use Rattle.core_removals.specs.LooseWorks.{AreWorkLoose}
+use Rattle.core_records.specs.Seen.{parts_of}
+use Rattle.core_records.specs.Sound.{bare, bare_work}
 use Rattle.std.specs.Option.{option_map_or}
-use Rattle.std.specs.Prelude.{◌≡◌, ◌+◌, ◌-◌, ◌<◌, ℕ, Ok, Option, None, Some, option_map}
+use Rattle.std.specs.Prelude.{◌≡◌, ◌+◌, ◌-◌, ◌<◌, ℕ, Ok, Option, None, Some, option_map, IsSome}
 use Rattle.machine_data.specs.Core.{Core}
 use Rattle.machine_data.specs.declared.records.Join.TheVariants as join
 use Rattle.machine_data.specs.declared.records.Stage.TheVariants as stage
@@ -93,3 +99,20 @@ pub record PushesWork (a b : CoreParts) (w : WorkRecord) (group : GroupHere) (id
         made = record a.made { works = a.made.works + 1 };
         kept = record a.kept { used = a.kept.used + used };
       }
+
+-- What a work is to have hangs on nothing yet, and the lists that it goes to are there.
+pub record MayQueueWork (a : CoreParts) (nodes : WorkNodes) : Type 0 where
+  pub loose : AreWorkLoose (bare (parts_of a)) nodes
+  pub high : IsSome a.high
+  pub live : IsSome a.live
+
+-- The work is the next one, of this group, if it is a call.
+pub record IsWorkNextOf (a : CoreParts) (w : WorkRecord) (group : GroupHere) : Type 0 where
+  pub next : IsWorkNext (bare (parts_of a)) (bare_work w)
+  pub here : IsHere a.groups group
+  pub named : w.work.group ≡ group_name group
+
+-- The id names it, and it has no entry yet.
+pub record NamesNewWork (id : TableId HostTaskKey) (s t : StateView) : Type 0 where
+  pub named : work_of t id ≡ s.core.made.works + 1
+  pub unqueued : work_entries (s.core.made.works + 1) t.core.queues.high ≡ 0

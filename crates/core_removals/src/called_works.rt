@@ -1,17 +1,15 @@
-ghost use Rattle.std.specs.Prelude.{◌≡◌, ◌+◌, ◌-◌, ◌<◌, ◌^◌, IsSome, Ok, OnErr, OnOk, length, true};
+ghost use Rattle.std.specs.Prelude.{◌≡◌, ◌+◌, ◌-◌, ◌<◌, ◌^◌, Ok, OnErr, OnOk, length, true};
 ghost use Rattle.machine_data.specs.Read.{fits, instance_of, new_handle};
 ghost use Rattle.machine_data.specs.declared.records.Subtask.TheVariants as subtasks;
 ghost use Rattle.core_records.specs.Kinds.{entry_of, item_of};
 ghost use Rattle.core_records.specs.Names.{AtPlace, work_caller_target};
 ghost use Rattle.core_records.specs.Seen.{IsSoundCore, parts_of, seen};
-ghost use Rattle.core_records.specs.Sound.{bare};
 ghost use Rattle.machine_rules.specs.Calls.{with_handle};
 ghost use Rattle.task_table.specs.TableAnswers.{item_at};
 ghost use Rattle.task_table.specs.Changes.{deleted, with_entry};
 ghost use Rattle.task_table.specs.Table.{IsTable};
 ghost use Rattle.core_primitives.specs.StateView.{on_core, thread_of, work_of};
-ghost use Rattle.core_removals.specs.Raised.{IsWorkLess, requested_work};
-ghost use Rattle.core_removals.specs.LooseWorks.{AreWorkLoose};
+ghost use Rattle.core_removals.specs.Raised.{IsWorkLess, requested_work, MayQueueWork};
 ghost use Rattle.core_primitives.specs.Records.{MakesWork, async_work};
 
 use crate::spawned_works::push_work;
@@ -85,9 +83,7 @@ fn call_work(
     requires room { fits 1 (seen parts.old).core ≡ true }
     requires caller { AtPlace (parts_of parts.old) request.maker (work_caller_target request.caller) }
     requires here { Ok group.1 ≡ item_at item_of parts.old.groups group.0.rep group.0.serial }
-    requires loose { AreWorkLoose (bare (parts_of parts.old)) nodes }
-    requires high { IsSome parts.old.high }
-    requires live { IsSome parts.old.live }
+    requires nodes { MayQueueWork parts.old nodes }
     ensures sound { IsSoundCore parts.new }
     ensures new { MakesWork (requested_work instance request group) (seen parts.old) result (seen parts.new) }
     ensures small { OnOk result (new_handle instance (seen parts.old).core < 2 ^ 28) }

@@ -1,13 +1,11 @@
-ghost use Rattle.std.specs.Prelude.{◌≡◌, ◌+◌, ◌<◌, ◌^◌, IsSome, None, is_some, true};
+ghost use Rattle.std.specs.Prelude.{◌≡◌, ◌+◌, ◌<◌, ◌^◌, None, is_some, true};
 ghost use Rattle.machine_data.specs.Read.{fits};
 ghost use Rattle.machine_data.specs.declared.records.WorkCaller.TheVariants as callers;
 ghost use Rattle.core_records.specs.Names.{AtPlace, work_caller_target};
 ghost use Rattle.core_records.specs.Seen.{IsSoundCore, parts_of, seen};
-ghost use Rattle.core_records.specs.Sound.{bare};
 ghost use Rattle.machine_rules.specs.Calls.{work_queued};
 ghost use Rattle.core_primitives.specs.StateView.{thread_of};
-ghost use Rattle.core_removals.specs.LooseWorks.{AreWorkLoose};
-ghost use Rattle.core_removals.specs.Raised.{IsHere, group_name};
+ghost use Rattle.core_removals.specs.Raised.{IsHere, group_name, MayQueueWork};
 ghost use Rattle.core_primitives.specs.Records.{MakesWork, sync_work};
 
 use crate::spawned_works::push_work;
@@ -34,9 +32,7 @@ fn queue_work(
     requires room { is_some group ≡ true → fits 1 (seen parts.old).core ≡ true }
     requires caller { AtPlace (parts_of parts.old) request.maker (work_caller_target request.caller) }
     requires here { IsHere parts.old.groups group }
-    requires loose { AreWorkLoose (bare (parts_of parts.old)) nodes }
-    requires high { IsSome parts.old.high }
-    requires live { IsSome parts.old.live }
+    requires nodes { MayQueueWork parts.old nodes }
     ensures sound { IsSoundCore parts.new }
     ensures new { MakesWork (work_queued request.caller request.host (group_name group)) (seen parts.old) result (seen parts.new) }
 {

@@ -25,8 +25,8 @@ KeepsStarted (Ok (acted.Does (main_label.Start k n))) s t = KeepsWith (s.core.ma
 KeepsStarted r s t = Keeps s.tags t.tags
 
 -- The op of main on this line did what the rule says, whatever the component is.
-abbrev pub MeetsMain : (line : ℕ) → MainAct → StateView → Acted → StateView → Type 0
-MeetsMain line act s r t = (c : Component) → MainImplements (main_rule c line s.core act) s.core r t.core
+abbrev pub ImplementsMain : (line : ℕ) → MainAct → StateView → Acted → StateView → Type 0
+ImplementsMain line act s r t = (c : Component) → MainImplements (main_rule c line s.core act) s.core r t.core
 
 -- the start of an export of this kind, and the spawn of this host
 abbrev pub StartsMain : (line : ℕ) → Callee → ExportKind → (words : List ℕ) → StateView → Acted → StateView → Type 0
@@ -38,5 +38,5 @@ SpawnsMain line host s r t = (c : Component) (h : ℕ) → host_at c h ≡ host 
     MainImplements (main_rule c line s.core (Spawn h)) s.core r t.core
 
 -- the op does, whatever its line is
-abbrev pub MeetsMainAnywhere : MainAct → StateView → Acted → StateView → Type 0
-MeetsMainAnywhere act s r t = (c : Component) (line : ℕ) → MainImplements (main_rule c line s.core act) s.core r t.core
+abbrev pub ImplementsMainAnywhere : MainAct → StateView → Acted → StateView → Type 0
+ImplementsMainAnywhere act s r t = (c : Component) (line : ℕ) → MainImplements (main_rule c line s.core act) s.core r t.core

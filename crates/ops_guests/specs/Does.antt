@@ -44,11 +44,11 @@ abbrev pub by_woken : (ℕ → Option ℕ → Core → Progress) → NumberRule
 by_woken rule n ch = rule n ch.woken
 
 -- What began in s with the number came to what the rule says.
-abbrev pub MeetsAt : NumberRule → ℕ → StateView → OpResult → StateView → Type 0
-MeetsAt rule n s r t = Implements (rule n (choice_of (label_of n r)) s.core) s.core r t.core
+abbrev pub ImplementsAt : NumberRule → ℕ → StateView → OpResult → StateView → Type 0
+ImplementsAt rule n s r t = Implements (rule n (choice_of (label_of n r)) s.core) s.core r t.core
 
-abbrev pub Meets : NumberRule → TableId ThreadKey → StateView → OpResult → StateView → Type 0
-Meets rule id s = MeetsAt rule (thread_of s id) s
+abbrev pub ImplementsRule : NumberRule → TableId ThreadKey → StateView → OpResult → StateView → Type 0
+ImplementsRule rule id s = ImplementsAt rule (thread_of s id) s
 
 -- ---- What is kept
 

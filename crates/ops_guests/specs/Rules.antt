@@ -54,8 +54,8 @@ abbrev pub exits_direct : NumberRule
 exits_direct n ch s = direct_exit_rule n s
 
 -- An op on registers and memory cells is done by a thread whose script has so many ops.
-abbrev pub MeetsData : (end : ℕ) → DataOp → TableId ThreadKey → StateView → OpResult → StateView → Type 0
-MeetsData end op id s r t = (c : Component) → length (script_of c (thread_of s id) s.core) ≡ end →
+abbrev pub ImplementsData : (end : ℕ) → DataOp → TableId ThreadKey → StateView → OpResult → StateView → Type 0
+ImplementsData end op id s r t = (c : Component) → length (script_of c (thread_of s id) s.core) ≡ end →
     Implements (data_rule c (thread_of s id) s.core op) s.core r t.core
 
 -- what the exit of a direct call results in: the number of the thread that goes on, or why it traps

@@ -1,6 +1,6 @@
 //! The ends of activations, each with a code.
 ghost use Rattle.ops_guests.specs.Rules.{ends_by_code};
-ghost use Rattle.ops_guests.specs.Does.{Meets};
+ghost use Rattle.ops_guests.specs.Does.{ImplementsRule};
 ghost use Rattle.std.specs.Prelude.{◌≡◌, ◌<◌, ◌/◌, suc, true, zero, ℕ};
 ghost use Rattle.machine_data.specs.declared.label.Label.{Label};
 ghost use Rattle.ops_guests.specs.OpResult.{Implements};
@@ -21,7 +21,7 @@ use ops_moves::{check, end_thread, foot_of, put_high, put_low};
 fn code_exits<W: Primitives>(w: &mut W, thread: ThreadId, label: Label) -> OpResult
     requires live { 0 < thread_of (W.view w.old) thread }
     requires running { IsRunning (thread_of (W.view w.old) thread) (W.view w.old).core }
-    ensures implements { (rest : ℕ) → Meets (ends_by_code label zero rest) thread (W.view w.old) result (W.view w.new) }
+    ensures implements { (rest : ℕ) → ImplementsRule (ends_by_code label zero rest) thread (W.view w.old) result (W.view w.new) }
     ensures stays { StaysAfter result (W.view w.old) (W.view w.new) }
     ensures current { (W.view w.new).current ≡ (W.view w.old).current }
     ensures works { KeepsTold (W.view w.old) (W.view w.new) }
@@ -45,7 +45,7 @@ fn code_exits<W: Primitives>(w: &mut W, thread: ThreadId, label: Label) -> OpRes
 fn code_yields<W: Primitives>(w: &mut W, thread: ThreadId)
     requires live { 0 < thread_of (W.view w.old) thread }
     requires running { IsRunning (thread_of (W.view w.old) thread) (W.view w.old).core }
-    ensures implements { (label : Label) → (rest : ℕ) → Meets (ends_by_code label (suc zero) rest) thread (W.view w.old) (OpResult.Stops label) (W.view w.new) }
+    ensures implements { (l : Label) → (rest : ℕ) → ImplementsRule (ends_by_code l (suc zero) rest) thread (W.view w.old) (OpResult.Stops l) (W.view w.new) }
     ensures current { (W.view w.new).current ≡ (W.view w.old).current }
     ensures works { KeepsTold (W.view w.old) (W.view w.new) }
 {
@@ -70,7 +70,7 @@ fn code_waits<W: Primitives>(w: &mut W, thread: ThreadId, label: Label, handle: 
     requires live { 0 < thread_of (W.view w.old) thread }
     requires running { IsRunning (thread_of (W.view w.old) thread) (W.view w.old).core }
     requires there { SetsThere (W.view w.old).core }
-    ensures implements { Meets (ends_by_code label (suc (suc zero)) handle) thread (W.view w.old) result (W.view w.new) }
+    ensures implements { ImplementsRule (ends_by_code label (suc (suc zero)) handle) thread (W.view w.old) result (W.view w.new) }
     ensures stays { StaysAfter result (W.view w.old) (W.view w.new) }
     ensures current { (W.view w.new).current ≡ (W.view w.old).current }
     ensures works { KeepsTold (W.view w.old) (W.view w.new) }

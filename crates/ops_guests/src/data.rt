@@ -1,5 +1,5 @@
 //! The ops on registers and memory cells.
-ghost use Rattle.ops_guests.specs.Rules.{MeetsData};
+ghost use Rattle.ops_guests.specs.Rules.{ImplementsData};
 ghost use Rattle.std.specs.Prelude.{◌≡◌, ◌+◌, ◌<◌};
 ghost use Rattle.machine_data.specs.Read.{position_of};
 ghost use Rattle.machine_data.specs.declared.op.DataOp.TheVariants as data_ops;
@@ -31,7 +31,7 @@ fn skip_equal<W: Primitives>(
     end: u32,
 ) -> OpResult
     requires { position_of (thread_of (W.view w.old) thread) (W.view w.old).core < end }
-    ensures implements { MeetsData end (data_ops.SkipEq left right ops) thread (W.view w.old) result (W.view w.new) }
+    ensures implements { ImplementsData end (data_ops.SkipEq left right ops) thread (W.view w.old) result (W.view w.new) }
     ensures tags { (W.view w.new).tags ≡ (W.view w.old).tags }
     ensures current { (W.view w.new).current ≡ (W.view w.old).current }
 {
@@ -53,7 +53,7 @@ fn skip_equal<W: Primitives>(
 #[tactic(auto, using(crate::proofs::PositionLemmas::position_memory_cell), unfolding(machine_rules::specs::Data::stored))]
 fn store<W: Primitives>(w: &mut W, thread: ThreadId, cell: u8, value: Operand, end: u32) -> OpResult
     requires { position_of (thread_of (W.view w.old) thread) (W.view w.old).core < end }
-    ensures implements { MeetsData end (data_ops.Store word value) thread (W.view w.old) result (W.view w.new) }
+    ensures implements { ImplementsData end (data_ops.Store cell value) thread (W.view w.old) result (W.view w.new) }
     ensures tags { (W.view w.new).tags ≡ (W.view w.old).tags }
     ensures current { (W.view w.new).current ≡ (W.view w.old).current }
 {
@@ -72,7 +72,7 @@ fn store<W: Primitives>(w: &mut W, thread: ThreadId, cell: u8, value: Operand, e
 #[tactic(auto, using(crate::proofs::PositionLemmas::position_memory_cell))]
 pub fn compute<W: Primitives>(w: &mut W, thread: ThreadId, op: DataOp, end: u32) -> OpResult
     requires { position_of (thread_of (W.view w.old) thread) (W.view w.old).core < end }
-    ensures implements { MeetsData end op thread (W.view w.old) result (W.view w.new) }
+    ensures implements { ImplementsData end op thread (W.view w.old) result (W.view w.new) }
     ensures tags { (W.view w.new).tags ≡ (W.view w.old).tags }
     ensures current { (W.view w.new).current ≡ (W.view w.old).current }
 {

@@ -1,14 +1,14 @@
 //! The exits that end a task with what its first register has.
 ghost use Rattle.ops_guests.specs.Reopens.{ExitsOpen};
 ghost use Rattle.ops_guests.specs.Rules.{exits_by, exits_direct};
-ghost use Rattle.ops_guests.specs.Does.{Meets, by_woken};
+ghost use Rattle.ops_guests.specs.Does.{ImplementsRule, by_woken};
 ghost use Rattle.std.specs.Prelude.{◌≡◌, ◌<◌, IsSome, None, Some, true};
 ghost use Rattle.machine_data.specs.Read.{is_explicit, place_of, task_of, under_of};
 ghost use Rattle.machine_data.specs.declared.records.Place.TheVariants as places;
 ghost use Rattle.machine_data.specs.declared.records.Subtask.TheVariants as subtasks;
 ghost use Rattle.ops_moves.specs.Idle.{CanPublish, IsJoinThere};
 ghost use Rattle.ops_guests.specs.OpResult.{IsCurrent};
-ghost use Rattle.ops_guests.specs.Running.{IsRunning};
+ghost use Rattle.ops_guests.specs.Running.{IsRunning, IsTaskOf};
 ghost use Rattle.ops_guests.specs.Stays.{StaysAfter};
 ghost use Rattle.ops_guests.specs.OpWakes.{WaitersTogether, is_of, wakes_in};
 ghost use Rattle.ops_guests.specs.Works.{KeepsTold};
@@ -57,7 +57,7 @@ pub fn exit_sync<W: Primitives>(w: &mut W, thread: ThreadId) -> OpResult
     requires live { 0 < thread_of (W.view w.old) thread }
     requires running { IsRunning (thread_of (W.view w.old) thread) (W.view w.old).core }
     requires there { IsJoinThere (subtasks.Guest (task_of (thread_of (W.view w.old) thread) (W.view w.old).core)) (W.view w.old).core }
-    ensures implements { Meets (by_woken sync_exit_rule) thread (W.view w.old) result (W.view w.new) }
+    ensures implements { ImplementsRule (by_woken sync_exit_rule) thread (W.view w.old) result (W.view w.new) }
     ensures stays { StaysAfter result (W.view w.old) (W.view w.new) }
     ensures current { (W.view w.new).current ≡ (W.view w.old).current }
     ensures works { KeepsTold (W.view w.old) (W.view w.new) }
@@ -89,8 +89,7 @@ fn leave_to<W: Primitives>(
     value: u64,
 )
     requires live { 0 < thread_of (W.view w.old) thread }
-    requires named { 0 < call_of (W.view w.old) call }
-    requires call { call_of (W.view w.old) call ≡ task_of (thread_of (W.view w.old) thread) (W.view w.old).core }
+    requires task { IsTaskOf call thread (W.view w.old) }
     requires below { 0 < thread_of (W.view w.old) below }
     requires running { IsRunning (thread_of (W.view w.old) thread) (W.view w.old).core }
     requires under { place_of (thread_of (W.view w.old) below) (W.view w.old).core ≡ Some (places.Under (thread_of (W.view w.old) thread)) }
@@ -115,7 +114,7 @@ fn leave_direct<W: Primitives>(w: &mut W, thread: ThreadId, call: CallId) -> Res
     requires named { 0 < call_of (W.view w.old) call }
     requires call { call_of (W.view w.old) call ≡ task_of (thread_of (W.view w.old) thread) (W.view w.old).core }
     requires under { IsSome (under_of (thread_of (W.view w.old) thread) (W.view w.old).core) }
-    ensures implements { Meets exits_direct thread (W.view w.old) (exits_by thread (W.view w.old) result) (W.view w.new) }
+    ensures implements { ImplementsRule exits_direct thread (W.view w.old) (exits_by thread (W.view w.old) result) (W.view w.new) }
     ensures stays { StaysAfter (exits_by thread (W.view w.old) result) (W.view w.old) (W.view w.new) }
     ensures current { IsCurrent (exits_by thread (W.view w.old) result) (W.view w.new) }
     ensures works { KeepsTold (W.view w.old) (W.view w.new) }
@@ -149,7 +148,7 @@ pub fn exit_direct<W: Primitives>(w: &mut W, thread: ThreadId, call: CallId) -> 
     requires named { 0 < call_of (W.view w.old) call }
     requires call { call_of (W.view w.old) call ≡ task_of (thread_of (W.view w.old) thread) (W.view w.old).core }
     requires under { IsSome (under_of (thread_of (W.view w.old) thread) (W.view w.old).core) }
-    ensures implements { Meets exits_direct thread (W.view w.old) result (W.view w.new) }
+    ensures implements { ImplementsRule exits_direct thread (W.view w.old) result (W.view w.new) }
     ensures stays { StaysAfter result (W.view w.old) (W.view w.new) }
     ensures current { IsCurrent result (W.view w.new) }
     ensures works { KeepsTold (W.view w.old) (W.view w.new) }
@@ -218,7 +217,7 @@ pub fn exit_blocking<W: Primitives>(w: &mut W, thread: ThreadId) -> OpResult
     requires running { IsRunning (thread_of (W.view w.old) thread) (W.view w.old).core }
     requires there { IsJoinThere (subtasks.Guest (task_of (thread_of (W.view w.old) thread) (W.view w.old).core)) (W.view w.old).core }
     requires together { WaitersTogether (W.view w.old).core }
-    ensures implements { Meets (by_woken blocking_exit_rule) thread (W.view w.old) result (W.view w.new) }
+    ensures implements { ImplementsRule (by_woken blocking_exit_rule) thread (W.view w.old) result (W.view w.new) }
     ensures stays { StaysAfter result (W.view w.old) (W.view w.new) }
     ensures current { (W.view w.new).current ≡ (W.view w.old).current }
     ensures works { KeepsTold (W.view w.old) (W.view w.new) }

@@ -4,7 +4,7 @@ ghost use Rattle.machine_data.specs.Core.{Began};
 ghost use Rattle.machine_data.specs.Maps.{get};
 ghost use Rattle.machine_data.specs.Write.{set_trapped};
 ghost use Rattle.machine_data.specs.declared.label.LoopLabel.TheVariants as loop_labels;
-ghost use Rattle.ops_guests.specs.Acted.{KeepsStarted, MeetsMain, MeetsMainAnywhere, SpawnsMain, StartsMain};
+ghost use Rattle.ops_guests.specs.Acted.{KeepsStarted, ImplementsMain, ImplementsMainAnywhere, SpawnsMain, StartsMain};
 ghost use Rattle.machine_rules.specs.Cancels.{aborted_phase};
 ghost use Rattle.machine_rules.specs.MainOps.{Abort, Answer, Await, Finish, Quiet, Ready, Start, start_refusal};
 ghost use Rattle.machine_rules.specs.Places.{Placed};
@@ -68,7 +68,7 @@ pub fn start<W: Primitives>(
 
 /// Does `finish K R`, of the start that made this call, or was refused.
 pub fn finish<W: Primitives>(w: &mut W, line: u32, call: u64) -> Acted
-    ensures implements { MeetsMain line (Finish (Began call)) (W.view w.old) result (W.view w.new) }
+    ensures implements { ImplementsMain line (Finish (Began call)) (W.view w.old) result (W.view w.new) }
     ensures tags { (W.view w.new).tags ≡ (W.view w.old).tags }
     ensures current { (W.view w.new).current ≡ (W.view w.old).current }
 {
@@ -107,7 +107,7 @@ fn aborted(phase: Phase) -> Phase
 /// Does `abort K`, of the spawn that made this work.
 #[tactic(auto, unfolding(machine_rules::specs::MainOps::main_aborted))]
 pub fn abort<W: Primitives>(w: &mut W, line: u32, work: WorkId) -> Acted
-    ensures implements { MeetsMain line (Abort (work_of (W.view w.old) work)) (W.view w.old) result (W.view w.new) }
+    ensures implements { ImplementsMain line (Abort (work_of (W.view w.old) work)) (W.view w.old) result (W.view w.new) }
     ensures tags { (W.view w.new).tags ≡ (W.view w.old).tags }
     ensures current { (W.view w.new).current ≡ (W.view w.old).current }
 {
@@ -118,7 +118,7 @@ pub fn abort<W: Primitives>(w: &mut W, line: u32, work: WorkId) -> Acted
 
 /// Does `await K`, of the spawn that made this work.
 pub fn await_spawn<W: Primitives>(w: &W, line: u32, work: WorkId) -> Acted
-    ensures { MeetsMain line (Await (work_of (W.view w.now) work)) (W.view w.now) result (W.view w.now) }
+    ensures { ImplementsMain line (Await (work_of (W.view w.now) work)) (W.view w.now) result (W.view w.now) }
 {
     if matches!(w.phase(work), Phase::Complete) {
         Acted::Does(MainLabel::Await(line))
@@ -129,7 +129,7 @@ pub fn await_spawn<W: Primitives>(w: &W, line: u32, work: WorkId) -> Acted
 
 /// Does `quiet`.
 pub fn quiet<W: Primitives>(w: &W) -> Acted
-    ensures { MeetsMainAnywhere Quiet (W.view w.now) result (W.view w.now) }
+    ensures { ImplementsMainAnywhere Quiet (W.view w.now) result (W.view w.now) }
 {
     if w.has_interesting() {
         Acted::Pends
@@ -141,7 +141,7 @@ pub fn quiet<W: Primitives>(w: &W) -> Acted
 /// Does `ready F`, of an export of this instance.
 #[tactic(auto, unfolding(machine_rules::specs::MainOps::is_ready_for_call))]
 pub fn ready<W: Primitives>(w: &W, instance: u32) -> Acted
-    ensures { MeetsMainAnywhere (Ready instance) (W.view w.now) result (W.view w.now) }
+    ensures { ImplementsMainAnywhere (Ready instance) (W.view w.now) result (W.view w.now) }
 {
     if w.may_not_enter(instance) || w.backpressure(instance) != 0 {
         Acted::Pends
@@ -152,7 +152,7 @@ pub fn ready<W: Primitives>(w: &W, instance: u32) -> Acted
 
 /// Does `answer X`.
 pub fn answer<W: Primitives>(w: &W, value: u64) -> Acted
-    ensures { MeetsMainAnywhere (Answer value) (W.view w.now) result (W.view w.now) }
+    ensures { ImplementsMainAnywhere (Answer value) (W.view w.now) result (W.view w.now) }
 {
     // only the contract speaks of `w`
     let _state = w;

@@ -1,6 +1,6 @@
 //! The taking of a start.
 ghost use Rattle.ops_guests.specs.Rules.{takes_start};
-ghost use Rattle.ops_guests.specs.Does.{Meets};
+ghost use Rattle.ops_guests.specs.Does.{ImplementsRule};
 ghost use Rattle.std.specs.Prelude.{◌≡◌, ◌<◌, IfOk, IfSome, None, OnErr, OnOk, false, true};
 ghost use Rattle.machine_data.specs.Labels.{held_label, take_label};
 ghost use Rattle.machine_data.specs.Read.{admits, at_handle_limit, task_of, under_of};
@@ -164,7 +164,7 @@ pub fn take_start<W: Primitives>(
     requires taken { IsStartTaken (thread_of (W.view w.old) thread) (W.view w.old).core }
     requires bottom { under_of (thread_of (W.view w.old) thread) (W.view w.old).core ≡ None }
     requires there { IsJoinThere (subtasks.Guest (task_of (thread_of (W.view w.old) thread) (W.view w.old).core)) (W.view w.old).core }
-    ensures implements { IfOk result (λ op_result. Meets (takes_start mark) thread (W.view w.old) op_result (W.view w.new)) }
+    ensures implements { IfOk result (λ op_result. ImplementsRule (takes_start mark) thread (W.view w.old) op_result (W.view w.new)) }
     ensures tags { (W.view w.new).tags ≡ (W.view w.old).tags }
     ensures current { (W.view w.new).current ≡ (W.view w.old).current }
     ensures err { OnErr result (W.view w.new ≡ W.view w.old) }

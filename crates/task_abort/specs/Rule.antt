@@ -1,13 +1,10 @@
 -- The rule over the word and all passes, and what a pass and a call know by it.
-use Rattle.task_abort.specs.Cells.{TellsRunning}
-use Rattle.futures.specs.declared.task.Poll.{Poll}
-use Rattle.std.specs.Prelude.{◌≡◌, ℕ, ◌≤◌, ◌<◌, ◌⊎◌, false, if◌then◌else◌, List, [], ◌∷◌, ◌++◌, sum_by, count_by, Option}
+use Rattle.std.specs.Prelude.{◌≡◌, ℕ, ◌≤◌, ◌<◌, ◌⊎◌, false, if◌then◌else◌, List, [], ◌∷◌, ◌++◌, sum_by, count_by}
 use mathlib.Core.Option.{some}
 use lib.ListN.{get_elem?}
 use Rattle.atomic_table.specs.Table.{Me}
 use Rattle.machine_data.specs.declared.statuses.Phase.{Phase}
 use Rattle.task_abort.specs.declared.log.PhaseCall.{PhaseCall}
-use Rattle.task_abort.specs.declared.log.PhaseCall.TheVariants.{PollFuture}
 use Rattle.task_abort.specs.declared.log.LogEntry.{LogEntry}
 use Rattle.task_abort.specs.declared.log.HandleCaller.{HandleCaller}
 use Rattle.task_abort.specs.declared.log.PassView.{PassView}
@@ -129,7 +126,3 @@ HasMetAll v = HasMet v.own.splits v
 -- each call that was seen is by one of the pass's callers
 abbrev pub AllKnown : PassView → Type 0
 AllKnown v = (m : ℕ) (e : LogEntry Name) → get_elem? v.seen m ≡ some e → (c : HandleCaller) × Has v c × (c.name ≡ e.caller)
-
--- A poll of the future is a call that finds some phase, and tells what that says of it.
-abbrev pub PollsFuture : {A : Type 0} → (A → Type 0) → (again : Type 0) → PassView → Poll (Option A) → PassView → Type 0
-PollsFuture gives again v told w = (found : Phase) × Calls PollFuture v found w × TellsRunning gives again found told

@@ -1,10 +1,11 @@
 //! The calls that wake, or that can be woken.
+ghost use Rattle.task_abort.specs.Polls.{PollsFuture};
 ghost use Rattle.std.specs.Prelude.{◌≡◌, ◌≢◌, ◌⊎◌, None};
 ghost use Rattle.futures.specs.Poll.{OnPending};
 ghost use Rattle.futures.specs.Task.{Covers, Keeps};
 ghost use Rattle.task_abort.specs.Cells.{handle_cell, work_cell, pass_cell, abort_source, end_source, work_of, view_of, TellsComplete};
 ghost use Rattle.task_abort.specs.PhaseLog.{phase};
-ghost use Rattle.task_abort.specs.Rule.{Calls, PollsFuture};
+ghost use Rattle.task_abort.specs.Rule.{Calls};
 ghost use Rattle.machine_data.specs.declared.statuses.Phase.{Phase};
 ghost use Rattle.machine_data.specs.declared.statuses.Phase.TheVariants.{Running, Complete};
 ghost use Rattle.task_abort.specs.declared.log.PhaseCall.TheVariants.{Abort, PollHandle, Finish};

@@ -1,11 +1,12 @@
 //! The calls of the work.
+ghost use Rattle.task_abort.specs.Polls.{PollsFuture};
 ghost use Rattle.std.specs.Arc.{arc_value};
 ghost use Rattle.std.specs.Prelude.{◌≡◌, ◌≢◌, IfErr, IfOk, IfSome, IsNone, MatchOption, None};
 ghost use Rattle.futures.specs.Poll.{OnPending};
 ghost use Rattle.futures.specs.Task.{Covers, Keeps};
 ghost use Rattle.task_abort.specs.Cells.{work_cell, pass_cell, abort_source, work_of, view_of, AreMadeOf};
 ghost use Rattle.task_abort.specs.PhaseLog.{first_view, phase};
-ghost use Rattle.task_abort.specs.Rule.{Calls, PollsFuture};
+ghost use Rattle.task_abort.specs.Rule.{Calls};
 ghost use Rattle.machine_data.specs.declared.statuses.Phase.{Phase};
 ghost use Rattle.machine_data.specs.declared.statuses.Phase.TheVariants.{Running};
 ghost use Rattle.task_abort.specs.declared.log.PhaseCall.TheVariants.{PollFuture, Finish};
