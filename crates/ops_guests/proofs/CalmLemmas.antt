@@ -1,11 +1,12 @@
 -- An op whose rule leaves no choice picks what comes first.
 use Rattle.std.proofs.Common.{subst, sym}
-use Rattle.std.specs.Prelude.{IfSome, Option, refl, ℕ, ◌≡◌}
+use Rattle.std.specs.Prelude.{Bool, IfSome, IsPermutation, List, None, Option, Some, false, refl, true, ℕ, ◌≡◌}
+use Rattle.machine_data.specs.Labels.{woken_of}
 use Rattle.machine_data.specs.Core.{Core}
 use Rattle.machine_data.specs.declared.label.Label.{Label}
-use Rattle.machine_rules.specs.Picks.{LeavesNoChoice, Preference, ReleasesNone, ShowsFirst, Silent, TakesFirst, WakesFirst, in_order}
+use Rattle.machine_rules.specs.Picks.{LeavesNoChoice, Preference, ReleasesNone, ShowsFirst, Silent, TakesFirst, WakesFirst, goes_in_order, in_order, taken_of}
 use Rattle.machine_data.specs.Read.{instance_of}
-use Rattle.machine_rules.specs.Progress.{Asks, Continues, Fails, Never, Ordered, Progress, Stops, Traps}
+use Rattle.machine_rules.specs.Progress.{Asks, Continues, Fails, Never, Ordered, Progress, Stops, Traps, may}
 use Rattle.ops_guests.specs.OpResult.{Implements, PicksFirst}
 use Rattle.ops_guests.specs.Steps.{label_of}
 use Rattle.ops_guests.specs.declared.op_result.OpResult.TheVariants as op_result
@@ -46,6 +47,42 @@ label_silent n (Fails i) s r t calm h = subst (λ (q : OpResult). Silent (label_
 label_silent n Never s r t calm h = absurd h
 label_silent n (Ordered ns next) s r t calm h = absurd calm
 label_silent n (Asks next) s r t calm h = label_silent n (next h.0) s r t (calm h.0) h.1
+
+-- a label that wakes the waiter that comes first, and shows no member
+pub waking_shows : (p : Preference) (s : Core) (l : Label) (w : ℕ) → woken_of l ≡ Some w → taken_of l ≡ None → WakesFirst p s w → ShowsFirst p s l
+waking_shows p s l w is none first = record {
+  waiter = subst (λ (o : Option ℕ). IfSome o (WakesFirst p s)) (sym is) first;
+  member = subst (λ (o : Option (ℕ × ℕ)). IfSome o (λ e. TakesFirst p s (instance_of e.0 s) e.1)) (sym none) tt;
+}
+
+-- a rule that releases no thread
+pub loose_picks : (p : Preference) (row : Progress) (l : Label) (s : Core) (r : OpResult) (t : Core) → ReleasesNone row → ShowsFirst p s l → Implements row s r t → PicksFirst p row l s r t
+loose_picks p row l s r t none shows h = record { shows = shows; order = loose_order p row s r t none h }
+
+-- a rule that releases threads and stops
+pub ordered_picks : (p : Preference) (row : Progress) (l : Label) (held order : List ℕ) (new : List ℕ → Core) (s x : Core) → ShowsFirst p s l → row ≡ Ordered held (λ o. Stops l (new o)) → IsPermutation held order → goes_in_order p order ≡ true → x ≡ new order → PicksFirst p row l s (op_result.Stops l) x
+ordered_picks p row l held order new s x shows is moved goes core = record {
+  shows = shows;
+  order = subst (λ (q : Progress). Implements (in_order p q) s (op_result.Stops l) x) (sym is)
+      (order, (moved, subst (λ (g : Bool). Implements (may g (Stops l (new order))) s (op_result.Stops l) x) (sym goes) (refl, core)));
+}
+
+-- what is done in the order of the preference is done
+unordered : (p : Preference) (row : Progress) (s : Core) (r : OpResult) (t : Core) → Implements (in_order p row) s r t → Implements row s r t
+unordered p (Continues l new m) s r t h = h
+unordered p (Stops l new) s r t h = h
+unordered p (Traps why) s r t h = h
+unordered p (Fails i) s r t h = h
+unordered p Never s r t h = h
+unordered p (Ordered ns next) s r t h = (h.0, h.1.0, unordered p (next h.0) s r t (allowed (goes_in_order p h.0) (in_order p (next h.0)) h.1.1))
+  where
+    allowed : (b : Bool) (q : Progress) → Implements (may b q) s r t → Implements q s r t
+    allowed true q is = is
+    allowed false q is = absurd is
+unordered p (Asks next) s r t h = (h.0, unordered p (next h.0) s r t h.1)
+
+pub picks_implements : {p : Preference} {row : Progress} {l : Label} {s : Core} {r : OpResult} {t : Core} → PicksFirst p row l s r t → Implements row s r t
+picks_implements {p = p} {row = row} {l = l} {s = s} {r = r} {t = t} h = unordered p row s r t h.order
 
 pub calm_picks : (p : Preference) (n : ℕ) (row : Progress) (s : Core) (r : OpResult) (t : Core) → LeavesNoChoice row → Implements row s r t → PicksFirst p row (label_of n r) s r t
 calm_picks p n row s r t calm h = record { shows = silent_shows p s (label_of n r) (label_silent n row s r t calm h); order = loose_order p row s r t (calm_releases row calm) h }

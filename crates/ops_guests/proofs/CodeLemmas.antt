@@ -17,8 +17,11 @@ use Rattle.machine_data.specs.declared.records.Why.TheVariants as why
 use Rattle.machine_data.specs.declared.trap.Trap.TheVariants as trap
 use Rattle.machine_data.specs.declared.statuses.TaskEvent.{TaskEvent}
 use Rattle.machine_data.specs.declared.statuses.TaskEvent.TheVariants as task_event
-use Rattle.ops_guests.specs.OpResult.{Implements}
-use Rattle.ops_guests.specs.Reopens.{InSomeOrder}
+use Rattle.core_primitives.specs.Preferences.{preference}
+use Rattle.machine_rules.specs.Picks.{Preference, Silent}
+use Rattle.ops_guests.proofs.CalmLemmas.{ordered_picks, silent_shows}
+use Rattle.ops_guests.specs.OpResult.{PicksFirst}
+use Rattle.ops_guests.specs.Reopens.{InOrder}
 use Rattle.ops_guests.specs.Running.{IsRunning}
 use Rattle.ops_guests.specs.declared.op_result.OpResult.{OpResult}
 use Rattle.ops_guests.specs.declared.op_result.OpResult.TheVariants as op_result
@@ -37,14 +40,14 @@ some_or_none (Some e) = refl
 
 -- the thread's instance lets entries in, and its strand stops
 abbrev pub Reopened : TableId ThreadKey → StateView → StateView → Type 0
-Reopened n s t = InSomeOrder (instance_of (thread_of s n) s.core) (code_stops (thread_of s n)) s t
+Reopened n s t = InOrder (instance_of (thread_of s n) s.core) (code_stops (thread_of s n)) s t
 
 module _ (n : TableId ThreadKey) where
   pub reopened_stands : (s t : StateView) → IsRunning (thread_of s n) s.core → Reopened n s t → IsRunning (thread_of t n) t.core
   unfolding code_stops
   reopened_stands s t st o =
       let N = thread_of s n in
-      stands_on n place.Running (code_stops N o.0) s t o.1.1 (stopped_stand N place.Running (foot_of N s.core) _ (reopened_stand n (instance_of N s.core) o.0 s st))
+      stands_on n place.Running (code_stops N o.0) s t o.1.1.1 (stopped_stand N place.Running (foot_of N s.core) _ (reopened_stand n (instance_of N s.core) o.0 s st))
 
   pub reopened_unqueued : (s t : StateView) → IsRunning (thread_of s n) s.core → Reopened n s t → IsUnqueued (thread_of t n) t.core
   reopened_unqueued s t st o = own_unqueued (thread_of t n) place.Running t.core (reopened_stands s t st o)
@@ -61,16 +64,16 @@ module _ (n : TableId ThreadKey) where
       ap (λ b. trap_if (not b) trap.CannotBlockSyncTask (trap_if (leaves_no_result m c) trap.NoAsyncResult (Ordered held (λ order. Stops l (code_exits m order c))))) passes
       ∙ ap (λ b. trap_if b trap.NoAsyncResult (Ordered held (λ order. Stops l (code_exits m order c)))) leaves
 
-  pub code_exits_implements : (f i : ℕ) (l : Label) (b d : Bool) (s r t u x : StateView) → r ≡ s → i ≡ instance_of (thread_of s n) s.core → f ≡ foot_of (thread_of s n) s.core → b ≡ passes_after_stop i f (held_by_flag i s.core) s.core → b ≡ true → d ≡ leaves_no_result (thread_of r n) r.core → d ≡ false → Reopened n r t → u ≡ on_core (checked i) t → x.core ≡ ended (thread_of u n) u.core → (rest : ℕ) → Implements (code_kind_rule l (thread_of s n) (held_by_flag (instance_of (thread_of s n) s.core) s.core) s.core zero rest) s.core (op_result.Stops l) x.core
+  pub code_exits_picks : (f i : ℕ) (l : Label) (b d : Bool) (s r t u x : StateView) → r ≡ s → i ≡ instance_of (thread_of s n) s.core → f ≡ foot_of (thread_of s n) s.core → b ≡ passes_after_stop i f (held_by_flag i s.core) s.core → b ≡ true → d ≡ leaves_no_result (thread_of r n) r.core → d ≡ false → Reopened n r t → u ≡ on_core (checked i) t → x.core ≡ ended (thread_of u n) u.core → Silent l → (rest : ℕ) → PicksFirst (preference s) (code_kind_rule l (thread_of s n) (held_by_flag (instance_of (thread_of s n) s.core) s.core) s.core zero rest) l s.core (op_result.Stops l) x.core
   unfolding code_exits
-  code_exits_implements f i l b d s r t u x same at foot passes passed leaves left was e out rest =
+  code_exits_picks f i l b d s r t u x same at foot passes passed leaves left was e out silent rest =
       let N = thread_of s n in
       let I = instance_of N s.core in
       let o = subst (λ (v : StateView). Reopened n v t) same was in
       let passes_is = sym (ap₂ (λ (j g : ℕ). passes_after_stop j g (held_by_flag j s.core) s.core) at foot) ∙ (sym passes ∙ passed) in
       let leaves_is = ap (λ (v : StateView). leaves_no_result (thread_of v n) v.core) (sym same) ∙ (sym leaves ∙ left) in
-      let core = out ∙ (ap (λ (v : StateView). ended (thread_of v n) v.core) e ∙ (ap (λ (v : StateView). ended (thread_of v n) (checked i v.core)) o.1.1 ∙ ap (λ (j : ℕ). ended N (checked j (code_stops N o.0 s.core))) at)) in
-      subst (λ (p : Progress). Implements p s.core (op_result.Stops l) x.core) (sym (exit_rule_is l N rest (held_by_flag I s.core) s.core passes_is leaves_is)) (o.0, (o.1.0, (refl, core)))
+      let core = out ∙ (ap (λ (v : StateView). ended (thread_of v n) v.core) e ∙ (ap (λ (v : StateView). ended (thread_of v n) (checked i v.core)) o.1.1.1 ∙ ap (λ (j : ℕ). ended N (checked j (code_stops N o.0 s.core))) at)) in
+      ordered_picks (preference s) _ l (held_by_flag I s.core) o.0 (λ order. code_exits N order s.core) s.core x.core (silent_shows (preference s) s.core l silent) (exit_rule_is l N rest (held_by_flag I s.core) s.core passes_is leaves_is) o.1.0 o.1.1.0 core
 
   -- ---- Code 1
 
@@ -78,19 +81,19 @@ module _ (n : TableId ThreadKey) where
   owned_unqueued k e s t u st o d =
       own_unqueued (thread_of u n) place.Running u.core (stands_on n place.Running (set_task_event k e) t u d (quiet_stand (thread_of t n) place.Running [] t.core _ (set_task_event_untouched k e t.core) (reopened_stands s t st o)))
 
-  pub code_yields_implements : (k : TableId GuestTaskKey) (event : Option TaskEvent) (l : Label) (s t u x : StateView) → call_of s k ≡ task_of (thread_of s n) s.core → event ≡ own_or_none (task_event_of (call_of s k) s.core) → Reopened n s t → u ≡ on_core (set_task_event (call_of t k) event) t → x ≡ on_core (put_low (thread_of u n) (why.Delivery delivery.Yield)) u → (rest : ℕ) → Implements (code_kind_rule l (thread_of s n) (held_by_flag (instance_of (thread_of s n) s.core) s.core) s.core (suc zero) rest) s.core (op_result.Stops l) x.core
+  pub code_yields_picks : (k : TableId GuestTaskKey) (event : Option TaskEvent) (l : Label) (s t u x : StateView) → call_of s k ≡ task_of (thread_of s n) s.core → event ≡ own_or_none (task_event_of (call_of s k) s.core) → Reopened n s t → u ≡ on_core (set_task_event (call_of t k) event) t → x ≡ on_core (put_low (thread_of u n) (why.Delivery delivery.Yield)) u → Silent l → (rest : ℕ) → PicksFirst (preference s) (code_kind_rule l (thread_of s n) (held_by_flag (instance_of (thread_of s n) s.core) s.core) s.core (suc zero) rest) l s.core (op_result.Stops l) x.core
   unfolding code_yields
-  code_yields_implements k event l s t u x task own o e d rest =
+  code_yields_picks k event l s t u x task own o e d silent rest =
       let N = thread_of s n in
       let w = why.Delivery delivery.Yield in
-      let core = ap (λ (v : StateView). v.core) d ∙ (ap (λ (v : StateView). put_low (thread_of v n) w v.core) e ∙ (ap (λ (v : StateView). put_low (thread_of v n) w (set_task_event (call_of v k) event v.core)) o.1.1
+      let core = ap (λ (v : StateView). v.core) d ∙ (ap (λ (v : StateView). put_low (thread_of v n) w v.core) e ∙ (ap (λ (v : StateView). put_low (thread_of v n) w (set_task_event (call_of v k) event v.core)) o.1.1.1
       ∙ (ap (λ (y : Option TaskEvent). put_low N w (set_task_event (call_of s k) y (code_stops N o.0 s.core))) own ∙ ap (λ (j : ℕ). put_low N w (set_task_event j (own_or_none (task_event_of j s.core)) (code_stops N o.0 s.core))) task))) in
-      (o.0, (o.1.0, (refl, core)))
+      ordered_picks (preference s) _ l (held_by_flag (instance_of N s.core) s.core) o.0 (λ order. code_yields N order s.core) s.core x.core (silent_shows (preference s) s.core l silent) refl o.1.0 o.1.1.0 core
 
   -- ---- Code 2
 
-  pub code_waits_implements : (k : TableId GuestTaskKey) (id : TableId SetKey) (i h : ℕ) (b finds : Bool) (l : Label) (new : ℕ → List ℕ → Core → Core) (s t x : StateView) → i ≡ instance_of (thread_of s n) s.core → Some (set_of s id) ≡ set_at i h s.core → call_of s k ≡ task_of (thread_of s n) s.core → b ≡ has_event_for (call_of s k) (set_of s id) s.core → b ≡ finds → ((y : ℕ) (held : List ℕ) (c : Core) → code_wait_rule l (thread_of s n) y held c finds ≡ Ordered held (λ order. Stops l (new y order c))) → ((o : Reopened n s t) → x.core ≡ new (set_of s id) o.0 s.core) → Reopened n s t → Implements (code_kind_rule l (thread_of s n) (held_by_flag (instance_of (thread_of s n) s.core) s.core) s.core (suc (suc zero)) h) s.core (op_result.Stops l) x.core
-  code_waits_implements k id i h b finds l new s t x at names task event found row core o =
+  pub code_waits_picks : (k : TableId GuestTaskKey) (id : TableId SetKey) (i h : ℕ) (b finds : Bool) (l : Label) (new : ℕ → List ℕ → Core → Core) (s t x : StateView) → i ≡ instance_of (thread_of s n) s.core → Some (set_of s id) ≡ set_at i h s.core → call_of s k ≡ task_of (thread_of s n) s.core → b ≡ has_event_for (call_of s k) (set_of s id) s.core → b ≡ finds → ((y : ℕ) (held : List ℕ) (c : Core) → code_wait_rule l (thread_of s n) y held c finds ≡ Ordered held (λ order. Stops l (new y order c))) → ((o : Reopened n s t) → x.core ≡ new (set_of s id) o.0 s.core) → Reopened n s t → Silent l → PicksFirst (preference s) (code_kind_rule l (thread_of s n) (held_by_flag (instance_of (thread_of s n) s.core) s.core) s.core (suc (suc zero)) h) l s.core (op_result.Stops l) x.core
+  code_waits_picks k id i h b finds l new s t x at names task event found row core o silent =
       let N = thread_of s n in
       let I = instance_of N s.core in
       let X = set_of s id in
@@ -99,21 +102,21 @@ module _ (n : TableId ThreadKey) where
       let finds_is = sym (ap (λ (j : ℕ). has_event_for j X s.core) task) ∙ (sym event ∙ found) in
       let row_is = ap (λ (y : Option ℕ). or_trap y trap.BadHandle (λ z. code_wait_rule l N z held s.core (has_event_for (task_of N s.core) z s.core))) set
       ∙ (ap (λ (c : Bool). code_wait_rule l N X held s.core c) finds_is ∙ row X held s.core) in
-      subst (λ (p : Progress). Implements p s.core (op_result.Stops l) x.core) (sym row_is) (o.0, (o.1.0, (refl, core o)))
+      ordered_picks (preference s) _ l held o.0 (λ order. new X order s.core) s.core x.core (silent_shows (preference s) s.core l silent) row_is o.1.0 o.1.1.0 (core o)
 
   pub finds_core : (id : TableId SetKey) (s t x : StateView) → x ≡ on_core (put_high (thread_of t n) (why.Delivery (delivery.Set (set_of t id)))) t → (o : Reopened n s t) → x.core ≡ code_finds (thread_of s n) (set_of s id) o.0 s.core
   unfolding code_finds
-  finds_core id s t x e o = ap (λ (v : StateView). v.core) e ∙ ap (λ (v : StateView). put_high (thread_of v n) (why.Delivery (delivery.Set (set_of v id))) v.core) o.1.1
+  finds_core id s t x e o = ap (λ (v : StateView). v.core) e ∙ ap (λ (v : StateView). put_high (thread_of v n) (why.Delivery (delivery.Set (set_of v id))) v.core) o.1.1.1
 
   pub waits_core : (id : TableId SetKey) (s t x : StateView) → x ≡ on_core (set_place (thread_of t n) (place.Waiting (set_of t id) true)) t → (o : Reopened n s t) → x.core ≡ code_waits (thread_of s n) (set_of s id) o.0 s.core
   unfolding code_waits
-  waits_core id s t x e o = ap (λ (v : StateView). v.core) e ∙ ap (λ (v : StateView). set_place (thread_of v n) (place.Waiting (set_of v id) true) v.core) o.1.1
+  waits_core id s t x e o = ap (λ (v : StateView). v.core) e ∙ ap (λ (v : StateView). set_place (thread_of v n) (place.Waiting (set_of v id) true) v.core) o.1.1.1
 
 below_bound : (code : ℕ) → code ≤ 4294967295 → nat_lt 4294967295 code ≡ false
 below_bound code small = grind (arith, nat_tests)
 
-pub by_code : (l : Label) (n code k : ℕ) (s t : Core) (r : OpResult) → code ≤ 4294967295 → code % 16 ≡ k → Implements (code_kind_rule l n (held_by_flag (instance_of n s) s) s k (code / 16)) s r t → Implements (code_rule l n s code) s r t
-by_code l n code k s t r small low h =
+pub by_code : (p : Preference) (l shown : Label) (n code k : ℕ) (s t : Core) (r : OpResult) → code ≤ 4294967295 → code % 16 ≡ k → PicksFirst p (code_kind_rule l n (held_by_flag (instance_of n s) s) s k (code / 16)) shown s r t → PicksFirst p (code_rule l n s code) shown s r t
+by_code p l shown n code k s t r small low h =
     let row_is = ap (λ b. trap_if b trap.UnsupportedCallbackCode (code_kind_rule l n (held_by_flag (instance_of n s) s) s (code % 16) (code / 16))) (below_bound code small)
     ∙ ap (λ j. code_kind_rule l n (held_by_flag (instance_of n s) s) s j (code / 16)) low in
-    subst (λ (p : Progress). Implements p s r t) (sym row_is) h
+    subst (λ (q : Progress). PicksFirst p q shown s r t) (sym row_is) h

@@ -16,7 +16,7 @@ use Rattle.machine_data.specs.declared.records.Place.TheVariants as place
 use Rattle.ops_moves.specs.Stops.{MayStop}
 use Rattle.ops_guests.proofs.FootLemmas.{checked_under, foot_may_still, quiet_under, released_under, under_after}
 use Rattle.ops_guests.proofs.RunLemmas.{own_apart, stands_on}
-use Rattle.ops_guests.specs.Reopens.{InSomeOrder}
+use Rattle.ops_guests.specs.Reopens.{InOrder}
 use Rattle.ops_moves.proofs.UntouchedLemmas.{on_instance_untouched}
 use Rattle.ops_guests.proofs.BesideLemmas.{all_of, checked_stand, quiet_stand, released_good, stopped_stand}
 use Rattle.ops_guests.specs.Running.{Stand}
@@ -61,24 +61,30 @@ module _ (n : TableId ThreadKey) where
   unfolding end_reopens
   reopened_stand i order s st = released_good (thread_of s n) place.Running refl order (set_do_not_enter i false s.core) (open_stand i s st)
 
-  pub reopened_may_stop : (f : TableId ThreadKey) (i : ℕ) (s t : StateView) → Stand (thread_of s n) place.Running [] s.core → thread_of s f ≡ foot_of (thread_of s n) s.core → InSomeOrder i (end_reopens i) s t → MayStop (thread_of t f) t.core
+  pub reopened_may_stop : (f : TableId ThreadKey) (i : ℕ) (s t : StateView) → Stand (thread_of s n) place.Running [] s.core → thread_of s f ≡ foot_of (thread_of s n) s.core → InOrder i (end_reopens i) s t → MayStop (thread_of t f) t.core
   unfolding set_do_not_enter end_reopens
   reopened_may_stop f i s t st foot o =
-      foot_may_still n f place.Running (end_reopens i o.0) s t refl foot o.1.1
+      foot_may_still n f place.Running (end_reopens i o.0) s t refl foot o.1.1.1
       (under_after s.core (set_do_not_enter i false s.core) (end_reopens i o.0 s.core) (quiet_under s.core _ (on_instance_untouched i (λ r. record r { do_not_enter = false }) s.core)) (released_under o.0 (set_do_not_enter i false s.core)))
       (reopened_stand i o.0 s st)
 
-  pub stopped_in_order : (f : TableId ThreadKey) (i : ℕ) (s t u : StateView) → i ≡ instance_of (thread_of s n) s.core → thread_of s f ≡ foot_of (thread_of s n) s.core → InSomeOrder i (end_reopens i) s t → u ≡ on_core (stopped (thread_of t f)) t → InSomeOrder (instance_of (thread_of s n) s.core) (code_stops (thread_of s n)) s u
+  pub stopped_in_order : (f : TableId ThreadKey) (i : ℕ) (s t u : StateView) → i ≡ instance_of (thread_of s n) s.core → thread_of s f ≡ foot_of (thread_of s n) s.core → InOrder i (end_reopens i) s t → u ≡ on_core (stopped (thread_of t f)) t → InOrder (instance_of (thread_of s n) s.core) (code_stops (thread_of s n)) s u
   unfolding code_stops
   stopped_in_order f i s t u at foot o e =
       let N = thread_of s n in (
         o.0,
         (
           subst (λ (j : ℕ). IsPermutation (held_by_flag j s.core) o.0) at o.1.0,
-          e ∙ (ap (λ (v : StateView). on_core (stopped (thread_of v f)) v) o.1.1 ∙ (ap (λ (g : ℕ). on_core (λ c. stopped g (end_reopens i o.0 c)) s) foot ∙ ap (λ (j : ℕ). on_core (λ c. stopped (foot_of N s.core) (end_reopens j o.0 c)) s) at)),
+          (o.1.1.0, e ∙ (ap (λ (v : StateView). on_core (stopped (thread_of v f)) v) o.1.1.1 ∙ (ap (λ (g : ℕ). on_core (λ c. stopped g (end_reopens i o.0 c)) s) foot ∙ ap (λ (j : ℕ). on_core (λ c. stopped (foot_of N s.core) (end_reopens j o.0 c)) s) at))),
         ),
       )
 
-pub reopened_in_order : (i : ℕ) (s t u : StateView) → t ≡ on_core (set_do_not_enter i false) s → ((order : List ℕ) × (IsPermutation (admitted_held i t.core) order × (u ≡ on_core (released order) t))) → InSomeOrder i (end_reopens i) s u
+pub reopened_in_order : (i : ℕ) (s t u : StateView) → t ≡ on_core (set_do_not_enter i false) s → ReleasesHeld i t u → InOrder i (end_reopens i) s u
 unfolding end_reopens held_by_flag
-reopened_in_order i s t u e o = (o.0, (subst (λ (l : List ℕ). IsPermutation l o.0) (ap (λ (v : StateView). admitted_held i v.core) e) o.1.0, o.1.1 ∙ ap (on_core (released o.0)) e))
+reopened_in_order i s t u e o = (
+  o.0,
+  (
+    subst (λ (l : List ℕ). IsPermutation l o.0) (ap (λ (v : StateView). admitted_held i v.core) e) o.1.0,
+    (ap (λ (v : StateView). goes_in_order (preference v) o.0) (sym e) ∙ o.1.1.0, o.1.1.1 ∙ ap (on_core (released o.0)) e),
+  ),
+)

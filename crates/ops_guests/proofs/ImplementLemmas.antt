@@ -1,11 +1,11 @@
 -- An op that implements its rule is a step.
 use Rattle.std.proofs.Common.{ap, ap₂, refl, subst, sym, ◌∙◌}
-use Rattle.std.specs.Prelude.{Bool, IfSome, None, Option, Some, false, true, ℕ, ◌≡◌}
+use Rattle.std.specs.Prelude.{IfSome, None, Option, Some, ℕ, ◌≡◌}
+use Rattle.ops_guests.proofs.CalmLemmas.{picks_implements}
 use Rattle.ops_guests.specs.OpResult.{Implements}
 use Rattle.machine_data.specs.declared.label.Label.{Label}
 use Rattle.machine_data.specs.declared.statuses.Mark.TheVariants as mark
-use Rattle.machine_rules.specs.Picks.{Preference, ShowsFirst, StepIn, TakesFirst, TurnStepIn, WakesFirst, goes_in_order, in_order, taken_of}
-use Rattle.machine_rules.specs.Progress.{may}
+use Rattle.machine_rules.specs.Picks.{Preference, ShowsFirst, StepIn, TakesFirst, TurnStepIn, WakesFirst, in_order, taken_of}
 use Rattle.ops_guests.specs.Steps.{ActingIsStep, ImplementingIsStep, PickingIsPicked, TakingIsPicked, TakingIsStep, core_after, label_of, main_after, main_label_of, turn_after}
 use Rattle.ops_guests.specs.declared.op_result.OpResult.{OpResult}
 use Rattle.machine_data.specs.Core.{Core, Main, MainPlace, State}
@@ -101,27 +101,13 @@ popped_shows p mark.Switch s l h = shows_as p s (popped mark.Switch s) l refl re
 popped_shows p mark.High s l h = shows_as p s (popped mark.High s) l refl refl refl refl h
 popped_shows p mark.Low s l h = shows_as p s (popped mark.Low s) l refl refl refl refl h
 
--- a taking releases no thread
-unordered : (p : Preference) (row : Progress) (s : Core) (r : OpResult) (t : Core) → Implements (in_order p row) s r t → Implements row s r t
-unordered p (Continues l new m) s r t h = h
-unordered p (Stops l new) s r t h = h
-unordered p (Traps why) s r t h = h
-unordered p (Fails i) s r t h = h
-unordered p Never s r t h = h
-unordered p (Ordered ns next) s r t h = (h.0, h.1.0, unordered p (next h.0) s r t (allowed (goes_in_order p h.0) (in_order p (next h.0)) h.1.1))
-  where
-    allowed : (b : Bool) (q : Progress) → Implements (may b q) s r t → Implements q s r t
-    allowed true q is = is
-    allowed false q is = absurd is
-unordered p (Asks next) s r t h = (h.0, unordered p (next h.0) s r t h.1)
-
 pub taking_is_picked : TakingIsPicked
 unfolding StepIn
 taking_is_picked p x s ended e r t at next h =
     let l = label_of (entry_number e.1) r in
     let u = goes_to s (core_after (entry_number e.1) r t) (turn_after r) in
     let row = take_rule e.0 (choice_of l) (popped e.0 s.core) e.1 in
-    let taken = implements_progresses s (popped e.0 s.core) (entry_number e.1) row r t (unordered p row (popped e.0 s.core) r t h.order) in
+    let taken = implements_progresses s (popped e.0 s.core) (entry_number e.1) row r t (picks_implements h) in
     record {
       shows = popped_shows p e.0 s.core l h.shows;
       step = subst (λ (y : Turn). TurnStepIn p x s y l u) (sym at) (subst (λ (o : Option (Mark × Entry)). TakeStep x s o l u) (sym next) taken);

@@ -22,7 +22,7 @@ use Rattle.ops_guests.proofs.BesideLemmas.{all_of}
 use Rattle.ops_guests.proofs.ExitLemmas.{reopened_stand}
 use Rattle.ops_guests.proofs.RunLemmas.{stands_on}
 use Rattle.ops_guests.proofs.TellingLemmas.{all_wait, returned_stands}
-use Rattle.ops_guests.specs.Reopens.{InSomeOrder}
+use Rattle.ops_guests.specs.Reopens.{InOrder}
 use Rattle.ops_guests.specs.Running.{IsRunning}
 use Rattle.machine_rules.proofs.StandLemmas.{by_number, place_kept}
 use Rattle.machine_rules.specs.Ends.{blocking_exits, end_reopens, exit_stops, held_by_flag, returned}
@@ -111,7 +111,7 @@ all_waits (Some id) i order s h = open_waits (thread_of s id) i order s.core h
 
 -- ---- As contracts see it
 
-module _ (n : TableId ThreadKey) (k : TableId GuestTaskKey) (waiter : Option (TableId ThreadKey)) (i : ℕ) (s t : StateView) (st : IsRunning (thread_of s n) s.core) (opens : InSomeOrder i (end_reopens i) s t) where
+module _ (n : TableId ThreadKey) (k : TableId GuestTaskKey) (waiter : Option (TableId ThreadKey)) (i : ℕ) (s t : StateView) (st : IsRunning (thread_of s n) s.core) (opens : InOrder i (end_reopens i) s t) where
   abbrev N : ℕ
   N = thread_of s n
 
@@ -123,7 +123,7 @@ module _ (n : TableId ThreadKey) (k : TableId GuestTaskKey) (waiter : Option (Ta
 
   pub can_after_open : (j : ℕ) → call_of s k ≡ j → CanPublish (subtask.Guest j) waiter s → CanPublish (subtask.Guest (call_of t k)) waiter t
   can_after_open j named can =
-      subst (λ (v : StateView). CanPublish (subtask.Guest (call_of v k)) waiter v) (sym opens.1.1)
+      subst (λ (v : StateView). CanPublish (subtask.Guest (call_of v k)) waiter v) (sym opens.1.1.1)
       (subst (λ (q : ℕ). CanPublish (subtask.Guest q) waiter (on_core (end_reopens i opens.0) s)) (sym named) (record {
         named = can.named;
         idle = idle_of (end_reopens i opens.0 s.core) (all_of N place.Running (end_reopens i opens.0 s.core) refl open_running);
@@ -135,22 +135,25 @@ module _ (n : TableId ThreadKey) (k : TableId GuestTaskKey) (waiter : Option (Ta
   module _ (v j : ℕ) (u : StateView) (can : CanPublish (subtask.Guest j) waiter s) (back : u ≡ on_core (returned (call_of t k) v (option_map (λ id. thread_of t id) waiter)) t) where
     -- the release and the return, as one
     opened : u ≡ on_core (λ c. returned (call_of s k) v W (end_reopens i opens.0 c)) s
-    opened = back ∙ ap (λ (y : StateView). on_core (returned (call_of y k) v (option_map (λ id. thread_of y id) waiter)) y) opens.1.1
+    opened = back ∙ ap (λ (y : StateView). on_core (returned (call_of y k) v (option_map (λ id. thread_of y id) waiter)) y) opens.1.1.1
 
     pub opened_running : IsRunning (thread_of u n) u.core
     opened_running = stands_on n place.Running (λ c. returned (call_of s k) v W (end_reopens i opens.0 c)) s u opened
         (returned_stands N place.Running refl (call_of s k) v W (end_reopens i opens.0 s.core) (all_wait waiter (on_core (end_reopens i opens.0) s) (all_waits waiter i opens.0 s can.waits)) open_running)
 
     pub opened_core : (c : Core) → call_of s k ≡ task_of N s.core → v ≡ register_of N 0 s.core → i ≡ instance_of N s.core → c ≡ exit_stops (thread_of u n) u.core
-        → (order : List ℕ) × (IsPermutation (held_by_flag (instance_of N s.core) s.core) order × (c ≡ blocking_exits N W order s.core))
+        → (order : List ℕ) × (IsPermutation (held_by_flag (instance_of N s.core) s.core) order × ((goes_in_order (preference s) order ≡ true) × (c ≡ blocking_exits N W order s.core)))
     unfolding blocking_exits
     opened_core c task value at out = (
       opens.0,
       (
         subst (λ (q : ℕ). IsPermutation (held_by_flag q s.core) opens.0) at opens.1.0,
-        out ∙ (ap (λ (y : StateView). exit_stops (thread_of y n) y.core) opened
+        (
+          opens.1.1.0,
+          out ∙ (ap (λ (y : StateView). exit_stops (thread_of y n) y.core) opened
             ∙ (ap (λ (q : ℕ). exit_stops N (returned q v W (end_reopens i opens.0 s.core))) task
             ∙ (ap (λ (a : ℕ). exit_stops N (returned (task_of N s.core) a W (end_reopens i opens.0 s.core))) value
             ∙ ap (λ (q : ℕ). exit_stops N (returned (task_of N s.core) (register_of N 0 s.core) W (end_reopens q opens.0 s.core))) at))),
+        ),
       ),
     )

@@ -18,7 +18,12 @@ use Rattle.machine_data.specs.declared.records.Place.{Place}
 use Rattle.machine_data.specs.declared.records.Place.TheVariants as place
 use Rattle.machine_data.specs.declared.records.Why.{Why}
 use Rattle.machine_data.specs.declared.records.Why.TheVariants as why
-use Rattle.ops_guests.specs.OpResult.{Implements}
+use Rattle.core_primitives.specs.Changes.{ReleasesHeld}
+use Rattle.core_primitives.specs.Preferences.{preference}
+use Rattle.machine_rules.specs.Picks.{LeavesNoChoice, Preference, goes_in_order, in_order}
+use Rattle.machine_rules.specs.Progress.{Continues, may}
+use Rattle.ops_guests.proofs.CalmLemmas.{silent_shows}
+use Rattle.ops_guests.specs.OpResult.{Implements, PicksFirst}
 use Rattle.ops_guests.proofs.RunLemmas.{stands_on}
 use Rattle.ops_moves.proofs.UntouchedLemmas.{on_instance_untouched}
 use Rattle.ops_guests.proofs.BesideLemmas.{all_of, quiet_stand}
@@ -38,6 +43,9 @@ lowered_places n i k s t st e = all_of (thread_of t n) place.Running t.core refl
 -- held threads of the instance were put at high
 abbrev Opened : ℕ → StateView → StateView → Type 0
 Opened i s t = (order : List ℕ) × (IsPermutation (admitted_held i s.core) order × (t ≡ on_core (released order) s))
+
+pub opened : (i : ℕ) (s t : StateView) → ReleasesHeld i s t → Opened i s t
+opened i s t o = (o.0, (o.1.0, o.1.1.1))
 
 -- ---- An instance that keeps entries out
 
@@ -87,9 +95,9 @@ none_let_in i k s t q e out =
     ap (λ (v : StateView). admitted_held i v.core) e
     ∙ none_held i k s.core q (sym (same_flag i k s.core) ∙ (sym (ap (λ (v : StateView). may_not_enter i v.core) e) ∙ out))
 
-pub released_none : (i : ℕ) (s : StateView) → admitted_held i s.core ≡ [] → Opened i s s
+pub released_none : (i : ℕ) (s : StateView) → admitted_held i s.core ≡ [] → ReleasesHeld i s s
 unfolding released
-released_none i s none = ([], (subst (λ l. IsPermutation l []) (sym none) (IsPermutation-refl []), refl))
+released_none i s none = ([], (subst (λ l. IsPermutation l []) (sym none) (IsPermutation-refl []), (refl, refl)))
 
 same_came : (m n : ℕ) → m ≡ n → goes_as (label.Task (task_label.BpDec m)) m ≡ goes_as (label.Task (task_label.BpDec n)) n
 same_came m n e = ap (λ (k : ℕ). goes_as (label.Task (task_label.BpDec k)) k) e
@@ -107,6 +115,30 @@ opening_implements n f i c k m s t u at count one none is e o =
     subst (λ (x : Core). Implements (dec_rule f N s.core) s.core (goes_as (label.Task (task_label.BpDec m)) m) x) (sym core)
     (opening_is f N m o.0 s.core (ap (λ (j : ℕ). backpressure_of j s.core) (sym at) ∙ (sym count ∙ one)) (subst (λ (l : List ℕ). IsPermutation l o.0) held o.1.0) is)
 
+-- the threads are released in the order of the preference
+opening_goes : (p : Preference) (d : Doer) (n m : ℕ) (order : List ℕ) (s : Core) → backpressure_of (instance_of n s) s ≡ 1 → IsPermutation (held_by_counter (instance_of n s) s) order → goes_in_order p order ≡ true → m ≡ n → Implements (in_order p (dec_rule d n s)) s (goes_as (label.Task (task_label.BpDec m)) m) (finish d n NoAnswer (pressure_gone n order s))
+opening_goes p d n m order s one held goes is =
+    subst (λ (b : ℕ). Implements (in_order p (dec_by d n s b)) s (goes_as (label.Task (task_label.BpDec m)) m) (finish d n NoAnswer (pressure_gone n order s))) (sym one) (
+      order,
+      (
+        held,
+        subst (λ (g : Bool). Implements (may g (Continues (label.Task (task_label.BpDec n)) (finish d n NoAnswer (pressure_gone n order s)) n)) s (goes_as (label.Task (task_label.BpDec m)) m) (finish d n NoAnswer (pressure_gone n order s))) (sym goes) (same_came m n is, refl),
+      ),
+    )
+
+pub opening_picks : (n : TableId ThreadKey) (f : Doer) (i c k m : ℕ) (s t u : StateView) → i ≡ instance_of (thread_of s n) s.core → c ≡ backpressure_of i s.core → c ≡ 1 → k ≡ 0 → m ≡ thread_of s n → t ≡ on_core (set_backpressure i k) s → ReleasesHeld i t u → PicksFirst (preference s) (dec_rule f (thread_of s n) s.core) (label.Task (task_label.BpDec m)) s.core (goes_as (label.Task (task_label.BpDec m)) m) (finish f (thread_of s n) NoAnswer u.core)
+unfolding pressure_gone held_by_counter
+opening_picks n f i c k m s t u at count one none is e o =
+    let N = thread_of s n in
+    let held = ap (λ (w : StateView). admitted_held i w.core) e ∙ ap₂ (λ (j b : ℕ). admitted_held j (set_backpressure j b s.core)) at none in
+    let core = ap (λ (w : StateView). finish f N NoAnswer w.core) o.1.1.1 ∙ (ap (λ (w : StateView). finish f N NoAnswer (released o.0 w.core)) e ∙ ap₂ (λ (j b : ℕ). finish f N NoAnswer (released o.0 (set_backpressure j b s.core))) at none) in
+    let goes = ap (λ (w : StateView). goes_in_order (preference w) o.0) (sym e) ∙ o.1.1.0 in
+    record {
+      shows = silent_shows (preference s) s.core (label.Task (task_label.BpDec m)) (refl, refl);
+      order = subst (λ (x : Core). Implements (in_order (preference s) (dec_rule f N s.core)) s.core (goes_as (label.Task (task_label.BpDec m)) m) x) (sym core)
+          (opening_goes (preference s) f N m o.0 s.core (ap (λ (j : ℕ). backpressure_of j s.core) (sym at) ∙ (sym count ∙ one)) (subst (λ (l : List ℕ). IsPermutation l o.0) held o.1.0) goes is);
+    }
+
 lowering_is : (d : Doer) (n m c : ℕ) (s : Core) → backpressure_of (instance_of n s) s ≡ suc (suc c) → m ≡ n → Implements (dec_rule d n s) s (goes_as (label.Task (task_label.BpDec m)) m) (finish d n NoAnswer (pressure_lowered n s))
 lowering_is d n m c s more is = subst (λ (b : ℕ). Implements (dec_by d n s b) s (goes_as (label.Task (task_label.BpDec m)) m) (finish d n NoAnswer (pressure_lowered n s))) (sym more) (same_came m n is, refl)
 
@@ -119,3 +151,11 @@ lowering_implements n f i (suc (suc c)) m s t at count some more is e =
     let here : backpressure_of (instance_of N s.core) s.core ≡ suc (suc c) = ap (λ (j : ℕ). backpressure_of j s.core) (sym at) ∙ sym count in
     let core = ap (λ (w : StateView). finish f N NoAnswer w.core) e ∙ ap₂ (λ (j b : ℕ). finish f N NoAnswer (set_backpressure j (b - 1) s.core)) at (sym here) in
     subst (λ (x : Core). Implements (dec_rule f N s.core) s.core (goes_as (label.Task (task_label.BpDec m)) m) x) (sym core) (lowering_is f N m c s.core here is)
+
+lowering_calm : (n : ℕ) (f : Doer) (c : ℕ) (s : Core) → backpressure_of (instance_of n s) s ≡ suc (suc c) → LeavesNoChoice (dec_rule f n s)
+lowering_calm n f c s more = subst (λ (b : ℕ). LeavesNoChoice (dec_by f n s b)) (sym more) (refl, refl)
+
+pub lowers_calm : (n : TableId ThreadKey) (f : Doer) (i c : ℕ) (s : StateView) → i ≡ instance_of (thread_of s n) s.core → c ≡ backpressure_of i s.core → (c ≡ 0 → ⊥) → (c ≡ 1 → ⊥) → LeavesNoChoice (dec_rule f (thread_of s n) s.core)
+lowers_calm n f i zero s at count some more = absurd (some refl)
+lowers_calm n f i (suc zero) s at count some more = absurd (more refl)
+lowers_calm n f i (suc (suc c)) s at count some more = lowering_calm (thread_of s n) f c s.core (ap (λ (j : ℕ). backpressure_of j s.core) (sym at) ∙ sym count)

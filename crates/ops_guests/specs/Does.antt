@@ -43,12 +43,12 @@ NumberRule = ℕ → Choice → Core → Progress
 abbrev pub by_woken : (ℕ → Option ℕ → Core → Progress) → NumberRule
 by_woken rule n ch = rule n ch.woken
 
--- What began in s with the number came to what the rule says.
-abbrev pub ImplementsAt : NumberRule → ℕ → StateView → OpResult → StateView → Type 0
-ImplementsAt rule n s r t = Implements (rule n (choice_of (label_of n r)) s.core) s.core r t.core
+-- What began in s with the number came to what the rule says, and picked what comes first.
+abbrev pub PicksAt : NumberRule → ℕ → StateView → OpResult → StateView → Type 0
+PicksAt rule n s r t = PicksFirst (preference s) (rule n (choice_of (label_of n r)) s.core) (label_of n r) s.core r t.core
 
-abbrev pub ImplementsRule : NumberRule → TableId ThreadKey → StateView → OpResult → StateView → Type 0
-ImplementsRule rule id s = ImplementsAt rule (thread_of s id) s
+abbrev pub PicksRule : NumberRule → TableId ThreadKey → StateView → OpResult → StateView → Type 0
+PicksRule rule id s = PicksAt rule (thread_of s id) s
 
 -- ---- What is kept
 

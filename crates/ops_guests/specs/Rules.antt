@@ -17,7 +17,7 @@ use Rattle.ops_guests.specs.Does.{NumberRule, Rule}
 use Rattle.ops_guests.specs.OpResult.{Implements}
 use Rattle.ops_guests.specs.declared.op_result.OpResult.{OpResult}
 use Rattle.machine_rules.specs.Data.{data_rule}
-use Rattle.machine_rules.specs.Ends.{code_kind_rule, direct_exit_rule, held_by_flag}
+use Rattle.machine_rules.specs.Ends.{code_kind_rule, code_rule, direct_exit_rule, held_by_flag}
 use Rattle.machine_rules.specs.Scripts.{script_of}
 use Rattle.machine_rules.specs.Sets.{wait_rule}
 use Rattle.machine_rules.specs.Takes.{delivered, own_delivered, start_rule, take_holds}
@@ -37,6 +37,10 @@ makes_thread x v o d n ch s = thread_new_rule d n x v s o
 -- the end of an activation with a code of this kind, and the rest of it
 abbrev pub ends_by_code : Label → (kind rest : ℕ) → NumberRule
 ends_by_code label kind rest n ch s = code_kind_rule label n (held_by_flag (instance_of n s) s) s kind rest
+
+-- the end of an activation with this code
+abbrev pub ends_activation : Label → (code : ℕ) → NumberRule
+ends_activation label code n ch s = code_rule label n s code
 
 -- a delivery of a yield or of a cancel that was taken from the mark, and one for a set
 abbrev pub delivers_own : Mark → NumberRule

@@ -1,13 +1,13 @@
 //! The ends of activations, each with a code.
-ghost use Rattle.ops_guests.specs.Rules.{ends_by_code};
-ghost use Rattle.ops_guests.specs.Does.{ImplementsRule};
+ghost use Rattle.ops_guests.specs.Rules.{ends_activation, ends_by_code};
+ghost use Rattle.ops_guests.specs.Does.{PicksRule};
 ghost use Rattle.std.specs.Prelude.{◌≡◌, ◌<◌, ◌/◌, suc, true, zero, ℕ};
 ghost use Rattle.machine_data.specs.declared.label.Label.{Label};
-ghost use Rattle.ops_guests.specs.OpResult.{Implements};
 ghost use Rattle.ops_guests.specs.Stays.{StaysAfter};
 ghost use Rattle.ops_guests.specs.Running.{IsRunning, SetsThere};
 ghost use Rattle.ops_guests.specs.Works.{KeepsTold};
-ghost use Rattle.machine_rules.specs.Ends.{code_rule, has_event_for};
+ghost use Rattle.machine_rules.specs.Ends.{has_event_for};
+ghost use Rattle.machine_rules.specs.Picks.{Silent};
 ghost use Rattle.core_primitives.specs.StateView.{call_of, set_of, thread_of};
 
 use crate::exit_ops::{leaves_no_result, passes_after_stop, stop_reopened};
@@ -21,7 +21,8 @@ use ops_moves::{check, end_thread, foot_of, put_high, put_low};
 fn code_exits<W: Primitives>(w: &mut W, thread: ThreadId, label: Label) -> OpResult
     requires live { 0 < thread_of (W.view w.old) thread }
     requires running { IsRunning (thread_of (W.view w.old) thread) (W.view w.old).core }
-    ensures implements { (rest : ℕ) → ImplementsRule (ends_by_code label zero rest) thread (W.view w.old) result (W.view w.new) }
+    requires silent { Silent label }
+    ensures picks { (rest : ℕ) → PicksRule (ends_by_code label zero rest) thread (W.view w.old) result (W.view w.new) }
     ensures stays { StaysAfter result (W.view w.old) (W.view w.new) }
     ensures current { (W.view w.new).current ≡ (W.view w.old).current }
     ensures works { KeepsTold (W.view w.old) (W.view w.new) }
@@ -45,7 +46,7 @@ fn code_exits<W: Primitives>(w: &mut W, thread: ThreadId, label: Label) -> OpRes
 fn code_yields<W: Primitives>(w: &mut W, thread: ThreadId)
     requires live { 0 < thread_of (W.view w.old) thread }
     requires running { IsRunning (thread_of (W.view w.old) thread) (W.view w.old).core }
-    ensures implements { (l : Label) → (rest : ℕ) → ImplementsRule (ends_by_code l (suc zero) rest) thread (W.view w.old) (OpResult.Stops l) (W.view w.new) }
+    ensures picks { (l : Label) → Silent l → (rest : ℕ) → PicksRule (ends_by_code l (suc zero) rest) thread (W.view w.old) (OpResult.Stops l) (W.view w.new) }
     ensures current { (W.view w.new).current ≡ (W.view w.old).current }
     ensures works { KeepsTold (W.view w.old) (W.view w.new) }
 {
@@ -70,7 +71,8 @@ fn code_waits<W: Primitives>(w: &mut W, thread: ThreadId, label: Label, handle: 
     requires live { 0 < thread_of (W.view w.old) thread }
     requires running { IsRunning (thread_of (W.view w.old) thread) (W.view w.old).core }
     requires there { SetsThere (W.view w.old).core }
-    ensures implements { ImplementsRule (ends_by_code label (suc (suc zero)) handle) thread (W.view w.old) result (W.view w.new) }
+    requires silent { Silent label }
+    ensures picks { PicksRule (ends_by_code label (suc (suc zero)) handle) thread (W.view w.old) result (W.view w.new) }
     ensures stays { StaysAfter result (W.view w.old) (W.view w.new) }
     ensures current { (W.view w.new).current ≡ (W.view w.old).current }
     ensures works { KeepsTold (W.view w.old) (W.view w.new) }
@@ -106,7 +108,8 @@ pub fn end_activation<W: Primitives>(
     requires live { 0 < thread_of (W.view w.old) thread }
     requires running { IsRunning (thread_of (W.view w.old) thread) (W.view w.old).core }
     requires there { SetsThere (W.view w.old).core }
-    ensures implements { Implements (code_rule label (thread_of (W.view w.old) thread) (W.view w.old).core code) (W.view w.old).core result (W.view w.new).core }
+    requires silent { Silent label }
+    ensures picks { PicksRule (ends_activation label code) thread (W.view w.old) result (W.view w.new) }
     ensures stays { StaysAfter result (W.view w.old) (W.view w.new) }
     ensures current { (W.view w.new).current ≡ (W.view w.old).current }
     ensures works { KeepsTold (W.view w.old) (W.view w.new) }

@@ -1,6 +1,6 @@
 //! The taking of deliveries and of resumptions.
 ghost use Rattle.ops_guests.specs.Rules.{delivers_own, delivers_set, delivery_held};
-ghost use Rattle.ops_guests.specs.Does.{ImplementsRule};
+ghost use Rattle.ops_guests.specs.Does.{PicksRule};
 ghost use Rattle.std.specs.Prelude.{◌≡◌, ◌<◌, None};
 ghost use Rattle.machine_data.specs.Labels.{event_label, held_label, take_label};
 ghost use Rattle.machine_data.specs.Moves.{picked_task_event_only, why_of};
@@ -58,7 +58,7 @@ fn activated(mark: Mark, thread: u64, given: Given, woken: Option<u64>) -> OpRes
 /// Makes a delivery of a yield or of a cancel, which is admitted.
 #[inline(always)]
 pub fn deliver_own<W: Primitives>(w: &mut W, mark: Mark, thread: ThreadId) -> OpResult
-    ensures implements { ImplementsRule (delivers_own mark) thread (W.view w.old) result (W.view w.new) }
+    ensures picks { PicksRule (delivers_own mark) thread (W.view w.old) result (W.view w.new) }
     ensures tags { (W.view w.new).tags ≡ (W.view w.old).tags }
     ensures current { (W.view w.new).current ≡ (W.view w.old).current }
 {
@@ -120,7 +120,7 @@ pub fn deliver_set<W: Primitives>(w: &mut W, mark: Mark, thread: ThreadId, set: 
     requires taken { IsTaken (thread_of (W.view w.old) thread) (why_of (thread_of (W.view w.old) thread) (W.view w.old).core) (W.view w.old).core }
     requires unqueued { AreWaitersUnqueued (set_of (W.view w.old) set) (W.view w.old).core }
     requires members { MembersNamed (instance_of (thread_of (W.view w.old) thread) (W.view w.old).core) (set_of (W.view w.old) set) (W.view w.old).core }
-    ensures implements { ImplementsRule (delivers_set mark (set_of (W.view w.old) set)) thread (W.view w.old) result (W.view w.new) }
+    ensures picks { PicksRule (delivers_set mark (set_of (W.view w.old) set)) thread (W.view w.old) result (W.view w.new) }
     ensures tags { (W.view w.new).tags ≡ (W.view w.old).tags }
     ensures current { (W.view w.new).current ≡ (W.view w.old).current }
 {

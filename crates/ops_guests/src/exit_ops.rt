@@ -2,7 +2,7 @@
 ghost use Rattle.std.specs.Prelude.{◌≡◌, ◌<◌, not};
 ghost use Rattle.machine_data.specs.Read.{is_nil};
 ghost use Rattle.ops_guests.specs.OpResult.{Implements};
-ghost use Rattle.ops_guests.specs.Reopens.{InSomeOrder, ReopensBy};
+ghost use Rattle.ops_guests.specs.Reopens.{InOrder, ReopensBy};
 ghost use Rattle.ops_guests.specs.Stays.{StaysAfter};
 ghost use Rattle.ops_guests.specs.Running.{IsRunning};
 ghost use Rattle.ops_guests.specs.Works.{KeepsTold};
@@ -84,7 +84,7 @@ pub(crate) fn passes_after_stop<W: Primitives>(w: &mut W, instance: u32, foot: T
 // The instance lets entries in again.
 pub(crate) fn reopen<W: Primitives>(w: &mut W, instance: u32, thread: ThreadId)
     requires { IsRunning (thread_of (W.view w.old) thread) (W.view w.old).core }
-    ensures { InSomeOrder instance (end_reopens instance) (W.view w.old) (W.view w.new) }
+    ensures { InOrder instance (end_reopens instance) (W.view w.old) (W.view w.new) }
 {
     // only the contract speaks of `thread`
     let _thread = thread;

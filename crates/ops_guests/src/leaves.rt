@@ -1,7 +1,7 @@
 //! The exits that end a task with what its first register has.
 ghost use Rattle.ops_guests.specs.Reopens.{ExitsOpen};
 ghost use Rattle.ops_guests.specs.Rules.{exits_by, exits_direct};
-ghost use Rattle.ops_guests.specs.Does.{ImplementsRule, by_woken};
+ghost use Rattle.ops_guests.specs.Does.{PicksRule, by_woken};
 ghost use Rattle.std.specs.Prelude.{◌≡◌, ◌<◌, IsSome, None, Some, true};
 ghost use Rattle.machine_data.specs.Read.{is_explicit, place_of, task_of, under_of};
 ghost use Rattle.machine_data.specs.declared.records.Place.TheVariants as places;
@@ -57,7 +57,7 @@ pub fn exit_sync<W: Primitives>(w: &mut W, thread: ThreadId) -> OpResult
     requires live { 0 < thread_of (W.view w.old) thread }
     requires running { IsRunning (thread_of (W.view w.old) thread) (W.view w.old).core }
     requires there { IsJoinThere (subtasks.Guest (task_of (thread_of (W.view w.old) thread) (W.view w.old).core)) (W.view w.old).core }
-    ensures implements { ImplementsRule (by_woken sync_exit_rule) thread (W.view w.old) result (W.view w.new) }
+    ensures picks { PicksRule (by_woken sync_exit_rule) thread (W.view w.old) result (W.view w.new) }
     ensures stays { StaysAfter result (W.view w.old) (W.view w.new) }
     ensures current { (W.view w.new).current ≡ (W.view w.old).current }
     ensures works { KeepsTold (W.view w.old) (W.view w.new) }
@@ -114,7 +114,7 @@ fn leave_direct<W: Primitives>(w: &mut W, thread: ThreadId, call: CallId) -> Res
     requires named { 0 < call_of (W.view w.old) call }
     requires call { call_of (W.view w.old) call ≡ task_of (thread_of (W.view w.old) thread) (W.view w.old).core }
     requires under { IsSome (under_of (thread_of (W.view w.old) thread) (W.view w.old).core) }
-    ensures implements { ImplementsRule exits_direct thread (W.view w.old) (exits_by thread (W.view w.old) result) (W.view w.new) }
+    ensures picks { PicksRule exits_direct thread (W.view w.old) (exits_by thread (W.view w.old) result) (W.view w.new) }
     ensures stays { StaysAfter (exits_by thread (W.view w.old) result) (W.view w.old) (W.view w.new) }
     ensures current { IsCurrent (exits_by thread (W.view w.old) result) (W.view w.new) }
     ensures works { KeepsTold (W.view w.old) (W.view w.new) }
@@ -148,7 +148,7 @@ pub fn exit_direct<W: Primitives>(w: &mut W, thread: ThreadId, call: CallId) -> 
     requires named { 0 < call_of (W.view w.old) call }
     requires call { call_of (W.view w.old) call ≡ task_of (thread_of (W.view w.old) thread) (W.view w.old).core }
     requires under { IsSome (under_of (thread_of (W.view w.old) thread) (W.view w.old).core) }
-    ensures implements { ImplementsRule exits_direct thread (W.view w.old) result (W.view w.new) }
+    ensures picks { PicksRule exits_direct thread (W.view w.old) result (W.view w.new) }
     ensures stays { StaysAfter result (W.view w.old) (W.view w.new) }
     ensures current { IsCurrent result (W.view w.new) }
     ensures works { KeepsTold (W.view w.old) (W.view w.new) }
@@ -217,7 +217,7 @@ pub fn exit_blocking<W: Primitives>(w: &mut W, thread: ThreadId) -> OpResult
     requires running { IsRunning (thread_of (W.view w.old) thread) (W.view w.old).core }
     requires there { IsJoinThere (subtasks.Guest (task_of (thread_of (W.view w.old) thread) (W.view w.old).core)) (W.view w.old).core }
     requires together { WaitersTogether (W.view w.old).core }
-    ensures implements { ImplementsRule (by_woken blocking_exit_rule) thread (W.view w.old) result (W.view w.new) }
+    ensures picks { PicksRule (by_woken blocking_exit_rule) thread (W.view w.old) result (W.view w.new) }
     ensures stays { StaysAfter result (W.view w.old) (W.view w.new) }
     ensures current { (W.view w.new).current ≡ (W.view w.old).current }
     ensures works { KeepsTold (W.view w.old) (W.view w.new) }

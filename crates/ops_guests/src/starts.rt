@@ -1,6 +1,6 @@
 //! The taking of a start.
 ghost use Rattle.ops_guests.specs.Rules.{takes_start};
-ghost use Rattle.ops_guests.specs.Does.{ImplementsRule};
+ghost use Rattle.ops_guests.specs.Does.{PicksRule};
 ghost use Rattle.std.specs.Prelude.{◌≡◌, ◌<◌, IfOk, IfSome, None, OnErr, OnOk, false, true};
 ghost use Rattle.machine_data.specs.Labels.{held_label, take_label};
 ghost use Rattle.machine_data.specs.Read.{admits, at_handle_limit, task_of, under_of};
@@ -10,6 +10,7 @@ ghost use Rattle.ops_moves.specs.Idle.{CanPublish, IsJoinThere, IsWaiting};
 ghost use Rattle.ops_guests.specs.Running.{IsStartTaken};
 ghost use Rattle.ops_guests.specs.Shown.{goes_as};
 ghost use Rattle.machine_rules.specs.Takes.{may_tell_starting, start_begins, start_holds, start_sets_flags, starting_is_published, starting_told};
+ghost use Rattle.core_primitives.specs.Changes.{IsFirstToWake};
 ghost use Rattle.core_primitives.specs.StateView.{call_of, on_core, thread_of, thread_if_any};
 
 use crate::op_result::{OpAnswer, OpResult};
@@ -113,6 +114,7 @@ fn starting_waiter<W: Primitives>(w: &W, call: CallId, told: bool) -> Option<Thr
     ensures choice { may_tell_starting (call_of (W.view w.now) call) (thread_if_any (W.view w.now) result) (W.view w.now).core ≡ true }
     ensures live { IfSome result (λ id. 0 < thread_of (W.view w.now) id) }
     ensures waits { IfSome result (λ id. IsWaiting (thread_of (W.view w.now) id) (W.view w.now).core) }
+    ensures first { IfSome result (λ id. IsFirstToWake id (W.view w.now)) }
 {
     if told { None } else { tell_waiter(w, call) }
 }
@@ -164,7 +166,7 @@ pub fn take_start<W: Primitives>(
     requires taken { IsStartTaken (thread_of (W.view w.old) thread) (W.view w.old).core }
     requires bottom { under_of (thread_of (W.view w.old) thread) (W.view w.old).core ≡ None }
     requires there { IsJoinThere (subtasks.Guest (task_of (thread_of (W.view w.old) thread) (W.view w.old).core)) (W.view w.old).core }
-    ensures implements { IfOk result (λ op_result. ImplementsRule (takes_start mark) thread (W.view w.old) op_result (W.view w.new)) }
+    ensures picks { IfOk result (λ op_result. PicksRule (takes_start mark) thread (W.view w.old) op_result (W.view w.new)) }
     ensures tags { (W.view w.new).tags ≡ (W.view w.old).tags }
     ensures current { (W.view w.new).current ≡ (W.view w.old).current }
     ensures err { OnErr result (W.view w.new ≡ W.view w.old) }

@@ -1,5 +1,5 @@
 //! The taking of the entries of host calls.
-ghost use Rattle.ops_guests.specs.Does.{ImplementsAt, by_woken};
+ghost use Rattle.ops_guests.specs.Does.{PicksAt, by_woken};
 ghost use Rattle.std.specs.Prelude.{◌≡◌, ◌<◌};
 ghost use Rattle.machine_data.specs.Labels.{host_label};
 ghost use Rattle.machine_data.specs.Read.{course_of, course_value};
@@ -76,7 +76,7 @@ pub fn take_host<W: Primitives>(w: &mut W, mark: Mark, work: WorkId) -> OpResult
     requires live { 0 < work_of (W.view w.old) work }
     requires placed { Placed (W.view w.old).core }
     requires there { IsJoinThere (subtasks.Host (work_of (W.view w.old) work)) (W.view w.old).core }
-    ensures implements { ImplementsAt (by_woken (scripted_host_rule mark)) (work_of (W.view w.old) work) (W.view w.old) result (W.view w.new) }
+    ensures picks { PicksAt (by_woken (scripted_host_rule mark)) (work_of (W.view w.old) work) (W.view w.old) result (W.view w.new) }
     ensures stays { StaysAfter result (W.view w.old) (W.view w.new) }
     ensures tags { (W.view w.new).tags ≡ (W.view w.old).tags }
     ensures current { (W.view w.new).current ≡ (W.view w.old).current }

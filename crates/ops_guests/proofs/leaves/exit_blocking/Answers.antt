@@ -3,7 +3,10 @@ use Rattle.std.specs.Prelude.{Bool, None, not, option_map, true, ◌≡◌}
 use Rattle.machine_data.specs.Labels.{exit_label}
 use Rattle.machine_data.specs.Read.{instance_of, task_of}
 use Rattle.machine_data.specs.declared.trap.Trap.TheVariants as trap
+use Rattle.core_primitives.specs.Preferences.{preference}
+use Rattle.machine_rules.specs.Picks.{in_order}
 use Rattle.ops_guests.proofs.BlockLemmas.{passes_any}
+use Rattle.ops_guests.proofs.CalmLemmas.{silent_shows}
 use Rattle.ops_guests.proofs.leaves.exit_blocking.Goals as goal
 use Rattle.ops_guests.specs.OpResult.{Implements}
 use Rattle.ops_guests.specs.declared.op_result.OpResult.TheVariants as op_result
@@ -12,13 +15,17 @@ use Rattle.machine_rules.specs.Progress.{Ordered, Stops, may, trap_if}
 use Rattle.core_primitives.specs.StateView.{StateView, thread_of}
 
 -- whichever waiter was tried, the check fails
-pub returns-then-not-passes_after_return-clause-implements : goal.returns-then-not-passes_after_return-clause-implements
-returns-then-not-passes_after_return-clause-implements g c =
+pub returns-then-not-passes_after_return-clause-picks : goal.returns-then-not-passes_after_return-clause-picks
+returns-then-not-passes_after_return-clause-picks g c =
     let v = g.W.View.view in
     let s = v c.args.w.now in
     let n = thread_of s c.args.thread in
     let w = option_map (λ id. thread_of s id) c.tell_waiter-waiter.result in
     let lawful = subst (λ k. may_tell k w s.core ≡ true) c.task_of-call.ensures.is c.tell_waiter-waiter.ensures.choice in
     let fails = passes_any n s.core c.requires.together w lawful ∙ (sym c.passes_after_return.ensures.passes ∙ c.if-not-passes_after_return.true) in
-    subst (λ (b : Bool). Implements (trap_if (not b) trap.CannotBlockSyncTask (may (may_tell (task_of n s.core) None s.core) (Ordered (held_by_flag (instance_of n s.core) s.core) (λ order. Stops (exit_label n None) (blocking_exits n None order s.core))))) s.core (op_result.Traps trap.CannotBlockSyncTask) (v c.passes_after_return.new.w).core) (sym fails)
-    (refl, ap (λ (y : StateView). y.core) c.passes_after_return.ensures.same)
+    let row = λ (b : Bool). trap_if (not b) trap.CannotBlockSyncTask (may (may_tell (task_of n s.core) None s.core) (Ordered (held_by_flag (instance_of n s.core) s.core) (λ order. Stops (exit_label n None) (blocking_exits n None order s.core)))) in
+    record {
+      shows = silent_shows (preference s) s.core _ (refl, refl);
+      order = subst (λ (b : Bool). Implements (in_order (preference s) (row b)) s.core (op_result.Traps trap.CannotBlockSyncTask) (v c.passes_after_return.new.w).core) (sym fails)
+          (refl, ap (λ (y : StateView). y.core) c.passes_after_return.ensures.same);
+    }
