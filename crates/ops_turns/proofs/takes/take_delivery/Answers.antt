@@ -1,5 +1,6 @@
+use Rattle.ops_guests.proofs.CalmLemmas.{picks_implements}
 use Rattle.ops_turns.proofs.ShowLemmas.{delivered_shows}
 use Rattle.ops_turns.proofs.takes.take_delivery.Goals as goal
 
 pub returns-in-Some-clause-shows : goal.returns-in-Some-clause-shows
-returns-in-Some-clause-shows g c = delivered_shows c.args.mark _ _ _ _ c.deliver_set.result _ c.deliver_set.ensures.implements
+returns-in-Some-clause-shows g c = delivered_shows c.args.mark _ _ _ _ c.deliver_set.result _ (picks_implements c.deliver_set.ensures.picks)
