@@ -22,8 +22,11 @@ use Rattle.machine_data.specs.declared.records.Script.{Script}
 use Rattle.machine_data.specs.declared.records.Thread.{Thread}
 use Rattle.machine_data.specs.declared.records.Turn.{Turn}
 use Rattle.machine_data.specs.declared.records.Turn.TheVariants as turn
-use Rattle.ops_guests.proofs.ImplementLemmas.{implementing_is_step, taking_is_step}
-use Rattle.ops_guests.specs.OpResult.{Implements}
+use Rattle.machine_data.specs.Labels.{Choice}
+use Rattle.machine_rules.specs.Picks.{Picks, Preference}
+use Rattle.ops_guests.proofs.CalmLemmas.{silent_shows}
+use Rattle.ops_guests.proofs.ImplementLemmas.{implementing_is_step, picking_is_picked, taking_is_picked, taking_is_step}
+use Rattle.ops_guests.specs.OpResult.{Implements, PicksFirst}
 use Rattle.ops_guests.specs.Stays.{StaysAfter}
 use Rattle.ops_guests.specs.Steps.{core_after, label_of, turn_after}
 use Rattle.ops_guests.specs.declared.op_result.OpResult.{OpResult}
@@ -52,9 +55,9 @@ module _ (c : Component) (n : ℕ) (s : Core) (t : Thread) (here : get s.threads
       ∙ (ap (λ g. script_in c g t.script) (sym callee) ∙ (ap (script_in c f) (sym script) ∙ sym read)))
 
   -- the rule of the op at the thread's place; at the script's end it exits
-  pub row_at : (o : Option Op) → o ≡ slice_get ops p → (r : OpResult) (u : Core) → Implements (scripted_op_rule c n s (choice_of (label_of n r)) (unwrap_or o (op.Task task.Exit))) s r u → Implements (did c n s (choice_of (label_of n r))) s r u
+  pub row_at : (o : Option Op) → o ≡ slice_get ops p → (ch : Choice) → scripted_op_rule c n s ch (unwrap_or o (op.Task task.Exit)) ≡ did c n s ch
   unfolding did op_of
-  row_at o e r u h = subst (λ (q : Option Op). Implements (scripted_op_rule c n s (choice_of (label_of n r)) (unwrap_or q (op.Task task.Exit))) s r u) (e ∙ (ap (slice_get ops) place ∙ ap (λ (os : List Op). slice_get os (position_of n s)) (sym script_is))) h
+  row_at o e ch = ap (λ (q : Option Op). scripted_op_rule c n s ch (unwrap_or q (op.Task task.Exit))) (e ∙ (ap (slice_get ops) place ∙ ap (λ (os : List Op). slice_get os (position_of n s)) (sym script_is)))
 
   -- the op at the thread's place; at the script's end it exits
   pub op_is : (o : Option Op) → o ≡ slice_get ops p → op_of c n s ≡ unwrap_or o (op.Task task.Exit)
@@ -98,6 +101,20 @@ module _ (id : TableId ThreadKey) (n : ℕ) (s t : StateView) (number : thread_o
       → u ≡ core_after (thread_of t id) r t.core → (x : Setting) → x.component ≡ c → (m : Main) → Step x (state_at s.core m (turn.Run n)) l (state_at u m p)
   ran_at c r l p u implements = ran c r l p u (subst (λ k. Implements (did c k s.core (choice_of (label_of k r))) s.core r t.core) number implements)
 
+  -- one that picked what comes first makes a step that does
+  pub picked : (pref : Preference) (c : Component) (r : OpResult) (l : Label) (p : Turn) (u : Core) → PicksFirst pref (did c n s.core (choice_of (label_of n r))) (label_of n r) s.core r t.core → StaysAfter r s t → l ≡ label_of (thread_of t id) r → p ≡ turn_after r
+      → u ≡ core_after (thread_of t id) r t.core → (x : Setting) → x.component ≡ c → (m : Main) → Picks pref x (state_at s.core m (turn.Run n)) l (state_at u m p)
+  picked pref c r l p u picks stays label_is turn_is core_is x component m =
+      let step = picking_is_picked pref x (state_at s.core m (turn.Run n)) n r t.core refl (subst (λ (d : Component). PicksFirst pref (did d n s.core (choice_of (label_of n r))) (label_of n r) s.core r t.core) (sym component) picks) in
+      let shown = label_is ∙ label_same r stays in
+      let after : state_at u m p ≡ goes_to (state_at s.core m (turn.Run n)) (core_after n r t.core) (turn_after r) =
+      ap (λ (q : Turn). state_at u m q) turn_is ∙ (ap (λ (v : Core). state_at v m (turn_after r)) (core_is ∙ core_same r stays) ∙ sym (settled r s.core m (turn.Run n) (core_after n r t.core))) in
+      rw shown (rw after step)
+
+  pub picked_at : (pref : Preference) (c : Component) (r : OpResult) (l : Label) (p : Turn) (u : Core) → PicksFirst pref (did c (thread_of s id) s.core (choice_of (label_of (thread_of s id) r))) (label_of (thread_of s id) r) s.core r t.core → StaysAfter r s t → l ≡ label_of (thread_of t id) r → p ≡ turn_after r
+      → u ≡ core_after (thread_of t id) r t.core → (x : Setting) → x.component ≡ c → (m : Main) → Picks pref x (state_at s.core m (turn.Run n)) l (state_at u m p)
+  picked_at pref c r l p u picks = picked pref c r l p u (subst (λ k. PicksFirst pref (did c k s.core (choice_of (label_of k r))) (label_of k r) s.core r t.core) number picks)
+
 -- a taking that did its rule makes a step
 pub took : (c : Component) (ended : Bool) (mark : Mark) (id : TableId ThreadKey) (n : ℕ) (s u t : StateView) (r : OpResult) (l : Label) (p : Turn) (z : Core) → thread_of u id ≡ n → u.core ≡ popped mark s.core
     → next_entry s.core ≡ Some (mark, entry.Thread n) → Implements (thread_taken mark (thread_of u id) (choice_of (label_of (thread_of u id) r)) u.core (place_of (thread_of u id) u.core)) u.core r t.core → StaysAfter r u t
@@ -110,6 +127,34 @@ took c ended mark id n s u t r l p z number base next implements stays label_is 
     let after : state_at z m p ≡ goes_to (state_at s.core m (turn.Take ended)) (core_after n r t.core) (turn_after r) =
     ap (λ (q : Turn). state_at z m q) turn_is ∙ (ap (λ (v : Core). state_at v m (turn_after r)) (core_is ∙ core_same id n u t number r stays) ∙ sym (settled r s.core m (turn.Take ended) (core_after n r t.core))) in
     rw shown (rw after step)
+
+-- one that picked what comes first makes a step that does
+pub took_picks : (pref : Preference) (c : Component) (ended : Bool) (mark : Mark) (id : TableId ThreadKey) (n : ℕ) (s u t : StateView) (r : OpResult) (l : Label) (p : Turn) (z : Core) → thread_of u id ≡ n → u.core ≡ popped mark s.core
+    → next_entry s.core ≡ Some (mark, entry.Thread n) → PicksFirst pref (thread_taken mark (thread_of u id) (choice_of (label_of (thread_of u id) r)) u.core (place_of (thread_of u id) u.core)) (label_of (thread_of u id) r) u.core r t.core → StaysAfter r u t
+    → l ≡ label_of (thread_of t id) r → p ≡ turn_after r → z ≡ core_after (thread_of t id) r t.core → (x : Setting) → x.component ≡ c → (m : Main) → Picks pref x (state_at s.core m (turn.Take ended)) l (state_at z m p)
+took_picks pref c ended mark id n s u t r l p z number base next picks stays label_is turn_is core_is x component m =
+    let named = subst (λ k. PicksFirst pref (thread_taken mark k (choice_of (label_of k r)) u.core (place_of k u.core)) (label_of k r) u.core r t.core) number picks in
+    let based = subst (λ (b : Core). PicksFirst pref (thread_taken mark n (choice_of (label_of n r)) b (place_of n b)) (label_of n r) b r t.core) base named in
+    let step = taking_is_picked pref x (state_at s.core m (turn.Take ended)) ended (mark, entry.Thread n) r t.core refl next based in
+    let shown = label_is ∙ label_same id n u t number r stays in
+    let after : state_at z m p ≡ goes_to (state_at s.core m (turn.Take ended)) (core_after n r t.core) (turn_after r) =
+    ap (λ (q : Turn). state_at z m q) turn_is ∙ (ap (λ (v : Core). state_at v m (turn_after r)) (core_is ∙ core_same id n u t number r stays) ∙ sym (settled r s.core m (turn.Take ended) (core_after n r t.core))) in
+    rw shown (rw after step)
+
+pub push_picks : (pref : Preference) (c : Component) (ended : Bool) (mark : Mark) (i : ℕ) (s t : StateView) → next_entry s.core ≡ Some (mark, entry.Push i) → t.core ≡ pushed i (popped mark s.core) → (x : Setting) → x.component ≡ c → (m : Main)
+    → Picks pref x (state_at s.core m (turn.Take ended)) (label.Take (take_label.Push mark i)) (state_at t.core m turn.Main)
+push_picks pref c ended mark i s t next core x component m =
+    let l = label.Take (take_label.Push mark i) in
+    subst (Picks pref x (state_at s.core m (turn.Take ended)) l) (settled (op_result.Stops l) s.core m (turn.Take ended) t.core)
+    (taking_is_picked pref x (state_at s.core m (turn.Take ended)) ended (mark, entry.Push i) (op_result.Stops l) t.core refl next
+      (record { shows = silent_shows pref (popped mark s.core) l (refl, refl); order = (refl, core) }))
+
+pub host_picks : (pref : Preference) (c : Component) (ended : Bool) (mark : Mark) (i : ℕ) (s u t : StateView) (l : Label) → u.core ≡ popped mark s.core → next_entry s.core ≡ Some (mark, entry.Host i) → PicksFirst pref (scripted_host_rule mark i (choice_of l).woken u.core) l u.core (op_result.Stops l) t.core
+    → (x : Setting) → x.component ≡ c → (m : Main) → Picks pref x (state_at s.core m (turn.Take ended)) l (state_at t.core m turn.Main)
+host_picks pref c ended mark i s u t l base next picks x component m =
+    let based = subst (λ (b : Core). PicksFirst pref (scripted_host_rule mark i (choice_of l).woken b) l b (op_result.Stops l) t.core) base picks in
+    subst (Picks pref x (state_at s.core m (turn.Take ended)) l) (settled (op_result.Stops l) s.core m (turn.Take ended) t.core)
+    (taking_is_picked pref x (state_at s.core m (turn.Take ended)) ended (mark, entry.Host i) (op_result.Stops l) t.core refl next based)
 
 pub took_push : (c : Component) (ended : Bool) (mark : Mark) (i : ℕ) (s t : StateView) → next_entry s.core ≡ Some (mark, entry.Push i) → t.core ≡ pushed i (popped mark s.core) → (x : Setting) → x.component ≡ c → (m : Main)
     → Step x (state_at s.core m (turn.Take ended)) (label.Take (take_label.Push mark i)) (state_at t.core m turn.Main)

@@ -19,7 +19,10 @@ use Rattle.machine_data.specs.declared.records.Entry.TheVariants as entry
 use Rattle.machine_data.specs.declared.records.Turn.{Turn}
 use Rattle.machine_data.specs.declared.records.Turn.TheVariants as turn
 use Rattle.machine_data.specs.declared.statuses.Mark.{Mark}
-use Rattle.ops_guests.specs.OpResult.{Implements}
+use Rattle.core_primitives.specs.Preferences.{preference}
+use Rattle.machine_rules.specs.Picks.{Picks, Preference}
+use Rattle.ops_guests.proofs.CalmLemmas.{picks_implements}
+use Rattle.ops_guests.specs.OpResult.{Implements, PicksFirst}
 use Rattle.ops_guests.specs.Stays.{StaysAfter}
 use Rattle.ops_guests.specs.Steps.{label_of}
 use Rattle.ops_guests.specs.declared.op_result.OpResult.{OpResult}
@@ -34,7 +37,7 @@ use Rattle.task_table.specs.declared.id.TableId.{TableId}
 use Rattle.machine_data.specs.declared.statuses.HostPoll.{HostPoll}
 use Rattle.ops_turns.proofs.DriveLemmas.{last_outcome-push, on_ends, on_more, on_turned_none}
 use Rattle.ops_turns.proofs.IdleLemmas.{after_free, free_at}
-use Rattle.ops_turns.proofs.RunLemmas.{host_over, ran_at, took, took_host, took_push}
+use Rattle.ops_turns.proofs.RunLemmas.{host_over, host_picks, label_same, picked_at, push_picks, ran_at, took, took_host, took_picks, took_push}
 use Rattle.ops_turns.specs.Drive.{Drove, IsOn}
 use Rattle.ops_turns.specs.Ran.{RanPolls, WorkMade}
 use Rattle.ops_turns.specs.StepResult.{Added, AddedOrNone, CallsHost, RuleRan, RuleShown, RuleStep, RunAdded, Shown, StepPolls, made_by, stepped_by}
@@ -84,8 +87,15 @@ fallen made before after added over turns =
 -- ---- A step of the running thread
 
 module _ (id : TableId ThreadKey) (s t : StateView) (stepped : StepResult) (before after : List Label) where
-  pub rule_as : (P Q : OpResult → Progress) → ((r : OpResult) (u : Core) → Implements (P r) s.core r u → Implements (Q r) s.core r u) → RuleShown P id s before stepped t after → RuleShown Q id s before stepped t after
-  rule_as P Q same h = record { op_result = h.op_result; left = h.left; implements = same h.op_result h.left.core h.implements; stays = h.stays; shown = h.shown }
+  pub rule_as : (P Q : OpResult → Progress) → ((r : OpResult) → P r ≡ Q r) → RuleShown P id s before stepped t after → RuleShown Q id s before stepped t after
+  rule_as P Q same h = record {
+    op_result = h.op_result;
+    left = h.left;
+    implements = subst (λ (p : Progress). Implements p s.core h.op_result h.left.core) (same h.op_result) h.implements;
+    picks = subst (λ (p : Progress). PicksFirst (preference s) p (label_of (thread_of s id) h.op_result) s.core h.op_result h.left.core) (same h.op_result) h.picks;
+    stays = h.stays;
+    shown = h.shown;
+  }
 
   -- an op that did its rule made a step
   pub run_added : (c : Component) (n : ℕ) → thread_of s id ≡ n → RuleShown (λ r. did c (thread_of s id) s.core (choice_of (label_of (thread_of s id) r))) id s before stepped t after
@@ -94,6 +104,7 @@ module _ (id : TableId ThreadKey) (s t : StateView) (stepped : StepResult) (befo
       let made = made_by (thread_of h.left id) h.op_result in
       let makes : MakesStep c (turn.Run n) s made t = record {
         step = ran_at id n s h.left number c h.op_result made.label made.turn t.core h.implements h.stays refl refl h.shown.core;
+        picks = picked_at id n s h.left number (preference s) c h.op_result made.label made.turn t.core h.picks h.stays refl refl h.shown.core;
         running = h.shown.running;
         over = h.shown.over;
       } in
@@ -106,24 +117,39 @@ module _ (id : TableId ThreadKey) (s t : StateView) (stepped : StepResult) (befo
       (λ made h. (h, λ answer. record { polled = sym none; work = inl refl }))
 
 module _ (id : TableId ThreadKey) (s t : StateView) where
+  -- what it picked, by the label that its thread shows
+  own_label : {row : OpResult → Progress} {made : MadeStep} (h : RuleRan row id s made t) → PicksFirst (preference s) (row h.op_result) (label_of (thread_of s id) h.op_result) s.core h.op_result h.left.core
+  own_label {row = row} h = subst (λ (l : Label). PicksFirst (preference s) (row h.op_result) l s.core h.op_result h.left.core) (h.label ∙ label_same id (thread_of s id) s h.left refl h.op_result h.stays) h.picks
+
   -- an op that did its rule made a step, whose label is still to be added
   pub ran_made : (c : Component) (n : ℕ) → thread_of s id ≡ n → (made : MadeStep) → RuleRan (λ r. did c (thread_of s id) s.core (choice_of (label_of (thread_of s id) r))) id s made t
       → MakesStep c (turn.Run n) s made t × IsFree made.turn
   ran_made c n number made h =
       let makes : MakesStep c (turn.Run n) s made t = record {
         step = ran_at id n s h.left number c h.op_result made.label made.turn t.core h.implements h.stays h.label h.turn h.core;
+        picks = picked_at id n s h.left number (preference s) c h.op_result made.label made.turn t.core (own_label h) h.stays h.label h.turn h.core;
         running = h.running;
         over = h.over;
       } in
       (makes, free_at _ _ h.turn (after_free h.op_result))
 
-  pub rule_ran_as : (P Q : OpResult → Progress) (made : MadeStep) → ((r : OpResult) (u : Core) → Implements (P r) s.core r u → Implements (Q r) s.core r u) → RuleRan P id s made t → RuleRan Q id s made t
-  rule_ran_as P Q made same h =
-      record { op_result = h.op_result; left = h.left; implements = same h.op_result h.left.core h.implements; stays = h.stays; label = h.label; turn = h.turn; core = h.core; running = h.running; over = h.over }
+  pub rule_ran_as : (P Q : OpResult → Progress) (made : MadeStep) → ((r : OpResult) → P r ≡ Q r) → RuleRan P id s made t → RuleRan Q id s made t
+  rule_ran_as P Q made same h = record {
+    op_result = h.op_result;
+    left = h.left;
+    implements = subst (λ (p : Progress). Implements p s.core h.op_result h.left.core) (same h.op_result) h.implements;
+    picks = subst (λ (p : Progress). PicksFirst (preference s) p made.label s.core h.op_result h.left.core) (same h.op_result) h.picks;
+    stays = h.stays;
+    label = h.label;
+    turn = h.turn;
+    core = h.core;
+    running = h.running;
+    over = h.over;
+  }
 
 -- what an op by its rule resulted in is a step of the running thread
 module _ (c : Component) (id : TableId ThreadKey) (n : ℕ) (s t : StateView) (number : thread_of s id ≡ n) (o : Op) (is : op_of c (thread_of s id) s.core ≡ o)
-    (same : (op_result : OpResult) (u : Core) → Implements (scripted_op_rule c (thread_of s id) s.core (choice_of (label_of (thread_of s id) op_result)) o) s.core op_result u → Implements (did c (thread_of s id) s.core (choice_of (label_of (thread_of s id) op_result))) s.core op_result u) where
+    (same : (op_result : OpResult) → scripted_op_rule c (thread_of s id) s.core (choice_of (label_of (thread_of s id) op_result)) o ≡ did c (thread_of s id) s.core (choice_of (label_of (thread_of s id) op_result))) where
   polled_at : (host : Option HostDef) → host ≡ polled_host c (op_progress_of (thread_of s id) s.core) o → host ≡ polled_host c (op_progress_of n s.core) (op_of c n s.core)
   polled_at host e = subst (λ k. host ≡ polled_host c (op_progress_of k s.core) (op_of c k s.core)) number (e ∙ sym (ap (polled_host c (op_progress_of (thread_of s id) s.core)) is))
 
@@ -149,12 +175,14 @@ module _ (c : Component) (id : TableId ThreadKey) (n : ℕ) (s t : StateView) (n
 
 -- a taking that did its rule made a step
 pub take_added : (c : Component) (ended : Bool) (mark : Mark) (id : TableId ThreadKey) (n : ℕ) (s u v t : StateView) (r : OpResult) (stepped : StepResult) (before after : List Label) → thread_of u id ≡ n → u.core ≡ popped mark s.core
-    → next_entry s.core ≡ Some (mark, entry.Thread n) → Implements (thread_taken mark (thread_of u id) (choice_of (label_of (thread_of u id) r)) u.core (place_of (thread_of u id) u.core)) u.core r v.core → StaysAfter r u v
+    → next_entry s.core ≡ Some (mark, entry.Thread n) → Implements (thread_taken mark (thread_of u id) (choice_of (label_of (thread_of u id) r)) u.core (place_of (thread_of u id) u.core)) u.core r v.core
+    → PicksFirst (preference s) (thread_taken mark (thread_of u id) (choice_of (label_of (thread_of u id) r)) u.core (place_of (thread_of u id) u.core)) (label_of (thread_of u id) r) u.core r v.core → StaysAfter r u v
     → Shown id r v before stepped t after → Added (λ made. MakesStep c (turn.Take ended) s made t × IsFree made.turn) stepped before after
-take_added c ended mark id n s u v t r stepped before after number base next implements stays shown =
+take_added c ended mark id n s u v t r stepped before after number base next implements picks stays shown =
     let made = made_by (thread_of v id) r in
     let makes : MakesStep c (turn.Take ended) s made t = record {
       step = took c ended mark id n s u v r made.label made.turn t.core number base next implements stays refl refl shown.core;
+      picks = took_picks (preference s) c ended mark id n s u v r made.label made.turn t.core number base next picks stays refl refl shown.core;
       running = shown.running;
       over = shown.over;
     } in
@@ -182,20 +210,25 @@ module _ (c : Component) (ended : Bool) (mark : Mark) (id : TableId HostTaskKey)
       let whole = new ∙ ap (λ (v : StateView). on_core (pushed (work_of v id)) v) left in
       let makes : MakesStep c (turn.Take ended) s (push_made mark (work_of s id)) t = record {
         step = took_push c ended mark (work_of s id) s t next (ap (λ (v : StateView). v.core) whole);
+        picks = push_picks (preference s) c ended mark (work_of s id) s t next (ap (λ (v : StateView). v.core) whole);
         running = ap running_of whole ∙ ap (option_map (λ k. thread_of s k)) none;
         over = refl;
       } in
       subst (λ (m : MadeStep). MakesStep c (turn.Take ended) s m t × IsFree m.turn) (sym (is ∙ ap (λ (v : StateView). push_made mark (work_of v id)) left)) (makes, λ x k m. tt)
 
   -- so is the entry of an ended host work
-  pub host_makes : next_entry s.core ≡ Some (mark, entry.Host (work_of s id)) → Implements (scripted_host_rule mark (work_of u id) (choice_of made.label).woken u.core) u.core (op_result.Stops made.label) t.core → t.current ≡ u.current → made.turn ≡ turn.Main
+  pub host_makes : next_entry s.core ≡ Some (mark, entry.Host (work_of s id)) → PicksFirst (preference u) (scripted_host_rule mark (work_of u id) (choice_of made.label).woken u.core) made.label u.core (op_result.Stops made.label) t.core → t.current ≡ u.current → made.turn ≡ turn.Main
       → MakesStep c (turn.Take ended) s made t × IsFree made.turn
-  host_makes next implements current turn_is =
+  host_makes next picks current turn_is =
       let i = work_of s id in
-      let named = subst (λ k. Implements (scripted_host_rule mark k (choice_of made.label).woken u.core) u.core (op_result.Stops made.label) t.core) (ap (λ (v : StateView). work_of v id) left) implements in
+      let first = subst (λ k. PicksFirst (preference u) (scripted_host_rule mark k (choice_of made.label).woken u.core) made.label u.core (op_result.Stops made.label) t.core) (ap (λ (v : StateView). work_of v id) left) picks in
+      let preferred = subst (λ (q : Preference). PicksFirst q (scripted_host_rule mark i (choice_of made.label).woken u.core) made.label u.core (op_result.Stops made.label) t.core) (ap preference left) first in
+      let named = picks_implements first in
       let makes : MakesStep c (turn.Take ended) s made t = record {
         step = λ x component m. subst (λ (p : Turn). Step x (state_at s.core m (turn.Take ended)) made.label (state_at t.core m p)) (sym turn_is)
             (took_host c ended mark i s u t (op_result.Stops made.label) made.label (ap (λ (v : StateView). v.core) left) next named refl x component m);
+        picks = λ x component m. subst (λ (p : Turn). Picks (preference s) x (state_at s.core m (turn.Take ended)) made.label (state_at t.core m p)) (sym turn_is)
+            (host_picks (preference s) c ended mark i s u t made.label (ap (λ (v : StateView). v.core) left) next preferred x component m);
         running = ap (option_map (λ k. thread_of t k)) (current ∙ (ap (λ (v : StateView). v.current) left ∙ none)) ∙ sym (ap runs_in turn_is);
         over = host_over mark i (choice_of made.label).woken u.core t.core (op_result.Stops made.label) made.label named refl ∙ sym (ap is_open turn_is);
       } in

@@ -14,7 +14,9 @@ use Rattle.machine_data.specs.declared.statuses.Mark.{Mark}
 use Rattle.ops_moves.specs.Idle.{IsJoinThere}
 use Rattle.machine_rules.specs.Progress.{Progress}
 use Rattle.machine_rules.specs.Takes.{delivery_rule, scripted_host_rule, thread_taken}
-use Rattle.ops_guests.specs.OpResult.{Implements}
+use Rattle.core_primitives.specs.Preferences.{preference}
+use Rattle.core_primitives.specs.StateView.{StateView}
+use Rattle.ops_guests.specs.OpResult.{PicksFirst}
 use Rattle.ops_guests.specs.PickedEvents.{MembersNamed}
 use Rattle.ops_guests.specs.Running.{Stand}
 use Rattle.ops_guests.specs.Steps.{label_of}
@@ -34,17 +36,18 @@ pub record Taken (m : Mark) (n : ℕ) (s : Core) : Type 0 where
 abbrev pub taking_rule : Mark → ℕ → Core → OpResult → Progress
 taking_rule mark n s r = thread_taken mark n (choice_of (label_of n r)) s (place_of n s)
 
-abbrev pub TakesThread : Mark → ℕ → Core → OpResult → Core → Type 0
-TakesThread mark n s r t = Implements (taking_rule mark n s r) s r t
+abbrev pub TakesThread : Mark → ℕ → StateView → OpResult → StateView → Type 0
+TakesThread mark n s r t = PicksFirst (preference s) (taking_rule mark n s.core r) (label_of n r) s.core r t.core
 
 -- that of a delivery
-abbrev pub TakesDelivery : Mark → ℕ → Core → Delivery → OpResult → Core → Type 0
+abbrev pub TakesDelivery : Mark → ℕ → StateView → Delivery → OpResult → StateView → Type 0
 TakesDelivery mark n s d r t =
-    Implements (delivery_rule mark n (choice_of (label_of n r)) s d (admits n s (why.Delivery d))) s r t
+    PicksFirst (preference s) (delivery_rule mark n (choice_of (label_of n r)) s.core d (admits n s.core (why.Delivery d))) (label_of n r) s.core r
+    t.core
 
 -- and that of an ended host work, whose label is this
-abbrev pub TakesHost : Mark → ℕ → Core → Label → Core → Type 0
-TakesHost mark i s l t = Implements (scripted_host_rule mark i (choice_of l).woken s) s (op_result.Stops l) t
+abbrev pub TakesHost : Mark → ℕ → StateView → Label → StateView → Type 0
+TakesHost mark i s l t = PicksFirst (preference s) (scripted_host_rule mark i (choice_of l).woken s.core) l s.core (op_result.Stops l) t.core
 
 -- The set of a delivery is there, and its ready members are named in the thread's instance.
 pub record FindsSet (n : ℕ) (s : Core) : Type 0 where

@@ -71,7 +71,7 @@ returns-in-Some-op_at-clause-ran g c =
     let e = sym (ap option_copied c.in-Some-op_at.is) ∙ c.op_at.ensures in
     let is = op_is c.args.component.now n s.core q.thread q.here c.script_ops-script.result.now c.at-point.result.callee (task_of n s.core) c.at-point.result.position c.at-point.result.script c.at-point.ensures.callee refl (c.at-point.ensures.script q.thread q.here) c.script_ops-script.ensures c.at-point.ensures.position (Some o) e in
     run_steps comp c.in-Some.thread c.args.number s t number o is
-    (λ r u h. row_at c.args.component.now n s.core q.thread q.here c.script_ops-script.result.now c.at-point.result.callee (task_of n s.core) c.at-point.result.position c.at-point.result.script c.at-point.ensures.callee refl (c.at-point.ensures.script q.thread q.here) c.script_ops-script.ensures c.at-point.ensures.position (Some o) e r u h)
+    (λ r. row_at c.args.component.now n s.core q.thread q.here c.script_ops-script.result.now c.at-point.result.callee (task_of n s.core) c.at-point.result.position c.at-point.result.script c.at-point.ensures.callee refl (c.at-point.ensures.script q.thread q.here) c.script_ops-script.ensures c.at-point.ensures.position (Some o) e (choice_of (label_of n r)))
     c.args.trace.now c.run_by.new.trace c.run_by.result c.run_by.ensures.step c.run_by.ensures.polls
 
 pub returns-in-Some-stepped_by-clause-ran : goal.returns-in-Some-stepped_by-clause-ran
@@ -88,7 +88,7 @@ returns-in-Some-stepped_by-clause-ran g c =
     let after = c.run_exit-brief.new.trace in
     let shown = some_at (λ (p : StepResult). (d : Component) → RuleShown (λ r. scripted_op_rule d n s.core (choice_of (label_of n r)) (op.Task task.Exit)) c.in-Some.thread s before p t after) (stepped_by c.run_exit-brief.result after) c.in-Some-stepped_by.stepped (sym c.stepped_by.ensures ∙ c.in-Some-stepped_by.is) c.run_exit-brief.ensures.shown in
     let did_it = rule_as c.in-Some.thread s t c.in-Some-stepped_by.stepped before after (λ r. scripted_op_rule comp n s.core (choice_of (label_of n r)) (op.Task task.Exit)) (λ r. did comp n s.core (choice_of (label_of n r)))
-    (λ r u h. row_at c.args.component.now n s.core q.thread q.here c.script_ops-script.result.now c.at-point.result.callee (task_of n s.core) c.at-point.result.position c.at-point.result.script c.at-point.ensures.callee refl (c.at-point.ensures.script q.thread q.here) c.script_ops-script.ensures c.at-point.ensures.position None e r u h) (shown comp) in
+    (λ r. row_at c.args.component.now n s.core q.thread q.here c.script_ops-script.result.now c.at-point.result.callee (task_of n s.core) c.at-point.result.position c.at-point.result.script c.at-point.ensures.callee refl (c.at-point.ensures.script q.thread q.here) c.script_ops-script.ensures c.at-point.ensures.position None e (choice_of (label_of n r))) (shown comp) in
     unpolled c.in-Some.thread s t c.in-Some-stepped_by.stepped before after comp c.args.number (λ (made : MadeStep). MakesStep comp (turn.Run c.args.number) s made t × IsFree made.turn)
     (subst (λ k. polled_host comp (op_progress_of k s.core) (op_of comp k s.core) ≡ None) number (ap (polled_host comp (op_progress_of n s.core)) is))
     (run_added c.in-Some.thread s t c.in-Some-stepped_by.stepped before after comp c.args.number number did_it)

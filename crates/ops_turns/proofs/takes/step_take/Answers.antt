@@ -17,6 +17,9 @@ use Rattle.ops_guests.specs.Steps.{label_of}
 use Rattle.ops_guests.specs.declared.op_result.OpResult.{OpResult}
 use Rattle.machine_rules.specs.Progress.{Progress}
 use Rattle.machine_rules.specs.Takes.{thread_taken}
+use Rattle.core_primitives.specs.Preferences.{preference}
+use Rattle.machine_rules.specs.Picks.{Preference}
+use Rattle.ops_guests.specs.OpResult.{PicksFirst}
 use Rattle.ops_turns.specs.StepResult.{Added, stepped_by}
 use Rattle.ops_turns.specs.Turn.{Took}
 use Rattle.ops_turns.specs.declared.made.MadeStep.{MadeStep}
@@ -65,7 +68,7 @@ returns-in-Some-default-Thread-clause-took g c =
     let row : OpResult → Progress = λ r. thread_taken q.mark (thread_of u q.thread) (choice_of (label_of (thread_of u q.thread) r)) u.core (place_of (thread_of u q.thread) u.core) in
     IfSome_then (stepped_by c.step_thread.result after) {Q = λ (p : StepResult). Added (λ made. Took c.args.component.now c.args.ended s (Some made) t) p before after} c.step_thread.ensures.shown
     (λ p h. take_added c.args.component.now c.args.ended q.mark q.thread (thread_of s q.thread) s (with_current (Some q.thread) u) h.left t h.op_result p before after
-    (ap (λ (x : StateView). thread_of x q.thread) left) (ap (λ (x : StateView). x.core) left) next h.implements h.stays h.shown)
+    (ap (λ (x : StateView). thread_of x q.thread) left) (ap (λ (x : StateView). x.core) left) next h.implements (subst (λ (f : Preference). PicksFirst f (row h.op_result) (label_of (thread_of u q.thread) h.op_result) u.core h.op_result h.left.core) (ap preference left) h.picks) h.stays h.shown)
 
 -- ---- A push
 
@@ -137,7 +140,7 @@ put_stop-requires-in-Some-default-Host g c =
     let q = c.in-Some-default-Host in
     let at = q.is ∙ ap (λ (e : EntryId). Some (q.mark, e)) q.field-0-1-is in
     let makes = host_makes c.args.component.now c.args.ended q.mark q.work s u (v c.step_host-made.new.w) c.step_host-made.result c.requires.current (left_is s u c.take_next.result q.mark (entries.Host q.work) c.take_next.ensures.taken at)
-    (next_is s c.take_next.result q.mark (entries.Host q.work) c.take_next.ensures.next at) c.step_host-made.ensures.implements c.step_host-made.ensures.current c.step_host-made.ensures.turn in
+    (next_is s c.take_next.result q.mark (entries.Host q.work) c.take_next.ensures.next at) c.step_host-made.ensures.picks c.step_host-made.ensures.current c.step_host-made.ensures.turn in
     record { over = makes.0.over; turn = c.step_host-made.ensures.turn }
 
 pub returns-in-Some-default-Host-clause-took : goal.returns-in-Some-default-Host-clause-took
@@ -148,7 +151,7 @@ returns-in-Some-default-Host-clause-took g c =
     let q = c.in-Some-default-Host in
     let at = q.is ∙ ap (λ (e : EntryId). Some (q.mark, e)) q.field-0-1-is in
     let makes = host_makes c.args.component.now c.args.ended q.mark q.work s u (v c.step_host-made.new.w) c.step_host-made.result c.requires.current (left_is s u c.take_next.result q.mark (entries.Host q.work) c.take_next.ensures.taken at)
-    (next_is s c.take_next.result q.mark (entries.Host q.work) c.take_next.ensures.next at) c.step_host-made.ensures.implements c.step_host-made.ensures.current c.step_host-made.ensures.turn in
+    (next_is s c.take_next.result q.mark (entries.Host q.work) c.take_next.ensures.next at) c.step_host-made.ensures.picks c.step_host-made.ensures.current c.step_host-made.ensures.turn in
     let t = v c.step_host-made.new.w in
     let before = c.args.trace.now in
     let after = c.put_stop-in-Some-default-Host.new.trace in
