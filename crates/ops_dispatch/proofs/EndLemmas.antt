@@ -1,4 +1,8 @@
 -- The end of an op that the thread's script had it do: what its rule says is done.
+use Rattle.core_primitives.specs.Preferences.{preference}
+use Rattle.machine_rules.proofs.CalmLemmas.{data_calm}
+use Rattle.ops_guests.proofs.CalmLemmas.{calm_picks}
+use Rattle.ops_guests.specs.OpResult.{PicksFirst}
 use Rattle.machine_rules.specs.Ends.{exit_rule}
 use Rattle.machine_rules.specs.Data.{data_rule}
 use Rattle.ops_guests.proofs.DoesLemmas.{same_rest}
@@ -140,6 +144,9 @@ module _ (AreKept : StateView → StateView → Type 0) (rule : Rule) (d : Doer)
   pub end_implements : Implements (rule d number (choice_of (label_of number r)) s.core) s.core r u.core
   end_implements = subst (λ (x : Core). Implements (rule d number (choice_of (label_of number r)) s.core) s.core r x) (sym (ap (λ (w : StateView). w.core) is_ended)) (did.implements d)
 
+  pub end_picks : PicksFirst (preference s) (rule d number (choice_of (label_of number r)) s.core) (label_of number r) s.core r u.core
+  end_picks = subst (λ (x : Core). PicksFirst (preference s) (rule d number (choice_of (label_of number r)) s.core) (label_of number r) s.core r x) (sym (ap (λ (w : StateView). w.core) is_ended)) (did.picks d)
+
   pub end_stays : StaysAfter r s u
   end_stays = stays_ended d number s v u r is_ended did.stays
 
@@ -175,6 +182,7 @@ module _ (answer : HostPoll) (c : Component) (o : Op) (id : TableId ThreadKey) (
   pub end_op : DidOp answer c o id s done u
   end_op = record {
     implements = end_implements NamesTold (rule_of c o) (own_script o) id s v u done.op_result did.does over;
+    picks = end_picks NamesTold (rule_of c o) (own_script o) id s v u done.op_result did.does over;
     goes = end_goes NamesTold (rule_of c o) (own_script o) id s v u done.op_result did.does over;
     stays = end_stays NamesTold (rule_of c o) (own_script o) id s v u done.op_result did.does over;
     polls = end_polls;
@@ -192,11 +200,19 @@ exit_implements id s t r did =
     let met = did.implements SomeHost in
     subst (λ (x : Core). Implements p s.core r x) (unended p s.core r (ended SomeHost n r t.core) (exit_unanswered n w s.core (is_explicit n s.core)) met SomeHost n t.core) met
 
+exit_picks : (id : TableId ThreadKey) (s t : StateView) (r : OpResult) → DoesOp KeepsTold exits id s r t → PicksFirst (preference s) (exit_rule (thread_of s id) (choice_of (label_of (thread_of s id) r)).woken s.core) (label_of (thread_of s id) r) s.core r t.core
+exit_picks id s t r did =
+    let n = thread_of s id in
+    let w = (choice_of (label_of n r)).woken in
+    let p = exit_rule n w s.core in
+    subst (λ (x : Core). PicksFirst (preference s) p (label_of n r) s.core r x) (unended p s.core r (ended SomeHost n r t.core) (exit_unanswered n w s.core (is_explicit n s.core)) (did.implements SomeHost) SomeHost n t.core) (did.picks SomeHost)
+
 -- it did the op that represents the end, which polls no host
 pub exit_op : (answer : HostPoll) (c : Component) (id : TableId ThreadKey) (s t : StateView) (r : OpResult) → DoesOp KeepsTold exits id s r t
     → DidOp answer c (op.Task task_op.Exit) id s (record { op_result = r; polled = None; work = None }) t
 exit_op answer c id s t r did = record {
   implements = exit_implements id s t r did;
+  picks = exit_picks id s t r did;
   goes = did.goes;
   stays = did.stays;
   polls = record { polled = refl; work = refl; course = tt; none = λ e. inl refl };
@@ -209,6 +225,7 @@ pub data_op : (answer : HostPoll) (c : Component) (o : DataOp) (id : TableId Thr
     → DidOp answer c (op.Data o) id s (record { op_result = r; polled = None; work = None }) t
 data_op answer c o id s t r runs implements tags current = record {
   implements = implements;
+  picks = calm_picks (preference s) (thread_of s id) (data_rule c (thread_of s id) s.core o) s.core r t.core (data_calm c (thread_of s id) s.core o) implements;
   goes = same_goes id (data_rule c (thread_of s id) s.core o) s t r (data_shows c (thread_of s id) s.core o) implements runs tags current;
   stays = same_stays (data_rule c (thread_of s id) s.core o) s t r implements tags current;
   polls = record { polled = refl; work = refl; course = tt; none = λ e. inl refl };

@@ -48,6 +48,7 @@ module _ (AreKept : StateView → StateView → Type 0) (rule : Rule) (id : Tabl
   pub does_op : (WasKept : StateView → StateView → Type 0) → DoesRule WasKept rule id s r t → AreKept s t → t.current ≡ s.current → thread_of t id ≡ thread_of s id → DoesOp AreKept rule id s r t
   does_op WasKept did kept current name = record {
     implements = did.implements;
+    picks = did.picks;
     named = λ e. name;
     goes = rule_goes id (rule SomeHost (thread_of s id) (choice_of (label_of (thread_of s id) r)) s.core) s t r (ended SomeHost (thread_of s id) r t.core) shows (did.implements SomeHost) runs current name;
     stays = did.stays;

@@ -13,11 +13,16 @@ use Rattle.machine_data.specs.declared.component.ExportKind.{ExportKind}
 use Rattle.machine_data.specs.declared.component.ExportKind.TheVariants as kind
 use Rattle.machine_data.specs.declared.trap.Trap.{Trap}
 use Rattle.machine_data.specs.declared.trap.Trap.TheVariants as trap
-use Rattle.ops_guests.proofs.DoesLemmas.{does_rule, same_rest}
-use Rattle.ops_guests.proofs.EndedLemmas.{IsUnanswered, implements_ended, undue}
+use Rattle.core_primitives.specs.Preferences.{preference}
+use Rattle.machine_rules.proofs.CalmLemmas.{trap_if_calm}
+use Rattle.machine_rules.specs.Ends.{thread_exit_rule}
+use Rattle.machine_rules.specs.Picks.{LeavesNoChoice}
+use Rattle.ops_guests.proofs.CalmLemmas.{picks_implements}
+use Rattle.ops_guests.proofs.DoesLemmas.{IsCalm, calm_as, does_rule, same_rest}
+use Rattle.ops_guests.proofs.EndedLemmas.{IsUnanswered, implements_ended, undue, unended}
 use Rattle.ops_subtasks.specs.Named.{LosesCall, LosesWork}
 use Rattle.machine_data.specs.Maps.{get}
-use Rattle.ops_guests.specs.OpResult.{IsCurrent, Implements}
+use Rattle.ops_guests.specs.OpResult.{IsCurrent, Implements, PicksFirst}
 use Rattle.ops_guests.specs.Does.{DoesRule, KeepsNames, KeepsTags, Rule, SameNames}
 use Rattle.ops_guests.specs.Ended.{ended}
 use Rattle.ops_guests.specs.Stays.{StaysAfter}
@@ -50,7 +55,7 @@ pub told_names : (s t : StateView) → KeepsTold s t → NamesTold s t
 told_names s t k = ((λ id live. inl (k.0 id live)), k.1)
 
 pub named_op : (rule : Rule) (id : TableId ThreadKey) (s t : StateView) (r : OpResult) → DoesOp KeepsTold rule id s r t → DoesOp NamesTold rule id s r t
-named_op rule id s t r did = record { implements = did.implements; named = did.named; goes = did.goes; stays = did.stays; kept = told_names s t did.kept }
+named_op rule id s t r did = record { implements = did.implements; picks = did.picks; named = did.named; goes = did.goes; stays = did.stays; kept = told_names s t did.kept }
 
 -- each id that named something names it still
 pub tags_told : (s t : StateView) → KeepsTags s t → KeepsTold s t
@@ -93,10 +98,10 @@ work_told i s t gone k = ((λ id live. by_number (work_of s id) i _ (λ e. inr (
 
 -- a call of a host, whose rule has asked what the host answers
 pub asked_op : (own rule : Rule) (id : TableId ThreadKey) (s t : StateView) (r : OpResult) → RuleShows own id s r → s.current ≡ Some id → 0 < thread_of s id → DoesRule KeepsNames own id s r t
-    → ((d : Doer) → Implements (rule d (thread_of s id) (choice_of (label_of (thread_of s id) r)) s.core) s.core r (ended d (thread_of s id) r t.core)) → DoesOp NamesTold rule id s r t
-asked_op own rule id s t r shows runs live did implements =
+    → ((d : Doer) → Implements (rule d (thread_of s id) (choice_of (label_of (thread_of s id) r)) s.core) s.core r (ended d (thread_of s id) r t.core)) → IsCalm rule id s r → DoesOp NamesTold rule id s r t
+asked_op own rule id s t r shows runs live did implements calm =
     let o = does_op NamesTold own id s t r shows runs KeepsNames did (told_names s t (tags_told s t did.kept.0)) did.kept.1 (did.kept.0.threads id live) in
-    record { implements = implements; named = o.named; goes = o.goes; stays = o.stays; kept = o.kept }
+    record { implements = implements; picks = calm_as rule id s t r calm implements; named = o.named; goes = o.goes; stays = o.stays; kept = o.kept }
 
 -- ---- By another name of the rule
 
@@ -104,6 +109,7 @@ module _ (AreKept : StateView → StateView → Type 0) (rule other : Rule) (id 
   pub scripted_op_rule : DoesOp AreKept rule id s r t → ((d : Doer) → other d (thread_of s id) (choice_of (label_of (thread_of s id) r)) s.core ≡ rule d (thread_of s id) (choice_of (label_of (thread_of s id) r)) s.core) → DoesOp AreKept other id s r t
   scripted_op_rule did alike = record {
     implements = λ d. subst (λ (p : Progress). Implements p s.core r (ended d (thread_of s id) r t.core)) (sym (alike d)) (did.implements d);
+    picks = λ d. subst (λ (p : Progress). PicksFirst (preference s) p (label_of (thread_of s id) r) s.core r (ended d (thread_of s id) r t.core)) (sym (alike d)) (did.picks d);
     named = did.named;
     goes = did.goes;
     stays = did.stays;
@@ -123,10 +129,14 @@ stops_unanswered (Ordered ns next) h = λ order. stops_unanswered (next order) (
 stops_unanswered (Asks next) h = λ answer. stops_unanswered (next answer) (h answer)
 
 -- the rule is the same whoever has it done
-module _ (p : Progress) (id : TableId ThreadKey) (s t : StateView) (r : OpResult) (implements : Implements p s.core r t.core) (stays : StaysAfter r s t) (kept : KeepsTold s t) where
+module _ (p : Progress) (id : TableId ThreadKey) (s t : StateView) (r : OpResult) (picks : PicksFirst (preference s) p (label_of (thread_of s id) r) s.core r t.core) (stays : StaysAfter r s t) (kept : KeepsTold s t) where
+  implements : Implements p s.core r t.core
+  implements = picks_implements picks
+
   pub rule_op : IsUnanswered p → OpGoesOn r t → DoesOp KeepsTold (λ d n ch c. p) id s r t
   rule_op none goes = record {
     implements = λ d. implements_ended p s.core r t.core none implements d (thread_of s id);
+    picks = λ d. subst (λ (u : Core). PicksFirst (preference s) p (label_of (thread_of s id) r) s.core r u) (sym (unended p s.core r t.core none implements d (thread_of s id) t.core)) picks;
     named = λ due. absurd (let e = undue p s.core r t.core none implements in let h = sym e ∙ due in cc);
     goes = goes;
     stays = stays;
@@ -135,6 +145,10 @@ module _ (p : Progress) (id : TableId ThreadKey) (s t : StateView) (r : OpResult
 
   pub stops_op : StopsAs p → DoesOp KeepsTold (λ d n ch c. p) id s r t
   stops_op stops = rule_op (stops_unanswered p stops) (stops_goes t p s.core r t.core stops implements)
+
+-- the exit of a thread leaves no choice
+pub thread_exit_calm : (n : ℕ) (s : Core) → LeavesNoChoice (thread_exit_rule n s)
+thread_exit_calm n s = trap_if_calm _ _ _ (trap_if_calm _ _ _ (refl, refl))
 
 -- ---- The end of a direct call
 
@@ -189,4 +203,4 @@ quiet_goes p s r u t g h runs = current_goes r t (came_quiet p s r u g h) runs
 
 -- it did what its rule says, and each id that named something names it still
 pub made_op : (rule : Rule) (id : TableId ThreadKey) (s t : StateView) (r : OpResult) → 0 < thread_of s id → OpGoesOn r t → DoesRule KeepsTags rule id s r t → DoesOp KeepsTold rule id s r t
-made_op rule id s t r live goes did = record { implements = did.implements; named = λ due. did.kept.threads id live; goes = goes; stays = did.stays; kept = tags_told s t did.kept }
+made_op rule id s t r live goes did = record { implements = did.implements; picks = did.picks; named = λ due. did.kept.threads id live; goes = goes; stays = did.stays; kept = tags_told s t did.kept }

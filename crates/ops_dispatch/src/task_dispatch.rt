@@ -4,6 +4,7 @@ ghost use Rattle.ops_dispatch.specs.Rules.{ends_with, exits};
 ghost use Rattle.ops_dispatch.specs.RunnerDispatch.{Runner};
 ghost use Rattle.std.specs.Prelude.{◌≡◌, ◌*◌, ◌+◌, None};
 ghost use Rattle.ops_guests.specs.Works.{KeepsTold};
+ghost use Rattle.machine_rules.specs.Picks.{Silent};
 ghost use Rattle.machine_rules.specs.Outcome.{outcome_of_label};
 ghost use Rattle.machine_rules.specs.Task.{task_rule};
 
@@ -16,6 +17,7 @@ use ops_guests::{OpResult, end_activation, lower, raise, ret, ret_bad, task_canc
 #[inline(always)]
 fn ends<W: Primitives>(w: &mut W, thread: ThreadId, label: Label, code: u64) -> OpResult
     requires quiet { outcome_of_label label ≡ None }
+    requires silent { Silent label }
     requires runner { Runner thread (W.view w.old) }
     ensures does { DoesOp KeepsTold (ends_with label code) thread (W.view w.old) result (W.view w.new) }
 {
@@ -25,6 +27,7 @@ fn ends<W: Primitives>(w: &mut W, thread: ThreadId, label: Label, code: u64) -> 
 // `cb_wait X`: trap 12 if the code has more than 32 bits.
 fn ends_waiting<W: Primitives>(w: &mut W, thread: ThreadId, label: Label, set: u64) -> OpResult
     requires quiet { outcome_of_label label ≡ None }
+    requires silent { Silent label }
     requires runner { Runner thread (W.view w.old) }
     ensures does { DoesOp KeepsTold (ends_with label (16 * set + 2)) thread (W.view w.old) result (W.view w.new) }
 {

@@ -1,3 +1,4 @@
+use Rattle.machine_rules.proofs.CalmLemmas.{calls_calm}
 use Rattle.ops_dispatch.proofs.CallLemmas.{host_makes_none}
 use Rattle.ops_dispatch.proofs.OpLemmas.{asked_op}
 use Rattle.ops_dispatch.proofs.SubtaskRules.{host_shows}
@@ -32,7 +33,8 @@ returns-clause-does g c r =
     record {
       does = asked_op (calls_host q p) (rule_of c.args.component.now (op.Call (call_op.CallHost r q c.args.host))) c.args.thread s t op_result (host_shows n s.core SomeHost q p) c.requires.runner.current c.requires.runner.live did
           (λ d. subst (λ (h : HostDef). Implements (first_polled h (call_host_by d n q s.core)) s.core op_result (ended d n op_result t.core)) c.host_def-host.ensures
-          (met_first host c.args.answer (call_host_by d n q s.core) s.core (ended d n op_result t.core) op_result (did.implements d)));
+          (met_first host c.args.answer (call_host_by d n q s.core) s.core (ended d n op_result t.core) op_result (did.implements d)))
+          (λ d. calls_calm d c.args.component.now n s.core (call_op.CallHost r q c.args.host));
       polls = record {
         polled = ap (λ (h : HostDef). Some h) c.host_def-host.ensures;
         work = e.work.work;

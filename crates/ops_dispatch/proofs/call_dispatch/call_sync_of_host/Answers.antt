@@ -1,3 +1,4 @@
+use Rattle.machine_rules.proofs.CalmLemmas.{calls_calm}
 use Rattle.ops_dispatch.proofs.CallLemmas.{polled_fresh, polled_served, served_at, sync_host_fresh, sync_host_makes_none}
 use Rattle.ops_dispatch.proofs.OpLemmas.{alike_op, asked_op, work_told}
 use Rattle.ops_dispatch.proofs.SubtaskRules.{sync_host_shows}
@@ -62,7 +63,8 @@ returns-clause-does g c r =
       does = asked_op (calls_sync_host p) (rule_of comp (op.Call (call_op.CallSyncHost r c.args.host))) c.args.thread s t op_result (sync_host_shows n s.core SomeHost p) c.requires.runner.current c.requires.runner.live did
           (λ d. subst (λ (x : Progress). Implements x s.core op_result (ended d n op_result t.core)) (sym (sync_host_fresh comp n d s.core c.args.host (op_progress_of n s.core) fresh))
           (subst (λ (h : HostDef). Implements (first_polled h (call_sync_host_by d n s.core)) s.core op_result (ended d n op_result t.core)) c.host_def-host.ensures
-          (met_first host c.args.answer (call_sync_host_by d n s.core) s.core (ended d n op_result t.core) op_result (did.implements d))));
+          (met_first host c.args.answer (call_sync_host_by d n s.core) s.core (ended d n op_result t.core) op_result (did.implements d))))
+          (λ d. calls_calm d comp n s.core (call_op.CallSyncHost r c.args.host));
       polls = record {
         polled = ap (λ (h : HostDef). Some h) c.host_def-host.ensures ∙ sym (polled_fresh comp r c.args.host (op_progress_of n s.core) fresh);
         work = e.work.work;

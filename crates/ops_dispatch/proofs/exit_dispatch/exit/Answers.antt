@@ -1,4 +1,4 @@
-use Rattle.ops_dispatch.proofs.OpLemmas.{direct_quiet, direct_unanswered, scripted_op_rule, quiet_goes, rule_op, stops_op}
+use Rattle.ops_dispatch.proofs.OpLemmas.{direct_quiet, direct_unanswered, scripted_op_rule, quiet_goes, rule_op, stops_op, thread_exit_calm}
 use Rattle.ops_dispatch.proofs.RuleLemmas.{thread_exit_stops}
 use Rattle.ops_dispatch.proofs.exit_dispatch.exit.Goals as goal
 use Rattle.ops_dispatch.specs.Rules.{exits, exits_by_kind}
@@ -6,6 +6,8 @@ use Rattle.std.proofs.Common.{ap, rules, sym, ◌∙◌}
 use Rattle.std.specs.Prelude.{Bool, false, true, ◌≡◌}
 use Rattle.machine_data.specs.Labels.{choice_of}
 use Rattle.machine_data.specs.Read.{goal_of, is_direct, kind_of, task_of, under_of}
+use Rattle.core_primitives.specs.Preferences.{preference}
+use Rattle.ops_guests.proofs.CalmLemmas.{calm_picks, picks_implements}
 use Rattle.ops_guests.specs.Steps.{label_of}
 use Rattle.ops_guests.specs.Works.{KeepsTold}
 use Rattle.machine_rules.specs.Ends.{direct_exit_rule, exit_rule_for, implicit_exit_rule, thread_exit_rule}
@@ -21,7 +23,7 @@ returns-then-explicit_unchecked g c =
     let e = c.exit_thread.ensures in
     let p = thread_exit_rule n s.core in
     record {
-      does = scripted_op_rule KeepsTold (λ d n ch s. p) exits c.args.thread s t r (stops_op p c.args.thread s t r e.implements e.stays e.works (thread_exit_stops n w s.core))
+      does = scripted_op_rule KeepsTold (λ d n ch s. p) exits c.args.thread s t r (stops_op p c.args.thread s t r (calm_picks (preference s) n p s.core r t.core (thread_exit_calm n s.core) e.implements) e.stays e.works (thread_exit_stops n w s.core))
           (λ d. ap (λ (b : Bool). exit_rule_for n w s.core b) (sym c.explicit_unchecked.ensures ∙ c.if-explicit_unchecked.true));
     }
 
@@ -38,7 +40,7 @@ returns-then-matches g c =
     let direct : is_direct (goal_of (task_of n s.core) s.core) ≡ true = search rules in
     record {
       does = scripted_op_rule KeepsTold (λ d n ch s. p) exits c.args.thread s t r
-          (rule_op p c.args.thread s t r e.implements e.stays e.works (direct_unanswered n x s.core (under_of n s.core)) (quiet_goes p s.core r t.core t (direct_quiet n x s.core (under_of n s.core)) e.implements e.current))
+          (rule_op p c.args.thread s t r e.picks e.stays e.works (direct_unanswered n x s.core (under_of n s.core)) (quiet_goes p s.core r t.core t (direct_quiet n x s.core (under_of n s.core)) (picks_implements e.picks) e.current))
           (λ d. ap (λ (b : Bool). exit_rule_for n w s.core b) (sym c.explicit_unchecked.ensures ∙ c.if-explicit_unchecked.false) ∙ ap (λ (b : Bool). implicit_exit_rule n w s.core b) direct);
     }
 

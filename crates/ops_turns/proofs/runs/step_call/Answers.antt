@@ -1,4 +1,6 @@
 -- The op is looked up anew, and calls a host.
+use Rattle.ops_guests.specs.Steps.{label_of}
+use Rattle.machine_data.specs.Labels.{choice_of}
 use Rattle.ops_dispatch.specs.Fits.{calls_host}
 use Rattle.std.proofs.Common.{ap, length, refl, subst, sym, ◌<◌, ◌≡◌, ◌∙◌}
 use Rattle.std.proofs.lemmas.Option.{slice_get_within}
