@@ -5,7 +5,14 @@ use Rattle.core_primitives.specs.Preferences.{preference}
 use Rattle.core_primitives.specs.StateView.{StateView, set_of}
 use Rattle.core_primitives.specs.declared.names.SubtaskId.{SubtaskId}
 use Rattle.machine_rules.specs.Picks.{TakesFirst}
-use Rattle.ops_guests.specs.PickedEvents.{MembersNamed}
+use Rattle.machine_data.specs.Labels.{handle_given}
+use Rattle.machine_data.specs.Read.{instance_of}
+use Rattle.machine_data.specs.declared.statuses.Given.{Given}
+use Rattle.machine_data.specs.declared.statuses.Given.TheVariants as given
+use Rattle.machine_rules.specs.Picks.{taken_of_given}
+use Rattle.ops_guests.specs.PickedEvents.{IsFirstPicked, MembersNamed, handle_in}
+use Rattle.ops_guests.specs.declared.picked_events.PickedEvent.{PickedEvent}
+use Rattle.ops_guests.specs.declared.picked_events.PickedEvent.TheVariants as picked_events
 use Rattle.task_table.specs.declared.id.TableId.{TableId}
 use Rattle.task_wait.specs.declared.keys.SetKey.{SetKey}
 use Rattle.std.proofs.Common.{T, ap, cond, refl, subst, sym, ◌∙◌}
@@ -15,7 +22,8 @@ use Rattle.std.specs.FinMap.Entries.{find}
 use Rattle.std.specs.List.{list_any}
 use Rattle.std.specs.Option.{option_map_or}
 use Rattle.std.specs.Ordering.{eq_by_cmp, nat_cmp}
-use Rattle.std.specs.Prelude.{Bool, List, None, Option, Some, [], false, is_some, map, true, unwrap_or, ℕ, ◌&&◌, ◌∷◌, ◌≡◌, ◌||◌}
+use Rattle.std.proofs.lemmas.Option.{same_Some}
+use Rattle.std.specs.Prelude.{Bool, IfSome, List, None, Option, Some, [], false, is_some, map, true, unwrap_or, ℕ, ◌&&◌, ◌∷◌, ◌≡◌, ◌||◌}
 use Rattle.machine_data.specs.Core.{Core}
 use Rattle.machine_data.specs.Maps.{get, numbers}
 use Rattle.machine_data.specs.Moves.{PickedMember, NothingPicked, picked_event, picked_event_after_own, picked_member, picked_task_event_of}
@@ -87,3 +95,12 @@ member_first i set sub s h named ready first is =
       ready = ready;
       first = first;
     }
+
+-- what is handed out of the picked event shows the member that comes first
+pub given_shows : (s : StateView) (i n : ℕ) (g : PickedEvent) (v : Given) → handle_given v ≡ handle_in g → IsFirstPicked i s g → i ≡ instance_of n s.core → IfSome (taken_of_given n v) (λ e. TakesFirst (preference s) s.core (instance_of e.0 s.core) e.1)
+given_shows s i n g given.Nothing is first at = tt
+given_shows s i n g given.Cancelled is first at = tt
+given_shows s i n (picked_events.Own e) (given.Subtask status h) is first at = absurd (cc)
+given_shows s i n picked_events.Nothing (given.Subtask status h) is first at = absurd (cc)
+given_shows s i n (picked_events.Member sub k) (given.Subtask status h) is first at =
+    subst (λ (j : ℕ). TakesFirst (preference s) s.core j h) at (subst (λ (q : ℕ). TakesFirst (preference s) s.core i q) (sym (same_Some is)) first)

@@ -22,7 +22,14 @@ use Rattle.machine_data.specs.declared.statuses.Mark.TheVariants as mark
 use Rattle.machine_data.specs.declared.statuses.TaskEvent.TheVariants as own
 use Rattle.ops_moves.proofs.TellLemmas.{map_or_is}
 use Rattle.ops_guests.proofs.PollLemmas.{chosen_is}
+use Rattle.core_primitives.specs.Preferences.{preference}
+use Rattle.machine_data.specs.declared.label.Label.{Label}
+use Rattle.machine_rules.proofs.CalmLemmas.{wait_none}
+use Rattle.machine_rules.specs.Picks.{ShowsFirst}
+use Rattle.ops_guests.proofs.CalmLemmas.{loose_picks}
+use Rattle.ops_guests.proofs.DoesLemmas.{PicksAs}
 use Rattle.ops_guests.specs.OpResult.{Implements}
+use Rattle.ops_guests.specs.Rules.{waits_from}
 use Rattle.ops_guests.specs.Ended.{ended}
 use Rattle.ops_guests.specs.PickedEvents.{IsNamedIn, picked_event_in, handle_in, member_in}
 use Rattle.ops_guests.specs.declared.picked_events.PickedEvent.{PickedEvent}
@@ -123,3 +130,14 @@ takes_implements n x r k i m op_result g v s t u some shown at named member task
     subst (λ (y : OpResult). Implements (wait_rule r N h (choice_of (label_of N y)) s.core (op_progress.Waits x)) s.core y (ended r N y u.core)) (sym shown)
     (subst (λ (j : ℕ). Implements (wait_rule r N h (choice_of (wait_label j v None)) s.core (op_progress.Waits x)) s.core (goes_as (wait_label j v None) j) (ended r N (goes_as (wait_label j v None) j) u.core)) (sym number)
     (subst (λ (p : Progress). Implements p s.core (goes_as (wait_label N v None) N) (ended r N (goes_as (wait_label N v None) N) u.core)) (sym row) (refl, core)))
+
+-- ---- What it picks
+
+-- a wait that was resumed and shows this
+pub waits_picks : (id : TableId ThreadKey) (x : ℕ) (s : StateView) (m : ℕ) (t : StateView) (r : OpResult) (l : Label) → r ≡ goes_as l m → ShowsFirst (preference s) s.core l
+    → ((d : Doer) → Implements (wait_rule d (thread_of s id) 0 (choice_of (label_of (thread_of s id) r)) s.core (op_progress.Waits x)) s.core r (ended d (thread_of s id) r t.core))
+    → PicksAs (waits_from (op_progress.Waits x) 0) id s r t
+waits_picks id x s m t r l is shows meets =
+    let n = thread_of s id in
+    let shown = subst (λ (q : OpResult). ShowsFirst (preference s) s.core (label_of n q)) (sym is) shows in
+    λ d. loose_picks (preference s) _ (label_of n r) s.core r (ended d n r t.core) (wait_none d n s.core 0 (choice_of (label_of n r)) (op_progress.Waits x)) shown (meets d)
