@@ -1,6 +1,7 @@
 -- A core in which nothing was made.
 use Rattle.core_records.proofs.Core.{[], AreApart-new_table, AreChained, AreCounted, AreNamed, arith, bare, BlockedOn, by_place_from, call_key, empty, false, Filing, filings, found_record, fresh, get-empty, group_key, HaveRowNodes, HeldIn, StartsIn, High, image, IsIndex, IsIndex-nothing, IsIndex-same_chains, IsRows, IsTable, List, live_count, Low, mapped, new_table, None, nothing, nothing_made, numbers, Option, CoreImage, place_chain, records, refl, Row, row_chain, set_key, size, Sound, SoundTable, Subtask, sym, Table, table_use, thread_key, UnderOf, WaitsOn, Where, with_capacity, work_key, ℕ, ◌∙◌, ◌≡◌, ◌≤◌, has, true, ◌+◌, ◌<◌}
 use Rattle.core_records.specs.declared.{single.Single.Single}
+use Rattle.core_primitives.specs.StateView.{nothing_wanted}
 use Rattle.core_records.proofs.KindLemmas.{absent}
 
 abbrev pub no_records : {T : Type 0} → Table (Single T)
@@ -28,6 +29,7 @@ opening end_room = record {
   live = None;
   switch = None;
   current = None;
+  wanted = nothing_wanted;
   results = [];
   kept = record { used = 0; groups = 0; interesting = 0; live = 0; moving = 0 };
   finished = 0;

@@ -1,11 +1,11 @@
 -- An op whose rule leaves no choice picks what comes first.
-use Rattle.std.proofs.Common.{subst, sym}
+use Rattle.std.proofs.Common.{ap, subst, sym, ◌∙◌}
 use Rattle.std.specs.Prelude.{Bool, IfSome, IsPermutation, List, None, Option, Some, false, refl, true, ℕ, ◌≡◌}
 use Rattle.machine_data.specs.Labels.{woken_of}
 use Rattle.machine_data.specs.Core.{Core}
 use Rattle.machine_data.specs.declared.label.Label.{Label}
 use Rattle.machine_rules.specs.Picks.{LeavesNoChoice, Preference, ReleasesNone, ShowsFirst, Silent, TakesFirst, WakesFirst, goes_in_order, in_order, taken_of}
-use Rattle.machine_data.specs.Read.{instance_of}
+use Rattle.machine_data.specs.Read.{instance_of, is_waiter}
 use Rattle.machine_rules.specs.Progress.{Asks, Continues, Fails, Never, Ordered, Progress, Stops, Traps, may}
 use Rattle.ops_guests.specs.OpResult.{Implements, PicksFirst}
 use Rattle.ops_guests.specs.Steps.{label_of}
@@ -54,6 +54,17 @@ waking_shows p s l w is none first = record {
   waiter = subst (λ (o : Option ℕ). IfSome o (WakesFirst p s)) (sym is) first;
   member = subst (λ (o : Option (ℕ × ℕ)). IfSome o (λ e. TakesFirst p s (instance_of e.0 s) e.1)) (sym none) tt;
 }
+
+-- who comes first is told by the threads alone
+pub wakes_as : (p : Preference) (s t : Core) (w : ℕ) → t.threads ≡ s.threads → WakesFirst p t w → WakesFirst p s w
+wakes_as p s t w threads f = record {
+  set = f.set;
+  waits = sym (waits f.set w) ∙ f.waits;
+  first = λ n there. f.first n (waits f.set n ∙ there);
+}
+  where
+    waits : (x n : ℕ) → is_waiter x n t ≡ is_waiter x n s
+    waits x n = ap (λ m. is_waiter x n (record s { threads = m })) threads
 
 -- a rule that releases no thread
 pub loose_picks : (p : Preference) (row : Progress) (l : Label) (s : Core) (r : OpResult) (t : Core) → ReleasesNone row → ShowsFirst p s l → Implements row s r t → PicksFirst p row l s r t

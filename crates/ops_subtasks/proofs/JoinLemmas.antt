@@ -9,7 +9,7 @@ use Rattle.machine_data.specs.Core.{Core}
 use Rattle.machine_data.specs.Labels.{choice_of, join_label}
 use Rattle.machine_data.specs.Maps.{get}
 use Rattle.machine_data.specs.Moves.{may_wake}
-use Rattle.machine_data.specs.Read.{event_of, has_waiter, instance_of, is_blocked_on, is_waiting_on, is_watched, join_of, place_of, set_at}
+use Rattle.machine_data.specs.Read.{event_of, has_waiter, instance_of, is_blocked_on, is_waiting_on, is_watched, join_of, place_of, set_at, subtask_at}
 use Rattle.machine_data.specs.Write.{on_call, on_work, set_join}
 use Rattle.machine_data.specs.declared.records.Join.{Join}
 use Rattle.machine_data.specs.declared.records.Place.{Place}
@@ -17,17 +17,24 @@ use Rattle.machine_data.specs.declared.records.Place.TheVariants as place
 use Rattle.machine_data.specs.declared.records.Subtask.{Subtask}
 use Rattle.machine_data.specs.declared.records.Subtask.TheVariants as subtask
 use Rattle.machine_data.specs.declared.trap.Trap.TheVariants as trap
+use Rattle.machine_data.specs.declared.trap.Trap.{Trap}
 use Rattle.machine_data.specs.declared.statuses.Status.{Status}
 use Rattle.ops_moves.specs.Idle.{AreIdleUnqueued}
 use Rattle.ops_guests.specs.Ended.{ended}
+use Rattle.core_primitives.specs.Preferences.{preference}
+use Rattle.machine_rules.proofs.CalmLemmas.{join_done_none, join_to_none}
+use Rattle.machine_rules.specs.Picks.{Preference, ReleasesNone, ShowsFirst, WakesFirst}
+use Rattle.ops_guests.proofs.CalmLemmas.{loose_picks, wakes_as}
+use Rattle.ops_guests.proofs.DoesLemmas.{PicksAs}
 use Rattle.ops_guests.specs.OpResult.{Implements}
+use Rattle.ops_subtasks.specs.Rules.{joins_of}
 use Rattle.ops_guests.specs.Running.{IsRunning}
 use Rattle.machine_rules.proofs.MoveLemmas.{no_time}
 use Rattle.machine_rules.proofs.StandLemmas.{by_number}
 use Rattle.machine_rules.specs.Finish.{Doer, NoAnswer, finish}
 use Rattle.machine_rules.specs.Places.{HasPlace, is_at_high, is_at_low, says}
 use Rattle.machine_rules.specs.Progress.{Continues, Progress, may, or_trap, trap_if}
-use Rattle.machine_rules.specs.Sets.{join_done_by, join_to_by, joins, may_wake_new, moved_over, wakes_joined}
+use Rattle.machine_rules.specs.Sets.{join_done_by, join_rule, join_to_by, joins, may_wake_new, moved_over, wakes_joined}
 use Rattle.core_primitives.specs.Apart.{IsUnqueued}
 use Rattle.core_primitives.specs.Live.{live_subtask}
 use Rattle.core_primitives.specs.Names.{join_in, subtask_in}
@@ -164,3 +171,31 @@ module _ (n : TableId ThreadKey) (sub : SubtaskId) (set : Option (TableId SetKey
 
 pub to_zero : (d : Doer) (n y : ℕ) (w : Option ℕ) (s : Core) (q : Subtask) → y ≡ 0 → join_to_by d n y w s q ≡ join_done_by d n q w s None
 to_zero d n y w s q e = ap (λ (k : ℕ). join_to_by d n k w s q) e
+
+-- ---- Who is woken came first before the subtask joined
+
+join_threads : (sub : Subtask) (j : Join) (s : Core) → (set_join sub j s).threads ≡ s.threads
+unfolding set_join on_call on_work
+join_threads (subtask.Guest k) j s = refl
+join_threads (subtask.Host i) j s = refl
+
+pub joined_first : (id : TableId ThreadKey) (sub : Subtask) (j : Join) (s t : StateView) → t ≡ on_core (set_join sub j) s → WakesFirst (preference t) t.core (thread_of t id) → WakesFirst (preference s) s.core (thread_of t id)
+joined_first id sub j s t e first =
+    wakes_as (preference s) s.core t.core (thread_of t id) (ap (λ (v : StateView). v.core.threads) e ∙ join_threads sub j s.core) (subst (λ (q : Preference). WakesFirst q t.core (thread_of t id)) (ap preference e) first)
+
+-- what a join picks that shows this
+pub join_picks : (n : TableId ThreadKey) (sub : SubtaskId) (set : Option (TableId SetKey)) (s u : StateView) (r : OpResult) (m : ℕ) (o : Option ℕ) → r ≡ goes_as (join_label m o) m → ShowsFirst (preference s) s.core (join_label m o)
+    → ((d : Doer) → Implements (joins_of s sub set d (thread_of s n) (choice_of (label_of (thread_of s n) r)) s.core) s.core r (ended d (thread_of s n) r u.core)) → PicksAs (joins_of s sub set) n s r u
+join_picks n sub set s u r m o is shows meets =
+    let N = thread_of s n in
+    let shown = subst (λ (q : OpResult). ShowsFirst (preference s) s.core (label_of N q)) (sym is) shows in
+    λ d. loose_picks (preference s) _ (label_of N r) s.core r (ended d N r u.core) (join_done_none d N s.core (subtask_in s.tags sub) (choice_of (label_of N r)).woken (option_map (λ id. set_of s id) set)) shown (meets d)
+
+or_none : {X : Type 0} (o : Option X) (why : Trap) (next : X → Progress) → ((x : X) → ReleasesNone (next x)) → ReleasesNone (or_trap o why next)
+or_none None why next none = tt
+or_none (Some x) why next none = none x
+
+-- a join releases no thread
+pub join_none : (d : Doer) (n : ℕ) (s : Core) (h y : ℕ) (w : Option ℕ) → ReleasesNone (join_rule d n h y w s)
+join_none d n s h y w = or_none (subtask_at (instance_of n s) h s) trap.BadHandle _ (join_to_none d n s y w)
+

@@ -8,6 +8,7 @@ ghost use Rattle.ops_guests.specs.Does.{DoesRule, SameNames};
 ghost use Rattle.ops_guests.specs.Running.{IsRunning, SetsThere};
 ghost use Rattle.ops_guests.specs.Shown.{goes_as};
 ghost use Rattle.machine_rules.specs.Sets.{join_rule, joins, may_wake_new, wakes_joined};
+ghost use Rattle.core_primitives.specs.Changes.{IsFirstToWake};
 ghost use Rattle.core_primitives.specs.Names.{join_in, subtask_in};
 ghost use Rattle.core_primitives.specs.StateView.{on_core, set_of, thread_of, thread_if_any, set_if_any};
 
@@ -32,6 +33,7 @@ fn wake_joined<W: Primitives>(
     requires live { IfSome set (λ id. 0 < set_of (W.view w.old) id) }
     requires idle { AreIdleUnqueued (W.view w.old).core }
     ensures choice { may_wake_new event (set_if_any (W.view w.old) set) (thread_if_any (W.view w.old) result) (W.view w.old).core ≡ true }
+    ensures first { IfSome result (λ id. IsFirstToWake id (W.view w.old)) }
     ensures new { W.view w.new ≡ on_core (wakes_joined event (set_if_any (W.view w.old) set) (thread_if_any (W.view w.old) result)) (W.view w.old) }
 {
     match (event, set) {

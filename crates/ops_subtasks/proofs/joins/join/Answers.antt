@@ -1,5 +1,8 @@
 use Rattle.std.proofs.Common.{ap, subst, sym, ◌∙◌, ℕ}
-use Rattle.ops_subtasks.proofs.JoinLemmas.{to_kept, to_set, to_zero}
+use Rattle.core_primitives.specs.Preferences.{preference}
+use Rattle.machine_rules.specs.Finish.{Doer}
+use Rattle.ops_guests.proofs.CalmLemmas.{loose_picks}
+use Rattle.ops_subtasks.proofs.JoinLemmas.{join_none, to_kept, to_set, to_zero}
 use Rattle.ops_subtasks.proofs.SubtaskLemmas.{named_implements}
 use Rattle.ops_subtasks.proofs.joins.join.Goals as goal
 use Rattle.machine_data.specs.Labels.{choice_of}
@@ -22,10 +25,12 @@ returns-then-set-eq0 g c =
     let t = (v c.join_set.new.w).core in
     let w = (choice_of (label_of n r)).woken in
     let done = c.join_set.ensures.does in
+    let meets = λ (d : Doer). named_implements n _ c.args.handle q (join_to_by d n c.args.set w s.core) s.core _ _ c.instance_of-instance.ensures c.in-Some.ensures.is (λ sub at. to_kept d n c.args.set w s.core c.none_is_zero.ensures.calls c.none_is_zero.ensures.works sub)
+        (subst (λ (p : Progress). Implements p s.core r (ended d n r t)) (sym (to_zero d n c.args.set w s.core q c.if-set-eq0.true)) (done.implements d)) in
     record {
       does = record {
-        implements = λ d. named_implements n _ c.args.handle q (join_to_by d n c.args.set w s.core) s.core _ _ c.instance_of-instance.ensures c.in-Some.ensures.is (λ sub at. to_kept d n c.args.set w s.core c.none_is_zero.ensures.calls c.none_is_zero.ensures.works sub)
-            (subst (λ (p : Progress). Implements p s.core r (ended d n r t)) (sym (to_zero d n c.args.set w s.core q c.if-set-eq0.true)) (done.implements d));
+        implements = meets;
+        picks = λ d. loose_picks (preference s) _ (label_of n r) s.core r (ended d n r t) (join_none d n s.core c.args.handle c.args.set w) (done.picks d).shows (meets d);
         stays = done.stays;
         kept = done.kept;
       };
@@ -42,10 +47,12 @@ returns g c =
     let w = (choice_of (label_of n r)).woken in
     let at = c.in-Some-set_named.ensures.is ∙ ap (λ (i : ℕ). set_at i c.args.set s.core) c.instance_of-instance.ensures in
     let done = c.join_set-2.ensures.does in
+    let meets = λ (d : Doer). named_implements n _ c.args.handle q (join_to_by d n c.args.set w s.core) s.core _ _ c.instance_of-instance.ensures c.in-Some.ensures.is (λ sub at. to_kept d n c.args.set w s.core c.none_is_zero.ensures.calls c.none_is_zero.ensures.works sub)
+        (subst (λ (p : Progress). Implements p s.core r (ended d n r t)) (sym (to_set d n c.args.set (set_of s c.in-Some-set_named.set) w s.core q c.if-set-eq0.false at)) (done.implements d)) in
     record {
       does = record {
-        implements = λ d. named_implements n _ c.args.handle q (join_to_by d n c.args.set w s.core) s.core _ _ c.instance_of-instance.ensures c.in-Some.ensures.is (λ sub at. to_kept d n c.args.set w s.core c.none_is_zero.ensures.calls c.none_is_zero.ensures.works sub)
-            (subst (λ (p : Progress). Implements p s.core r (ended d n r t)) (sym (to_set d n c.args.set (set_of s c.in-Some-set_named.set) w s.core q c.if-set-eq0.false at)) (done.implements d));
+        implements = meets;
+        picks = λ d. loose_picks (preference s) _ (label_of n r) s.core r (ended d n r t) (join_none d n s.core c.args.handle c.args.set w) (done.picks d).shows (meets d);
         stays = done.stays;
         kept = done.kept;
       };

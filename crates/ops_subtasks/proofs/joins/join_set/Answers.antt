@@ -1,5 +1,10 @@
-use Rattle.std.proofs.Common.{None, Some, ap, option_map, sym, ℕ, ◌∙◌}
-use Rattle.ops_subtasks.proofs.JoinLemmas.{join_idle, set_joined_implements}
+use Rattle.std.proofs.Common.{None, Some, ap, option_map, refl, sym, ℕ, ◌∙◌}
+use Rattle.core_primitives.specs.Preferences.{preference}
+use Rattle.machine_data.specs.Labels.{join_label}
+use Rattle.machine_rules.specs.Finish.{Doer}
+use Rattle.ops_guests.proofs.CalmLemmas.{silent_shows, waking_shows}
+use Rattle.ops_subtasks.proofs.JoinLemmas.{join_idle, join_picks, joined_first, set_joined_implements}
+use Rattle.ops_subtasks.specs.Rules.{joins_of}
 use Rattle.ops_subtasks.proofs.joins.join_set.Goals as goal
 use Rattle.ops_guests.proofs.DoesLemmas.{does_same}
 use Rattle.core_primitives.specs.StateView.{StateView, thread_of}
@@ -14,9 +19,12 @@ returns-in-None g c =
     let t = v c.set_join.new.self in
     let u = v c.wake_joined-waiter.new.w in
     let woken = c.wake_joined-waiter.ensures in
+    let m = c.number-number.result in
+    let l = join_label m None in
+    let meets = λ (d : Doer). set_joined_implements c.args.thread c.args.subtask c.args.set _ s t c.set_join.ensures c.joins-join.ensures c.wake_joined-waiter.result _ u woken.new d _ _ None c.number-number.ensures c.joined.ensures (ap (option_map (λ id. thread_of t id)) (sym c.in-None.is)) (sym c.is_watched.ensures ∙ c.if-is_watched.false) c.event-event.ensures woken.choice in
     record {
-      does = does_same _ c.args.thread s u _
-          (λ d. set_joined_implements c.args.thread c.args.subtask c.args.set _ s t c.set_join.ensures c.joins-join.ensures c.wake_joined-waiter.result _ u woken.new d _ _ None c.number-number.ensures c.joined.ensures (ap (option_map (λ id. thread_of t id)) (sym c.in-None.is)) (sym c.is_watched.ensures ∙ c.if-is_watched.false) c.event-event.ensures woken.choice)
+      does = does_same (joins_of s c.args.subtask c.args.set) c.args.thread s u _ meets
+          (join_picks c.args.thread c.args.subtask c.args.set s u _ m None c.joined.ensures (silent_shows (preference s) s.core l (refl, refl)) meets)
           (ap (λ (y : StateView). y.tags) woken.new ∙ ap (λ (y : StateView). y.tags) c.set_join.ensures) (ap (λ (y : StateView). y.current) woken.new ∙ ap (λ (y : StateView). y.current) c.set_join.ensures);
     }
 
@@ -28,8 +36,13 @@ returns-in-Some g c =
     let u = v c.wake_joined-waiter.new.w in
     let woken = c.wake_joined-waiter.ensures in
     let named = c.number.ensures ∙ ap (λ (y : StateView). thread_of y c.in-Some.woken) woken.new in
+    let m = c.number-number.result in
+    let l = join_label m (Some c.number.result) in
+    let first = joined_first c.in-Some.woken _ _ s t c.set_join.ensures c.in-Some.ensures.first in
+    let shows = waking_shows (preference s) s.core l (thread_of t c.in-Some.woken) (ap (λ (k : ℕ). Some k) named) refl first in
+    let meets = λ (d : Doer). set_joined_implements c.args.thread c.args.subtask c.args.set _ s t c.set_join.ensures c.joins-join.ensures c.wake_joined-waiter.result _ u woken.new d _ _ (Some c.number.result) c.number-number.ensures c.joined-in-Some.ensures (ap (λ (k : ℕ). Some k) named ∙ ap (option_map (λ id. thread_of t id)) (sym c.in-Some.is)) (sym c.is_watched.ensures ∙ c.if-is_watched.false) c.event-event.ensures woken.choice in
     record {
-      does = does_same _ c.args.thread s u _
-          (λ d. set_joined_implements c.args.thread c.args.subtask c.args.set _ s t c.set_join.ensures c.joins-join.ensures c.wake_joined-waiter.result _ u woken.new d _ _ (Some c.number.result) c.number-number.ensures c.joined-in-Some.ensures (ap (λ (k : ℕ). Some k) named ∙ ap (option_map (λ id. thread_of t id)) (sym c.in-Some.is)) (sym c.is_watched.ensures ∙ c.if-is_watched.false) c.event-event.ensures woken.choice)
+      does = does_same (joins_of s c.args.subtask c.args.set) c.args.thread s u _ meets
+          (join_picks c.args.thread c.args.subtask c.args.set s u _ m (Some c.number.result) c.joined-in-Some.ensures shows meets)
           (ap (λ (y : StateView). y.tags) woken.new ∙ ap (λ (y : StateView). y.tags) c.set_join.ensures) (ap (λ (y : StateView). y.current) woken.new ∙ ap (λ (y : StateView). y.current) c.set_join.ensures);
     }
