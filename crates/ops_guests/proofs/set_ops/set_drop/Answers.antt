@@ -1,3 +1,8 @@
+use Rattle.core_primitives.specs.Preferences.{preference}
+use Rattle.machine_rules.specs.Finish.{Doer}
+use Rattle.ops_guests.proofs.CalmLemmas.{calm_picks}
+use Rattle.core_primitives.specs.StateView.{thread_of}
+use Rattle.machine_rules.proofs.CalmLemmas.{or_trap_calm, set_drop_calm}
 use Rattle.std.proofs.Common.{IsSome, Option, Some, refl, subst, sym, ℕ, ◌≡◌, ◌∙◌}
 use Rattle.ops_guests.proofs.SetLemmas.{set_drop_implements, works_kept}
 use Rattle.ops_guests.proofs.set_ops.set_drop.Goals as goal
@@ -12,8 +17,10 @@ pub returns-clause-does : goal.returns-clause-does
 returns-clause-does g c =
     let v = g.W.View.view in
     let e = c.close_set.ensures in
+    let meets = λ (d : Doer). set_drop_implements c.args.thread d _ c.args.handle _ _ (v c.args.w.now) (v c.close_set.new.self) c.instance_of-instance.ensures c.in-Some.ensures.is (sym c.has_waiters.ensures ∙ c.if-has_waiters.false) (sym c.has_member.ensures ∙ c.if-has_member.false) c.number-number.ensures e.core in
     record {
-      implements = λ d. set_drop_implements c.args.thread d _ c.args.handle _ _ (v c.args.w.now) (v c.close_set.new.self) c.instance_of-instance.ensures c.in-Some.ensures.is (sym c.has_waiters.ensures ∙ c.if-has_waiters.false) (sym c.has_member.ensures ∙ c.if-has_member.false) c.number-number.ensures e.core;
+      implements = meets;
+      picks = λ d. calm_picks (preference (v c.args.w.now)) (thread_of (v c.args.w.now) c.args.thread) _ (v c.args.w.now).core _ _ (or_trap_calm _ _ _ (set_drop_calm d (thread_of (v c.args.w.now) c.args.thread) (v c.args.w.now).core c.args.handle)) (meets d);
       stays = tt;
       kept = (works_kept _ (v c.args.w.now) (v c.close_set.new.self) e.tags, e.current);
     }

@@ -1,3 +1,8 @@
+use Rattle.core_primitives.specs.Preferences.{preference}
+use Rattle.machine_rules.specs.Finish.{Doer}
+use Rattle.ops_guests.proofs.CalmLemmas.{calm_picks}
+use Rattle.core_primitives.specs.StateView.{thread_of}
+use Rattle.machine_rules.proofs.CalmLemmas.{set_new_calm}
 use Rattle.std.proofs.Common.{sym, ◌∙◌}
 use Rattle.ops_guests.proofs.SetLemmas.{set_new_implements}
 use Rattle.ops_guests.proofs.set_ops.set_new.Goals as goal
@@ -6,8 +11,10 @@ pub returns-clause-does : goal.returns-clause-does
 returns-clause-does g c =
     let v = g.W.View.view in
     let o = c.in_ok-open_set.ensures.1 in
+    let meets = λ (d : Doer). set_new_implements c.args.thread d _ _ _ (v c.args.w.now) (v c.open_set.new.self) (sym c.fits.ensures ∙ c.if-not-fits.false) (sym c.at_handle_limit.ensures ∙ c.if-at_handle_limit.false) c.instance_of-instance.ensures c.new_handle-handle.ensures c.number-number.ensures o.core in
     record {
-      implements = λ d. set_new_implements c.args.thread d _ _ _ (v c.args.w.now) (v c.open_set.new.self) (sym c.fits.ensures ∙ c.if-not-fits.false) (sym c.at_handle_limit.ensures ∙ c.if-at_handle_limit.false) c.instance_of-instance.ensures c.new_handle-handle.ensures c.number-number.ensures o.core;
+      implements = meets;
+      picks = λ d. calm_picks (preference (v c.args.w.now)) (thread_of (v c.args.w.now) c.args.thread) _ (v c.args.w.now).core _ _ (set_new_calm d (thread_of (v c.args.w.now) c.args.thread) (v c.args.w.now).core) (meets d);
       stays = tt;
       kept = (o.tags, o.current);
     }

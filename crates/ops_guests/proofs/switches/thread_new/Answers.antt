@@ -1,3 +1,8 @@
+use Rattle.core_primitives.specs.Preferences.{preference}
+use Rattle.machine_rules.specs.Finish.{Doer}
+use Rattle.ops_guests.proofs.CalmLemmas.{calm_picks}
+use Rattle.core_primitives.specs.StateView.{thread_of}
+use Rattle.machine_rules.proofs.CalmLemmas.{new_calm}
 use Rattle.std.proofs.Common.{ap, is_some, subst, sym, true, ◌≡◌, ◌∙◌, ℕ}
 use Rattle.ops_guests.proofs.SwitchLemmas.{thread_new_implements}
 use Rattle.ops_guests.proofs.switches.thread_new.Goals as goal
@@ -15,8 +20,10 @@ returns-clause-does g c =
     let s = v c.args.w.now in
     let o = c.in_ok-other.ensures in
     let handle = c.new_thread_handle-handle.ensures ∙ ap (λ i. new_thread_handle i s.core) c.instance_of.ensures in
+    let meets = λ (d : Doer). thread_new_implements c.args.thread d c.args.slot c.args.value _ _ _ _ c.args.line.now _ s (v c.make_thread.new.self) c.in-Script.is (sym c.fits.ensures ∙ c.if-not-fits.false) (sym c.at_handle_limit.ensures ∙ c.if-at_handle_limit.false) c.task_of-task.ensures.is handle c.number-number.ensures (c.number-other.ensures ∙ o.0) o.1.core in
     record {
-      implements = λ d. thread_new_implements c.args.thread d c.args.slot c.args.value _ _ _ _ c.args.line.now _ s (v c.make_thread.new.self) c.in-Script.is (sym c.fits.ensures ∙ c.if-not-fits.false) (sym c.at_handle_limit.ensures ∙ c.if-at_handle_limit.false) c.task_of-task.ensures.is handle c.number-number.ensures (c.number-other.ensures ∙ o.0) o.1.core;
+      implements = meets;
+      picks = λ d. calm_picks (preference s) (thread_of s c.args.thread) _ s.core _ _ (new_calm d (thread_of s c.args.thread) c.args.slot c.args.value s.core c.args.line.now) (meets d);
       stays = tt;
       kept = (o.1.tags, o.1.current);
     }

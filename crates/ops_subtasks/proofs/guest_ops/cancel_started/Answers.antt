@@ -1,3 +1,6 @@
+use Rattle.core_primitives.specs.Preferences.{preference}
+use Rattle.machine_rules.specs.Finish.{Doer}
+use Rattle.ops_guests.proofs.CalmLemmas.{calm_picks}
 use Rattle.machine_rules.proofs.CalmLemmas.{guest_calm}
 use Rattle.std.proofs.Common.{ap, sym, ◌∙◌}
 use Rattle.ops_subtasks.proofs.GuestLemmas.{first_at_same, first_found, runs_implements, waits_implements, yields_implements}
@@ -60,12 +63,14 @@ returns g c =
     let s = g.W.View.view c.args.w.now in
     let k = call_of s c.args.call in
     let done = c.ask_running.ensures.does in
+    let meets = λ (d : Doer). runs_implements (mode_of c.args.sync) (thread_of s c.args.thread) d k s.core c.requires.unended c.requires.started
+        (sym (first_at_same _ k is_callback_wait s.core c.none_is_zero.ensures.threads c.first_thread-first.ensures) ∙ (sym c.is_callback_wait.ensures ∙ c.if-is_callback_wait.false)) _ _
+        (sym (first_at_same _ k is_callback_yield s.core c.none_is_zero.ensures.threads c.first_thread-first.ensures) ∙ (sym c.is_callback_yield.ensures ∙ c.if-is_callback_yield.false))
+        (done.implements d) in
     record {
       does = record {
-        implements = λ d. runs_implements (mode_of c.args.sync) (thread_of s c.args.thread) d k s.core c.requires.unended c.requires.started
-            (sym (first_at_same _ k is_callback_wait s.core c.none_is_zero.ensures.threads c.first_thread-first.ensures) ∙ (sym c.is_callback_wait.ensures ∙ c.if-is_callback_wait.false)) _ _
-            (sym (first_at_same _ k is_callback_yield s.core c.none_is_zero.ensures.threads c.first_thread-first.ensures) ∙ (sym c.is_callback_yield.ensures ∙ c.if-is_callback_yield.false))
-            (done.implements d);
+        implements = meets;
+        picks = λ d. calm_picks (preference s) (thread_of s c.args.thread) _ s.core _ _ (guest_calm d (mode_of c.args.sync) (thread_of s c.args.thread) k s.core (cancel_case k s.core)) (meets d);
         stays = done.stays;
         kept = done.kept;
       };

@@ -1,18 +1,23 @@
-use Rattle.std.proofs.Common.{ap, ◌∙◌}
+use Rattle.core_primitives.specs.Preferences.{preference}
+use Rattle.machine_rules.specs.Finish.{Doer}
+use Rattle.ops_guests.proofs.CalmLemmas.{calm_picks}
+use Rattle.core_primitives.specs.StateView.{thread_of, work_of}
+use Rattle.std.proofs.Common.{ap, refl, ◌∙◌}
 use Rattle.std.specs.Prelude.{Option, unwrap_or, ℕ}
 use Rattle.ops_subtasks.proofs.HostLemmas.{thread_left, work_answers, work_gone}
 use Rattle.ops_subtasks.proofs.host_ops.go_on_calling_host.Goals as goal
 use Rattle.machine_data.specs.Core.{Core}
 use Rattle.machine_data.specs.Maps.{get}
-use Rattle.core_primitives.specs.StateView.{work_of}
 
 pub returns-clause-does : goal.returns-clause-does
 returns-clause-does g c =
     let v = g.W.View.view in
     let e = c.delete_work.ensures in
     let value = c.unwrap_or-value.ensures ∙ ap (λ (o : Option ℕ). unwrap_or o 0) c.value_of_work.ensures in
+    let meets = λ (d : Doer). work_answers c.args.thread d _ _ _ (v c.args.w.now) (v c.delete_work.new.self) c.number-number.ensures value e.core in
     record {
-      implements = λ d. work_answers c.args.thread d _ _ _ (v c.args.w.now) (v c.delete_work.new.self) c.number-number.ensures value e.core;
+      implements = meets;
+      picks = λ d. calm_picks (preference (v c.args.w.now)) (thread_of (v c.args.w.now) c.args.thread) _ (v c.args.w.now).core _ _ ((refl, refl)) (meets d);
       stays = tt;
       kept = (e.tags, e.current);
     }
