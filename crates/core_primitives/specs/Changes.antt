@@ -9,7 +9,7 @@ use Rattle.machine_data.specs.Moves.{released, stand, why_of}
 use Rattle.machine_data.specs.Read.{admitted_held, callers_of, instance_of, is_ready_member, new_thread_handle, thread_at}
 use Rattle.machine_data.specs.Write.{set_callers, set_join, set_op_progress, set_place}
 use Rattle.machine_data.specs.declared.component.HostDef.{HostDef}
-use Rattle.machine_data.specs.declared.words.Mark.{Mark}
+use Rattle.machine_data.specs.declared.statuses.Mark.{Mark}
 use Rattle.machine_data.specs.declared.records.OpProgress.TheVariants as op_progress
 use Rattle.machine_data.specs.declared.records.Place.TheVariants as place
 use Rattle.machine_data.specs.declared.records.Subtask.TheVariants as subtask

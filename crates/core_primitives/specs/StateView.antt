@@ -87,7 +87,7 @@ pub record KeepsTo (tracked : List ℕ) (old new : Tags) : Type 0 where
 abbrev pub Keeps : Tags → Tags → Type 0
 Keeps old new = KeepsTo old.tracked old new
 
--- the same, and one more
+-- the groups that were tracked, and one more
 abbrev pub KeepsWith : ℕ → Tags → Tags → Type 0
 KeepsWith g old new = KeepsTo (old.tracked ++ g ∷ []) old new
 

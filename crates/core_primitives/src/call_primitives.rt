@@ -63,7 +63,7 @@ pub trait CallPrimitives: View {
     fn task_event(&self, call: CallId) -> Option<TaskEvent>
         ensures { result ≡ task_event_of (call_of (Self.view self.now) call) (Self.view self.now).core };
 
-    /// Returns whether a cancel request has come to the task.
+    /// Returns whether the task was asked to cancel.
     fn cancel_was_delivered(&self, call: CallId) -> bool
         ensures { result ≡ cancel_was_delivered (call_of (Self.view self.now) call) (Self.view self.now).core };
 

@@ -1,6 +1,6 @@
 ghost use Rattle.std.specs.Prelude.{◌≡◌, ◌<◌, ◌^◌, IfOk, IfSome, IsSome, OnErr, OnOk, false, option_map};
-ghost use Rattle.machine_data.specs.Read.{at_handle_limit, backpressure_of, may_not_enter, may_not_suspend, new_handle, new_thread_handle, subtask_at, word_of};
-ghost use Rattle.machine_data.specs.Write.{free_handle, set_backpressure, set_do_not_enter, set_do_not_suspend, set_word};
+ghost use Rattle.machine_data.specs.Read.{at_handle_limit, backpressure_of, may_not_enter, may_not_suspend, new_handle, new_thread_handle, subtask_at, memory_cell_of};
+ghost use Rattle.machine_data.specs.Write.{free_handle, set_backpressure, set_do_not_enter, set_do_not_suspend, set_memory_cell};
 ghost use Rattle.core_primitives.specs.Names.{subtask_in};
 ghost use Rattle.core_primitives.specs.StateView.{on_core, thread_of, thread_if_any, set_if_any};
 ghost use Rattle.core_primitives.specs.Live.{live_subtask_at, live_set_at, live_thread_at};
@@ -10,7 +10,7 @@ use crate::names::{SetId, SubtaskId, ThreadId};
 use crate::view::View;
 use machine_data::NoMemory;
 
-/// Instances: their flags, counters and words, and what their handles name.
+/// Instances: their flags, counters and memory cells, and what their handles name.
 pub trait InstancePrimitives: View {
     /// Returns the instance's count of backpressure, 0 to 65535; 0 if there is no such instance.
     fn backpressure(&self, instance: u32) -> u16
@@ -25,8 +25,8 @@ pub trait InstancePrimitives: View {
         ensures { result ≡ may_not_suspend instance (Self.view self.now).core };
 
     /// Returns one of the instance's memory cells, 0 to 15; 0 if there is none.
-    fn word(&self, instance: u32, word: u8) -> u64
-        ensures { result ≡ word_of instance word (Self.view self.now).core };
+    fn memory_cell(&self, instance: u32, cell: u8) -> u64
+        ensures { result ≡ memory_cell_of instance cell (Self.view self.now).core };
 
     /// Sets the instance's count of backpressure.
     fn set_backpressure(&mut self, instance: u32, count: u16)
@@ -41,8 +41,8 @@ pub trait InstancePrimitives: View {
         ensures { Self.view self.new ≡ on_core (set_do_not_suspend instance flag) (Self.view self.old) };
 
     /// Writes one of the instance's memory cells, 0 to 15.
-    fn set_word(&mut self, instance: u32, word: u8, value: u64)
-        ensures { Self.view self.new ≡ on_core (set_word instance word value) (Self.view self.old) };
+    fn set_memory_cell(&mut self, instance: u32, cell: u8, value: u64)
+        ensures { Self.view self.new ≡ on_core (set_memory_cell instance cell value) (Self.view self.old) };
 
     /// Returns whether a handle may not be given, in any instance.
     fn at_handle_limit(&self) -> bool

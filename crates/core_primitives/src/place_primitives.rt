@@ -49,7 +49,7 @@ pub trait PlacePrimitives: View {
         requires call { 0 < call_of (Self.view self.old) call }
         ensures { Self.view self.new ≡ standing_under thread callee call (Self.view self.old) };
 
-    /// Records that the thread's entry is at this mark, for the same reason as before.
+    /// Moves the thread's entry to this mark. Why it is queued stays.
     fn set_mark(&mut self, thread: ThreadId, mark: Mark)
         ensures { Self.view self.new ≡ with_mark thread mark (Self.view self.old) };
 

@@ -151,7 +151,7 @@ pub trait ThreadPrimitives: View {
     fn activate(&mut self, thread: ThreadId, instance: u32, given: Given)
         ensures { Self.view self.new ≡ on_core (activating (thread_of (Self.view self.old) thread) instance given) (Self.view self.old) };
 
-    /// Makes an explicit thread of a call with these words, and gives it its handle. If it is out of memory, all is as before.
+    /// Makes an explicit thread of a call with these values, and gives it its handle. If it is out of memory, all is as before.
     fn make_thread(&mut self, task: CallId, slot: u8, words: &[u64]) -> Result<ThreadId, NoMemory>
         requires words { length words.now ≤ 16 }
         requires task { 0 < call_of (Self.view self.old) task }

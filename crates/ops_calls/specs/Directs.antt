@@ -15,7 +15,7 @@ use Rattle.machine_rules.specs.Ends.{direct_exit_rule}
 use Rattle.machine_rules.specs.Progress.{Progress}
 use Rattle.machine_rules.specs.Scripts.{export_kind}
 use Rattle.core_primitives.specs.StateView.{StateView, thread_of}
-use Rattle.ops_calls.specs.Asks.{Answers}
+use Rattle.ops_calls.specs.HostOps.{Answers}
 use Rattle.ops_calls.specs.OpAnswers.{at_once}
 
 abbrev pub enters_rule : Component → Callee → List ℕ → Core → ℕ → Choice → Progress

@@ -6,7 +6,7 @@ use Rattle.machine_rules.specs.Calls.{FirstPoll, call_host_by, call_sync_host_by
 use Rattle.machine_rules.specs.Finish.{SomeHost}
 use Rattle.machine_rules.specs.Progress.{Progress}
 use Rattle.machine_data.specs.declared.component.HostDef.{HostDef}
-use Rattle.machine_data.specs.declared.words.HostPoll.{HostPoll}
+use Rattle.machine_data.specs.declared.statuses.HostPoll.{HostPoll}
 use Rattle.ops_subtasks.specs.First.{first_heard}
 
 -- a call that goes on: the packed status is answered, and the value, once there is one, goes to the register q

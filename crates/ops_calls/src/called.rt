@@ -2,7 +2,7 @@
 ghost use Rattle.std.specs.Prelude.{◌≡◌, Some, option_map};
 ghost use Rattle.machine_data.specs.declared.records.Turn.TheVariants as turns;
 ghost use Rattle.ops_turns.specs.Turn.{CoreInOrder, running_of};
-ghost use Rattle.ops_calls.specs.Asks.{polled_here};
+ghost use Rattle.ops_calls.specs.HostOps.{polled_here};
 
 use core_primitives::Primitives;
 use machine_data::{Component, HostDef};

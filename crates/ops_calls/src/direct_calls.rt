@@ -3,7 +3,7 @@ ghost use Rattle.ops_dispatch.specs.ContinuesDispatch.{given};
 ghost use Rattle.std.specs.Prelude.{◌≡◌, ◌<◌, ◌^◌, IfOk, IfSome, IsSome, false, length};
 ghost use Rattle.ops_state.specs.Named.{IsLive};
 ghost use Rattle.ops_calls.specs.OpAnswers.{at_once, nothing_answered};
-ghost use Rattle.ops_calls.specs.Asks.{Answers, IsRunningIn};
+ghost use Rattle.ops_calls.specs.HostOps.{Answers, IsRunningIn};
 ghost use Rattle.ops_calls.specs.Directs.{IsDirect, exits_rule, AnswersEntered};
 ghost use Rattle.machine_data.specs.Read.{is_async_lifted};
 ghost use Rattle.machine_rules.specs.Scripts.{export_at, export_kind};
@@ -17,7 +17,7 @@ use ops_guests::{OpResult, exit_direct};
 use ops_state::{QualifiedThreadId, TaskError};
 use ops_subtasks::enter;
 
-/// Returns the first half of a direct call: the callee is made with these words, 0 to 16, as many as it takes, and its thread,
+/// Begins a direct call: the callee is made with these words, 0 to 16, as many as it takes, and its thread,
 /// which is answered, runs on top of the calling one. Refused with trap 18 where its three entries don't fit into the table, and
 /// else with trap 17 if no handle may be given. Where it is refused, or it is out of memory, nothing is changed.
 pub fn enter_call<W: Primitives>(

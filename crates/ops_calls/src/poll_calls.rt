@@ -2,12 +2,12 @@
 ghost use Rattle.ops_dispatch.specs.ContinuesDispatch.{given};
 ghost use Rattle.std.specs.Prelude.{◌≡◌, ◌<◌, ◌^◌, IfErr, IfOk, OnErr, false, true};
 ghost use Rattle.ops_calls.specs.OpAnswers.{at_once, has_stopped, number_answered, value_answered};
-ghost use Rattle.ops_calls.specs.Asks.{Answers, Did, IsRunningIn};
+ghost use Rattle.ops_calls.specs.HostOps.{Answers, Did, IsRunningIn};
 ghost use Rattle.ops_subtasks.specs.First.{first_heard};
 ghost use Rattle.ops_calls.specs.PolledCalls.{blocks_rule, polls_host_rule};
 
 use crate::answer_calls::{Step, at_once, number_answered, stepped, value_answered};
-use crate::asks::leave;
+use crate::host_ops::leave;
 use core_primitives::Primitives;
 use machine_data::{Component, HostDef, HostPoll};
 use ops_guests::OpResult;

@@ -1,7 +1,7 @@
 //! The two halves of a call by a thread whose start is queued.
 ghost use Rattle.ops_dispatch.specs.ContinuesDispatch.{given};
 ghost use Rattle.std.specs.Prelude.{◌≡◌, ◌<◌, ◌^◌, IfSome, IsSome, None, Ok, Some, length};
-ghost use Rattle.ops_calls.specs.Asks.{IsRunningIn};
+ghost use Rattle.ops_calls.specs.HostOps.{IsRunningIn};
 ghost use Rattle.ops_calls.specs.Prepared.{CanStart, goal_for, PreparesHere, QueuesAsWhole, StartsHere};
 ghost use Rattle.machine_data.specs.declared.component.Callee.{Callee};
 ghost use Rattle.machine_data.specs.declared.component.Component.{Component};
@@ -26,7 +26,7 @@ fn goal_for(async_caller: bool, register: u8) -> Goal
     Goal::Answer
 }
 
-/// Returns the first half: a call by the running thread is made with these words, 0 to 16, as many as the callee takes; its first
+/// Prepares a call by the running thread: it is made with these words, 0 to 16, as many as the callee takes; its first
 /// thread, which is New, is answered. The result of an async caller's call goes to the register. Refused with trap 18 exactly where
 /// its three entries don't fit into the table. Where it is refused, or it is out of memory, nothing is changed.
 pub fn prepare_call<W: Primitives>(
@@ -60,7 +60,7 @@ pub fn prepare_call<W: Primitives>(
     Ok(QualifiedThreadId { task, thread })
 }
 
-/// Returns the second half, of a call that the running thread prepared: its start becomes the switch entry, the flag
+/// Starts a call that the running thread prepared: its start becomes the switch entry, the flag
 /// `do_not_suspend` of an async-typed callee's instance is saved and cleared, and the calling thread goes behind the callee's, as
 /// `call` does where it begins. The strand has stopped, which is answered.
 pub fn start_prepared<W: Primitives>(

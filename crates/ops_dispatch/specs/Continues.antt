@@ -39,7 +39,7 @@ Shows n _ = Unit {0}
 -- until then the thread is named as it was. A thread that goes on runs, a trap has changed nothing, and of the names that much is kept.
 pub record DoesOp (AreKept : StateView → StateView → Type 0) (rule : Rule) (id : TableId ThreadKey) (s : StateView) (r : OpResult)
     (t : StateView) : Type 0 where
-  pub meets : (d : Doer) → Implements (rule d (thread_of s id) (choice_of (label_of (thread_of s id) r)) s.core) s.core r
+  pub implements : (d : Doer) → Implements (rule d (thread_of s id) (choice_of (label_of (thread_of s id) r)) s.core) s.core r
       (ended d (thread_of s id) r t.core)
   pub named : ends_op r ≡ true → thread_of t id ≡ thread_of s id
   pub goes : OpGoesOn r t

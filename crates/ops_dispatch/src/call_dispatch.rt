@@ -276,7 +276,7 @@ fn cancel<W: Primitives>(
     Ok(cancels(w, thread, handle, sync))
 }
 
-/// Returns an op on subtasks that calls no host. If it is out of memory, all is as before.
+/// Does an op on subtasks that calls no host. If it is out of memory, all is as before.
 #[inline(always)]
 pub(crate) fn do_plain_call<W: Primitives>(
     component: &Component,

@@ -19,12 +19,12 @@ use Rattle.machine_data.specs.declared.records.Stage.{Stage}
 use Rattle.machine_data.specs.declared.records.Stage.TheVariants as stage
 use Rattle.machine_data.specs.declared.records.Why.{Why}
 use Rattle.machine_data.specs.declared.records.Why.TheVariants as why
-use Rattle.machine_data.specs.declared.words.Mark.{Mark}
-use Rattle.machine_data.specs.declared.words.Mark.TheVariants as mark
+use Rattle.machine_data.specs.declared.statuses.Mark.{Mark}
+use Rattle.machine_data.specs.declared.statuses.Mark.TheVariants as mark
 use Rattle.machine_rules.specs.Allowed.{MayPut as GetsEntry}
 use Rattle.machine_rules.specs.Places.{is_for_start, switch_entries}
 use Rattle.machine_rules.specs.Takes.{popped}
-use Rattle.machine_rules.specs.Words.{put_at}
+use Rattle.machine_rules.specs.Primitives.{put_at}
 use Rattle.core_primitives.specs.Apart.{IsSwitchUnqueued, IsUnqueued, work_entries}
 use Rattle.core_primitives.specs.Live.{live_set}
 use Rattle.core_primitives.specs.Names.{delivery_in}

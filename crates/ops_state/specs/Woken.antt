@@ -9,7 +9,7 @@ use Rattle.machine_data.specs.Moves.{published, wake_joined, may_publish}
 use Rattle.machine_data.specs.Read.{event_of, join_of, subtask_handle}
 use Rattle.machine_data.specs.Write.{set_join}
 use Rattle.machine_data.specs.declared.records.Subtask.{Subtask}
-use Rattle.machine_data.specs.declared.words.Status.{Status}
+use Rattle.machine_data.specs.declared.statuses.Status.{Status}
 use Rattle.machine_rules.specs.Sets.{joins, wakes_joined, may_wake_new}
 use Rattle.task_wait.specs.declared.codes.Event.{Event}
 use Rattle.task_wait.specs.declared.codes.Event.TheVariants as event

@@ -5,10 +5,10 @@ ghost use Rattle.ops_state.specs.Items.{CanGet, IsItemOf, MayPut, MayQueue, Take
 ghost use Rattle.ops_state.specs.Named.{IsLive};
 ghost use Rattle.machine_data.specs.Moves.{why_of};
 ghost use Rattle.machine_data.specs.Read.{next_entry};
-ghost use Rattle.machine_data.specs.declared.words.Mark.{Mark};
+ghost use Rattle.machine_data.specs.declared.statuses.Mark.{Mark};
 ghost use Rattle.machine_data.specs.declared.records.Why.TheVariants as whys;
 ghost use Rattle.machine_rules.specs.Places.{Placed};
-ghost use Rattle.machine_rules.specs.Words.{put_at};
+ghost use Rattle.machine_rules.specs.Primitives.{put_at};
 ghost use Rattle.core_primitives.specs.Names.{delivery_in, why_in};
 ghost use Rattle.core_primitives.specs.StateView.{on_core, thread_of};
 ghost use Rattle.laws_order.specs.Stands.{NoWakeLost};

@@ -45,8 +45,8 @@ pub fn set_event<W: Primitives>(
     Ok(woken)
 }
 
-/// Returns the event of a waitable, which is gone then; none exactly where there was none. No wake is lost by it, and order is kept
-/// where a handle names the waitable.
+/// Takes the event of a waitable and answers it; none exactly where there was none. No wake is lost by it, and order is kept where a
+/// handle names the waitable.
 pub fn take_event<W: Primitives>(w: &mut W, waitable: Waitable) -> Option<Event>
     requires live { IsLiveWaitable (W.view w.old) waitable }
     ensures event { result ≡ option_map events.Subtask (event_of (waitable_in (W.view w.old).tags waitable) (W.view w.old).core) }

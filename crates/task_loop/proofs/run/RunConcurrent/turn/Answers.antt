@@ -11,7 +11,7 @@ use Rattle.task_loop.proofs.TurnLemmas.{took}
 use Rattle.task_loop.proofs.run.RunConcurrent.turn.Goals as goal
 use Rattle.task_loop.specs.HasRun.{HasHalted, HasTurned, at}
 use Rattle.task_loop.specs.Ran.{DoesStep}
-use Rattle.task_loop.specs.Standing.{standing}
+use Rattle.task_loop.specs.Constants.{constants}
 use Rattle.task_loop.specs.Told.{TurnTold, group_running, turn_of}
 use Rattle.task_loop.specs.declared.run.Halt.TheVariants as halt
 use Rattle.machine_data.specs.Core.{Main}
@@ -124,7 +124,7 @@ returns-in-Ok-run_thread-clause-turned g c =
             (λ made h. still_run says.does main x part s t n made h.0) made;
         group = e.ran.group;
         suits = may.stands.suits;
-        knows = by_run (says.knows main) s t (λ last. g.met.M.MainTask.stays main s t last may.stands.knows) x part n made.0 made.1.1.0 steps.works;
+        knows = by_run (says.knows main) s t (λ last. g.met.M.MainTask.stays main s t last may.stands.knows) x part n made.0 (subst (λ (p : Turn). CoreInOrder d p s.core) c.in-Run.is may.stands.order) made.1.1.0 steps.works;
         works = steps.hosts;
         asked = e.ran.asked;
       },
@@ -156,7 +156,7 @@ returns-in_default-run_thread-clause-turned g c =
       stops = stops_after x c.args.self.now.turn (turn.Run n) c.in-Run.is (λ no. absurd (cc)) part s before after c.args.store.now.listeners c.run_thread.new.store.listeners (fails.told.answered, fails.hook) q.0 part t fails.told
           (made.0, (made.1.0, run_turns d n s t q.0 before after made x refl part));
       main = refl;
-      knows = by_run (says.knows main) s t (λ last. g.met.M.MainTask.stays main s t last may.stands.knows) x part n made.0 made.1.1.0 q.1.works;
+      knows = by_run (says.knows main) s t (λ last. g.met.M.MainTask.stays main s t last may.stands.knows) x part n made.0 (subst (λ (p : Turn). CoreInOrder d p s.core) c.in-Run.is may.stands.order) made.1.1.0 q.1.works;
       works = q.1.hosts;
     })
 
@@ -209,7 +209,7 @@ returns-in-Ok-poll_work-clause-turned g c =
         did = (made.0, (made.1.0, still says.does main x m s t p refl made.0 made.1.1));
         group = told.group ∙ current_is t (turn_of q) (turns_runs x p m s m t q before after made);
         suits = may.stands.suits;
-        knows = by_poll (says.knows main) s t (λ last. g.met.M.MainTask.stays main s t last may.stands.knows) x m c.in-Futures.polled made.0 made.1.1 c.poll_work.ensures.works.0;
+        knows = by_poll (says.knows main) s t (λ last. g.met.M.MainTask.stays main s t last may.stands.knows) x m c.in-Futures.polled made.0 (subst (λ (w : Turn). CoreInOrder d w s.core) c.in-Futures.is may.stands.order) made.1.1 c.poll_work.ensures.works.0;
         works = c.poll_work.ensures.works.1;
         asked = e.asked;
       },
@@ -241,7 +241,7 @@ returns-in_default-poll_work-clause-turned g c =
     record {
       stops = stops_after x c.args.self.now.turn p c.in-Futures.is (λ no. absurd (cc)) m s before after c.args.store.now.listeners c.poll_work.new.store.listeners (fails.told.answered, fails.hook) q.0 m t fails.told made;
       main = refl;
-      knows = by_poll (says.knows main) s t (λ last. g.met.M.MainTask.stays main s t last may.stands.knows) x m c.in-Futures.polled made.0 made.1.1 c.poll_work.ensures.works.0;
+      knows = by_poll (says.knows main) s t (λ last. g.met.M.MainTask.stays main s t last may.stands.knows) x m c.in-Futures.polled made.0 (subst (λ (w : Turn). CoreInOrder d w s.core) c.in-Futures.is may.stands.order) made.1.1 c.poll_work.ensures.works.0;
       works = c.poll_work.ensures.works.1;
     })
 
@@ -278,25 +278,25 @@ returns-in-Take-clause-turned g c =
 -- ---- What stays
 
 pub returns-in-Ok-clause-keeps : goal.returns-in-Ok-clause-keeps
-returns-in-Ok-clause-keeps g c = record { script = c.step_main.ensures.script; idle = refl; standing = c.step_main.ensures.stands }
+returns-in-Ok-clause-keeps g c = record { script = c.step_main.ensures.script; idle = refl; constants = c.step_main.ensures.stands }
 
 pub returns-in_default-clause-keeps : goal.returns-in_default-clause-keeps
-returns-in_default-clause-keeps g c = record { script = c.step_main.ensures.script; idle = refl; standing = c.step_main.ensures.stands }
+returns-in_default-clause-keeps g c = record { script = c.step_main.ensures.script; idle = refl; constants = c.step_main.ensures.stands }
 
 pub returns-in-Ok-poll_work-clause-keeps : goal.returns-in-Ok-poll_work-clause-keeps
-returns-in-Ok-poll_work-clause-keeps g c = record { script = refl; idle = refl; standing = c.poll_work.ensures.stands }
+returns-in-Ok-poll_work-clause-keeps g c = record { script = refl; idle = refl; constants = c.poll_work.ensures.stands }
 
 pub returns-in_default-poll_work-clause-keeps : goal.returns-in_default-poll_work-clause-keeps
-returns-in_default-poll_work-clause-keeps g c = record { script = refl; idle = refl; standing = c.poll_work.ensures.stands }
+returns-in_default-poll_work-clause-keeps g c = record { script = refl; idle = refl; constants = c.poll_work.ensures.stands }
 
 pub returns-in-Ok-run_thread-clause-keeps : goal.returns-in-Ok-run_thread-clause-keeps
-returns-in-Ok-run_thread-clause-keeps g c = record { script = refl; idle = refl; standing = c.run_thread.ensures.stands }
+returns-in-Ok-run_thread-clause-keeps g c = record { script = refl; idle = refl; constants = c.run_thread.ensures.stands }
 
 pub returns-in_default-run_thread-clause-keeps : goal.returns-in_default-run_thread-clause-keeps
-returns-in_default-run_thread-clause-keeps g c = record { script = refl; idle = refl; standing = c.run_thread.ensures.stands }
+returns-in_default-run_thread-clause-keeps g c = record { script = refl; idle = refl; constants = c.run_thread.ensures.stands }
 
 pub returns-in-Take-clause-keeps : goal.returns-in-Take-clause-keeps
-returns-in-Take-clause-keeps g c = record { script = refl; idle = refl; standing = ap (λ (st : Store _ _ _). standing st) c.take_entry.ensures.rest }
+returns-in-Take-clause-keeps g c = record { script = refl; idle = refl; constants = ap (λ (st : Store _ _ _). constants st) c.take_entry.ensures.rest }
 
 -- the run isn't over
 pub unreachable-requires : goal.unreachable-requires
