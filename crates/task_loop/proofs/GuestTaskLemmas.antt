@@ -121,7 +121,7 @@ made_asked x i (Some id) s new kept is = kept.same ∙ is
 -- a task that is made in a store that isn't trapped
 open_asked : (x : ExportKind) (i : ℕ) (f : Option QualifiedThreadId) (s t : StateView) (trapped : Bool) → t.core ≡ (if trapped then set_trapped (task_made x i f s) else task_made x i f s) → KeepsFor f s s.tags t.tags → t.core.trapped ≡ false → IsAsked s → IsAsked t
 unfolding set_trapped
-open_asked x i f s t true core kept untrapped is = absurd (let no = sym (ap (λ (u : Core). u.trapped) core) ∙ untrapped in cc)
+open_asked x i f s t true core kept untrapped is = absurd (let no : true ≡ false = sym (ap (λ (u : Core). u.trapped) core) ∙ untrapped in cc)
 open_asked x i f s t false core kept untrapped is = made_asked x i f s t.tags kept is ∙ sym (ap (λ (u : Core). u.groups) core)
 
 pub begun_asked : (x : ExportKind) (i : ℕ) (f : Option QualifiedThreadId) (s t : StateView) (room : Bool) (id : QualifiedThreadId) → Begins x i f s room (Ok id) t → t.core.trapped ≡ false → IsAsked s → IsAsked t
