@@ -85,7 +85,7 @@ unordered p (Stops l new) s r t h = h
 unordered p (Traps why) s r t h = h
 unordered p (Fails i) s r t h = h
 unordered p Never s r t h = h
-unordered p (Ordered ns next) s r t h = (h.0, h.1.0, unordered p (next h.0) s r t (allowed (goes_in_order p h.0) (in_order p (next h.0)) h.1.1))
+unordered p (Ordered ns next) s r t h = (h.0, (h.1.0, unordered p (next h.0) s r t (allowed (goes_in_order p h.0) (in_order p (next h.0)) h.1.1)))
   where
     allowed : (b : Bool) (q : Progress) → Implements (may b q) s r t → Implements q s r t
     allowed true q is = is

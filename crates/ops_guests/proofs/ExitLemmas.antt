@@ -1,4 +1,7 @@
 -- The ends of threads and activations, step by step.
+use Rattle.core_primitives.specs.Changes.{ReleasesHeld}
+use Rattle.core_primitives.specs.Preferences.{preference}
+use Rattle.machine_rules.specs.Picks.{goes_in_order}
 use Rattle.std.proofs.Common.{ap, refl, subst, sym, ◌∙◌}
 use Rattle.std.specs.Option.{option_map_or}
 use Rattle.std.specs.Prelude.{Bool, IsPermutation, List, None, Option, Some, [], false, ℕ, ◌≡◌}

@@ -1,4 +1,5 @@
 -- An op that implements its rule is a step.
+use Rattle.machine_data.specs.Write.{set_high, set_low, set_switch}
 use Rattle.std.proofs.Common.{ap, ap₂, refl, subst, sym, ◌∙◌}
 use Rattle.std.specs.Prelude.{IfSome, None, Option, Some, ℕ, ◌≡◌}
 use Rattle.ops_guests.proofs.CalmLemmas.{picks_implements}
@@ -61,6 +62,10 @@ picking_is_picked p x s n r t at h = record {
       (implements_progresses s s.core n (in_order p (did x.component n s.core (choice_of (label_of n r)))) r t h.order);
 }
 
+if_some : {A : Type 0} (P Q : A → Type 0) → ((a : A) → P a → Q a) → (o : Option A) → IfSome o P → IfSome o Q
+if_some P Q leads None h = tt
+if_some P Q leads (Some a) h = leads a h
+
 -- what a step shows is told by threads, calls, host works and handles alone
 shows_as : (p : Preference) (s t : Core) (l : Label) → t.threads ≡ s.threads → t.calls ≡ s.calls → t.works ≡ s.works → t.handles ≡ s.handles → ShowsFirst p t l → ShowsFirst p s l
 shows_as p s t l threads calls works handles h = record {
@@ -91,12 +96,8 @@ shows_as p s t l threads calls works handles h = record {
     ready x sub = ap₂ (λ m k. is_ready_member x sub (record s { calls = m; works = k })) calls works
 
 -- the taking of an entry moves no thread, no call and no host work
-if_some : {A : Type 0} (P Q : A → Type 0) → ((a : A) → P a → Q a) → (o : Option A) → IfSome o P → IfSome o Q
-if_some P Q leads None h = tt
-if_some P Q leads (Some a) h = leads a h
-
 popped_shows : (p : Preference) (m : Mark) (s : Core) (l : Label) → ShowsFirst p (popped m s) l → ShowsFirst p s l
-unfolding popped
+unfolding popped set_switch set_high set_low
 popped_shows p mark.Switch s l h = shows_as p s (popped mark.Switch s) l refl refl refl refl h
 popped_shows p mark.High s l h = shows_as p s (popped mark.High s) l refl refl refl refl h
 popped_shows p mark.Low s l h = shows_as p s (popped mark.Low s) l refl refl refl refl h

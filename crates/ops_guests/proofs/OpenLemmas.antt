@@ -1,4 +1,6 @@
 -- A blocking export's exit: the instance lets entries in, and the task returns.
+use Rattle.core_primitives.specs.Preferences.{preference}
+use Rattle.machine_rules.specs.Picks.{goes_in_order}
 use Rattle.std.proofs.Common.{ap, refl, subst, sym, ◌∙◌}
 use Rattle.std.specs.Option.{option_map_or}
 use Rattle.std.specs.Prelude.{IfSome, IsPermutation, List, None, Option, Some, [], false, is_some, option_and_then, option_map, true, ℕ, ◌∷◌, ◌≡◌}

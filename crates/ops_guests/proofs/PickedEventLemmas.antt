@@ -103,4 +103,4 @@ given_shows s i n g given.Cancelled is first at = tt
 given_shows s i n (picked_events.Own e) (given.Subtask status h) is first at = absurd (cc)
 given_shows s i n picked_events.Nothing (given.Subtask status h) is first at = absurd (cc)
 given_shows s i n (picked_events.Member sub k) (given.Subtask status h) is first at =
-    subst (λ (j : ℕ). TakesFirst (preference s) s.core j h) at (subst (λ (q : ℕ). TakesFirst (preference s) s.core i q) (sym (same_Some is)) first)
+    subst (λ (j : ℕ). TakesFirst (preference s) s.core j h) at (subst (λ (q : ℕ). TakesFirst (preference s) s.core i q) (sym (same_Some h k is)) first)
