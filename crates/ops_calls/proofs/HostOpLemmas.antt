@@ -1,9 +1,12 @@
 -- What an op leaves that a host had the running thread do.
+use Rattle.core_primitives.specs.Preferences.{preference}
+use Rattle.ops_guests.proofs.CalmLemmas.{picks_implements}
+use Rattle.ops_guests.specs.OpResult.{PicksFirst}
 use Rattle.ops_guests.specs.Does.{Rule, SameNames}
 use Rattle.task_wait.specs.declared.keys.ThreadKey.{ThreadKey}
 use Rattle.task_table.specs.declared.id.TableId.{TableId}
 use Rattle.ops_guests.specs.Ended.{ended}
-use Rattle.ops_dispatch.proofs.EndLemmas.{end_goes, end_implements, end_stays, end_works}
+use Rattle.ops_dispatch.proofs.EndLemmas.{end_goes, end_implements, end_picks, end_stays, end_works}
 use Rattle.std.proofs.Common.{ap, arith, refl, subst, sym, ⊎_elim, ◌∙◌}
 use Rattle.std.specs.Prelude.{IfSome, Option, Some, false, option_map, true, ℕ, ◌≡◌, ◌⊎◌}
 use Rattle.ops_dispatch.specs.ContinuesDispatch.{DoesOp, OpGoesOn, running_of}
@@ -86,9 +89,10 @@ module _ (c : Component) (n : ℕ) (r : OpResult) (s t : StateView) (runs : runn
   from_running P p = subst (λ (o : Option ℕ). IfSome o P) runs p
 
   -- the running thread did the rule
-  pub did_rule : (R : ℕ → Choice → Progress) → NamesTold s t → Implements (R n (choice_of (label_of n r))) s.core r t.core → Did R s r (after r t)
+  pub did_rule : (R : ℕ → Choice → Progress) → NamesTold s t → PicksFirst (preference s) (R n (choice_of (label_of n r))) (label_of n r) s.core r t.core → Did R s r (after r t)
   did_rule R works h = if_running (λ k. Does (R k) k s r (after r t)) (record {
-    implements = subst (λ (u : Core). Implements (R n (choice_of (label_of n r))) s.core r u) (sym (core_then r t)) h;
+    implements = subst (λ (u : Core). Implements (R n (choice_of (label_of n r))) s.core r u) (sym (core_then r t)) (picks_implements h);
+    picks = subst (λ (u : Core). PicksFirst (preference s) (R n (choice_of (label_of n r))) (label_of n r) s.core r u) (sym (core_then r t)) h;
     running = runs_then n r s t runs goes stays;
     stays = stays_then r s t stays;
     works = works_then r s t works;
@@ -114,9 +118,12 @@ module _ (c : Component) (rule : Rule) (id : TableId ThreadKey) (n : ℕ) (r : O
   pub left_met : Implements (rule SomeHost n (choice_of (label_of n r)) s.core) s.core r left.core
   left_met = subst (λ (k : ℕ). Implements (rule SomeHost k (choice_of (label_of k r)) s.core) s.core r left.core) number (end_implements NamesTold rule SomeHost id s t left r did refl)
 
+  left_picks : PicksFirst (preference s) (rule SomeHost n (choice_of (label_of n r)) s.core) (label_of n r) s.core r left.core
+  left_picks = subst (λ (k : ℕ). PicksFirst (preference s) (rule SomeHost k (choice_of (label_of k r)) s.core) (label_of k r) s.core r left.core) number (end_picks NamesTold rule SomeHost id s t left r did refl)
+
   pub left_did : (R : ℕ → Choice → Progress) → ((ch : Choice) → R n ch ≡ rule SomeHost n ch s.core) → Did R s r (left_by (thread_of t id) r t)
   left_did R alike = did_rule c n r s left runs left_runs left_stays R (end_works NamesTold rule SomeHost id s t left r did refl did.kept)
-      (subst (λ (p : Progress). Implements p s.core r left.core) (sym (alike (choice_of (label_of n r)))) left_met)
+      (subst (λ (p : Progress). PicksFirst (preference s) p (label_of n r) s.core r left.core) (sym (alike (choice_of (label_of n r)))) left_picks)
 
   pub left_order : CoreInOrder c (turn_for (runs_after n r)) left.core → CoreInOrder c (turn_in (left_by (thread_of t id) r t)) (left_by (thread_of t id) r t).core
   left_order sits = order_at c n r s left runs left_runs left_stays sits

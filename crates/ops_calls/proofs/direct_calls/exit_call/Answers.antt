@@ -1,3 +1,8 @@
+use Rattle.core_primitives.specs.Preferences.{preference}
+use Rattle.machine_rules.proofs.CalmLemmas.{direct_exit_none}
+use Rattle.machine_rules.specs.Finish.{SomeHost}
+use Rattle.ops_guests.proofs.CalmLemmas.{loose_picks, picks_implements, silent_shows}
+use Rattle.ops_guests.specs.Steps.{label_of}
 use Rattle.std.proofs.Common.{inl, refl, subst, sym, ◌∙◌}
 use Rattle.std.specs.Prelude.{◌<◌}
 use Rattle.ops_calls.proofs.HostOpLemmas.{did_rule}
@@ -51,8 +56,9 @@ returns-in-Traps g c =
         (
           subst (Did (exits_rule c.args.value s.core) s r) (sym back)
               (did_rule c.args.component.now q.number r s s q.runs tt refl (exits_rule c.args.value s.core) (λ id live. inl refl, refl)
+              (loose_picks (preference s) _ (label_of q.number r) s.core r s.core (direct_exit_none SomeHost q.number (set_register q.number 0 c.args.value s.core) _ _) (silent_shows (preference s) s.core (label_of q.number r) (refl, refl))
               (subst (λ k. Implements (direct_exit_rule k (set_register k 0 c.args.value s.core)) s.core r s.core) number
-              (exits_trapped c.in-Some.thread c.args.value s (v c.set_register.new.self) c.set_register.ensures t.core c.in-Traps.trap e.implements))),
+              (exits_trapped c.in-Some.thread c.args.value s (v c.set_register.new.self) c.set_register.ensures t.core c.in-Traps.trap (picks_implements e.picks))))),
           refl,
         ),
       );
