@@ -2,7 +2,8 @@
 use Rattle.core_records.proofs.Core.{ap, ap₂, Bool, Call, call_key, call_of, cond, eq-eqb, eqb-true, false, found_at, get, get-records, IfSome, is_waiter, is_waiting_on, IsSoundCore, item_at, item_in, item_of, key_in, ne_eqb, None, number_of, Ok, Option, option_map, option_map_or, place_at, Placed, record_found, records, refl, same_Some, seen, Some, SoundTable, subst, sym, Table, TableId, Thread, thread_key, thread_of, ThreadKey, true, Work, work_key, work_of, ℕ, ◌<◌, ◌∙◌, ◌≡◌}
 use Rattle.core_records.specs.declared.{call_records.GuestTask.GuestTask, parts.CoreParts.CoreParts, single.Single.Single, thread_records.GuestThread.GuestThread, work_records.WorkRecord.WorkRecord}
 use Rattle.core_queues.proofs.SeatLemmas.{seat_read}
-use Rattle.core_records.proofs.KindLemmas.{item_number, live_found}
+use Rattle.core_records.proofs.Core.{found, number_in as key_number}
+use Rattle.core_records.proofs.KindLemmas.{item_number}
 use Rattle.core_records.proofs.ReadLemmas.{call_shown, thread_shown, work_shown}
 use Rattle.core_places.specs.Picks.{IsLeastMember, IsLeastWaiter, IsWantedMember, IsWantedWaiter, thread_order}
 use Rattle.core_primitives.specs.Names.{number_in, subtask_in}
@@ -17,7 +18,7 @@ use Rattle.machine_data.specs.declared.records.Subtask.{Subtask}
 use Rattle.machine_data.specs.declared.statuses.Status.{Status}
 use Rattle.machine_rules.specs.Picks.{IsFirstMember, IsFirstWaiter, Seats, ThreadSeat, call_seat, member_or, sits_before, subtask_before, thread_before, thread_seat, waiter_or, work_seat}
 use Rattle.std.specs.Ordering.{is_lt, nat_cmp}
-use Rattle.std.specs.Prelude.{◌&&◌, is_some, option_and_then, unwrap_or}
+use Rattle.std.specs.Prelude.{◌&&◌, ◌==◌, is_some, option_and_then, unwrap_or}
 use Rattle.std.proofs.Common.{arith}
 
 module _ {T X : Type 0} (number : T → ℕ) (rec : T → X) (t : Table (Single T)) where
@@ -37,14 +38,22 @@ module _ {T X : Type 0} (number : T → ℕ) (rec : T → X) (t : Table (Single 
       by r None at key = absurd (cc)
       by r (Some q) at key =
           let e = same_Some (number q.entry.item, rec q.entry.item) (n, x) key in
-          (r, q, at, ap (λ (d : ℕ × X). d.0) e, ap (λ (d : ℕ × X). d.1) e)
+          (r, (q, (at, (ap (λ (d : ℕ × X). d.0) e, ap (λ (d : ℕ × X). d.1) e))))
+
+  own_found : (rep serial : ℕ) → 0 < number_of kind_key t rep serial → (p : Placed (Single T)) × (found t rep serial ≡ Some p)
+  unfolding number_of
+  own_found rep serial live = by (found t rep serial) refl live
+    where
+      by : (o : Option (Placed (Single T))) → found t rep serial ≡ o → 0 < key_number (key_in kind_key o) → (p : Placed (Single T)) × (found t rep serial ≡ Some p)
+      by None is live = absurd (omega arith)
+      by (Some p) is live = (p, is)
 
   -- what an id names is at its place
   pub named_there : (rep serial : ℕ) → 0 < number_of kind_key t rep serial → (q : Placed (Single T)) × ((place_at t rep ≡ Some q) × ((Ok q.entry.item ≡ item_at item_of t rep serial) × (number q.entry.item ≡ number_of kind_key t rep serial)))
   named_there rep serial live =
-      let one = live_found number rec t rep serial live in
+      let one = own_found rep serial live in
       let is : Ok one.0.entry.item ≡ item_at item_of t rep serial = sym (ap (item_in item_of) one.1) in
-      (one.0, (found_at t rep serial one.0 one.1).0, is, sym (item_number number rec t rep serial one.0.entry.item is))
+      (one.0, ((found_at t rep serial one.0 one.1).0, (is, sym (item_number number rec t rep serial one.0.entry.item is))))
 
 module _ (a : CoreParts) (sound : IsSoundCore a) where
   abbrev seats : Seats
@@ -79,7 +88,7 @@ module _ (a : CoreParts) (sound : IsSoundCore a) where
       by None is waits = absurd (cc)
       by (Some t) is waits =
           let one = found_there (λ (g : GuestThread). g.number) (λ (g : GuestThread). g.thread) a.threads n t is in
-          (one.0, one.1.0, one.1.1.0, one.1.1.1.0, ap (λ (d : Thread). is_waiting_on x d.place) one.1.1.1.1 ∙ waits)
+          (one.0, (one.1.0, (one.1.1.0, (one.1.1.1.0, ap (λ (d : Thread). is_waiting_on x d.place) one.1.1.1.1 ∙ waits))))
 
   pub least_first : (x : ℕ) (id : TableId ThreadKey) → 0 < thread_of (seen a) id → IsLeastWaiter a x id → (n : ℕ) → is_waiter x n (seen a).core ≡ true → thread_before seats n (thread_of (seen a) id) ≡ false
   least_first x id live least n waits =
@@ -121,15 +130,15 @@ module _ (a : CoreParts) (sound : IsSoundCore a) where
 
   -- ---- Ready members
 
-  ready_of : (x : ℕ) (j : Join) (e : Option Status) → is_in_set x j && is_some e ≡ true → ready_in e j ≡ Some x
+  ready_of : (x : ℕ) (j : Join) (e : Option Status) → (is_in_set x j && is_some e) ≡ true → ready_in e j ≡ Some x
   ready_of x (Join.Set y) (Some e) is = by (x == y) refl is
     where
-      by : (b : Bool) → (x == y) ≡ b → b && true ≡ true → ◌≡◌ {A = Option ℕ} (Some y) (Some x)
+      by : (b : Bool) → (x == y) ≡ b → (b && true) ≡ true → ◌≡◌ {A = Option ℕ} (Some y) (Some x)
       by true same is = ap (λ z. Some z) (sym (eqb-true x y same))
       by false same is = absurd (cc)
   ready_of x (Join.Set y) None is = absurd (none (x == y) is)
     where
-      none : (b : Bool) → b && false ≡ true → ⊥
+      none : (b : Bool) → (b && false) ≡ true → ⊥
       none true e = absurd (cc)
       none false e = absurd (cc)
   ready_of x Join.Nowhere e is = absurd (cc)
@@ -139,21 +148,21 @@ module _ (a : CoreParts) (sound : IsSoundCore a) where
   unfolding seen
   ready_call_there x k ready = by (get (records call_key a.calls.places) k) refl ready
     where
-      by : (o : Option Call) → get (records call_key a.calls.places) k ≡ o → is_in_set x (option_map_or (λ (c : Call). c.join) o Join.Nowhere) && is_some (option_and_then (λ (c : Call). c.event) o) ≡ true → (r : ℕ) × ((q : Placed (Single GuestTask)) × ((place_at a.calls r ≡ Some q) × ((q.entry.item.number ≡ k) × (ready_in q.entry.item.call.event q.entry.item.call.join ≡ Some x))))
+      by : (o : Option Call) → get (records call_key a.calls.places) k ≡ o → (is_in_set x (option_map_or (λ (c : Call). c.join) o Join.Nowhere) && is_some (option_and_then (λ (c : Call). c.event) o)) ≡ true → (r : ℕ) × ((q : Placed (Single GuestTask)) × ((place_at a.calls r ≡ Some q) × ((q.entry.item.number ≡ k) × (ready_in q.entry.item.call.event q.entry.item.call.join ≡ Some x))))
       by None is ready = absurd (cc)
       by (Some c) is ready =
           let one = found_there (λ (g : GuestTask). g.number) (λ (g : GuestTask). g.call) a.calls k c is in
-          (one.0, one.1.0, one.1.1.0, one.1.1.1.0, ap (λ (d : Call). ready_in d.event d.join) one.1.1.1.1 ∙ ready_of x c.join c.event ready)
+          (one.0, (one.1.0, (one.1.1.0, (one.1.1.1.0, ap (λ (d : Call). ready_in d.event d.join) one.1.1.1.1 ∙ ready_of x c.join c.event ready))))
 
   ready_work_there : (x i : ℕ) → is_ready_member x (Subtask.Host i) (seen a).core ≡ true → (r : ℕ) × ((q : Placed (Single WorkRecord)) × ((place_at a.works r ≡ Some q) × ((q.entry.item.number ≡ i) × (ready_in q.entry.item.work.event q.entry.item.work.join ≡ Some x))))
   unfolding seen
   ready_work_there x i ready = by (get (records work_key a.works.places) i) refl ready
     where
-      by : (o : Option Work) → get (records work_key a.works.places) i ≡ o → is_in_set x (option_map_or (λ (w : Work). w.join) o Join.Nowhere) && is_some (option_and_then (λ (w : Work). w.event) o) ≡ true → (r : ℕ) × ((q : Placed (Single WorkRecord)) × ((place_at a.works r ≡ Some q) × ((q.entry.item.number ≡ i) × (ready_in q.entry.item.work.event q.entry.item.work.join ≡ Some x))))
+      by : (o : Option Work) → get (records work_key a.works.places) i ≡ o → (is_in_set x (option_map_or (λ (w : Work). w.join) o Join.Nowhere) && is_some (option_and_then (λ (w : Work). w.event) o)) ≡ true → (r : ℕ) × ((q : Placed (Single WorkRecord)) × ((place_at a.works r ≡ Some q) × ((q.entry.item.number ≡ i) × (ready_in q.entry.item.work.event q.entry.item.work.join ≡ Some x))))
       by None is ready = absurd (cc)
       by (Some w) is ready =
           let one = found_there (λ (g : WorkRecord). g.number) (λ (g : WorkRecord). g.work) a.works i w is in
-          (one.0, one.1.0, one.1.1.0, one.1.1.1.0, ap (λ (d : Work). ready_in d.event d.join) one.1.1.1.1 ∙ ready_of x w.join w.event ready)
+          (one.0, (one.1.0, (one.1.1.0, (one.1.1.1.0, ap (λ (d : Work). ready_in d.event d.join) one.1.1.1.1 ∙ ready_of x w.join w.event ready))))
 
   call_sits : (r : ℕ) (q : Placed (Single GuestTask)) → place_at a.calls r ≡ Some q → call_seat seats q.entry.item.number ≡ q.entry.item.entry
   unfolding seen IsSoundCore
