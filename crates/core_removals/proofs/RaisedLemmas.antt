@@ -19,7 +19,7 @@ use Rattle.core_places.proofs.WantedLemmas.{found_there, ordered_there}
 use Rattle.core_primitives.specs.Preferences.{preference}
 use Rattle.core_records.proofs.Core.{instance_of, IsSoundCore, IsUnqueued, map, on_core, place_at, Placed, records, seen, StateView, TableId, thread_key, ThreadKey, with_core, ◌⊎◌}
 use Rattle.core_primitives.specs.Changes.{ReleasesHeld}
-use Rattle.core_primitives.specs.StateView.{thread_number}
+use Rattle.core_primitives.specs.StateView.{thread_number, thread_of}
 use Rattle.table_lists.specs.Members.{is_held_in}
 use Rattle.core_records.specs.declared.{parts.CoreParts.CoreParts, single.Single.Single, thread_records.GuestThread.GuestThread}
 use Rattle.core_removals.specs.Order.{AreInOrder, NotBefore}

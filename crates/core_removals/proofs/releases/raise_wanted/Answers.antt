@@ -1,4 +1,4 @@
-use Rattle.core_records.proofs.Core.{refl, ◌∙◌}
+use Rattle.core_records.proofs.Core.{refl, seen, ◌∙◌}
 use Rattle.core_removals.proofs.RaisedLemmas.{all_raised, next_raised, wanted_bound}
 use Rattle.core_removals.proofs.releases.raise_wanted.Goals as goal
 use Rattle.std.proofs.Common.{arith}

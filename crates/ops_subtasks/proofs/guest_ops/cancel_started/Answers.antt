@@ -8,7 +8,7 @@ use Rattle.ops_subtasks.proofs.guest_ops.cancel_started.Goals as goal
 use Rattle.ops_subtasks.specs.Refused.{mode_of}
 use Rattle.machine_data.specs.Read.{is_callback_yield}
 use Rattle.ops_guests.proofs.DoesLemmas.{calm_same}
-use Rattle.machine_rules.specs.Cancels.{is_callback_wait}
+use Rattle.machine_rules.specs.Cancels.{cancel_case, is_callback_wait}
 use Rattle.core_primitives.specs.StateView.{StateView, call_of, thread_of}
 
 pub wake_callback-requires-clause-first : goal.wake_callback-requires-clause-first

@@ -1,3 +1,4 @@
+use Rattle.machine_data.specs.declared.records.OpProgress.TheVariants as op_progress
 use Rattle.machine_rules.proofs.CalmLemmas.{cancel_calm}
 use Rattle.std.proofs.Common.{ap, refl, ◌∙◌}
 use Rattle.ops_subtasks.proofs.ResumeLemmas.{awaits_implements, awaits_trap}

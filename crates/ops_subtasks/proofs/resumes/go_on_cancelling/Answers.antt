@@ -1,3 +1,4 @@
+use Rattle.machine_data.specs.declared.records.OpProgress.TheVariants as op_progress
 use Rattle.machine_rules.proofs.CalmLemmas.{cancel_calm}
 use Rattle.std.proofs.Common.{None, ap, subst, sym, ◌∙◌}
 use Rattle.ops_subtasks.proofs.EndLemmas.{finished, refused_on, trapped_implements}
