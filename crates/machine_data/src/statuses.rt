@@ -37,7 +37,8 @@ impl Status {
     /// Returns the number that a guest's call answers for a subtask with this status: the waitable's handle times 16, plus the
     /// status.
     ///
-    /// A subtask that has returned has no waitable, and every other has one, whose handle is below 2^28. The form is that of the component model's public standard. It takes no memory.
+    /// A subtask that has returned has no waitable, and every other has one, whose handle is below 2^28. The form is that of the
+    /// component model's public standard. It takes no memory.
     pub fn pack(self, waitable: Option<u32>) -> u32
         requires returned { (waitable ≡ None) ↔ (self ≡ Status.Returned) }
         requires handle { IfSome waitable (λ handle. handle < 268435456) }

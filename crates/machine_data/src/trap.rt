@@ -41,7 +41,7 @@ pub enum Trap {
     HandleLimit,
     /// No further entries fit into the resource table.
     TableFull,
-    /// A task ended while it still lends something.
+    /// A task ended while it still holds borrows.
     ScopeExit,
     /// A call into a store that is trapped.
     CannotEnterComponent,

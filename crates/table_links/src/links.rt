@@ -55,7 +55,8 @@ pub(crate) struct LinkCell<P> {
 
 /// Lists over nodes that were made before: a finite map from chains to lists of nodes with values, and the nodes that are in none.
 ///
-/// Chains and nodes have numbers from one range, and a number that was given back is given again. Each call works in constant time, but for the growth of the whole, and takes no memory but where it says so.
+/// Chains and nodes have numbers from one range, and a number that was given back is given again. Each call works in constant time,
+/// but for the growth of the whole, and takes no memory but where it says so.
 #[derive(Drop)]
 pub struct Links<P> {
     cells: Vec<LinkCell<P>>,

@@ -4,9 +4,9 @@
 //! level is in the order of chains and order keys. So among up to 262,144 nodes a place is found past some fifty nodes and skip
 //! nodes, however many of them are in its chain. Above that the third level grows by a skip node for each 16,384 nodes, and is
 //! passed one by one: among 1,000,000 nodes some 60 at most. A level is left after 1,024 skip nodes, and a place that is further on
-//! is looked for from the end of its chain. Few nodes have skip nodes since threads that are held in their order need none, and each of them would enter and
-//! leave its levels. Nothing rests on the skip lists: who asks them tests the answer, and if it is out of memory a node has no skip
-//! node. The first 64 names have none, as short chains need no skip list.
+//! is looked for from the end of its chain. Few nodes have skip nodes since threads that are held in their order need none, and
+//! each of them would enter and leave its levels. Nothing rests on the skip lists: who asks them tests the answer, and if it is out
+//! of memory a node has no skip node. The first 64 names have none, as short chains need no skip list.
 ghost use Rattle.std.specs.Prelude.{IfSome, IsSome};
 ghost use Rattle.table_links.specs.Links.{link_of};
 

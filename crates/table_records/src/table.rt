@@ -13,9 +13,12 @@ use std::alloc::{AllocError, Global};
 use std::marker::Model;
 use task_table::{Kind, PushError, ResourceTableError, TableId};
 
-/// Records, which may be copied and have no parents. Each call answers as that of a `ResourceTable` of 4,294,967,295 places whose entries have no parents, and costs less.
+/// Records, which may be copied and have no parents. Each call answers as that of a `ResourceTable` of 4,294,967,295 places whose
+/// entries have no parents, and costs less.
 ///
-/// A place is given again, the one freed last first; a serial never is. An id finds the entry at its place where that has its serial. A deleted entry stays in memory until its place is given again. A refused call leaves the table as it was. Each call works in constant time, but for a push that makes room and for the walk of `iter`.
+/// A place is given again, the one freed last first; a serial never is. An id finds the entry at its place where that has its
+/// serial. A deleted entry stays in memory until its place is given again. A refused call leaves the table as it was. Each call
+/// works in constant time, but for a push that makes room and for the walk of `iter`.
 #[derive(Drop)]
 pub struct RecordTable<E> {
     rows: Vec<RecordRow<E>>,
@@ -145,7 +148,8 @@ impl<E: Copy> RecordTable<E> {
 
     /// Puts an item into the table, at the place freed last, else at a new one, and under a serial that was never given.
     ///
-    /// It is `Full` exactly where no place is free and 4,294,967,295 places are made, or where 2^64 - 1 serials were given. A refused item comes back.
+    /// It is `Full` exactly where no place is free and 4,294,967,295 places are made, or where 2^64 - 1 serials were given. A
+    /// refused item comes back.
     #[inline(always)]
     pub fn push<K: Kind<E>>(&mut self, item: K::Item) -> Result<TableId<K>, PushError<K::Item>>
         ensures rep { IfOk result (λ id. id.rep ≡ next_place self.old) }

@@ -16,7 +16,8 @@ use std::marker::Model;
 
 /// The live groups of a store, with the number of tasks in each, and who is told of them.
 ///
-/// A group is live from `make` until its count is 0. Then it is finished, and each later call passes it over. The calls take time that grows with the logarithm of the number of live groups, `clean_up` with that number.
+/// A group is live from `make` until its count is 0. Then it is finished, and each later call passes it over. The calls take time
+/// that grows with the logarithm of the number of live groups, `clean_up` with that number.
 ///
 /// `H` is the hook's type. Groups without a hook are `Groups`, and those with a boxed one `Groups<Box<MyHook>>`.
 #[derive(Drop)]
@@ -73,7 +74,8 @@ impl<H: TaskGroupHook> Groups<H> {
 
     /// Makes a group with one task, after the hook was told of its start. At most 2^61 groups are made.
     ///
-    /// `NoMemory` where there is none for it, with all as before; `HookFailed` exactly where the hook answered an error, and then there is no such group, but the hook was told.
+    /// `NoMemory` where there is none for it, with all as before; `HookFailed` exactly where the hook answered an error, and then
+    /// there is no such group, but the hook was told.
     pub fn make(&mut self) -> Result<TaskGroupId, GroupError>
         requires { self.old.made < 2 ^ 61 }
         ensures id { IfOk result (λ id. id.number ≡ self.old.made + 1) }
@@ -311,7 +313,8 @@ impl<H: TaskGroupHook> Groups<H> {
         Ok(())
     }
 
-    /// Finishes all groups, in time that grows with their number: the hook is told of the exit from the current group, unless it is finished, and then of the finish of each live group in order of number. Errors of the hook are passed over.
+    /// Finishes all groups, in time that grows with their number: the hook is told of the exit from the current group, unless it is
+    /// finished, and then of the finish of each live group in order of number. Errors of the hook are passed over.
     pub fn clean_up(&mut self, current: Option<TaskGroupId>)
         ensures live { self.new.live ≡ finite.empty }
         ensures made { self.new.made ≡ self.old.made }

@@ -6,7 +6,8 @@ use machine_data::NoticeKind;
 
 /// What a store's owner hands in to be told of groups. An error that it answers refuses the call that told it.
 ///
-/// Its meaning is the list of the notices that it was told, where it tells that, that of what it answered to each, where it tells that, and the number of errors that it answered. A hook that has answered 18446744073709551615 errors answers `Ok` from then on.
+/// Its meaning is the list of the notices that it was told, where it tells that, that of what it answered to each, where it tells
+/// that, and the number of errors that it answered. A hook that has answered 18446744073709551615 errors answers `Ok` from then on.
 pub trait TaskGroupHook: Drop {
     ghost heard: { Self → Heard };
 

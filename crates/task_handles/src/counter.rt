@@ -50,7 +50,8 @@ impl HandleCounter {
         self.live
     }
 
-    /// Sets the limit, which is at most `MAX_HANDLES`. A lowered limit blocks new handles only: those that are live stay so, also where they are more than it allows.
+    /// Sets the limit, which is at most `MAX_HANDLES`. A lowered limit blocks new handles only: those that are live stay so, also
+    /// where they are more than it allows.
     pub fn set_limit(&mut self, limit: u32)
         requires { limit ≤ MAX_HANDLES }
         ensures { self.new ≡ record self.old { limit = limit } }

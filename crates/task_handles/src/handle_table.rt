@@ -11,9 +11,11 @@ use std::marker::Model;
 
 /// The handles by which the guest of one instance names subtasks and waitable sets.
 ///
-/// Handles run from 1 to `MAX_HANDLES`. A handle that was removed is given again, the one freed last first; only where none is free is a new one made. Each call takes constant time, but for the growth of the list.
+/// Handles run from 1 to `MAX_HANDLES`. A handle that was removed is given again, the one freed last first; only where none is free
+/// is a new one made. Each call takes constant time, but for the growth of the list.
 ///
-/// The table doesn't know its counter: each call that makes or removes a handle is given the one that counts the table's live handles, as the handle tables of a store's instances share one limit.
+/// The table doesn't know its counter: each call that makes or removes a handle is given the one that counts the table's live
+/// handles, as the handle tables of a store's instances share one limit.
 #[derive(Drop)]
 pub struct HandleTable {
     slots: Slots<HeldItem>,
@@ -44,7 +46,8 @@ impl HandleTable {
 
     /// Gives a handle to a guest subtask, which `rep` names in the table of entries, and counts it.
     ///
-    /// `Limit` exactly where as many handles are live as the counter's limit, or more; this is tested before memory is asked for. `NoMemory` where the list can't grow. After an error table and counter are as before.
+    /// `Limit` exactly where as many handles are live as the counter's limit, or more; this is tested before memory is asked for.
+    /// `NoMemory` where the list can't grow. After an error table and counter are as before.
     pub fn subtask_insert_guest(
         &mut self,
         counter: &mut HandleCounter,
@@ -62,7 +65,8 @@ impl HandleTable {
 
     /// Gives a handle to a host subtask, which `rep` names in the table of entries, and counts it.
     ///
-    /// `Limit` exactly where as many handles are live as the counter's limit, or more; this is tested before memory is asked for. `NoMemory` where the list can't grow. After an error table and counter are as before.
+    /// `Limit` exactly where as many handles are live as the counter's limit, or more; this is tested before memory is asked for.
+    /// `NoMemory` where the list can't grow. After an error table and counter are as before.
     pub fn subtask_insert_host(
         &mut self,
         counter: &mut HandleCounter,
@@ -80,7 +84,8 @@ impl HandleTable {
 
     /// Gives a handle to a waitable set, which `rep` names in the table of entries, and counts it.
     ///
-    /// `Limit` exactly where as many handles are live as the counter's limit, or more; this is tested before memory is asked for. `NoMemory` where the list can't grow. After an error table and counter are as before.
+    /// `Limit` exactly where as many handles are live as the counter's limit, or more; this is tested before memory is asked for.
+    /// `NoMemory` where the list can't grow. After an error table and counter are as before.
     pub fn waitable_set_insert(
         &mut self,
         counter: &mut HandleCounter,
@@ -168,7 +173,8 @@ impl HandleTable {
         }
     }
 
-    /// Takes back the handle of a subtask, so that the number may be given again, and no longer counts it. Answers which subtask it named, and whether a host's.
+    /// Takes back the handle of a subtask, so that the number may be given again, and no longer counts it. Answers which subtask it
+    /// named, and whether a host's.
     ///
     /// `BadHandle` exactly where no live handle of a subtask has this number; then table and counter are as before.
     pub fn subtask_remove(

@@ -11,7 +11,8 @@ use std::marker::Model;
 
 /// The handles by which the guest of one instance names threads, in numbers of their own.
 ///
-/// The rules are those of `HandleTable`: handles run from 1 to `MAX_HANDLES`, the one freed last is given first, and a shared counter counts those that are live.
+/// The rules are those of `HandleTable`: handles run from 1 to `MAX_HANDLES`, the one freed last is given first, and a shared
+/// counter counts those that are live.
 #[derive(Drop)]
 pub struct ThreadHandleTable {
     slots: Slots<Rep>,
@@ -42,7 +43,8 @@ impl ThreadHandleTable {
 
     /// Gives a handle to a thread, which `rep` names in the table of entries, and counts it.
     ///
-    /// `Limit` exactly where as many handles are live as the counter's limit, or more; this is tested before memory is asked for. `NoMemory` where the list can't grow. After an error table and counter are as before.
+    /// `Limit` exactly where as many handles are live as the counter's limit, or more; this is tested before memory is asked for.
+    /// `NoMemory` where the list can't grow. After an error table and counter are as before.
     pub fn guest_thread_insert(
         &mut self,
         counter: &mut HandleCounter,

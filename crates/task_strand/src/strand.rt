@@ -13,7 +13,8 @@ pub const MAX_FRAMES: u32 = 4_294_967_295;
 
 /// The frames of a call that has stopped, from the foot, which was pushed first, to the top, which was pushed last.
 ///
-/// A strand can't be let go: it is spent by `dispose`, or by `finish` once it has no frame left. Each call but `dispose` takes constant time, but for the growth of the list.
+/// A strand can't be let go: it is spent by `dispose`, or by `finish` once it has no frame left. Each call but `dispose` takes
+/// constant time, but for the growth of the list.
 pub struct Strand {
     frames: Vec<Frame>,
 }

@@ -16,7 +16,8 @@ use crate::place::{TableCell, TakenCell, fill, link, reserve, slot_in, unlink, v
 use std::alloc::{AllocError, Global};
 use std::marker::Model;
 
-/// Entries of several kinds, as the calls, threads, sets and works of a store: a finite map from ids to entries, with a list of free places.
+/// Entries of several kinds, as the calls, threads, sets and works of a store: a finite map from ids to entries, with a list of
+/// free places.
 ///
 /// Contracts see what is at each place, the free places from the one freed last on, how many serials were given, and the capacity.
 /// A place is given again, the one freed last first; a serial never is, so an id that was deleted finds nothing from then on. An
@@ -200,7 +201,8 @@ impl<E> ResourceTable<E> {
 
     /// Puts an item into the table, at the place freed last, else at a new one, and under a serial that was never given.
     ///
-    /// It is `Full` exactly where no place is free and the places made are at least the capacity, or where 2^64 - 1 serials were given. A refused item comes back.
+    /// It is `Full` exactly where no place is free and the places made are at least the capacity, or where 2^64 - 1 serials were
+    /// given. A refused item comes back.
     #[inline(always)]
     pub fn push<K: Kind<E>>(&mut self, item: K::Item) -> Result<TableId<K>, PushError<K::Item>>
         ensures rep { IfOk result (λ id. id.rep ≡ next_place self.old) }
@@ -238,7 +240,8 @@ impl<E> ResourceTable<E> {
         Ok(TableId::new(rep, serial))
     }
 
-    /// Takes the entry with this id out of the table, and gives its item. Its place is the next to be given, and its parent no longer counts it.
+    /// Takes the entry with this id out of the table, and gives its item. Its place is the next to be given, and its parent no
+    /// longer counts it.
     ///
     /// It is refused as `get` is, and then with `HasChildren` where an entry still has this one as its parent.
     pub fn delete<K: Kind<E>>(&mut self, id: TableId<K>) -> Result<K::Item, ResourceTableError>
@@ -344,7 +347,8 @@ impl<E> ResourceTable<E> {
 
     /// Takes an entry from its parent.
     ///
-    /// `NotPresent` where either is absent, else `WrongType` where either is of another kind, else `NotPresent` where the child is not that parent's.
+    /// `NotPresent` where either is absent, else `WrongType` where either is of another kind, else `NotPresent` where the child is
+    /// not that parent's.
     pub fn remove_child<C: Kind<E>, P: Kind<E>>(
         &mut self,
         child: TableId<C>,
