@@ -167,7 +167,7 @@ TurnStepIn p x s q l t = TurnStep x s q l t
 unfoldable pub StepIn : Preference → Setting → State → Label → State → Type 0
 StepIn p x s l t = TurnStepIn p x s s.turn l t
 
--- the row releases no thread
+-- the rule releases no thread
 abbrev pub ReleasesNone : Progress → Type 0
 ReleasesNone (Ordered ns next) = ⊥
 ReleasesNone (Asks next) = (answer : HostPoll) → ReleasesNone (next answer)
