@@ -1,7 +1,7 @@
 ghost use Rattle.std.specs.Prelude.{◌≡◌, ◌↔◌, ◌<◌, ◌≤◌, ◌+◌, ◌-◌, ◌==◌, if◌then◌else◌, false, Ok, Some, None, IsOk, IsSome, is_some, length, true, IfSome, IfOk, IfErr, OnOk, OnErr};
 ghost use Rattle.std.specs.Option.{option_and_then, option_copied, option_map};
 ghost use Rattle.std.specs.Borrow.{sem};
-ghost use Rattle.task_table.specs.TableAnswers.{item_at, deletion, result_copied, result_copied_mut};
+ghost use Rattle.task_table.specs.TableAnswers.{item_at, deletion, result_copied, result_copied_mut, RefusesItem};
 ghost use Rattle.task_table.specs.Changes.{Adds, Removes, next_place, pushed, deleted, with_capacity};
 ghost use Rattle.task_table.specs.Entries.{entries};
 ghost use Rattle.table_records.specs.Rows.{row_placed};
@@ -158,8 +158,7 @@ impl<E: Copy> RecordTable<E> {
         ensures added { IfOk result (λ id. Adds self.old self.new id.rep id.serial (K.entry_of item)) }
         ensures room { OnOk result (is_full self.old ≡ false) }
 
-        ensures why { IfErr result (λ refused. refused.why ≡ (if is_full self.old then ResourceTableError.Full else ResourceTableError.NoMemory)) }
-        ensures item { IfErr result (λ refused. refused.item ≡ item) }
+        ensures refused { IfErr result (λ refused. RefusesItem self.old item refused) }
         ensures err { OnErr result (self.new ≡ self.old) }
         ensures sound { IsTable self.new }
     {

@@ -1,9 +1,10 @@
 -- What the calls of a `ResourceTable` answer.
-use Rattle.std.specs.Prelude.{ℕ, ◌&&◌, nat_lt, if◌then◌else◌, Bool, Option, Some, None, Result, Ok, Err, is_some, ok_or}
+use Rattle.task_table.specs.declared.error.PushError.{PushError}
+use Rattle.std.specs.Prelude.{ℕ, ◌&&◌, nat_lt, if◌then◌else◌, Bool, Option, Some, None, Result, Ok, Err, is_some, ok_or, ◌≡◌}
 use Rattle.std.specs.Borrow.{Bor, MutBor}
-use Rattle.task_table.specs.Table.{Table, Placed, found, children_of, is_number}
+use Rattle.task_table.specs.Table.{Table, Placed, found, children_of, is_number, is_full}
 use Rattle.task_table.specs.declared.error.ResourceTableError.{ResourceTableError}
-use Rattle.task_table.specs.declared.error.ResourceTableError.TheVariants.{NotPresent, WrongType, HasChildren}
+use Rattle.task_table.specs.declared.error.ResourceTableError.TheVariants.{Full, HasChildren, NoMemory, NotPresent, WrongType}
 
 -- what the reference in an `Ok` points to
 abbrev pub result_copied : {Item X : Type 0} → Result (Bor Item) X → Result Item X
@@ -55,3 +56,8 @@ module _ {E C P : Type 0} where
   abbrev pub unlink_refusal : (E → Option C) → (E → Option P) → Table E → (child serial parent parent_serial : ℕ) → Option ResourceTableError
   unlink_refusal child_in parent_in t child serial parent parent_serial =
       or_not_child (pair_refusal child_in parent_in (found t child serial) (found t parent parent_serial)) (is_number parent (parent_of (found t child serial)))
+
+-- The item comes back: the table was full, or else there was no memory for it.
+pub record RefusesItem {E Item : Type 0} (t : Table E) (given : Item) (refused : PushError Item) : Type 0 where
+  pub why : refused.why ≡ (if is_full t then Full else NoMemory)
+  pub item : refused.item ≡ given

@@ -2,7 +2,7 @@ ghost use Rattle.std.specs.Prelude.{◌≡◌, ◌↔◌, ◌<◌, ◌≤◌, �
 ghost use Rattle.std.specs.Option.{option_and_then, option_copied, option_map};
 ghost use Rattle.std.specs.Result.{result_err};
 ghost use Rattle.std.specs.Borrow.{sem};
-ghost use Rattle.task_table.specs.TableAnswers.{item_at, deletion, pair_refusal, parent_of, result_copied, result_copied_mut, unlink_refusal};
+ghost use Rattle.task_table.specs.TableAnswers.{item_at, deletion, pair_refusal, parent_of, result_copied, result_copied_mut, unlink_refusal, RefusesItem};
 ghost use Rattle.task_table.specs.Changes.{Adds, Removes, next_place, pushed, deleted, with_parent, with_capacity};
 ghost use Rattle.task_table.specs.TableCells.{placed};
 ghost use Rattle.task_table.specs.Entries.{entries};
@@ -211,8 +211,7 @@ impl<E> ResourceTable<E> {
         ensures added { IfOk result (λ id. Adds self.old self.new id.rep id.serial (K.entry_of item)) }
         ensures room { OnOk result (is_full self.old ≡ false) }
 
-        ensures why { IfErr result (λ refused. refused.why ≡ (if is_full self.old then ResourceTableError.Full else ResourceTableError.NoMemory)) }
-        ensures item { IfErr result (λ refused. refused.item ≡ item) }
+        ensures refused { IfErr result (λ refused. RefusesItem self.old item refused) }
         ensures err { OnErr result (self.new ≡ self.old) }
         ensures sound { IsTable self.new }
     {

@@ -1,4 +1,5 @@
 //! Scenarios that are driven in a store with a hook.
+ghost use Rattle.tests_hosts.specs.Hooks.{counting};
 ghost use Rattle.std.specs.Prelude.{◌≡◌, None, false, is_ok, length, true};
 ghost use Rattle.store_works.specs.KeptWorks.{HoldsNone};
 ghost use Rattle.task_group.specs.Heard.{Tells, notice_of};
@@ -52,7 +53,7 @@ pub(crate) struct Recorder<'a> {
 
 impl Recorder<'_> {
     fn answer(&mut self, kind: NoticeKind, id: TaskGroupId) -> Result<(), HookError>
-        ensures { Tells (notice_of kind id) (record { told = None; answers = None; errors = self.old.errors }) (record { told = None; answers = None; errors = self.new.errors }) (is_ok result) }
+        ensures { Tells (notice_of kind id) (counting self.old.errors) (counting self.new.errors) (is_ok result) }
     {
         let notice = written(kind).wrapping_add(id.number);
         let before = self.told.get().wrapping_mul(100);

@@ -1,9 +1,8 @@
-ghost use Rattle.std.specs.Prelude.{◌≡◌, [], ◌∷◌, Some, None};
+ghost use Rattle.tests_runs.specs.StagedLog.{aborters, log_by_stages, own_calls};
+ghost use Rattle.std.specs.Prelude.{◌≡◌, None};
 ghost use Rattle.task_abort.specs.Cells.{handle_cell, pass_cell, work_cell};
-ghost use Rattle.task_abort.specs.PhaseLog.{entry};
-ghost use Rattle.task_abort.specs.Staged.{made, staged};
+ghost use Rattle.task_abort.specs.Staged.{staged};
 ghost use Rattle.machine_data.specs.declared.statuses.Phase.TheVariants.{Running, AbortRequested};
-ghost use Rattle.task_abort.specs.declared.log.PhaseCall.TheVariants.{Abort, PollFuture, PollHandle, Finish};
 
 use futures::Future;
 use futures::executor::block_on;
@@ -255,9 +254,5 @@ fn a_pass_that_met_all_knows_all_callers(rt: HostRuntime) {
 
 /// A log put together by stages: the pending poll before the last round is entered as one of a running work.
 fn staged_example()
-    ensures { staged
-        (made PollFuture (Some Running) ∷ made PollHandle None ∷ made PollFuture (Some AbortRequested) ∷ made PollHandle None ∷ made Finish (Some AbortRequested) ∷ [])
-        ((1, Running ∷ []) ∷ (3, AbortRequested ∷ []) ∷ []) 2
-        ≡ entry 0 PollFuture Running ∷ entry 0 PollHandle Running ∷ entry 1 Abort Running ∷ entry 3 Abort AbortRequested
-        ∷ entry 0 PollFuture AbortRequested ∷ entry 0 PollHandle AbortRequested ∷ entry 0 Finish AbortRequested ∷ [] }
+    ensures { staged own_calls aborters 2 ≡ log_by_stages }
 {}

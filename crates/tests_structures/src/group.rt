@@ -1,3 +1,4 @@
+ghost use Rattle.tests_structures.specs.Hooks.{counting};
 ghost use Rattle.std.specs.Prelude.{◌≡◌, None, is_ok, true};
 ghost use Rattle.task_group.specs.Heard.{Tells, notice_of};
 
@@ -34,7 +35,7 @@ struct Recorder<'a> {
 
 impl Recorder<'_> {
     fn answer(&mut self, kind: NoticeKind, id: TaskGroupId) -> Result<(), HookError>
-        ensures { Tells (notice_of kind id) (record { told = None; answers = None; errors = self.old.errors }) (record { told = None; answers = None; errors = self.new.errors }) (is_ok result) }
+        ensures { Tells (notice_of kind id) (counting self.old.errors) (counting self.new.errors) (is_ok result) }
     {
         let kind = written(kind);
         let notice = kind.wrapping_mul(10).wrapping_add(id.number);
