@@ -128,6 +128,14 @@ once_raised i (n ∷ ns) s = by (is_admitted i s n) refl
         )
     by false is = once_raised i ns s
 
+has_both : (n : ℕ) (xs ys : List ℕ) → has n (xs ++ ys) ≡ (has n xs || has n ys)
+has_both n [] ys = refl
+has_both n (x ∷ xs) ys = ap (λ b. (n == x) || b) (has_both n xs ys) ∙ or_assoc (n == x) (has n xs) (has n ys)
+  where
+    or_assoc : (a b c : Bool) → (a || (b || c)) ≡ ((a || b) || c)
+    or_assoc true b c = refl
+    or_assoc false b c = refl
+
 once_both : (xs ys : List ℕ) → Once xs → Once ys → ((n : ℕ) → has n xs ≡ true → has n ys ≡ false) → Once (xs ++ ys)
 once_both [] ys x y apart = y
 once_both (x ∷ xs) ys once y apart = (
@@ -138,14 +146,6 @@ once_both (x ∷ xs) ys once y apart = (
     or_left_true : (b c : Bool) → c ≡ true → (b || c) ≡ true
     or_left_true true c is = refl
     or_left_true false c is = is
-
-has_both : (n : ℕ) (xs ys : List ℕ) → has n (xs ++ ys) ≡ (has n xs || has n ys)
-has_both n [] ys = refl
-has_both n (x ∷ xs) ys = ap (λ b. (n == x) || b) (has_both n xs ys) ∙ or_assoc (n == x) (has n xs) (has n ys)
-  where
-    or_assoc : (a b c : Bool) → (a || (b || c)) ≡ ((a || b) || c)
-    or_assoc true b c = refl
-    or_assoc false b c = refl
 
 admitted_members : (i : ℕ) (s : Core) → IsMembers (is_admitted i s) (admitted_held i s)
 unfolding admitted_held
@@ -274,7 +274,7 @@ module _ (a : CoreParts) (sound : IsSoundCore a) where
       by None at held = absurd (cc)
       by (Some t) at held =
           let one = found_there (λ (g : GuestThread). g.number) (λ (g : GuestThread). g.thread) a.threads m t at in
-          (one.0, one.1.0, one.1.1.0, one.1.1.1.0)
+          (one.0, (one.1.0, (one.1.1.0, one.1.1.1.0)))
 
   pub placed_in_order : (i : ℕ) (order : List ℕ) → AreInOrder a order → ((m : ℕ) → has m order ≡ true → is_admitted i (seen a).core m ≡ true)
       → ((m : ℕ) → has m order ≡ true → has m (preference (seen a)).held ≡ false) → goes_in_order (preference (seen a)) order ≡ true
@@ -325,9 +325,13 @@ module _ (a : CoreParts) (sound : IsSoundCore a) where
   least_released i t none picks =
       let order = picks.0 in (
         order,
-        picks.1.1.0,
-        placed_in_order i order picks.1.0 (admitted_in i order picks.1.1.0) (λ m there. ap (λ (ids : List (TableId ThreadKey)). has m (map (thread_number (seen a).tags) ids)) none),
-        picks.1.1.1,
+        (
+          picks.1.1.0,
+          (
+            placed_in_order i order picks.1.0 (admitted_in i order picks.1.1.0) (λ m there. ap (λ (ids : List (TableId ThreadKey)). has m (map (thread_number (seen a).tags) ids)) none),
+            picks.1.1.1,
+          ),
+        ),
       )
 
 released_both : (xs ys : List ℕ) (s : Core) → released ys (released xs s) ≡ released (xs ++ ys) s
@@ -352,9 +356,13 @@ wanted_released a b sound i t mid picks =
         ap (λ (q : Preference). goes_in_order q order) (sym same)
         ∙ placed_in_order b sound i order picks.1.0 (admitted_in b sound i order picks.1.1.0) (λ m there. ap (λ (q : Preference). has m q.held) same ∙ unlisted m there) in (
       raised_of i ns s ++ order,
-      both_permute i s ns order moved,
-      raised_in_order p i ns [] order s refl (λ m on. refl) left by_places,
-      picks.1.1.1 ∙ (ap (on_core (released order)) mid ∙ ap (λ c. with_core c (seen a)) (ap (released order) (raised_is i ns s) ∙ released_both (raised_of i ns s) order s)),
+      (
+        both_permute i s ns order moved,
+        (
+          raised_in_order p i ns [] order s refl (λ m on. refl) left by_places,
+          picks.1.1.1 ∙ (ap (on_core (released order)) mid ∙ ap (λ c. with_core c (seen a)) (ap (released order) (raised_is i ns s) ∙ released_both (raised_of i ns s) order s)),
+        ),
+      ),
     )
   where
     apart : (a b : Bool) → (a && not b) ≡ true → b ≡ false

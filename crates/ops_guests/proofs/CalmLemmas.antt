@@ -8,6 +8,7 @@ use Rattle.machine_rules.specs.Picks.{LeavesNoChoice, Preference, ReleasesNone, 
 use Rattle.machine_data.specs.Read.{instance_of, is_waiter}
 use Rattle.machine_rules.specs.Progress.{Asks, Continues, Fails, Never, Ordered, Progress, Stops, Traps, may}
 use Rattle.ops_guests.specs.OpResult.{Implements, PicksFirst}
+use Rattle.ops_guests.specs.Shown.{goes_as}
 use Rattle.ops_guests.specs.Steps.{label_of}
 use Rattle.ops_guests.specs.declared.op_result.OpResult.TheVariants as op_result
 use Rattle.ops_guests.specs.declared.op_result.OpResult.{OpResult}
@@ -69,6 +70,10 @@ wakes_as p s t w threads f = record {
 -- a rule that releases no thread
 pub loose_picks : (p : Preference) (row : Progress) (l : Label) (s : Core) (r : OpResult) (t : Core) → ReleasesNone row → ShowsFirst p s l → Implements row s r t → PicksFirst p row l s r t
 loose_picks p row l s r t none shows h = record { shows = shows; order = loose_order p row s r t none h }
+
+-- one that shows this and goes on
+pub loose_goes : (p : Preference) (n : ℕ) (row : Progress) (l : Label) (m : ℕ) (s : Core) (r : OpResult) (t : Core) → r ≡ goes_as l m → ReleasesNone row → ShowsFirst p s l → Implements row s r t → PicksFirst p row (label_of n r) s r t
+loose_goes p n row l m s r t is none shows h = loose_picks p row (label_of n r) s r t none (subst (λ (q : OpResult). ShowsFirst p s (label_of n q)) (sym is) shows) h
 
 -- a rule that releases threads and stops
 pub ordered_picks : (p : Preference) (row : Progress) (l : Label) (held order : List ℕ) (new : List ℕ → Core) (s x : Core) → ShowsFirst p s l → row ≡ Ordered held (λ o. Stops l (new o)) → IsPermutation held order → goes_in_order p order ≡ true → x ≡ new order → PicksFirst p row l s (op_result.Stops l) x

@@ -1,11 +1,11 @@
 -- Deliveries that are taken.
 use Rattle.std.proofs.Common.{T, ap, ap₂, refl, subst, sym, ◌∙◌}
 use Rattle.std.specs.Option.{option_map_or}
-use Rattle.std.specs.Prelude.{None, Option, Some, true, unwrap_or, ℕ, ◌≡◌}
+use Rattle.std.specs.Prelude.{Bool, None, Option, Some, false, true, unwrap_or, ℕ, ◌≡◌}
 use Rattle.task_table.specs.declared.id.TableId.{TableId}
 use Rattle.task_wait.specs.declared.keys.ThreadKey.{ThreadKey}
 use Rattle.machine_data.specs.Core.{Core}
-use Rattle.machine_data.specs.Labels.{choice_of, event_label}
+use Rattle.machine_data.specs.Labels.{Choice, choice_of, event_label}
 use Rattle.machine_data.specs.Moves as moves
 use Rattle.machine_data.specs.Moves.{handed_on, may_hand_on, ready_why, stopped, why_of}
 use Rattle.machine_data.specs.Read.{foot_of, task_of}
@@ -17,6 +17,8 @@ use Rattle.machine_data.specs.declared.records.Why.{Why}
 use Rattle.machine_data.specs.declared.records.Why.TheVariants as why
 use Rattle.machine_data.specs.declared.statuses.Given.{Given}
 use Rattle.machine_data.specs.declared.statuses.Mark.{Mark}
+use Rattle.machine_rules.specs.Picks.{ReleasesNone}
+use Rattle.machine_rules.specs.Sets.{chosen}
 use Rattle.ops_guests.specs.OpResult.{Implements}
 use Rattle.ops_guests.specs.PickedEvents.{picked_event_in, handle_in, member_in}
 use Rattle.ops_guests.specs.Running.{IsTaken}
@@ -72,3 +74,18 @@ set_implements n m x k j w o r g v s t u shown task number woken given is hands 
     (subst (λ (q : ℕ). Implements (delivered m N (choice_of (event_label m q v (Some o))) s.core (delivery.Set x)) s.core (goes_as (event_label m q v (Some o)) q) u.core) (sym number)
     (subst (λ (q : ℕ). Implements (delivered m N (choice_of (event_label m N v (Some q))) s.core (delivery.Set x)) s.core (goes_as (event_label m N v (Some q)) N) u.core) (sym woken)
     (subst (λ (p : Progress). Implements p s.core (goes_as (event_label m N v (Some w)) N) u.core) (sym row) (refl, core))))
+
+-- ---- A delivery for a set releases no thread
+
+may_none : (b : Bool) (p : Progress) → ReleasesNone p → ReleasesNone (may b p)
+may_none true p none = none
+may_none false p none = tt
+
+pub delivered_none : (m : Mark) (n x : ℕ) (ch : Choice) (s : Core) → ReleasesNone (delivered m n ch s (delivery.Set x))
+delivered_none m n x ch s = by (moves.picked_event true (task_of n s) x (chosen n ch s) s)
+  where
+    by : (o : Option moves.PickedEvent) → ReleasesNone (or_never o (set_delivered m n x ch s))
+    by None = tt
+    by (Some (moves.PickedTaskEvent e)) = may_none (may_hand_on x (moves.PickedTaskEvent e) ch.woken s) _ tt
+    by (Some (moves.PickedMember sub)) = may_none (may_hand_on x (moves.PickedMember sub) ch.woken s) _ tt
+    by (Some moves.NothingPicked) = tt

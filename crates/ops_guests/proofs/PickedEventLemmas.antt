@@ -104,3 +104,9 @@ given_shows s i n (picked_events.Own e) (given.Subtask status h) is first at = a
 given_shows s i n picked_events.Nothing (given.Subtask status h) is first at = absurd (cc)
 given_shows s i n (picked_events.Member sub k) (given.Subtask status h) is first at =
     subst (λ (j : ℕ). TakesFirst (preference s) s.core j h) at (subst (λ (q : ℕ). TakesFirst (preference s) s.core i q) (sym (same_Some h k is)) first)
+
+-- what is handed out that is no member's shows none
+pub none_shows : (P : ℕ × ℕ → Type 0) (n : ℕ) (v : Given) → handle_given v ≡ None → IfSome (taken_of_given n v) P
+none_shows P n given.Nothing is = tt
+none_shows P n given.Cancelled is = tt
+none_shows P n (given.Subtask status h) is = absurd (cc)

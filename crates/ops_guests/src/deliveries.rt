@@ -113,7 +113,7 @@ fn wait_again<W: Primitives>(w: &mut W, thread: ThreadId, set: SetId)
 }
 
 /// Makes a delivery for the set, which is admitted.
-#[tactic(auto, unfolding(machine_rules::specs::Takes::activated_woken))]
+#[tactic(auto, using(crate::proofs::PickedEventLemmas::given_shows), unfolding(machine_rules::specs::Takes::activated_woken))]
 pub fn deliver_set<W: Primitives>(w: &mut W, mark: Mark, thread: ThreadId, set: SetId) -> OpResult
     requires live { 0 < thread_of (W.view w.old) thread }
     requires set { 0 < set_of (W.view w.old) set }

@@ -69,7 +69,7 @@ fn stop_waiting<W: Primitives>(w: &mut W, thread: ThreadId, set: SetId)
 }
 
 /// Does `wait R X`, as it begins.
-#[tactic(auto, unfolding(machine_rules::specs::Sets::wait_stops_checked))]
+#[tactic(auto, using(crate::proofs::PickedEventLemmas::given_shows), unfolding(machine_rules::specs::Sets::wait_stops_checked))]
 pub fn begin_wait<W: Primitives>(w: &mut W, thread: ThreadId, handle: u64) -> OpResult
     requires live { 0 < thread_of (W.view w.old) thread }
     requires running { IsRunning (thread_of (W.view w.old) thread) (W.view w.old).core }
