@@ -39,6 +39,9 @@ fn letter(answer: Answer) -> u8 {
         Answer::Finished(_) => b'f',
         Answer::Quiet => b'q',
         Answer::Ready => b'r',
+        Answer::Spawned(_) => b'w',
+        Answer::Aborted => b'a',
+        Answer::Ended => b'e',
         Answer::Pended => b'p',
         Answer::Refused(why) => refusal_letter(why),
     }
@@ -52,6 +55,8 @@ fn refusal_letter(why: Refusal) -> u8 {
         Refusal::IsFinished => b'F',
         Refusal::NoInstance => b'I',
         Refusal::TooManyCalls => b'T',
+        Refusal::NoSpawn => b'S',
+        Refusal::TooManySpawns => b'M',
     }
 }
 

@@ -22,6 +22,8 @@ mod refused;
 #[cfg(test)]
 mod spawned;
 #[cfg(test)]
+mod spawns;
+#[cfg(test)]
 mod stopped;
 #[cfg(test)]
 mod waits;
