@@ -23,11 +23,6 @@ call_sync r1 number
 add r0 r1
 ret r0
 exit
-main
-start adder.sum
-finish 1 r0
-answer r0
-end
 ";
 
 // The host's value: the lines of its input.
@@ -76,7 +71,7 @@ impl HostMain for Caller {
 }
 
 fn main(rt: HostRuntime) -> anyhow::Result<()> {
-    let hosted = Hosted::read(rt.alloc(), GUEST)?.with_open_host(0)?;
+    let hosted = Hosted::read_component(rt.alloc(), GUEST)?.with_open_host("number")?;
     let sum = hosted.func("adder", "sum")?;
     let input = Input {
         lines: rt.reader().lines(rt.alloc()),

@@ -13,7 +13,7 @@ fn hosted(rt: &impl Abort, alloc: Global) -> Hosted {
     let Ok(hosted) = Hosted::read(alloc, TEXT) else {
         panic!(rt; "no scenario");
     };
-    match hosted.with_open_host(1) {
+    match hosted.with_open_host("free") {
         Ok(hosted) => hosted,
         Err(_) => panic!(rt; "no such host"),
     }
@@ -109,5 +109,5 @@ fn a_failing_open_work_ends_the_run(rt: HostRuntime) {
 #[test]
 fn a_host_that_is_not_there_cannot_be_opened(rt: HostRuntime) {
     let hosted = hosted(&rt, rt.alloc());
-    assert!(rt; matches!(hosted.with_open_host(2), Err(HostError::NoHost)));
+    assert!(rt; matches!(hosted.with_open_host("locked"), Err(HostError::NoHost)));
 }
