@@ -114,8 +114,8 @@ module _ (c : Component) (s : Core) where
   pub did_spawn_own : (k i : ℕ) (d : HostDef) (t : Core) → d ≡ host_def.Open → i ≡ next_work s → t ≡ work_queued callers.Spawn d None s →
       Did c [] Unscripted s (label.Main (main_label.Spawn k i)) Unscripted t
   unfolding open_spawned
-  did_spawn_own k i d t open number core =
-      let is : t ≡ open_spawned s = core ∙ ap (λ (h : HostDef). work_queued callers.Spawn h None s) open in
+  did_spawn_own k i d t is_open number core =
+      let is : t ≡ open_spawned s = core ∙ ap (λ (h : HostDef). work_queued callers.Spawn h None s) is_open in
       subst (λ (j : ℕ). Did c [] Unscripted s (label.Main (main_label.Spawn k j)) Unscripted t) (sym number)
       (subst (λ (u : Core). Did c [] Unscripted s (label.Main (main_label.Spawn k (next_work s))) Unscripted u) (sym is) (did_spawn_open k))
 
