@@ -9,7 +9,7 @@ ghost use Rattle.vatbramble_host.specs.HostRuns.{IsHostRunOf, empty_main, opened
 ghost use Rattle.vatbramble_host.specs.Named.{func_named};
 
 use crate::error::HostError;
-use crate::{AskingMain, HostMain, names};
+use crate::{AskingMain, FunctionCall, HostFunctions, HostMain, names};
 use machine_data::{Component, HostDef, Seq};
 use std::alloc::{AllocError, Global};
 use store_works::{AccessorTask, CalledTask, FromHost, OpenTask, OpenWork, ScriptedHost};
@@ -186,6 +186,20 @@ impl Hosted {
             Ok(run) => Ok(run),
             Err(_) => Err(HostError::NoMemory),
         }
+    }
+
+    /// Runs the component with a value of the host that answers all calls of open hosts.
+    pub fn run_with<T: HostFunctions, D: HostMain + Drop>(
+        &self,
+        alloc: Global,
+        value: T,
+        host: D,
+        steps: u32,
+    ) -> Result<HostRun<D>, HostError>
+        ensures run { IfOk result (λ r. IsHostRunOf self.now.scenario steps r.trace r.outcome) }
+        ensures error { IfErr result (λ e. e ≡ HostError.NoMemory) }
+    {
+        self.run_open::<T, FunctionCall, D>(alloc, value, host, steps)
     }
 
     // The run in a store with this value, for works of this kind.
