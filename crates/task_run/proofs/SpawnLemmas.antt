@@ -14,7 +14,7 @@ use Rattle.machine_data.specs.declared.label.MainLabel.TheVariants as main_label
 use Rattle.machine_data.specs.declared.records.Turn.TheVariants as turn
 use Rattle.machine_data.specs.declared.scenario.MainOpDef.{MainOpDef}
 use Rattle.machine_data.specs.declared.trap.Trap.{Trap}
-use Rattle.machine_data.specs.declared.words.Phase.{Phase}
+use Rattle.machine_data.specs.declared.statuses.Phase.{Phase}
 use Rattle.ops_guests.specs.Works.{KeepsWorks}
 use Rattle.machine_rules.specs.MainOps.{Does, main_aborted}
 use Rattle.machine_rules.specs.Step.{Step}

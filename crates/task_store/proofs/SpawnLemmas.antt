@@ -12,13 +12,13 @@ use Rattle.machine_data.specs.declared.component.HostDef.{HostDef}
 use Rattle.machine_data.specs.declared.records.Work.{Work}
 use Rattle.machine_data.specs.declared.records.WorkCaller.{WorkCaller}
 use Rattle.machine_data.specs.declared.records.WorkCaller.TheVariants as callers
-use Rattle.machine_data.specs.declared.words.Phase.TheVariants as phases
+use Rattle.machine_data.specs.declared.statuses.Phase.TheVariants as phases
 use Rattle.machine_rules.specs.Calls.{next_work, work_queued}
 use Rattle.machine_rules.specs.Cancels.{aborted_phase}
 use Rattle.machine_rules.specs.MainOps.{is_spawn, is_spawn_caller, main_aborted}
 use Rattle.futures.specs.declared.task.Poll.{Poll}
 use Rattle.futures.specs.declared.task.Poll.TheVariants as polls
-use Rattle.machine_data.specs.declared.words.Phase.{Phase}
+use Rattle.machine_data.specs.declared.statuses.Phase.{Phase}
 use Rattle.task_store.specs.Spawned.{IsSpawnedIn, poll_of_phase}
 use Rattle.task_store.specs.declared.spawn.SpawnHandle.{SpawnHandle}
 use Rattle.core_primitives.specs.StateView.{StateView, work_of}

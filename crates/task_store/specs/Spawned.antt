@@ -6,8 +6,8 @@ use Rattle.std.specs.Option.{option_map_or}
 use Rattle.std.specs.Prelude.{◌≡◌, ◌<◌, ℕ, Bool, None, Option, false, true}
 use Rattle.machine_data.specs.Maps.{get}
 use Rattle.machine_data.specs.declared.records.Work.{Work}
-use Rattle.machine_data.specs.declared.words.Phase.{Phase}
-use Rattle.machine_data.specs.declared.words.Phase.TheVariants as phases
+use Rattle.machine_data.specs.declared.statuses.Phase.{Phase}
+use Rattle.machine_data.specs.declared.statuses.Phase.TheVariants as phases
 use Rattle.machine_rules.specs.MainOps.{is_spawn, is_spawn_caller}
 use Rattle.task_store.specs.declared.spawn.SpawnHandle.{SpawnHandle}
 use Rattle.ops_turns.specs.Later.{WorksLast}

@@ -25,8 +25,8 @@ use Rattle.machine_data.specs.declared.label.MainLabel.TheVariants as main_label
 use Rattle.machine_data.specs.declared.records.Turn.TheVariants as turn
 use Rattle.machine_data.specs.declared.records.WorkCaller.TheVariants as callers
 use Rattle.machine_data.specs.declared.trap.Trap.{Trap}
-use Rattle.machine_data.specs.declared.words.Phase.{Phase}
-use Rattle.machine_data.specs.declared.words.Phase.TheVariants as phases
+use Rattle.machine_data.specs.declared.statuses.Phase.{Phase}
+use Rattle.machine_data.specs.declared.statuses.Phase.TheVariants as phases
 use Rattle.machine_rules.specs.MainOps as row
 use Rattle.machine_rules.specs.MainOps.{finish_result, has_interesting, is_complete, is_ready_for_call, is_spawn, main_aborted, main_spawned, open_spawned, start_act, start_refusal, takes_words, unless_pending}
 use Rattle.machine_rules.specs.Calls.{next_work, work_queued}

@@ -9,7 +9,7 @@ use Rattle.task_loop.proofs.MainStepLemmas.{stepped_quietly}
 use Rattle.machine_data.specs.Core.{Core, Unscripted}
 use Rattle.machine_data.specs.declared.label.Label.TheVariants as label
 use Rattle.machine_data.specs.declared.label.MainLabel.TheVariants as main_label
-use Rattle.machine_data.specs.declared.words.Phase.{Phase}
+use Rattle.machine_data.specs.declared.statuses.Phase.{Phase}
 use Rattle.machine_rules.specs.MainOps.{main_aborted}
 use Rattle.ops_turns.specs.Main.{Did}
 use Rattle.ops_turns.specs.Turn.{running_of}

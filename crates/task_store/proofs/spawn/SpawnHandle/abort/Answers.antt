@@ -3,7 +3,7 @@ use Rattle.store_works.specs.KeptWorks.{held}
 use Rattle.machine_data.specs.Core.{Core}
 use Rattle.machine_data.specs.Read.{phase_of}
 use Rattle.machine_data.specs.Write.{set_phase}
-use Rattle.machine_data.specs.declared.words.Phase.{Phase}
+use Rattle.machine_data.specs.declared.statuses.Phase.{Phase}
 use Rattle.machine_rules.specs.Cancels.{aborted_phase}
 use Rattle.machine_rules.specs.MainOps.{main_aborted}
 use Rattle.task_store.proofs.HostLemmas.{found_is, holds_aborted}

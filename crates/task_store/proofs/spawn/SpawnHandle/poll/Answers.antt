@@ -2,8 +2,8 @@ use Rattle.std.proofs.Common.{subst}
 use Rattle.std.specs.Prelude.{◌↔◌, ◌≡◌}
 use Rattle.futures.specs.declared.task.Poll.TheVariants as polls
 use Rattle.store_works.specs.KeptWorks.{held}
-use Rattle.machine_data.specs.declared.words.Phase.{Phase}
-use Rattle.machine_data.specs.declared.words.Phase.TheVariants as phases
+use Rattle.machine_data.specs.declared.statuses.Phase.{Phase}
+use Rattle.machine_data.specs.declared.statuses.Phase.TheVariants as phases
 use Rattle.task_store.proofs.HostLemmas.{found_is, holds_as}
 use Rattle.task_store.proofs.SpawnLemmas.{poll_is, spawn_caller}
 use Rattle.task_store.proofs.spawn.SpawnHandle.poll.Goals as goal
