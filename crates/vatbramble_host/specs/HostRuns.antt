@@ -1,6 +1,6 @@
 -- What the run of a host is.
 use Rattle.std.specs.Prelude.{List, Option, Some, [], codes, length, slice_get, slice_set, ℕ, ◌++◌, ◌∷◌, ◌≤◌}
-use Rattle.text_lines.specs.Words.{◌>>=◌}
+use Rattle.text_lines.specs.Tokens.{◌>>=◌}
 use Rattle.machine_data.specs.Core.{State, Unscripted, fresh}
 use Rattle.machine_data.specs.declared.component.HostDef.TheVariants as host_def
 use Rattle.machine_data.specs.declared.label.Label.{Label}
