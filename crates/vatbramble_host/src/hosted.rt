@@ -96,7 +96,7 @@ impl Hosted {
         }
     }
 
-    /// Opens the text's host of this name: a call of it comes to what a work of the host's own answers, and nothing that its line
+    /// Opens the text's host of this name: a call of it results in what a work of the host's own answers, and nothing that its line
     /// says is so any more. It is refused exactly if the text has no such host.
     #[tactic(auto, unfolding(crate::specs::HostRuns::with_open_host))]
     pub fn with_open_host(self, host: &str) -> Result<Self, HostError>
