@@ -1,4 +1,4 @@
--- What the row of an op shows: the thread goes on or none does, and the label gives no outcome.
+-- What the rule of an op shows: the thread goes on or none does, and the label gives no outcome.
 use Rattle.ops_dispatch.specs.InPlace.{is_finished_task}
 use Rattle.std.proofs.Common.{refl}
 use Rattle.std.specs.Prelude.{Bool, List, None, Option, Some, false, nat_le, nat_lt, not, suc, true, zero, ℕ, ◌%◌, ◌/◌, ◌==◌, ◌≡◌}
@@ -28,7 +28,7 @@ use Rattle.machine_data.specs.declared.records.OpProgress.{OpProgress}
 use Rattle.machine_data.specs.declared.records.OpProgress.TheVariants as op_progress
 use Rattle.machine_data.specs.declared.records.Why.{Why}
 use Rattle.machine_data.specs.declared.trap.Trap.TheVariants as trap
-use Rattle.machine_data.specs.declared.words.Given.{Given}
+use Rattle.machine_data.specs.declared.statuses.Given.{Given}
 use Rattle.machine_rules.specs.Cancels.{pauses}
 use Rattle.machine_rules.specs.Data.{data_rule, skip_rule}
 use Rattle.machine_rules.specs.Ends.{blocking_exit_rule, blocking_exits, cancelled, code_exits, code_kind_rule, code_rule, code_wait_rule, exit_stops, has_event_for, held_by_flag, leaves_no_result, may_tell, passes_after_return, passes_after_stop, returned, sync_exit_rule, sync_exits, thread_exit_rule}

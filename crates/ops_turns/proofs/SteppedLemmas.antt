@@ -18,7 +18,7 @@ use Rattle.machine_data.specs.declared.outcome.Outcome.TheVariants as outcome
 use Rattle.machine_data.specs.declared.records.Entry.TheVariants as entry
 use Rattle.machine_data.specs.declared.records.Turn.{Turn}
 use Rattle.machine_data.specs.declared.records.Turn.TheVariants as turn
-use Rattle.machine_data.specs.declared.words.Mark.{Mark}
+use Rattle.machine_data.specs.declared.statuses.Mark.{Mark}
 use Rattle.ops_guests.specs.OpResult.{Implements}
 use Rattle.ops_guests.specs.Stays.{StaysAfter}
 use Rattle.ops_guests.specs.Steps.{label_of}
@@ -31,7 +31,7 @@ use Rattle.machine_rules.specs.Stalled.{Setting}
 use Rattle.machine_rules.specs.Step.{Step, did, scripted_op_rule}
 use Rattle.machine_rules.specs.Takes.{scripted_host_rule, popped, pushed, thread_taken}
 use Rattle.task_table.specs.declared.id.TableId.{TableId}
-use Rattle.machine_data.specs.declared.words.HostPoll.{HostPoll}
+use Rattle.machine_data.specs.declared.statuses.HostPoll.{HostPoll}
 use Rattle.ops_turns.proofs.DriveLemmas.{last_outcome-push, on_ends, on_more, on_turned_none}
 use Rattle.ops_turns.proofs.IdleLemmas.{after_free, free_at}
 use Rattle.ops_turns.proofs.RunLemmas.{host_over, ran_at, took, took_host, took_push}
@@ -85,15 +85,15 @@ fallen made before after added over turns =
 
 module _ (id : TableId ThreadKey) (s t : StateView) (stepped : StepResult) (before after : List Label) where
   pub rule_as : (P Q : OpResult → Progress) → ((r : OpResult) (u : Core) → Implements (P r) s.core r u → Implements (Q r) s.core r u) → RuleShown P id s before stepped t after → RuleShown Q id s before stepped t after
-  rule_as P Q same h = record { op_result = h.op_result; left = h.left; meets = same h.op_result h.left.core h.meets; stays = h.stays; shown = h.shown }
+  rule_as P Q same h = record { op_result = h.op_result; left = h.left; implements = same h.op_result h.left.core h.implements; stays = h.stays; shown = h.shown }
 
-  -- an op that met its row made a step
+  -- an op that did its rule made a step
   pub run_added : (c : Component) (n : ℕ) → thread_of s id ≡ n → RuleShown (λ r. did c (thread_of s id) s.core (choice_of (label_of (thread_of s id) r))) id s before stepped t after
       → Added (λ made. MakesStep c (turn.Run n) s made t × IsFree made.turn) stepped before after
   run_added c n number h =
       let made = made_by (thread_of h.left id) h.op_result in
       let makes : MakesStep c (turn.Run n) s made t = record {
-        step = ran_at id n s h.left number c h.op_result made.label made.turn t.core h.meets h.stays refl refl h.shown.core;
+        step = ran_at id n s h.left number c h.op_result made.label made.turn t.core h.implements h.stays refl refl h.shown.core;
         running = h.shown.running;
         over = h.shown.over;
       } in
@@ -106,12 +106,12 @@ module _ (id : TableId ThreadKey) (s t : StateView) (stepped : StepResult) (befo
       (λ made h. (h, λ answer. record { polled = sym none; work = inl refl }))
 
 module _ (id : TableId ThreadKey) (s t : StateView) where
-  -- an op that met its row made a step, whose label is still to be added
+  -- an op that did its rule made a step, whose label is still to be added
   pub ran_made : (c : Component) (n : ℕ) → thread_of s id ≡ n → (made : MadeStep) → RuleRan (λ r. did c (thread_of s id) s.core (choice_of (label_of (thread_of s id) r))) id s made t
       → MakesStep c (turn.Run n) s made t × IsFree made.turn
   ran_made c n number made h =
       let makes : MakesStep c (turn.Run n) s made t = record {
-        step = ran_at id n s h.left number c h.op_result made.label made.turn t.core h.meets h.stays h.label h.turn h.core;
+        step = ran_at id n s h.left number c h.op_result made.label made.turn t.core h.implements h.stays h.label h.turn h.core;
         running = h.running;
         over = h.over;
       } in
@@ -119,9 +119,9 @@ module _ (id : TableId ThreadKey) (s t : StateView) where
 
   pub rule_ran_as : (P Q : OpResult → Progress) (made : MadeStep) → ((r : OpResult) (u : Core) → Implements (P r) s.core r u → Implements (Q r) s.core r u) → RuleRan P id s made t → RuleRan Q id s made t
   rule_ran_as P Q made same h =
-      record { op_result = h.op_result; left = h.left; meets = same h.op_result h.left.core h.meets; stays = h.stays; label = h.label; turn = h.turn; core = h.core; running = h.running; over = h.over }
+      record { op_result = h.op_result; left = h.left; implements = same h.op_result h.left.core h.implements; stays = h.stays; label = h.label; turn = h.turn; core = h.core; running = h.running; over = h.over }
 
--- what an op by its row resulted in is a step of the running thread
+-- what an op by its rule resulted in is a step of the running thread
 module _ (c : Component) (id : TableId ThreadKey) (n : ℕ) (s t : StateView) (number : thread_of s id ≡ n) (o : Op) (is : op_of c (thread_of s id) s.core ≡ o)
     (same : (op_result : OpResult) (u : Core) → Implements (scripted_op_rule c (thread_of s id) s.core (choice_of (label_of (thread_of s id) op_result)) o) s.core op_result u → Implements (did c (thread_of s id) s.core (choice_of (label_of (thread_of s id) op_result))) s.core op_result u) where
   polled_at : (host : Option HostDef) → host ≡ polled_host c (op_progress_of (thread_of s id) s.core) o → host ≡ polled_host c (op_progress_of n s.core) (op_of c n s.core)
@@ -147,14 +147,14 @@ module _ (c : Component) (id : TableId ThreadKey) (n : ℕ) (s t : StateView) (n
       let did_it = rule_ran_as id s t (λ op_result. scripted_op_rule c (thread_of s id) s.core (choice_of (label_of (thread_of s id) op_result)) o) (λ op_result. did c (thread_of s id) s.core (choice_of (label_of (thread_of s id) op_result))) ran.made same row in
       (ran_made id s t c n number ran.made did_it, record { polled = polled_at ran.polled polled; work = work })
 
--- a taking that met its row made a step
+-- a taking that did its rule made a step
 pub take_added : (c : Component) (ended : Bool) (mark : Mark) (id : TableId ThreadKey) (n : ℕ) (s u v t : StateView) (r : OpResult) (stepped : StepResult) (before after : List Label) → thread_of u id ≡ n → u.core ≡ popped mark s.core
     → next_entry s.core ≡ Some (mark, entry.Thread n) → Implements (thread_taken mark (thread_of u id) (choice_of (label_of (thread_of u id) r)) u.core (place_of (thread_of u id) u.core)) u.core r v.core → StaysAfter r u v
     → Shown id r v before stepped t after → Added (λ made. MakesStep c (turn.Take ended) s made t × IsFree made.turn) stepped before after
-take_added c ended mark id n s u v t r stepped before after number base next meets stays shown =
+take_added c ended mark id n s u v t r stepped before after number base next implements stays shown =
     let made = made_by (thread_of v id) r in
     let makes : MakesStep c (turn.Take ended) s made t = record {
-      step = took c ended mark id n s u v r made.label made.turn t.core number base next meets stays refl refl shown.core;
+      step = took c ended mark id n s u v r made.label made.turn t.core number base next implements stays refl refl shown.core;
       running = shown.running;
       over = shown.over;
     } in
@@ -190,9 +190,9 @@ module _ (c : Component) (ended : Bool) (mark : Mark) (id : TableId HostTaskKey)
   -- so is the entry of an ended host work
   pub host_makes : next_entry s.core ≡ Some (mark, entry.Host (work_of s id)) → Implements (scripted_host_rule mark (work_of u id) (choice_of made.label).woken u.core) u.core (op_result.Stops made.label) t.core → t.current ≡ u.current → made.turn ≡ turn.Main
       → MakesStep c (turn.Take ended) s made t × IsFree made.turn
-  host_makes next meets current turn_is =
+  host_makes next implements current turn_is =
       let i = work_of s id in
-      let named = subst (λ k. Implements (scripted_host_rule mark k (choice_of made.label).woken u.core) u.core (op_result.Stops made.label) t.core) (ap (λ (v : StateView). work_of v id) left) meets in
+      let named = subst (λ k. Implements (scripted_host_rule mark k (choice_of made.label).woken u.core) u.core (op_result.Stops made.label) t.core) (ap (λ (v : StateView). work_of v id) left) implements in
       let makes : MakesStep c (turn.Take ended) s made t = record {
         step = λ x component m. subst (λ (p : Turn). Step x (state_at s.core m (turn.Take ended)) made.label (state_at t.core m p)) (sym turn_is)
             (took_host c ended mark i s u t (op_result.Stops made.label) made.label (ap (λ (v : StateView). v.core) left) next named refl x component m);

@@ -12,7 +12,7 @@ in_context n x = with_context n x.position x.registers
 abbrev pub state_in : ℕ → ThreadContext → StateView → StateView
 state_in n x s = on_core (in_context n x) s
 
--- From s to t instances alone are changed, and none but in its words.
+-- From s to t instances alone are changed, and none but in its memory cells.
 pub record KeepsBeside (s t : StateView) : Type 0 where
   pub threads : t.core.threads ≡ s.core.threads
   pub calls : t.core.calls ≡ s.core.calls

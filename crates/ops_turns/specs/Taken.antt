@@ -7,7 +7,7 @@ use Rattle.machine_data.specs.Read.{instance_of, task_of, under_of}
 use Rattle.machine_data.specs.declared.records.Place.TheVariants as place
 use Rattle.machine_data.specs.declared.records.Subtask.TheVariants as subtask
 use Rattle.machine_data.specs.declared.records.Why.TheVariants as why
-use Rattle.machine_data.specs.declared.words.Mark.{Mark}
+use Rattle.machine_data.specs.declared.statuses.Mark.{Mark}
 use Rattle.ops_moves.specs.Idle.{IsJoinThere}
 use Rattle.ops_guests.specs.PickedEvents.{MembersNamed}
 use Rattle.ops_guests.specs.Running.{Stand}

@@ -3,7 +3,7 @@ use Rattle.laws_labels.specs.Tells.{entry_group, worked_group}
 use Rattle.std.specs.Prelude.{Option, option_and_then, ℕ}
 use Rattle.machine_data.specs.declared.records.Entry.{Entry}
 use Rattle.machine_data.specs.declared.records.Turn.{Turn}
-use Rattle.machine_data.specs.declared.words.Mark.{Mark}
+use Rattle.machine_data.specs.declared.statuses.Mark.{Mark}
 use Rattle.core_primitives.specs.Groups.{some_if_tracked}
 use Rattle.core_primitives.specs.StateView.{StateView}
 

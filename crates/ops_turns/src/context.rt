@@ -69,7 +69,7 @@ fn place_after(context: &ThreadContext, left: Operand, right: Operand, ops: u32,
     place.min(end as u64) as u32
 }
 
-/// Returns a thread that is there, of this instance and at this context before its script's end, does an op on registers and memory
+/// Has a thread that is there, of this instance and at this context before its script's end, do an op on registers and memory
 /// cells. Its record keeps the context of before. It is inlined so that a label is made where it is.
 #[inline(always)]
 pub(crate) fn computes_in<W: Primitives>(
@@ -103,14 +103,14 @@ pub(crate) fn computes_in<W: Primitives>(
             assigns(context, *to, answer);
             DataLabel::Handle(number, answer)
         }
-        DataOp::Load { to, word } => {
-            let answer = w.word(instance, *word);
+        DataOp::Load { to, cell } => {
+            let answer = w.memory_cell(instance, *cell);
             assigns(context, *to, answer);
             DataLabel::Load(number, answer)
         }
-        DataOp::Store { word, value } => {
+        DataOp::Store { cell, value } => {
             let answer = operand_value(&context.registers, *value);
-            w.set_word(instance, *word, answer);
+            w.set_memory_cell(instance, *cell, answer);
             context.position += 1;
             DataLabel::Store(number, answer)
         }

@@ -13,7 +13,7 @@ use core_primitives::{Primitives, ThreadId, WorkId};
 use machine_data::{
     CallLabel, HostDef, Label, LoopLabel, MainLabel, NoMemory, Outcome, Trap, Turn,
 };
-use ops_guests::{OpResult, strike};
+use ops_guests::{OpResult, unwind_thread};
 use run_trace::PackedLabels;
 
 /// A step that was made: its label, and whose turn it is then.
@@ -168,7 +168,7 @@ pub(crate) fn put_stop(trace: &mut PackedLabels, made: MadeStep) -> PackedStep
 }
 
 // The strand of the thread is gone, and none runs.
-fn fell<W: Primitives>(w: &mut W, thread: ThreadId, label: Label) -> MadeStep
+fn unwound_by<W: Primitives>(w: &mut W, thread: ThreadId, label: Label) -> MadeStep
     requires live { 0 < thread_of (W.view w.old) thread }
     requires top { IsTopmost (thread_of (W.view w.old) thread) (W.view w.old).core }
     ensures core { (W.view w.new).core ≡ unwound (thread_of (W.view w.old) thread) (W.view w.old).core }
@@ -176,7 +176,7 @@ fn fell<W: Primitives>(w: &mut W, thread: ThreadId, label: Label) -> MadeStep
     ensures made { result ≡ record { label = label; turn = Turn.Over } }
     ensures works { KeepsTold (W.view w.old) (W.view w.new) }
 {
-    strike(w, thread);
+    unwind_thread(w, thread);
     w.set_current(None);
     MadeStep {
         label,
@@ -211,11 +211,11 @@ pub(crate) fn made_of<W: Primitives>(w: &mut W, thread: ThreadId, op_result: OpR
         }
         OpResult::Traps(trap) => {
             let number = w.number(thread);
-            fell(w, thread, Label::Loop(LoopLabel::Trap(trap, number)))
+            unwound_by(w, thread, Label::Loop(LoopLabel::Trap(trap, number)))
         }
         OpResult::Fails(work) => {
             let number = w.number(thread);
-            fell(w, thread, Label::Call(CallLabel::Fails(number, work)))
+            unwound_by(w, thread, Label::Call(CallLabel::Fails(number, work)))
         }
     }
 }

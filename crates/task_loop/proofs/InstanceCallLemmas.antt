@@ -4,11 +4,11 @@ use Rattle.store_works.specs.KeptWorks.{HeldWork}
 use Rattle.ops_state.specs.declared.error.TaskError.{TaskError}
 use Rattle.std.proofs.Common.{ap, inl, inr, refl, subst, sym, ⊎_elim, ◌∙◌}
 use Rattle.std.specs.Prelude.{Bool, Option, Result, false, true, ℕ, ◌≡◌, ◌⊎◌}
-use Rattle.ops_calls.specs.Asks.{AnswersOp, IsRunningIn, is_apart, scripted_rule_of}
+use Rattle.ops_calls.specs.HostOps.{AnswersOp, IsRunningIn, is_apart, scripted_rule_of}
 use Rattle.ops_dispatch.specs.Makes.{takes_memory}
 use Rattle.ops_calls.specs.declared.answer_calls.Step.{Step}
 use Rattle.task_group.specs.Listeners.{Listeners}
-use Rattle.task_loop.proofs.AskHoldLemmas.{asked_holds}
+use Rattle.task_loop.proofs.HostOpHoldLemmas.{asked_holds}
 use Rattle.task_loop.proofs.TrackedLemmas.{TracksSame, answers_known}
 use Rattle.task_loop.proofs.RuleTrapLemmas.{asked_not}
 use Rattle.task_loop.proofs.ToldLemmas.{told_core}

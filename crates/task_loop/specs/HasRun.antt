@@ -11,7 +11,7 @@ use Rattle.task_loop.specs.Hooked.{FailsMain, StopsTurn, TellsInPart}
 use Rattle.task_loop.specs.Ran.{DoesStep, Ran}
 use Rattle.task_loop.specs.RunPolls.{is_yielded, may_poll, poll_answer, rests_last, since_left, since_left_by, stop_answer}
 use Rattle.task_loop.specs.Says.{Says}
-use Rattle.task_loop.specs.Standing.{standing}
+use Rattle.task_loop.specs.Constants.{constants}
 use Rattle.task_loop.specs.Told.{StartFails, TurnTold, group_running, main_notices, turn_of}
 use Rattle.task_loop.specs.declared.poll_methods.RunPoll.{RunPoll}
 use Rattle.task_loop.specs.declared.run.Halt.{Halt}
@@ -59,15 +59,15 @@ pub record At (M T H G : Type 0) : Type 0 where
 abbrev pub at : {M T H G : Type 0} → RunConcurrent → M → Store T H G → List Label → At M T H G
 at run main store trace = record { turn = run.turn; idle = run.trap_on_idle; main = main; store = store; trace = trace }
 
--- the same at main's turn, with this idle line
+-- a run at main's turn, with this idle line
 abbrev pub at_main : {M T H G : Type 0} → (idle : Bool) → M → Store T H G → List Label → At M T H G
 at_main idle main store trace = record { turn = turn.Main; idle = idle; main = main; store = store; trace = trace }
 
--- What stays whatever a call comes to.
+-- What stays whatever a call results in.
 pub record Keeps {M T H G : Type 0} (says : Says M) (a b : At M T H G) : Type 0 where
   pub script : says.script b.main ≡ says.script a.main
   pub idle : b.idle ≡ a.idle
-  pub standing : standing b.store ≡ standing a.store
+  pub constants : constants b.store ≡ constants a.store
 
 module _ {M T H G : Type 0} (says : Says M) (course : H → HostDef) (c : Component) where
   abbrev pub setting : At M T H G → Setting
@@ -194,7 +194,7 @@ module _ {M T H G : Type 0} (says : Says M) (course : H → HostDef) (c : Compon
   RanTo a b =
       Ran says.does (setting a) (state a) a.main a.trace a.store.listeners (state b) b.main b.trace b.store.listeners
 
-  -- ---- It has come to an answer
+  -- ---- It has resulted in an answer
 
   -- A run of at most so many labels was added, and the loop could go on.
   pub record HasRun (steps : ℕ) (a b : At M T H G) : Type 0 where

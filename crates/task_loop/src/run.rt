@@ -4,7 +4,7 @@ ghost use Rattle.ops_dispatch.specs.Fits.{calls_host};
 ghost use Rattle.run_trace.specs.YieldBudget.{unless_yielded};
 ghost use Rattle.task_loop.specs.HasRun.{DrivesTo, GoesTo, HasHalted, HasTurned, IsLost, IsStopped, Keeps, MayRun, MayStep};
 ghost use Rattle.task_loop.specs.HasRun.{MayTurn, StepsTo, TurnsTo, at, at_main};
-ghost use Rattle.task_loop.specs.Standing.{standing};
+ghost use Rattle.task_loop.specs.Constants.{constants};
 ghost use Rattle.task_loop.specs.Threads.{FailsPoll, FailsTake, FailsThread, PollsTold, RanThread, RunsThread};
 ghost use Rattle.task_loop.specs.Threads.{StepsUntold, Takes, ToldBeside};
 ghost use Rattle.task_loop.specs.Told.{group_running};
@@ -24,7 +24,7 @@ use ops_turns::{
     MainStep, RunStep, StepResult, compute, is_idle, made_by_main, put, step_call, step_run, take,
 };
 use run_trace::{
-    Driven, PackedLabels, Policy, YieldBudget, ended_by, paced_by, rests_with, yields_by,
+    Driven, PackedLabels, Policy, YieldBudget, ended_by, rests_with, spent_by, yields_by,
 };
 use task_group::TaskGroupHook;
 use task_store::{Access, AccessorTask, ActiveRun, FromHost, HostWork, Store};
@@ -34,7 +34,7 @@ use task_store::{Access, AccessorTask, ActiveRun, FromHost, HostWork, Store};
 pub struct RunConcurrent {
     pub(crate) turn: Turn,
     pub(crate) trap_on_idle: bool,
-    standing: ActiveRun,
+    active: ActiveRun,
     pub(crate) yield_budget: YieldBudget,
 }
 
@@ -53,10 +53,10 @@ pub fn run_concurrent<T, H, G: TaskGroupHook>(
     ensures store { store.new ≡ record store.old { running = true } }
 {
     match store.begin_run() {
-        Ok(standing) => Ok(RunConcurrent {
+        Ok(active) => Ok(RunConcurrent {
             turn: Turn::Main,
             trap_on_idle,
-            standing,
+            active,
             yield_budget: YieldBudget::new(),
         }),
         Err(trap) => Err(trap),
@@ -93,7 +93,7 @@ fn ask_main<T, H: HostWork, G: TaskGroupHook, M: MainTask<T, H, G>>(
     main: &mut M,
 ) -> Result<MainStep, TaskError>
     requires may { MayStep M.says H.course component.now main.old store.old }
-    ensures stands { standing store.new ≡ standing store.old }
+    ensures stands { constants store.new ≡ constants store.old }
     ensures script { M.says.script main.new ≡ M.says.script main.old }
     ensures steps { StepsTo M.says H.course component.now result main.old store.old main.new store.new }
 {
@@ -111,7 +111,7 @@ fn step_main<T, H: HostWork, G: TaskGroupHook, M: MainTask<T, H, G>>(
 ) -> Result<StepResult, Halted>
     requires may { MayStep M.says H.course component.now main.old store.old }
     requires why { why.old ≡ Halt.NoMemory }
-    ensures stands { standing store.new ≡ standing store.old }
+    ensures stands { constants store.new ≡ constants store.old }
     ensures script { M.says.script main.new ≡ M.says.script main.old }
     ensures turned { IfOk result (λ made. (idle : Bool) →
         HasTurned M.says H.course component.now (Some made) 0
@@ -155,12 +155,12 @@ fn call_host_outlined<T, H: AccessorTask<T> + FromHost, G: TaskGroupHook>(
 ) -> Result<StepResult, NoMemory>
     requires runs { RunsThread H.course component.now thread store.old }
     requires calls { calls_host (op_of component.now thread store.old.state.core) ≡ true }
-    ensures stands { standing store.new ≡ standing store.old }
+    ensures stands { constants store.new ≡ constants store.old }
     ensures steps { IfOk result (λ stepped. StepsUntold H.course component.now thread store.old stepped store.new trace.old trace.new) }
     ensures listeners { OnOk result (store.new.listeners ≡ store.old.listeners) }
     ensures err { OnErr result (trace.new ≡ trace.old) }
 {
-    // The host's work is polled before its call is done: what the call comes to is what it answers.
+    // The host's work is polled before its call is done: what the call results in is what it answers.
     let host = host_called(component, &store.state, thread);
     let (called, answer) = store.first_called(host);
     let ran = step_call(component, &mut store.state, thread, answer)?;
@@ -178,7 +178,7 @@ fn call_host<T, H: AccessorTask<T> + FromHost, G: TaskGroupHook>(
 ) -> Result<StepResult, NoMemory>
     requires runs { RunsThread H.course component.now thread store.old }
     requires calls { calls_host (op_of component.now thread store.old.state.core) ≡ true }
-    ensures stands { standing store.new ≡ standing store.old }
+    ensures stands { constants store.new ≡ constants store.old }
     ensures steps { IfOk result (λ stepped. StepsUntold H.course component.now thread store.old stepped store.new trace.old trace.new) }
     ensures listeners { OnOk result (store.new.listeners ≡ store.old.listeners) }
     ensures err { OnErr result (trace.new ≡ trace.old) }
@@ -196,7 +196,7 @@ fn step_thread<T, H: AccessorTask<T> + FromHost, G: TaskGroupHook>(
     trace: &mut PackedLabels,
 ) -> Result<StepResult, NoMemory>
     requires runs { RunsThread H.course component.now thread store.old }
-    ensures stands { standing store.new ≡ standing store.old }
+    ensures stands { constants store.new ≡ constants store.old }
     ensures steps { IfOk result (λ stepped. StepsUntold H.course component.now thread store.old stepped store.new trace.old trace.new) }
     ensures listeners { OnOk result (store.new.listeners ≡ store.old.listeners) }
     ensures err { OnErr result (trace.new ≡ trace.old) }
@@ -225,7 +225,7 @@ fn run_thread<T, H: AccessorTask<T> + FromHost, G: TaskGroupHook>(
     requires running { running.old ≡ group_running store.old.state (Turn.Run thread) }
     requires asked { IsAsked store.old.state }
     requires why { why.old ≡ Halt.NoMemory }
-    ensures stands { standing store.new ≡ standing store.old }
+    ensures stands { constants store.new ≡ constants store.old }
     ensures ran { IfOk result (λ stepped.
         RanThread H.course component.now thread store.old stepped running.new store.new trace.old trace.new) }
     ensures why { OnOk result (why.new ≡ Halt.NoMemory) }
@@ -267,7 +267,7 @@ fn poll_work<T, H: AccessorTask<T> + FromHost, G: TaskGroupHook>(
     requires hosts { HoldsHosts H.course store.old }
     requires asked { IsAsked store.old.state }
     requires why { why.old ≡ Halt.NoMemory }
-    ensures stands { standing store.new ≡ standing store.old }
+    ensures stands { constants store.new ≡ constants store.old }
     ensures works { KeepsWorks store.old.state store.new.state × HoldsHosts H.course store.new }
     ensures polled { IfOk result (λ stepped.
         PollsTold (Turn.Futures polled) running.new store.old stepped store.new trace.old trace.new) }
@@ -477,7 +477,7 @@ impl RunConcurrent {
                 }
                 Some(StepResult::Continues { turn, computed }) => {
                     self.turn = turn;
-                    self.yield_budget = paced_by::<P>(self.yield_budget, next);
+                    self.yield_budget = spent_by::<P>(self.yield_budget, next);
                     if rests {
                         return Ok(Stop::Rests);
                     }
@@ -553,10 +553,10 @@ impl RunConcurrent {
         }
     }
 
-    /// Ends the run: it no longer rests on the store.
+    /// Ends the run: it is no longer active on the store.
     pub fn end<T, H, G: TaskGroupHook>(self, store: &mut Store<T, H, G>)
         ensures { store.new ≡ record store.old { running = false } }
     {
-        store.end_run(self.standing);
+        store.end_run(self.active);
     }
 }

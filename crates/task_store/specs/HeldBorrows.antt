@@ -41,6 +41,6 @@ abbrev pub Comes : Type 1
 Comes = StateView → Result (Unit {0}) TaskError → StateView → Type 0
 
 -- where the task still lends, the end is refused with trap 19, and nothing is changed; else this comes of it
-abbrev pub UnlessLent : Bool → Comes → Comes
-UnlessLent true comes s r t = (r ≡ Err (task_error.Trap trap.ScopeExit)) × (t ≡ s)
-UnlessLent false comes s r t = comes s r t
+abbrev pub UnlessBorrowed : Bool → Comes → Comes
+UnlessBorrowed true comes s r t = (r ≡ Err (task_error.Trap trap.ScopeExit)) × (t ≡ s)
+UnlessBorrowed false comes s r t = comes s r t

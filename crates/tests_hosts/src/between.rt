@@ -48,7 +48,7 @@ fn begins_and_runs(store: &mut Watched<'_>) -> Begun
     }
 }
 
-// A hook that fails at this notice lets it come to this, and is told just that.
+// A hook that fails at this notice lets it result in this, and is told just that.
 fn comes_to(rt: &impl Abort, alloc: Global, fails: u64, want: Begun, wanted: u64) {
     let told = Cell::new(0);
     let mut store = watched(rt, alloc, &told, 100, fails);

@@ -3,7 +3,7 @@ use Rattle.std.specs.Prelude.{Option, Some, option_map, ◌<◌}
 use Rattle.std.proofs.lemmas.Option.{IfSome_then}
 use Rattle.machine_data.specs.declared.records.Entry.{Entry}
 use Rattle.machine_data.specs.declared.records.Subtask.TheVariants as subtask
-use Rattle.machine_data.specs.declared.words.Mark.{Mark}
+use Rattle.machine_data.specs.declared.statuses.Mark.{Mark}
 use Rattle.ops_moves.specs.Idle.{IsJoinThere}
 use Rattle.machine_rules.specs.Places.{Placed}
 use Rattle.ops_turns.proofs.WorkedLemmas.{worked_is}
@@ -65,7 +65,7 @@ returns-in-Some-default-Thread-clause-took g c =
     let row : OpResult → Progress = λ r. thread_taken q.mark (thread_of u q.thread) (choice_of (label_of (thread_of u q.thread) r)) u.core (place_of (thread_of u q.thread) u.core) in
     IfSome_then (stepped_by c.step_thread.result after) {Q = λ (p : StepResult). Added (λ made. Took c.args.component.now c.args.ended s (Some made) t) p before after} c.step_thread.ensures.shown
     (λ p h. take_added c.args.component.now c.args.ended q.mark q.thread (thread_of s q.thread) s (with_current (Some q.thread) u) h.left t h.op_result p before after
-    (ap (λ (x : StateView). thread_of x q.thread) left) (ap (λ (x : StateView). x.core) left) next h.meets h.stays h.shown)
+    (ap (λ (x : StateView). thread_of x q.thread) left) (ap (λ (x : StateView). x.core) left) next h.implements h.stays h.shown)
 
 -- ---- A push
 
@@ -137,7 +137,7 @@ put_stop-requires-in-Some-default-Host g c =
     let q = c.in-Some-default-Host in
     let at = q.is ∙ ap (λ (e : EntryId). Some (q.mark, e)) q.field-0-1-is in
     let makes = host_makes c.args.component.now c.args.ended q.mark q.work s u (v c.step_host-made.new.w) c.step_host-made.result c.requires.current (left_is s u c.take_next.result q.mark (entries.Host q.work) c.take_next.ensures.taken at)
-    (next_is s c.take_next.result q.mark (entries.Host q.work) c.take_next.ensures.next at) c.step_host-made.ensures.meets c.step_host-made.ensures.current c.step_host-made.ensures.turn in
+    (next_is s c.take_next.result q.mark (entries.Host q.work) c.take_next.ensures.next at) c.step_host-made.ensures.implements c.step_host-made.ensures.current c.step_host-made.ensures.turn in
     record { over = makes.0.over; turn = c.step_host-made.ensures.turn }
 
 pub returns-in-Some-default-Host-clause-took : goal.returns-in-Some-default-Host-clause-took
@@ -148,7 +148,7 @@ returns-in-Some-default-Host-clause-took g c =
     let q = c.in-Some-default-Host in
     let at = q.is ∙ ap (λ (e : EntryId). Some (q.mark, e)) q.field-0-1-is in
     let makes = host_makes c.args.component.now c.args.ended q.mark q.work s u (v c.step_host-made.new.w) c.step_host-made.result c.requires.current (left_is s u c.take_next.result q.mark (entries.Host q.work) c.take_next.ensures.taken at)
-    (next_is s c.take_next.result q.mark (entries.Host q.work) c.take_next.ensures.next at) c.step_host-made.ensures.meets c.step_host-made.ensures.current c.step_host-made.ensures.turn in
+    (next_is s c.take_next.result q.mark (entries.Host q.work) c.take_next.ensures.next at) c.step_host-made.ensures.implements c.step_host-made.ensures.current c.step_host-made.ensures.turn in
     let t = v c.step_host-made.new.w in
     let before = c.args.trace.now in
     let after = c.put_stop-in-Some-default-Host.new.trace in

@@ -8,7 +8,7 @@ use Rattle.ops_guests.specs.Stays.{StaysAfter}
 use Rattle.ops_guests.specs.Steps.{label_of}
 use Rattle.ops_guests.specs.declared.op_result.OpResult.{OpResult}
 use Rattle.machine_rules.specs.Takes.{thread_taken}
-use Rattle.ops_turns.proofs.ShowLemmas.{taken_strikes}
+use Rattle.ops_turns.proofs.ShowLemmas.{taken_unwinds}
 use Rattle.ops_turns.proofs.takes.step_thread.Goals as goal
 use Rattle.ops_turns.specs.StepResult.{RuleShown, stepped_by}
 use Rattle.ops_turns.specs.Taken.{Taken}
@@ -21,7 +21,7 @@ take_thread-requires-clause-taken g c = subst (λ (u : StateView). Taken c.args.
 pub show_taken-requires-clause-unwinds : goal.show_taken-requires-clause-unwinds
 show_taken-requires-clause-unwinds g c =
     let v = g.W.View.view in
-    taken_strikes c.args.mark c.in-Ok.op_result c.args.thread (v c.set_current.new.self) (v c.take_thread.new.w)
+    taken_unwinds c.args.mark c.in-Ok.op_result c.args.thread (v c.set_current.new.self) (v c.take_thread.new.w)
     (subst (λ (u : StateView). Taken c.args.mark (thread_of u c.args.thread) u.core) (sym c.set_current.ensures) c.requires.taken) c.in-Ok.ensures.stays
 
 pub returns-clause-shown : goal.returns-clause-shown
@@ -32,7 +32,7 @@ returns-clause-shown g c =
     let t = v c.show_taken.new.w in
     let id = c.args.thread in
     let op_result = c.in-Ok.op_result in
-    let meets = subst (λ (u : StateView). Implements (thread_taken c.args.mark (thread_of u id) (choice_of (label_of (thread_of u id) op_result)) u.core (place_of (thread_of u id) u.core)) u.core op_result w.core) c.set_current.ensures c.in-Ok.ensures.meets in
+    let implements = subst (λ (u : StateView). Implements (thread_taken c.args.mark (thread_of u id) (choice_of (label_of (thread_of u id) op_result)) u.core (place_of (thread_of u id) u.core)) u.core op_result w.core) c.set_current.ensures c.in-Ok.ensures.implements in
     let stays = subst (λ (u : StateView). StaysAfter op_result u w) c.set_current.ensures c.in-Ok.ensures.stays in
     IfSome_then (stepped_by c.show_taken.result c.show_taken.new.trace) {Q = λ (q : StepResult). RuleShown (λ (r : OpResult). thread_taken c.args.mark (thread_of s id) (choice_of (label_of (thread_of s id) r)) s.core (place_of (thread_of s id) s.core)) id (with_current (Some id) s) c.args.trace.now q t c.show_taken.new.trace} c.show_taken.ensures.shown
-    (λ q shown. record { op_result = op_result; left = w; meets = meets; stays = stays; shown = shown })
+    (λ q shown. record { op_result = op_result; left = w; implements = implements; stays = stays; shown = shown })

@@ -7,8 +7,8 @@ use Rattle.task_loop.proofs.run.step_thread.Goals as goal
 use Rattle.task_loop.specs.Threads.{RunsThread, StepsUntold}
 use Rattle.machine_data.specs.declared.component.Component.{Component}
 use Rattle.machine_data.specs.declared.label.Label.{Label}
-use Rattle.machine_data.specs.declared.words.HostPoll.{HostPoll}
-use Rattle.machine_data.specs.declared.words.HostPoll.TheVariants as host_poll
+use Rattle.machine_data.specs.declared.statuses.HostPoll.{HostPoll}
+use Rattle.machine_data.specs.declared.statuses.HostPoll.TheVariants as host_poll
 use Rattle.machine_data.specs.declared.records.Turn.TheVariants as turn
 use Rattle.machine_rules.specs.Scripts.{op_of}
 use Rattle.task_store.specs.Hosts.{held_by}
