@@ -85,7 +85,8 @@ impl<T, H: HostWork, G: TaskGroupHook, M: MainTask<T, H, G> + Drop> MainTask<T, 
         let before = access.store.state.made();
         match self.main.step(access, component) {
             Ok(step) => {
-                test_step(&step, before, access.store.state.made());
+                let after = access.store.state.made();
+                test_step(&step, before, after);
                 Ok(step)
             }
             Err(error) => Err(error),

@@ -77,7 +77,8 @@ impl<T, W: AccessorTask<T>> AccessorTask<T> for WatchedWork<W> {
     fn poll(&mut self, host: &mut T) -> HostPoll {
         let before = self.work.left();
         let answer = self.work.poll(host);
-        test_poll(before, answer, self.work.left());
+        let after = self.work.left();
+        test_poll(before, answer, after);
         answer
     }
 }
