@@ -1,6 +1,6 @@
 -- Calls of hosts, and the works that they make.
 use Rattle.ops_dispatch.proofs.SubtaskRules.{IsQuiet, anybody, enter_quiet}
-use Rattle.ops_dispatch.proofs.RowLemmas.{ShowsAs, here, if_traps}
+use Rattle.ops_dispatch.proofs.RuleLemmas.{ShowsAs, here, if_traps}
 use Rattle.machine_data.specs.Labels.{Choice}
 use Rattle.ops_subtasks.specs.Rules.{begins_call, queues_call}
 use Rattle.std.proofs.Common.{ap, ap₂, refl, sym, ◌∙◌}

@@ -4,7 +4,7 @@ use Rattle.machine_rules.specs.Data.{data_rule}
 use Rattle.ops_guests.proofs.DoesLemmas.{same_rest}
 use Rattle.machine_data.specs.declared.op.DataOp.{DataOp}
 use Rattle.ops_dispatch.proofs.StayLemmas.{same_stays}
-use Rattle.ops_dispatch.proofs.RowLemmas.{data_shows}
+use Rattle.ops_dispatch.proofs.RuleLemmas.{data_shows}
 use Rattle.ops_dispatch.proofs.GoesLemmasDispatch.{same_goes}
 use Rattle.ops_dispatch.proofs.OpLemmas.{told_names}
 use Rattle.ops_dispatch.proofs.StandsLemmas.{exit_unanswered}

@@ -1,6 +1,6 @@
 -- The running thread's ops, from what they did.
 use Rattle.ops_dispatch.proofs.GoesLemmas.{RuleShows, does_op, same_op}
-use Rattle.ops_dispatch.proofs.RowLemmas.{ShowsAs, StopsAs, if_traps, stops_goes}
+use Rattle.ops_dispatch.proofs.RuleLemmas.{ShowsAs, StopsAs, if_traps, stops_goes}
 use Rattle.ops_dispatch.proofs.SubtaskRules.{IsQuiet, anybody}
 use Rattle.ops_dispatch.specs.ContinuesDispatch.{DoesOp, OpGoesOn}
 use Rattle.std.proofs.Common.{ap, arith, inl, inr, refl, subst, sym, ◌∙◌}

@@ -2,7 +2,7 @@
 use Rattle.machine_rules.specs.Scripts.{value_of}
 use Rattle.std.proofs.Common.{refl}
 use Rattle.std.specs.Prelude.{List, None, Option, Some, is_some, not, ℕ, ◌≡◌}
-use Rattle.ops_dispatch.proofs.RowLemmas.{ShowsAs, ShowsFor, drop_set_shows, here, if_found, if_lawful, if_traps, new_set_shows, poll_shows, two_traps, waiting_shows}
+use Rattle.ops_dispatch.proofs.RuleLemmas.{ShowsAs, ShowsFor, drop_set_shows, here, if_found, if_lawful, if_traps, new_set_shows, poll_shows, two_traps, waiting_shows}
 use Rattle.machine_data.specs.Core.{Core}
 use Rattle.machine_data.specs.Labels.{Choice, join_label}
 use Rattle.machine_data.specs.Moves.{passes_check}

@@ -22,7 +22,7 @@ use Rattle.machine_rules.specs.Progress.{Continues, Stops, may, or_never}
 use Rattle.machine_rules.specs.Sets.{chosen, handed_out}
 use Rattle.machine_rules.specs.Takes.{activated_woken, delivered, may_tell_starting, set_delivered, start_admitted, start_begins, start_holds, start_rule}
 use Rattle.task_table.specs.declared.id.TableId.{TableId}
-use Rattle.ops_dispatch.proofs.RowLemmas.{ShowsAs, here, if_lawful, if_traps, shows_of}
+use Rattle.ops_dispatch.proofs.RuleLemmas.{ShowsAs, here, if_lawful, if_traps, shows_of}
 use Rattle.ops_turns.specs.Taken.{Taken}
 use Rattle.ops_turns.specs.Turn.{CanUnwind, Shows}
 use Rattle.task_wait.specs.declared.keys.ThreadKey.{ThreadKey}

@@ -2,7 +2,7 @@
 use Rattle.std.proofs.Common.{ap, ap₂, append-nil, append_assoc, arith, length-append, refl, subst, sym, true, ◌∙◌, ◌++◌, ◌∷◌, []}
 use Rattle.std.specs.List.{list_all}
 use Rattle.std.specs.Option.{option_map_or}
-use Rattle.std.specs.Prelude.{Bool, List, None, Option, Some, slice_get, unwrap_or, ℕ, ◌+◌, ◌≡◌, ◌≤◌}
+use Rattle.std.specs.Prelude.{Bool, Err, IfOk, List, None, Ok, Option, Result, Some, slice_get, unwrap_or, ℕ, ◌+◌, ◌≡◌, ◌≤◌}
 use Rattle.laws_labels.specs.Own.{is_data}
 use Rattle.machine_data.specs.Core.{Core, Main}
 use Rattle.machine_data.specs.Labels.{choice_of}
@@ -14,6 +14,7 @@ use Rattle.machine_data.specs.declared.component.Component.{Component}
 use Rattle.machine_data.specs.declared.label.DataLabel.{DataLabel}
 use Rattle.machine_data.specs.declared.label.Label.{Label}
 use Rattle.machine_data.specs.declared.label.Label.TheVariants as label
+use Rattle.machine_data.specs.declared.memory.NoMemory.{NoMemory}
 use Rattle.machine_data.specs.declared.op.DataOp.{DataOp}
 use Rattle.machine_data.specs.declared.op.Op.{Op}
 use Rattle.machine_data.specs.declared.op.Op.TheVariants as op
@@ -38,7 +39,7 @@ use Rattle.ops_turns.proofs.OrderLemmas.{number_at, runner, runs_still}
 use Rattle.ops_turns.proofs.RunLemmas.{script_is, settled}
 use Rattle.ops_turns.specs.Context.{KeepsBeside, in_context, state_in}
 use Rattle.task_table.specs.declared.id.TableId.{TableId}
-use Rattle.ops_turns.specs.Drive.{Computes, KeepsOn, StopsShort}
+use Rattle.ops_turns.specs.Drive.{Computed, Computes, KeepsOn, StopsShort}
 use Rattle.ops_turns.specs.Later.{SameWorks}
 use Rattle.ops_turns.specs.Turn.{CoreInOrder, Turns, running_of, state_at}
 use Rattle.ops_turns.specs.declared.context.ThreadContext.{ThreadContext}
@@ -75,6 +76,15 @@ all_more test (k ∷ ls) l all one = let rest = all_more test ls l in grind (ari
 -- before the first op
 pub computes_none : (c : Component) (p : Turn) (s : StateView) (before : List Label) (added : ℕ) → Computes c p s before added s before added
 computes_none c p s before added = record { labels = []; computing = refl; trace = sym (append-nil before); count = omega arith; run = λ x component m. refl }
+
+pub computed_same : (c : Component) (p : Turn) (s : StateView) (before : List Label) (added steps : ℕ) → added ≤ steps → Computed c p s before added s before steps added
+computed_same c p s before added steps few = record { more = omega arith; few = few; on = λ x component o trace numbers m on. on; computes = computes_none c p s before added; still = λ is. refl }
+
+-- where a thread runs, so it is after a stretch of its ops
+pub computed_run : (c : Component) (n : ℕ) (s : StateView) (before : List Label) (added : ℕ) (t : StateView) (after : List Label) (steps : ℕ) (r : Result ℕ NoMemory) → IfOk r (λ k. (added ≤ k) × (k ≤ steps))
+    → IfOk r (λ k. KeepsOn c (turn.Run n) s before added t after k) → IfOk r (λ k. Computes c (turn.Run n) s before added t after k) → IfOk r (λ k. Computed c (turn.Run n) s before added t after steps k)
+computed_run c n s before added t after steps (Err e) few on computes = tt
+computed_run c n s before added t after steps (Ok k) few on computes = record { more = few.0; few = few.1; on = on; computes = computes; still = λ none. absurd (cc) }
 
 pub stops_at : (c : Component) (p : Turn) (s : StateView) (before : List Label) (added : ℕ) (t : StateView) (after : List Label) (k steps : ℕ) → k ≤ steps → KeepsOn c p s before added t after k → StopsShort c p s before added after steps
 stops_at c p s before added t after k steps few on = record { last = t; labels = k; few = few; on = on }

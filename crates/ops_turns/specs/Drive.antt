@@ -65,6 +65,15 @@ pub record Computes (c : Component) (p : Turn) (s : StateView) (before : List La
   pub count : k ≡ added + length labels
   pub run : (x : Setting) → x.component ≡ c → (m : Main) → Run x (state_at s.core m p) labels (state_at t.core m p)
 
+-- So it was, and k labels had been added then, of at most `steps`. Where no thread runs in this turn, none was added.
+pub record Computed (c : Component) (p : Turn) (s : StateView) (before : List Label) (added : ℕ) (t : StateView) (after : List Label)
+    (steps k : ℕ) : Type 0 where
+  pub more : added ≤ k
+  pub few : k ≤ steps
+  pub on : KeepsOn c p s before added t after k
+  pub computes : Computes c p s before added t after k
+  pub still : runs_in p ≡ None → k ≡ added
+
 -- It is out of memory: the run has gone on in this turn to a state that is lost, and its labels are in the trace.
 pub record StopsShort (c : Component) (p : Turn) (s : StateView) (before : List Label) (added : ℕ) (after : List Label) (steps : ℕ) :
     Type 0 where

@@ -10,7 +10,9 @@ use Rattle.machine_data.specs.declared.scenario.IdleLine.TheVariants as idle_lin
 use Rattle.machine_data.specs.declared.scenario.MainOpDef.{MainOpDef}
 use Rattle.machine_rules.specs.Stalled.{Setting, main_pends}
 use Rattle.machine_rules.specs.Step as machine
-use Rattle.ops_turns.specs.Turn.{state_at}
+use Rattle.core_primitives.specs.StateView.{StateView}
+use Rattle.ops_turns.specs.Turn.{Turns, state_at}
+use Rattle.ops_turns.specs.declared.made.MadeStep.{MadeStep}
 use Rattle.ops_turns.specs.declared.mains.MainStep.{MainStep}
 use Rattle.ops_turns.specs.declared.mains.MainStep.TheVariants as step
 
@@ -47,3 +49,8 @@ module _ (c : Component) (ops : List MainOpDef) (m : Main) (s : Core) where
   Steps (step.Did l) m' s' = Did l m' s'
   Steps step.Pends m' s' = Pends m' s'
   Steps (step.Answer v) m' s' = Answers v m' s'
+
+-- Where main did this step, it was made as a step of the machine.
+abbrev pub StepTurns : MainStep → MadeStep → StateView → Type 0
+StepTurns step made t =
+    (x : Setting) → (m new : Main) → (s : StateView) → Steps x.component x.script m s.core step new t.core → Turns x turn.Main m s made new t

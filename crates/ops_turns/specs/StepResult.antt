@@ -1,11 +1,18 @@
 -- A step whose label is in the trace.
-use Rattle.std.specs.Prelude.{List, None, Option, Some, [], false, is_none, option_map, true, ℕ, ◌++◌, ◌≡◌, ◌∷◌}
+use Rattle.std.specs.Prelude.{Bool, List, None, Option, Some, [], false, is_none, option_map, true, ℕ, ◌++◌, ◌≡◌, ◌∷◌}
 use Rattle.ops_dispatch.specs.Fits.{calls_host}
+use Rattle.ops_dispatch.specs.Polls.{polled_host}
+use Rattle.machine_data.specs.Read.{op_progress_of}
 use Rattle.machine_data.specs.declared.component.Component.{Component}
 use Rattle.machine_data.specs.declared.component.HostDef.{HostDef}
 use Rattle.machine_data.specs.declared.label.Label.{Label}
+use Rattle.machine_data.specs.declared.op.DataOp.{DataOp}
 use Rattle.machine_data.specs.declared.op.Op.{Op}
+use Rattle.machine_data.specs.declared.op.Op.TheVariants as op
+use Rattle.machine_data.specs.declared.op.TaskOp.TheVariants as task_op
 use Rattle.machine_data.specs.declared.records.Turn.TheVariants as turn
+use Rattle.machine_data.specs.declared.statuses.HostPoll.{HostPoll}
+use Rattle.machine_data.specs.declared.statuses.Mark.{Mark}
 use Rattle.ops_guests.specs.OpResult.{Implements}
 use Rattle.ops_guests.specs.Stays.{StaysAfter}
 use Rattle.ops_guests.specs.Steps.{core_after, label_of, turn_after}
@@ -14,7 +21,9 @@ use Rattle.machine_rules.specs.Outcome.{last_outcome, outcome_of_label}
 use Rattle.machine_rules.specs.Progress.{Progress}
 use Rattle.machine_rules.specs.Scripts.{op_of}
 use Rattle.task_table.specs.declared.id.TableId.{TableId}
-use Rattle.ops_turns.specs.Turn.{is_going, is_open, running_of, runs_in}
+use Rattle.ops_turns.specs.Ran.{RanPolls, scripted_rule_of}
+use Rattle.ops_turns.specs.Taken.{taking_rule}
+use Rattle.ops_turns.specs.Turn.{MakesFree, Took, TurnedBeside, is_going, is_open, running_of, runs_in}
 use Rattle.ops_turns.specs.declared.made.PackedStep.{PackedStep}
 use Rattle.ops_turns.specs.declared.made.PackedStep.TheVariants as brief
 use Rattle.ops_turns.specs.declared.made.MadeStep.{MadeStep}
@@ -24,7 +33,7 @@ use Rattle.ops_turns.specs.declared.made.RunStep.TheVariants as run_step
 use Rattle.ops_turns.specs.declared.made.StepResult.{StepResult}
 use Rattle.ops_turns.specs.declared.made.StepResult.TheVariants as stepped
 use Rattle.task_wait.specs.declared.keys.ThreadKey.{ThreadKey}
-use Rattle.core_primitives.specs.StateView.{StateView, thread_of}
+use Rattle.core_primitives.specs.StateView.{StateView, thread_of, with_current}
 
 -- The label of the step was added, and what is left to tell is whose turn it is then, or the outcome that the label gives.
 abbrev pub Stands : StepResult → List Label → MadeStep → List Label → Type 0
@@ -74,6 +83,32 @@ pub record RuleShown (row : OpResult → Progress) (id : TableId ThreadKey) (s :
   pub stays : StaysAfter op_result s left
   pub shown : Shown id op_result left before stepped t after
 
+-- so it is of an op of the thread's script
+abbrev pub OpShown : Component → Op → TableId ThreadKey → StateView → List Label → StepResult → StateView → List Label → Type 0
+OpShown c o id s before stepped t after = RuleShown (scripted_rule_of c o id s) id s before stepped t after
+
+-- of one on registers and memory cells
+abbrev pub DataShown : Component → DataOp → TableId ThreadKey → StateView → List Label → StepResult → StateView → List Label → Type 0
+DataShown c o id s before stepped t after = OpShown c (op.Data o) id s before stepped t after
+
+-- and of its exit, whatever the component is
+abbrev pub ExitShown : TableId ThreadKey → StateView → List Label → StepResult → StateView → List Label → Type 0
+ExitShown id s before stepped t after = (c : Component) → OpShown c (op.Task task_op.Exit) id s before stepped t after
+
+-- and of the taking of its entry from this mark
+abbrev pub TakingShown : Mark → TableId ThreadKey → StateView → List Label → StepResult → StateView → List Label → Type 0
+TakingShown mark id s before stepped t after =
+    RuleShown (taking_rule mark (thread_of s id) s.core) id (with_current (Some id) s) before stepped t after
+
+-- An entry was taken, and what that shows is in the trace.
+abbrev pub TookShown : Component → (ended : Bool) → StateView → List Label → StepResult → StateView → List Label → Type 0
+TookShown c ended s before stepped t after = Added (λ made. Took c ended s (Some made) t) stepped before after
+
+-- The next entry was taken in this turn, or it was seen that nothing is there.
+abbrev pub TakesBeside : Component → (trap_on_idle ended : Bool) → StateView → Option StepResult → StateView → (before after : List Label) →
+    Type 0
+TakesBeside c b ended s q t before after = AddedOrNone (λ made. TurnedBeside c b (turn.Take ended) s made t) q before after
+
 -- A step whose label is still to be added.
 pub record RuleRan (row : OpResult → Progress) (id : TableId ThreadKey) (s : StateView) (made : MadeStep) (t : StateView) : Type 0 where
   pub op_result : OpResult
@@ -102,7 +137,25 @@ abbrev pub RuleStep : (OpResult → Progress) → TableId ThreadKey → StateVie
 RuleStep row id s before (run_step.Shown stepped) t after = RuleShown row id s before stepped t after
 RuleStep row id s before run_step.Calls t after = (t ≡ s) × (after ≡ before)
 
+-- so it is of an op of the thread's script
+abbrev pub OpStep : Component → Op → TableId ThreadKey → StateView → List Label → RunStep → StateView → List Label → Type 0
+OpStep c o id s before step t after = RuleStep (scripted_rule_of c o id s) id s before step t after
+
 -- A step polls this host first where its op, which isn't done, calls one; else it polls none.
 abbrev pub StepPolls : Option HostDef → Op → RunStep → Type 0
 StepPolls host o (run_step.Shown stepped) = host ≡ None
 StepPolls host o run_step.Calls = calls_host o ≡ true
+
+-- the host that the op polls which the thread is to do
+abbrev pub OpPolls : Component → Op → TableId ThreadKey → StateView → RunStep → Type 0
+OpPolls c o id s step = StepPolls (polled_host c (op_progress_of (thread_of s id) s.core) o) o step
+
+-- A step of the running thread made what the machine may make, and polled what its op polls, where the host has answered so.
+abbrev pub RanFree : HostPoll → Component → ℕ → StateView → Ran → StateView → Type 0
+RanFree answer c n s ran t = MakesFree c (turn.Run n) s ran.made t × RanPolls answer c n s ran t
+
+-- So it was made, whatever a host answers, as it polled none; or its op calls a host.
+abbrev pub RunStepped : Component → ℕ → StateView → RunStep → StateView → (before after : List Label) → Type 0
+RunStepped c n s step t before after =
+    RunAdded (λ ran. MakesFree c (turn.Run n) s ran.made t × ((answer : HostPoll) → RanPolls answer c n s ran t)) (CallsHost c n s t) step
+    before after

@@ -85,6 +85,10 @@ pub record Turns (x : Setting) (p : Turn) (m : Main) (s : StateView) (made : Mad
   pub over : is_none (outcome_of_label made.label) ≡ is_open made.turn
   pub pends : PendsIn x t.core m' made.turn
 
+-- so it is of a turn in which main has no part, whatever main is
+abbrev pub TurnsBeside : Turn → StateView → MadeStep → StateView → Type 0
+TurnsBeside p s made t = (x : Setting) → (m : Main) → PendsIn x s.core m p → Turns x p m s made m t
+
 -- A step was made, or nothing can go on and that is no deadlock, and nothing is changed.
 abbrev pub Turned : Setting → Turn → Main → StateView → Option MadeStep → Main → StateView → Type 0
 Turned x p m s (Some made) m' t = Turns x p m s made m' t
@@ -115,7 +119,27 @@ abbrev pub TurnedBeside : Component → (trap_on_idle : Bool) → Turn → State
 TurnedBeside c b p s made t =
     (x : Setting) → x.component ≡ c → x.idle ≡ idle_line_of b → (m : Main) → PendsIn x s.core m p → Turned x p m s made m t
 
+-- a step was made after which main's op need not pend
+abbrev pub MakesFree : Component → Turn → StateView → MadeStep → StateView → Type 0
+MakesFree c p s made t = MakesStep c p s made t × IsFree made.turn
+
 -- nothing was there and nothing is changed, or a step was made
 abbrev pub Took : Component → Bool → StateView → Option MadeStep → StateView → Type 0
 Took c ended s None t = (next_entry s.core ≡ None) × (t ≡ s)
-Took c ended s (Some made) t = MakesStep c (turn.Take ended) s made t × IsFree made.turn
+Took c ended s (Some made) t = MakesFree c (turn.Take ended) s made t
+
+-- nothing is there, and no work ended in this turn
+abbrev pub Rested : (trap_on_idle : Bool) → StateView → Option MadeStep → StateView → Type 0
+Rested b s made t = (c : Component) → CoreInOrder c (turn.Take false) s.core → TurnedBeside c b (turn.Take false) s made t
+
+-- the store was trapped in a deadlock, as main waits
+abbrev pub Deadlocks : StateView → MadeStep → StateView → Type 0
+Deadlocks s made t =
+    (x : Setting) → CoreInOrder x.component (turn.Take false) s.core → x.idle ≡ idle_line.Trap → (m : Main) →
+    main_pends x s.core m ≡ true → Turns x (turn.Take false) m s made m t
+
+-- this says whether nothing can go on in this turn, and that is no deadlock
+abbrev pub TellsRest : (trap_on_idle : Bool) → Turn → StateView → Bool → Type 0
+TellsRest b p s rests =
+    (x : Setting) → CoreInOrder x.component p s.core → x.idle ≡ idle_line_of b → (m : Main) → PendsIn x s.core m p →
+    is_at_rest x (state_at s.core m p) ≡ rests

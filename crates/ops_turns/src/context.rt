@@ -1,13 +1,10 @@
 //! Ops on registers and memory cells, in the context of a thread.
-ghost use Rattle.std.specs.Prelude.{◌≡◌, ◌==◌, ◌<◌, ◌+◌, ◌^◌, Some, if◌then◌else◌, length, min, slice_set};
+ghost use Rattle.std.specs.Prelude.{◌≡◌, ◌<◌, ◌+◌, ◌^◌, Some, slice_set};
 ghost use Rattle.machine_data.specs.Maps.{get};
 ghost use Rattle.machine_data.specs.Read.{instance_of, position_of, registers_of};
-ghost use Rattle.machine_data.specs.declared.component.Component.{Component};
 ghost use Rattle.machine_data.specs.declared.records.Thread.{Thread};
-ghost use Rattle.machine_rules.specs.Data.{data_rule};
-ghost use Rattle.machine_rules.specs.Progress.{Continues};
-ghost use Rattle.machine_rules.specs.Scripts.{script_of, value_in};
-ghost use Rattle.ops_turns.specs.Context.{KeepsBeside, in_context};
+ghost use Rattle.machine_rules.specs.Scripts.{value_in};
+ghost use Rattle.ops_turns.specs.Context.{DoesData, KeepsBeside, place_after};
 ghost use Rattle.core_primitives.specs.StateView.{thread_of};
 
 use core_primitives::{Primitives, ThreadId};
@@ -61,7 +58,7 @@ fn assigns(context: &mut ThreadContext, register: u8, answer: u64)
 #[inline(always)]
 fn place_after(context: &ThreadContext, left: Operand, right: Operand, ops: u32, end: u32) -> u32
     requires { context.now.position < end }
-    ensures { result ≡ min (context.now.position + 1 + (if value_in context.now.registers left == value_in context.now.registers right then ops else 0)) end }
+    ensures { result ≡ place_after context.now left right ops end }
 {
     let equal = operand_value(&context.registers, left) == operand_value(&context.registers, right);
     let passed = if equal { ops } else { 0 };
@@ -83,7 +80,7 @@ pub(crate) fn computes_in<W: Primitives>(
     requires there { (t : Thread) × (get (W.view w.old).core.threads number ≡ Some t) }
     requires instance { instance ≡ instance_of number (W.view w.old).core }
     requires before { context.old.position < end }
-    ensures row { (c : Component) → length (script_of c number (in_context number context.old (W.view w.old).core)) ≡ end → data_rule c number (in_context number context.old (W.view w.old).core) op.now ≡ Continues (Label.Data result) (in_context number context.new (W.view w.new).core) number }
+    ensures row { DoesData number end op.now result context.old (W.view w.old).core context.new (W.view w.new).core }
     ensures beside { KeepsBeside (W.view w.old) (W.view w.new) }
 {
     match op {

@@ -1,13 +1,12 @@
 //! The poll of a live work.
-ghost use Rattle.std.specs.Prelude.{◌≡◌, ◌<◌, None, Some, true};
+ghost use Rattle.std.specs.Prelude.{◌≡◌, ◌<◌, None, true};
 ghost use Rattle.machine_data.specs.Core.{Main};
 ghost use Rattle.machine_data.specs.declared.component.Component.{Component};
 ghost use Rattle.machine_data.specs.declared.records.Subtask.TheVariants as subtasks;
-ghost use Rattle.ops_guests.specs.PolledWorks.{PolledTo, TellsPoll};
 ghost use Rattle.ops_guests.specs.Works.{KeepsTold};
 ghost use Rattle.machine_rules.specs.Stalled.{Setting, main_pends};
-ghost use Rattle.machine_rules.specs.Works.{next_polled, poll_of};
 ghost use Rattle.ops_turns.specs.Turn.{MakesStep, PendsIn};
+ghost use Rattle.ops_turns.specs.Worked.{PollsWork, TellsOfNext};
 ghost use Rattle.core_primitives.specs.Apart.{IsBlockedUnqueued, work_entries};
 ghost use Rattle.core_primitives.specs.StateView.{work_of};
 
@@ -28,14 +27,13 @@ pub(crate) fn step_poll<W: Primitives>(
 ) -> MadeStep
     requires live { 0 < number }
     requires number { number ≡ work_of (W.view w.old) work }
-    requires next { next_polled polled (W.view w.old).core ≡ Some (work_of (W.view w.old) work) }
-    requires told { TellsPoll told (poll_of (work_of (W.view w.old) work) (W.view w.old).core) }
+    requires next { TellsOfNext told polled (work_of (W.view w.old) work) (W.view w.old).core }
     requires current { (W.view w.old).current ≡ None }
     requires blocked { IsBlockedUnqueued (subtasks.Host (work_of (W.view w.old) work)) (W.view w.old).core }
     requires unqueued { work_entries (work_of (W.view w.old) work) (W.view w.old).core.queues.high ≡ 0 }
     ensures makes { (c : Component) → MakesStep c (Turn.Futures polled) (W.view w.old) result (W.view w.new) }
     ensures pends { (x : Setting) → (m : Main) → main_pends x (W.view w.old).core m ≡ true → PendsIn x (W.view w.new).core m result.turn }
-    ensures core { PolledTo told (work_of (W.view w.old) work) (poll_of (work_of (W.view w.old) work) (W.view w.old).core) (W.view w.old).core (W.view w.new).core }
+    ensures core { PollsWork told (work_of (W.view w.old) work) (W.view w.old).core (W.view w.new).core }
     ensures works { KeepsTold (W.view w.old) (W.view w.new) }
 {
     match poll_work(w, work, told) {

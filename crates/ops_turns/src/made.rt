@@ -255,7 +255,7 @@ fn show_trap<W: Primitives>(
 ) -> PackedStep
     requires unwinds { CanUnwind (OpResult.Traps trap) (thread_of (W.view w.old) thread) (W.view w.old).core }
     requires goes { OpGoesOn (OpResult.Traps trap) (W.view w.old) }
-    ensures shown { IfSome (stepped_by result trace.new) (λ stepped. Shown thread (OpResult.Traps trap) (W.view w.old) trace.old stepped (W.view w.new) trace.new) }
+    ensures shown { IfSome (stepped_by result trace.new) (λ q. Shown thread (OpResult.Traps trap) (W.view w.old) trace.old q (W.view w.new) trace.new) }
     ensures works { KeepsTold (W.view w.old) (W.view w.new) }
     ensures err { IfNone (stepped_by result trace.new) (trace.new ≡ trace.old) }
     ensures made { result ≢ PackedStep.Nothing }
@@ -273,7 +273,7 @@ fn show_failure<W: Primitives>(
 ) -> PackedStep
     requires unwinds { CanUnwind (OpResult.Fails work) (thread_of (W.view w.old) thread) (W.view w.old).core }
     requires goes { OpGoesOn (OpResult.Fails work) (W.view w.old) }
-    ensures shown { IfSome (stepped_by result trace.new) (λ stepped. Shown thread (OpResult.Fails work) (W.view w.old) trace.old stepped (W.view w.new) trace.new) }
+    ensures shown { IfSome (stepped_by result trace.new) (λ q. Shown thread (OpResult.Fails work) (W.view w.old) trace.old q (W.view w.new) trace.new) }
     ensures works { KeepsTold (W.view w.old) (W.view w.new) }
     ensures err { IfNone (stepped_by result trace.new) (trace.new ≡ trace.old) }
     ensures made { result ≢ PackedStep.Nothing }

@@ -1,11 +1,8 @@
 //! What a step of main shows.
 ghost use Rattle.std.specs.Prelude.{◌≡◌, None};
-ghost use Rattle.machine_data.specs.Core.{Main};
-ghost use Rattle.machine_rules.specs.Stalled.{Setting};
 ghost use Rattle.ops_turns.specs.Does.{label_of_step};
-ghost use Rattle.ops_turns.specs.Main.{Steps};
-ghost use Rattle.ops_turns.specs.Turn.{Turns, running_of};
-ghost use Rattle.core_primitives.specs.StateView.{StateView};
+ghost use Rattle.ops_turns.specs.Main.{StepTurns};
+ghost use Rattle.ops_turns.specs.Turn.{running_of};
 
 use crate::made::MadeStep;
 use crate::settles::turn_where;
@@ -28,7 +25,7 @@ pub enum MainStep {
 pub fn made_by_main<W: Primitives>(w: &W, step: MainStep) -> MadeStep
     requires { running_of (W.view w.now) ≡ None }
     ensures label { result.label ≡ label_of_step step }
-    ensures turns { (x : Setting) → (m new : Main) → (s : StateView) → Steps x.component x.script m s.core step new (W.view w.now).core → Turns x Turn.Main m s result new (W.view w.now) }
+    ensures turns { StepTurns step result (W.view w.now) }
 {
     match step {
         MainStep::Did(label) => MadeStep {

@@ -5,14 +5,11 @@ ghost use Rattle.ops_dispatch.specs.RunnerDispatch.{Runner};
 ghost use Rattle.std.specs.Prelude.{◌≡◌, ◌+◌, ◌<◌, ◌^◌, IfNone, IfOk, IfSome, OnErr, OnOk, OnSome, Some, is_some, true};
 ghost use Rattle.machine_data.specs.Maps.{get};
 ghost use Rattle.machine_data.specs.Read.{op_progress_of, instance_of, position_of};
-ghost use Rattle.machine_data.specs.declared.component.Component.{Component};
-ghost use Rattle.machine_data.specs.declared.op.Op.TheVariants as ops;
-ghost use Rattle.machine_data.specs.declared.op.TaskOp.TheVariants as task_ops;
 ghost use Rattle.ops_guests.specs.Works.{KeepsTold, NamesTold};
 ghost use Rattle.machine_rules.specs.Scripts.{op_of};
-ghost use Rattle.ops_turns.specs.Ran.{DidHere, MakesFew, RanPolls, StandsBefore, WantsMemory, WorkMade, scripted_rule_of};
-ghost use Rattle.ops_turns.specs.StepResult.{CallsHost, RuleRan, RuleShown, RuleStep, RunAdded, Shown, StepPolls, stepped_by};
-ghost use Rattle.ops_turns.specs.Turn.{CanUnwind, OpGoesOn, IsFree, MakesStep, CoreInOrder, given, running_of};
+ghost use Rattle.ops_turns.specs.Ran.{DidHere, MakesFew, StandsBefore, WantsMemory, WorkMade, scripted_rule_of};
+ghost use Rattle.ops_turns.specs.StepResult.{DataShown, ExitShown, OpPolls, OpShown, OpStep, RanFree, RuleRan, RunStepped, Shown, stepped_by};
+ghost use Rattle.ops_turns.specs.Turn.{CanUnwind, OpGoesOn, CoreInOrder, given, running_of};
 ghost use Rattle.ops_turns.specs.WellFormed.{IsWellFormed};
 ghost use Rattle.core_primitives.specs.StateView.{thread_of};
 
@@ -66,7 +63,7 @@ fn run_data<W: Primitives>(
 ) -> PackedStep
     requires runner { Runner thread (W.view w.old) }
     requires within { StandsBefore end component.now (thread_of (W.view w.old) thread) (W.view w.old).core }
-    ensures shown { IfSome (stepped_by result trace.new) (λ stepped. RuleShown (scripted_rule_of component.now (ops.Data op.now) thread (W.view w.old)) thread (W.view w.old) trace.old stepped (W.view w.new) trace.new) }
+    ensures shown { IfSome (stepped_by result trace.new) (λ q. DataShown component.now op.now thread (W.view w.old) trace.old q (W.view w.new) trace.new) }
     ensures works { OnSome (stepped_by result trace.new) (KeepsTold (W.view w.old) (W.view w.new)) }
     ensures err { IfNone (stepped_by result trace.new) (trace.new ≡ trace.old) }
 {
@@ -98,7 +95,7 @@ fn run_plain<W: Primitives>(
     requires position { position_of (thread_of (W.view w.old) thread) (W.view w.old).core + 1 < 2 ^ 32 }
     requires handles { is_some (get (W.view w.old).core.handles (instance_of (thread_of (W.view w.old) thread) (W.view w.old).core)) ≡ true }
     requires few { given (W.view w.old).core < 2 ^ 61 }
-    ensures shown { IfSome (stepped_by result trace.new) (λ stepped. RuleShown (scripted_rule_of component.now op.now thread (W.view w.old)) thread (W.view w.old) trace.old stepped (W.view w.new) trace.new) }
+    ensures shown { IfSome (stepped_by result trace.new) (λ q. OpShown component.now op.now thread (W.view w.old) trace.old q (W.view w.new) trace.new) }
     ensures works { OnSome (stepped_by result trace.new) (NamesTold (W.view w.old) (W.view w.new)) }
     ensures err { IfNone (stepped_by result trace.new) (trace.new ≡ trace.old) }
 {
@@ -140,7 +137,7 @@ fn show_exit<W: Primitives>(
 #[inline(never)]
 fn run_exit<W: Primitives>(w: &mut W, thread: ThreadId, trace: &mut PackedLabels) -> PackedStep
     requires runner { Runner thread (W.view w.old) }
-    ensures shown { IfSome (stepped_by result trace.new) (λ stepped. (c : Component) → RuleShown (scripted_rule_of c (ops.Task task_ops.Exit) thread (W.view w.old)) thread (W.view w.old) trace.old stepped (W.view w.new) trace.new) }
+    ensures shown { IfSome (stepped_by result trace.new) (λ q. ExitShown thread (W.view w.old) trace.old q (W.view w.new) trace.new) }
     ensures works { OnSome (stepped_by result trace.new) (KeepsTold (W.view w.old) (W.view w.new)) }
     ensures err { IfNone (stepped_by result trace.new) (trace.new ≡ trace.old) }
 {
@@ -198,8 +195,8 @@ fn run_by<W: Primitives>(
     requires within { StandsBefore end component.now (thread_of (W.view w.old) thread) (W.view w.old).core }
     requires handles { is_some (get (W.view w.old).core.handles (instance_of (thread_of (W.view w.old) thread) (W.view w.old).core)) ≡ true }
     requires few { given (W.view w.old).core < 2 ^ 61 }
-    ensures step { IfOk result (λ step. RuleStep (scripted_rule_of component.now op.now thread (W.view w.old)) thread (W.view w.old) trace.old step (W.view w.new) trace.new) }
-    ensures polls { IfOk result (λ step. StepPolls (polled_host component.now (op_progress_of (thread_of (W.view w.old) thread) (W.view w.old).core) op.now) op.now step) }
+    ensures step { IfOk result (λ step. OpStep component.now op.now thread (W.view w.old) trace.old step (W.view w.new) trace.new) }
+    ensures polls { IfOk result (λ step. OpPolls component.now op.now thread (W.view w.old) step) }
     ensures works { OnOk result (NamesTold (W.view w.old) (W.view w.new)) }
     ensures err { OnErr result (trace.new ≡ trace.old) }
 {
@@ -237,7 +234,7 @@ pub fn step_run<W: Primitives>(
     requires order { CoreInOrder component.now (Turn.Run number) (W.view w.old).core }
     requires runs { running_of (W.view w.old) ≡ Some number }
     requires few { given (W.view w.old).core < 2 ^ 61 }
-    ensures ran { IfOk result (λ step. RunAdded (λ ran. (MakesStep component.now (Turn.Run number) (W.view w.old) ran.made (W.view w.new) × IsFree ran.made.turn) × ((answer : HostPoll) → RanPolls answer component.now number (W.view w.old) ran (W.view w.new))) (CallsHost component.now number (W.view w.old) (W.view w.new)) step trace.old trace.new) }
+    ensures ran { IfOk result (λ step. RunStepped component.now number (W.view w.old) step (W.view w.new) trace.old trace.new) }
     ensures works { OnOk result (NamesTold (W.view w.old) (W.view w.new)) }
     ensures err { OnErr result (trace.new ≡ trace.old) }
 {
@@ -283,7 +280,7 @@ pub fn step_call<W: Primitives>(
     requires runs { running_of (W.view w.old) ≡ Some number }
     requires calls { calls_host (op_of component.now number (W.view w.old).core) ≡ true }
     requires few { given (W.view w.old).core < 2 ^ 61 }
-    ensures ran { IfOk result (λ ran. (MakesStep component.now (Turn.Run number) (W.view w.old) ran.made (W.view w.new) × IsFree ran.made.turn) × RanPolls answer component.now number (W.view w.old) ran (W.view w.new)) }
+    ensures ran { IfOk result (λ ran. RanFree answer component.now number (W.view w.old) ran (W.view w.new)) }
     ensures works { OnOk result (NamesTold (W.view w.old) (W.view w.new)) }
 {
     // only the contract speaks of `number`

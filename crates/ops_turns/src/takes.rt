@@ -1,25 +1,21 @@
 //! The taking of an entry of a thread.
 ghost use Rattle.ops_turns.specs.Worked.{tracked_entry_group};
 ghost use Rattle.std.specs.Prelude.{◌≡◌, ◌≢◌, ◌<◌, IfNone, IfOk, IfSome, None, OnOk, OnSome, Some};
-ghost use Rattle.machine_data.specs.Labels.{choice_of};
 ghost use Rattle.machine_data.specs.Moves.{why_of};
-ghost use Rattle.machine_data.specs.Read.{admits, next_entry, place_of};
-ghost use Rattle.machine_data.specs.declared.component.Component.{Component};
+ghost use Rattle.machine_data.specs.Read.{next_entry};
 ghost use Rattle.machine_data.specs.declared.label.Label.TheVariants as labels;
 ghost use Rattle.machine_data.specs.declared.label.TakeLabel.TheVariants as take_labels;
 ghost use Rattle.machine_data.specs.declared.records.Subtask.TheVariants as subtasks;
 ghost use Rattle.machine_data.specs.declared.records.Why.TheVariants as whys;
 ghost use Rattle.ops_moves.specs.Idle.{IsJoinThere};
-ghost use Rattle.ops_guests.specs.OpResult.{Implements};
 ghost use Rattle.ops_guests.specs.Stays.{StaysAfter};
-ghost use Rattle.ops_guests.specs.Steps.{label_of};
 ghost use Rattle.ops_guests.specs.Works.{KeepsTold};
 ghost use Rattle.machine_rules.specs.Places.{Placed};
-ghost use Rattle.machine_rules.specs.Takes.{delivery_rule, scripted_host_rule, pushed, thread_taken};
-ghost use Rattle.ops_turns.specs.StepResult.{Added, RuleShown, Shown, stepped_by};
-ghost use Rattle.ops_turns.specs.Taken.{FindsSet, Taken};
+ghost use Rattle.machine_rules.specs.Takes.{pushed};
+ghost use Rattle.ops_turns.specs.StepResult.{Shown, TakingShown, TookShown, stepped_by};
+ghost use Rattle.ops_turns.specs.Taken.{FindsSet, Taken, TakesDelivery, TakesHost, TakesThread};
 ghost use Rattle.ops_turns.specs.Turn.{CanUnwind, OpGoesOn, Shows, CoreInOrder, Took};
-ghost use Rattle.core_primitives.specs.StateView.{on_core, thread_of, with_current, work_of};
+ghost use Rattle.core_primitives.specs.StateView.{on_core, thread_of, work_of};
 
 use crate::made::{MadeStep, PackedStep, put_stop, show};
 use core_primitives::{EntryId, Primitives, ThreadId, WorkId};
@@ -40,7 +36,7 @@ fn take_delivery<W: Primitives>(
     requires taken { Taken mark (thread_of (W.view w.old) thread) (W.view w.old).core }
     requires finds { FindsSet (thread_of (W.view w.old) thread) (W.view w.old).core }
     requires why { why_of (thread_of (W.view w.old) thread) (W.view w.old).core ≡ whys.Delivery delivery }
-    ensures implements { Implements (delivery_rule mark (thread_of (W.view w.old) thread) (choice_of (label_of (thread_of (W.view w.old) thread) result)) (W.view w.old).core delivery (admits (thread_of (W.view w.old) thread) (W.view w.old).core (whys.Delivery delivery))) (W.view w.old).core result (W.view w.new).core }
+    ensures implements { TakesDelivery mark (thread_of (W.view w.old) thread) (W.view w.old).core delivery result (W.view w.new).core }
     ensures shows { Shows (thread_of (W.view w.old) thread) result }
     ensures stays { StaysAfter result (W.view w.old) (W.view w.new) }
     ensures tags { (W.view w.new).tags ≡ (W.view w.old).tags }
@@ -68,7 +64,7 @@ fn take_delivery<W: Primitives>(
 fn take_thread<W: Primitives>(w: &mut W, mark: Mark, thread: ThreadId) -> Result<OpResult, NoMemory>
     requires taken { Taken mark (thread_of (W.view w.old) thread) (W.view w.old).core }
     requires finds { FindsSet (thread_of (W.view w.old) thread) (W.view w.old).core }
-    ensures implements { IfOk result (λ op_result. Implements (thread_taken mark (thread_of (W.view w.old) thread) (choice_of (label_of (thread_of (W.view w.old) thread) op_result)) (W.view w.old).core (place_of (thread_of (W.view w.old) thread) (W.view w.old).core)) (W.view w.old).core op_result (W.view w.new).core) }
+    ensures implements { IfOk result (λ op_result. TakesThread mark (thread_of (W.view w.old) thread) (W.view w.old).core op_result (W.view w.new).core) }
     ensures shows { IfOk result (λ op_result. Shows (thread_of (W.view w.old) thread) op_result) }
     ensures stays { IfOk result (λ op_result. StaysAfter op_result (W.view w.old) (W.view w.new)) }
     ensures tags { (W.view w.new).tags ≡ (W.view w.old).tags }
@@ -119,7 +115,7 @@ fn step_thread<W: Primitives>(
 ) -> PackedStep
     requires taken { Taken mark (thread_of (W.view w.old) thread) (W.view w.old).core }
     requires finds { FindsSet (thread_of (W.view w.old) thread) (W.view w.old).core }
-    ensures shown { IfSome (stepped_by result trace.new) (λ stepped. RuleShown (λ op_result. thread_taken mark (thread_of (W.view w.old) thread) (choice_of (label_of (thread_of (W.view w.old) thread) op_result)) (W.view w.old).core (place_of (thread_of (W.view w.old) thread) (W.view w.old).core)) thread (with_current (Some thread) (W.view w.old)) trace.old stepped (W.view w.new) trace.new) }
+    ensures shown { IfSome (stepped_by result trace.new) (λ q. TakingShown mark thread (W.view w.old) trace.old q (W.view w.new) trace.new) }
     ensures works { OnSome (stepped_by result trace.new) (KeepsTold (W.view w.old) (W.view w.new)) }
     ensures err { IfNone (stepped_by result trace.new) (trace.new ≡ trace.old) }
     ensures made { result ≢ PackedStep.Nothing }
@@ -150,7 +146,7 @@ fn step_host<W: Primitives>(w: &mut W, mark: Mark, work: WorkId) -> MadeStep
     requires live { 0 < work_of (W.view w.old) work }
     requires placed { Placed (W.view w.old).core }
     requires there { IsJoinThere (subtasks.Host (work_of (W.view w.old) work)) (W.view w.old).core }
-    ensures implements { Implements (scripted_host_rule mark (work_of (W.view w.old) work) (choice_of result.label).woken (W.view w.old).core) (W.view w.old).core (OpResult.Stops result.label) (W.view w.new).core }
+    ensures implements { TakesHost mark (work_of (W.view w.old) work) (W.view w.old).core result.label (W.view w.new).core }
     ensures current { (W.view w.new).current ≡ (W.view w.old).current }
     ensures turn { result.turn ≡ Turn.Main }
     ensures works { KeepsTold (W.view w.old) (W.view w.new) }
@@ -179,7 +175,7 @@ pub(crate) fn step_take<W: Primitives>(
     requires current { (W.view w.old).current ≡ None }
     ensures worked { worked.new ≡ tracked_entry_group (next_entry (W.view w.old).core) (W.view w.old) }
     ensures none { result ≡ PackedStep.Nothing → Took component.now ended (W.view w.old) None (W.view w.new) }
-    ensures took { IfSome (stepped_by result trace.new) (λ stepped. Added (λ made. Took component.now ended (W.view w.old) (Some made) (W.view w.new)) stepped trace.old trace.new) }
+    ensures took { IfSome (stepped_by result trace.new) (λ q. TookShown component.now ended (W.view w.old) trace.old q (W.view w.new) trace.new) }
     ensures works { OnSome (stepped_by result trace.new) (KeepsTold (W.view w.old) (W.view w.new)) }
     ensures err { IfNone (stepped_by result trace.new) (trace.new ≡ trace.old) }
 {

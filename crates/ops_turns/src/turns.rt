@@ -1,20 +1,16 @@
 //! The turns of a run in which main has no part.
-ghost use Rattle.ops_turns.specs.Worked.{tracked_worked_group};
-ghost use Rattle.std.specs.Prelude.{◌≡◌, ◌≤◌, IfOk, IfSome, None, Some, false, is_none, OnErr, OnOk};
+ghost use Rattle.ops_turns.specs.Worked.{MayPoll, PollsWork, TellsOfNext, tracked_worked_group};
+ghost use Rattle.std.specs.Prelude.{◌≡◌, ◌≤◌, IfOk, IfSome, None, is_none, OnErr, OnOk};
 ghost use Rattle.laws_states.specs.Order.{WorksQueued};
-ghost use Rattle.machine_data.specs.Core.{Main};
 ghost use Rattle.machine_data.specs.Read.{next_entry};
-ghost use Rattle.ops_guests.specs.PolledWorks.{PolledTo, TellsPoll};
 ghost use Rattle.ops_guests.specs.Works.{KeepsTold};
-ghost use Rattle.machine_rules.specs.Outcome.{is_at_rest, outcome_of_label};
-ghost use Rattle.machine_rules.specs.Places.{Placed};
-ghost use Rattle.machine_rules.specs.Stalled.{Setting, is_unended_take};
-ghost use Rattle.machine_rules.specs.Works.{next_polled, poll_of};
+ghost use Rattle.machine_rules.specs.Outcome.{outcome_of_label};
+ghost use Rattle.machine_rules.specs.Stalled.{is_unended_take};
 ghost use Rattle.ops_turns.specs.Later.{SameWorks};
 ghost use Rattle.ops_turns.specs.WellFormed.{IsWellFormed};
-ghost use Rattle.ops_turns.specs.Drive.{Computes, KeepsOn, StopsShort};
-ghost use Rattle.ops_turns.specs.StepResult.{AddedOrNone};
-ghost use Rattle.ops_turns.specs.Turn.{IsAtTurn, PendsIn, RunnerThere, CoreInOrder, TurnedBeside, Turns, idle_line_of, is_open, running_of, runs_in, state_at};
+ghost use Rattle.ops_turns.specs.Drive.{Computed, StopsShort};
+ghost use Rattle.ops_turns.specs.StepResult.{TakesBeside};
+ghost use Rattle.ops_turns.specs.Turn.{IsAtTurn, RunnerThere, CoreInOrder, Rested, TellsRest, TurnsBeside, is_open, running_of, runs_in};
 ghost use Rattle.core_primitives.specs.StateView.{work_of};
 
 use crate::futures::step_poll;
@@ -37,14 +33,11 @@ pub fn poll<W: Primitives>(
     polled: u64,
     told: PollNews,
 ) -> MadeStep
-    requires placed { Placed (W.view w.old).core }
-    requires works { WorksQueued (W.view w.old).core }
-    requires current { (W.view w.old).current ≡ None }
+    requires may { MayPoll polled (W.view w.old) }
     requires number { number ≡ work_of (W.view w.old) work }
-    requires next { next_polled polled (W.view w.old).core ≡ Some (work_of (W.view w.old) work) }
-    requires told { TellsPoll told (poll_of (work_of (W.view w.old) work) (W.view w.old).core) }
-    ensures turns { (x : Setting) → (m : Main) → PendsIn x (W.view w.old).core m (Turn.Futures polled) → Turns x (Turn.Futures polled) m (W.view w.old) result m (W.view w.new) }
-    ensures core { PolledTo told (work_of (W.view w.old) work) (poll_of (work_of (W.view w.old) work) (W.view w.old).core) (W.view w.old).core (W.view w.new).core }
+    requires next { TellsOfNext told polled (work_of (W.view w.old) work) (W.view w.old).core }
+    ensures turns { TurnsBeside (Turn.Futures polled) (W.view w.old) result (W.view w.new) }
+    ensures core { PollsWork told (work_of (W.view w.old) work) (W.view w.old).core (W.view w.new).core }
     ensures works { KeepsTold (W.view w.old) (W.view w.new) }
 {
     w.none_is_zero();
@@ -56,7 +49,7 @@ fn rest<W: Primitives>(w: &mut W, trap_on_idle: bool) -> Option<MadeStep>
     requires works { WorksQueued (W.view w.old).core }
     requires current { (W.view w.old).current ≡ None }
     requires none { next_entry (W.view w.old).core ≡ None }
-    ensures turned { (c : Component) → CoreInOrder c (Turn.Take false) (W.view w.old).core → TurnedBeside c trap_on_idle (Turn.Take false) (W.view w.old) result (W.view w.new) }
+    ensures turned { Rested trap_on_idle (W.view w.old) result (W.view w.new) }
     ensures over { IfSome result (λ made. is_none (outcome_of_label made.label) ≡ is_open made.turn) }
     ensures current { (W.view w.new).current ≡ None }
     ensures works { KeepsTold (W.view w.old) (W.view w.new) }
@@ -89,7 +82,7 @@ pub fn take<W: Primitives>(
     requires unworked { worked.old ≡ None }
     requires at { IsAtTurn component.now (Turn.Take ended) (W.view w.old) }
     ensures worked { worked.new ≡ tracked_worked_group (W.view w.old) (Turn.Take ended) }
-    ensures turned { IfOk result (λ stepped. AddedOrNone (λ made. TurnedBeside component.now trap_on_idle (Turn.Take ended) (W.view w.old) made (W.view w.new)) stepped trace.old trace.new) }
+    ensures turned { IfOk result (λ q. TakesBeside component.now trap_on_idle ended (W.view w.old) q (W.view w.new) trace.old trace.new) }
     ensures there { OnOk result (RunnerThere (W.view w.new)) }
     ensures works { OnOk result (KeepsTold (W.view w.old) (W.view w.new)) }
     ensures err { OnErr result (trace.new ≡ trace.old) }
@@ -129,10 +122,7 @@ pub fn compute<W: Primitives>(
     requires order { CoreInOrder component.now turn (W.view w.old).core }
     requires runs { running_of (W.view w.old) ≡ runs_in turn }
     requires few { added ≤ steps }
-    ensures few { IfOk result (λ k. (added ≤ k) × (k ≤ steps)) }
-    ensures on { IfOk result (λ k. KeepsOn component.now turn (W.view w.old) trace.old added (W.view w.new) trace.new k) }
-    ensures computes { IfOk result (λ k. Computes component.now turn (W.view w.old) trace.old added (W.view w.new) trace.new k) }
-    ensures still { runs_in turn ≡ None → IfOk result (λ k. k ≡ added) }
+    ensures ok { IfOk result (λ k. Computed component.now turn (W.view w.old) trace.old added (W.view w.new) trace.new steps k) }
     ensures err { OnErr result (StopsShort component.now turn (W.view w.old) trace.old added trace.new steps) }
     ensures works { SameWorks (W.view w.old) (W.view w.new) }
 {
@@ -154,7 +144,7 @@ fn is_take(turn: Turn) -> bool
 
 /// Returns whether nothing can go on in this turn, and that is no deadlock.
 pub fn is_idle<W: Primitives>(w: &W, turn: Turn, trap_on_idle: bool) -> bool
-    ensures { (x : Setting) → CoreInOrder x.component turn (W.view w.now).core → x.idle ≡ idle_line_of trap_on_idle → (m : Main) → PendsIn x (W.view w.now).core m turn → is_at_rest x (state_at (W.view w.now).core m turn) ≡ result }
+    ensures { TellsRest trap_on_idle turn (W.view w.now) result }
 {
     if !is_take(turn) {
         return false;

@@ -1,4 +1,4 @@
--- An end that is refused as the task still lends something, and one that isn't.
+-- An end that is refused as the task still holds borrows, and one that isn't.
 use Rattle.ops_state.specs.declared.error.TaskError.{TaskError}
 use Rattle.ops_state.specs.declared.error.TaskError.TheVariants as task_error
 use Rattle.std.proofs.Common.{ap, refl, subst, sym, ◌∙◌}

@@ -16,7 +16,7 @@ use Rattle.task_loop.proofs.RanLemmas.{nothing_ran, ran_computed, ran_more, ran_
 use Rattle.task_loop.proofs.StartLemmas.{trapped_hosts}
 use Rattle.task_loop.proofs.TakenLemmas.{stands_adds}
 use Rattle.task_loop.proofs.ToldLemmas.{asked_computed}
-use Rattle.task_loop.specs.HasRun.{At, DrivesTo, FailsTurn, GoesTo, HasDriven, HasFailed, HasGone, HasHalted, HasLost, HasPolled, HasStopped, HasTurned, IsLost, IsStopped, Keeps, MayRun, MayTurn, PollsTo, RanTo, numbers, setting, state}
+use Rattle.task_loop.specs.HasRun.{At, DrivesTo, FailsTurn, GoesTo, HasDriven, HasFailed, HasGone, HasHalted, HasLost, HasPolled, HasStopped, HasTurned, IsLost, IsStopped, Keeps, MayRun, MayTurn, PollsTo, RanTo, TurnsGive, at, numbers, setting, state}
 use Rattle.task_loop.specs.Hooked.{StopsTurn, hook_failed}
 use Rattle.task_loop.specs.YieldBudgets.{LeavesYieldBudget}
 use Rattle.task_loop.specs.Ran.{Ran}
@@ -27,6 +27,7 @@ use Rattle.task_loop.specs.Told.{TurnTold, group_running}
 use Rattle.task_loop.specs.declared.poll_methods.RunPoll.{RunPoll}
 use Rattle.task_loop.specs.declared.run.Halt.{Halt}
 use Rattle.task_loop.specs.declared.run.Halt.TheVariants as halt
+use Rattle.task_loop.specs.declared.run.RunConcurrent.{RunConcurrent}
 use Rattle.task_loop.specs.declared.run.Stop.{Stop}
 use Rattle.task_loop.specs.declared.run.Stop.TheVariants as stop
 use Rattle.machine_data.specs.Core.{State}
@@ -256,7 +257,7 @@ module _ {M T H G : Type 0} (says : Says M) (course : H → HostDef) (c : Compon
     pub come_lost : (v : At M T H G) (why : Halt) (steps : ℕ) → n ≤ steps → why ≡ halt.NoMemory → HasHalted says course c why u v → IsLost says course c steps a v
     come_lost v why steps few is halted = lost steps v.trace few (subst (λ (k : Halt). HasHalted says course c k u v) is halted)
 
-    -- the turns before were heeded whole, and the hook failed in this one
+    -- in the turns before the hook answered no error, and it failed in this one
     stopped : (v : At M T H G) (steps : ℕ) → n < steps → FailsTurn says course c u v → HasStopped says course c steps a v.main v.trace v.store.state v.store.listeners
     stopped v steps room fails =
         let main = fails.main in
@@ -429,3 +430,11 @@ module _ {M T H G : Type 0} (says : Says M) (course : H → HostDef) (c : Compon
       HasStopped says course c steps a b.main b.trace m.state m.listeners → HasFailed says course c steps a b → PollsTo says course c listens steps (Err (task_error.Trap trap.HookFailed)) yield_budget a b yield_budget'
   polls_failed listens hooked m yield_budget yield_budget' is so stopped failed =
       subst (λ (l : Bool). PollsTo says course c l steps (Err (task_error.Trap trap.HookFailed)) yield_budget a b yield_budget') (sym (heard listens hooked m.listeners b.main m.state is so stopped)) failed
+
+-- where they stop before the run does, by why
+module _ {M T H G : Type 0} (says : Says M) (course : H → HostDef) (c : Component) (yields : Bool) (steps : ℕ) where
+  pub gives_halt : (run : RunConcurrent) (m : M) (s : Store T H G) (before : List Label) (run' : RunConcurrent) (n : M) (t : Store T H G) (after : List Label) (why : Halt) →
+      (why ≡ halt.NoMemory → IsLost says course c steps (at run m s before) (at run' n t after)) → (why ≡ halt.HookFailed → IsStopped says course c steps (at run m s before) (at run' n t after)) →
+      TurnsGive says course c yields steps (Err why) run m s before run' n t after
+  gives_halt run m s before run' n t after halt.NoMemory lost stopped = lost refl
+  gives_halt run m s before run' n t after halt.HookFailed lost stopped = stopped refl

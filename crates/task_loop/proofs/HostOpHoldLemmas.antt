@@ -177,10 +177,10 @@ module _ (left : ℕ → Option HeldWork) (s t : StateView) (h : HoldsWorks left
   -- nothing is changed, or it was done
   pub by_answers : {A : Type 0} (takes : Bool) (row : ℕ → Choice → Progress) (f : OpAnswer → A) (a : Result (Answer A) TaskError) (n : ℕ) → running_of s ≡ Some n → ((r : OpResult) → Does (row n) n s r t → HoldsWorks left t.core) →
       Answers takes row f s a t → HoldsWorks left t.core
-  by_answers takes row f (Err task_error.NoMemory) n runs by_row answers = still answers.1
-  by_answers takes row f (Ok a) n runs by_row answers = by_row answers.0 (subst (λ (o : Option ℕ). IfSome o (λ k. Does (row k) k s answers.0 t)) runs answers.1.0)
-  by_answers takes row f (Err (task_error.Trap w)) n runs by_row answers = by_row answers.0 (subst (λ (o : Option ℕ). IfSome o (λ k. Does (row k) k s answers.0 t)) runs answers.1.0)
-  by_answers takes row f (Err (task_error.HostFailed i)) n runs by_row answers = by_row answers.0 (subst (λ (o : Option ℕ). IfSome o (λ k. Does (row k) k s answers.0 t)) runs answers.1.0)
+  by_answers takes row f (Err task_error.NoMemory) n runs by_rule answers = still answers.1
+  by_answers takes row f (Ok a) n runs by_rule answers = by_rule answers.0 (subst (λ (o : Option ℕ). IfSome o (λ k. Does (row k) k s answers.0 t)) runs answers.1.0)
+  by_answers takes row f (Err (task_error.Trap w)) n runs by_rule answers = by_rule answers.0 (subst (λ (o : Option ℕ). IfSome o (λ k. Does (row k) k s answers.0 t)) runs answers.1.0)
+  by_answers takes row f (Err (task_error.HostFailed i)) n runs by_rule answers = by_rule answers.0 (subst (λ (o : Option ℕ). IfSome o (λ k. Does (row k) k s answers.0 t)) runs answers.1.0)
 
   module _ (c : Component) (running : IsRunningIn c s) where
     works : RunsWorks running.number s.core

@@ -56,6 +56,14 @@ pub stop_idle : (s : State) (base : Core) (n : ℕ) (b : Bool) (k : Label) (new 
 stop_idle s base n true k new l t h = idle_by t _ h.1 (main_idle s new s.main)
 stop_idle s base n false k new l t h = absurd h
 
+none_of : {A B : Type 0} (f : A → B) (o : Option A) → option_map f o ≡ None → o ≡ None
+none_of f None h = refl
+none_of f (Some x) h = absurd (cc)
+
+-- where no thread runs, none is current
+pub none_current : (s : StateView) → running_of s ≡ None → s.current ≡ None
+none_current s h = none_of (λ id. thread_of s id) s.current h
+
 pub poll_leaves_none : (x : Setting) (n : ℕ) (m : Main) (s t : StateView) (made : MadeStep) → Turns x (turn.Futures n) m s made m t → running_of t ≡ None
 unfolding Step
 poll_leaves_none x n m s t made h = h.running ∙ works_idle (state_at s.core m (turn.Futures n)) (next_polled n s.core) made.label (state_at t.core m made.turn) h.step

@@ -110,8 +110,8 @@ unheld_rest {T} {H} {G} s t holds v l =
 -- ---- Without a hook that listens
 
 -- the answer is that to which the call came, and the state is what it left, once it was asked which groups have ended
-pub comes_to : {A T H G : Type 0} (comes : ComesOf A) (P : StateView → Type 0) (s : Store T H G) (r : Result A TaskError) (t : Store T H G) → IsTold false comes s r t →
+pub results_in : {A T H G : Type 0} (comes : ComesOf A) (P : StateView → Type 0) (s : Store T H G) (r : Result A TaskError) (t : Store T H G) → IsTold false comes s r t →
     ((v : StateView) → t.state ≡ asked v → comes r v → P (asked v)) → P t.state
-comes_to comes P s r t told gives = ⊎_elim
+results_in comes P s r t told gives = ⊎_elim
     (λ answers_ok. subst P (sym answers_ok.told.asked) (gives told.left answers_ok.told.asked (subst (λ a. comes a told.left) (sym answers_ok.answers) told.op_result)))
     (λ refuses. absurd (let hears = refuses.hears in cc)) told.heard

@@ -10,7 +10,7 @@ use Rattle.task_loop.proofs.KnowsLemmas.{by_take}
 use Rattle.task_loop.proofs.TakenLemmas.{taken_running, taken_told, turned_beside}
 use Rattle.task_loop.specs.HasRun.{At, FailsTurn, HasTurned, MayTurn, TurnsTo}
 use Rattle.task_loop.specs.Says.{Says}
-use Rattle.task_loop.specs.Threads.{FailsTold, Takes, ToldBeside}
+use Rattle.task_loop.specs.Threads.{FailsTold, Takes, TakesTold, ToldBeside}
 use Rattle.task_loop.specs.Told.{TellsTurn, current_group}
 use Rattle.task_loop.specs.declared.run.Halt.{Halt}
 use Rattle.task_loop.specs.declared.run.Halt.TheVariants as halt
@@ -100,12 +100,13 @@ module _ {M T H G : Type 0} (says : Says M) (course : H → HostDef) (c : Compon
   }
 
   -- by the clauses of the call that takes it
-  pub took : (r : Result (Option StepResult) Halted) → IfOk r (λ o. Takes c b ended s.state o t.state before after) → IfOk r (λ o. IfSome o (λ k. ToldBeside s.state s.listeners p running t.state t.listeners)) →
-      OnOk r (IsAsked t.state) → (r ≡ Ok None → t.listeners ≡ s.listeners) → OnOk r (why ≡ halt.NoMemory) → OnErr r (why ≡ halt.NoMemory → after ≡ before) →
+  pub took : (r : Result (Option StepResult) Halted) → IfOk r (λ o. TakesTold c b ended running s o t before after) → OnOk r (why ≡ halt.NoMemory) → OnErr r (why ≡ halt.NoMemory → after ≡ before) →
       OnErr r (why ≡ halt.HookFailed → FailsTold s.state.core p t.state s.listeners t.listeners × ((k : StepResult) × Takes c b ended s.state (Some k) t.state before after)) → TurnsTo says course c r running why (u q) (v q)
-  took (Ok o) taken told asked none still err failed =
-      (subst (λ (w : Turn). HasTurned says course c o running (u w) (v w)) (sym is) (took_ok o taken.0 taken.1 told none asked), still)
-  took (Err e) taken told asked none still err failed =
+  took (Ok None) taken still err failed =
+      (subst (λ (w : Turn). HasTurned says course c None running (u w) (v w)) (sym is) (took_ok None taken.0.0 taken.0.1 tt (λ same. taken.1.0) taken.1.1), still)
+  took (Ok (Some k)) taken still err failed =
+      (subst (λ (w : Turn). HasTurned says course c (Some k) running (u w) (v w)) (sym is) (took_ok (Some k) taken.0.0 taken.0.1 taken.1 (λ none. absurd (cc)) taken.1.asked), still)
+  took (Err e) taken still err failed =
       halted_by says course c why (u q) (v q) err (λ fails.
       let k = failed fails in
       subst (λ (w : Turn). FailsTurn says course c (u w) (v w)) (sym is) (took_failed k.1.0 k.1.1.0 k.1.1.1 k.0))

@@ -183,6 +183,13 @@ module _ {M T H G : Type 0} (says : Says M) (course : H → HostDef) (c : Compon
   HasHalted halt.NoMemory a b = b.trace ≡ a.trace
   HasHalted halt.HookFailed a b = FailsTurn a b
 
+  -- so it is of main's turn, whatever the idle line is
+  abbrev pub MainTurned : StepResult → (m : M) (s : Store T H G) (before : List Label) (n : M) (t : Store T H G) (after : List Label) → Type 0
+  MainTurned q m s before n t after = (idle : Bool) → HasTurned (Some q) 0 (at_main idle m s before) (at_main idle n t after)
+
+  abbrev pub MainHalted : Halt → (m : M) (s : Store T H G) (before : List Label) (n : M) (t : Store T H G) (after : List Label) → Type 0
+  MainHalted why m s before n t after = (idle : Bool) → HasHalted why (at_main idle m s before) (at_main idle n t after)
+
   abbrev pub TurnsTo : Result (Option StepResult) Halted → (running : ℕ) → (why : Halt) → (a b : At M T H G) → Type 0
   TurnsTo (Ok q) running why a b = HasTurned q running a b × (why ≡ halt.NoMemory)
   TurnsTo (Err e) running why a b = HasHalted why a b
@@ -263,7 +270,7 @@ module _ {M T H G : Type 0} (says : Says M) (course : H → HostDef) (c : Compon
     pub order : CoreInOrder c turn left.core
     pub running : running_of left ≡ runs_in turn
 
-  -- A run was added that was heeded whole, and then the hook answered an error, which left the state and the listeners so. Main is as the step
+  -- A run was added without an error of the hook, and then it answered one, which left the state and the listeners so. Main is as the step
   -- left it, or as it was before the start.
   pub record HasStopped (steps : ℕ) (a : At M T H G) (n : M) (after : List Label) (left : StateView) (listeners : Listeners) : Type 0 where
     pub mid : List Label
@@ -316,3 +323,28 @@ module _ {M T H G : Type 0} (says : Says M) (course : H → HostDef) (c : Compon
   PollsTo listens steps (Err task_error.NoMemory) yield_budget a b yield_budget' = HasLost steps a b
   PollsTo true steps (Err (task_error.Trap trap.HookFailed)) yield_budget a b yield_budget' = HasFailed steps a b
   PollsTo listens steps r yield_budget a b yield_budget' = HasPolled steps r yield_budget a b yield_budget'
+
+  -- ---- The same, from what a call has at hand: the run, main, the store and the trace, as they were and as they are
+
+  abbrev pub DriveGives : (listens : Bool) → ℕ → Result Outcome NoMemory → RunConcurrent → M → Store T H G → List Label →
+      RunConcurrent → M → Store T H G → List Label → Type 0
+  DriveGives listens steps r run m s before run' n t after =
+      DrivesTo listens steps r run.yield_budget (at run m s before) (at run' n t after) run'.yield_budget
+
+  abbrev pub PollGives : (listens : Bool) → ℕ → Result RunPoll TaskError → RunConcurrent → M → Store T H G → List Label →
+      RunConcurrent → M → Store T H G → List Label → Type 0
+  PollGives listens steps r run m s before run' n t after =
+      PollsTo listens steps r run.yield_budget (at run m s before) (at run' n t after) run'.yield_budget
+
+  -- of one turn, which the run stands at before and after it
+  abbrev pub TurnGives : Result (Option StepResult) Halted → (running : ℕ) → (why : Halt) → RunConcurrent → M → Store T H G →
+      List Label → M → Store T H G → List Label → Type 0
+  TurnGives r running why run m s before n t after = TurnsTo r running why (at run m s before) (at run n t after)
+
+  -- of all that the policy lets be taken
+  abbrev pub TurnsGive : (yields : Bool) → ℕ → Result Stop Halt → RunConcurrent → M → Store T H G → List Label →
+      RunConcurrent → M → Store T H G → List Label → Type 0
+  TurnsGive yields steps (Ok q) run m s before run' n t after =
+      GoesTo yields steps q run.yield_budget (at run m s before) (at run' n t after) run'.yield_budget
+  TurnsGive yields steps (Err halt.NoMemory) run m s before run' n t after = IsLost steps (at run m s before) (at run' n t after)
+  TurnsGive yields steps (Err halt.HookFailed) run m s before run' n t after = IsStopped steps (at run m s before) (at run' n t after)

@@ -128,7 +128,7 @@ new_thread_op x v = op.Thread (thread_op.New 0 (min x 255) (operand.Number v))
 abbrev pub resume_later_op : (thread : ℕ) → Op
 resume_later_op h = op.Thread (thread_op.ResumeLater (operand.Number h))
 
--- ---- Methods that end a task, unless it still lends something
+-- ---- Methods that end a task, unless it still holds borrows
 
 abbrev pub UnlessHoldsBorrows : (ℕ → Core → Bool) → (ℕ → Comes) → StateView → ComesOf (Unit {0})
 UnlessHoldsBorrows lends comes s a t = IfSome (running_of s) (λ n. UnlessBorrowed (lends n s.core) (comes n) s a t)

@@ -1,4 +1,4 @@
--- What comes of an end of a task that lends nothing.
+-- What comes of an end of a task that holds no borrows.
 use Rattle.std.specs.Prelude.{false, ℕ}
 use Rattle.ops_calls.specs.OpAnswers.{at_once, nothing_answered}
 use Rattle.ops_calls.specs.HostOps.{Answers}

@@ -1,20 +1,19 @@
 -- What those parts of a turn result in in which main has no part: a step of the thread that runs, the poll of a work, the taking of an entry.
-use Rattle.std.specs.Prelude.{Bool, List, Option, Some, is_some, ℕ, ◌+◌, ◌<◌, ◌^◌, ◌≡◌}
+use Rattle.std.specs.Prelude.{Bool, List, None, Option, Some, is_some, ℕ, ◌+◌, ◌<◌, ◌^◌, ◌≡◌}
 use Rattle.task_group.specs.Listeners.{Listeners, errors_of}
 use Rattle.task_loop.specs.Hooked.{TellsInPart}
 use Rattle.task_loop.specs.Told.{RunTold, TellsTurn, current_group, group_running, turn_of}
-use Rattle.machine_data.specs.Core.{Core, Main}
+use Rattle.machine_data.specs.Core.{Core}
 use Rattle.machine_data.specs.declared.component.Component.{Component}
 use Rattle.machine_data.specs.declared.component.HostDef.{HostDef}
 use Rattle.machine_data.specs.declared.label.Label.{Label}
 use Rattle.machine_data.specs.declared.records.Turn.{Turn}
 use Rattle.machine_data.specs.declared.records.Turn.TheVariants as turn
 use Rattle.ops_guests.specs.Works.{KeepsWorks, NamesTold, NamesWorks}
-use Rattle.machine_rules.specs.Stalled.{Setting}
 use Rattle.task_store.specs.Hosts.{HoldsHosts}
 use Rattle.task_store.specs.declared.store.Store.{Store}
-use Rattle.ops_turns.specs.StepResult.{Added, AddedOrNone}
-use Rattle.ops_turns.specs.Turn.{IsFree, MakesStep, PendsIn, CoreInOrder, TurnedBeside, Turns, given, running_of}
+use Rattle.ops_turns.specs.StepResult.{Added, TakesBeside}
+use Rattle.ops_turns.specs.Turn.{CoreInOrder, MakesFree, TurnsBeside, given, running_of}
 use Rattle.ops_turns.specs.WellFormed.{IsWellFormed}
 use Rattle.ops_turns.specs.declared.made.StepResult.{StepResult}
 use Rattle.core_primitives.specs.Groups.{IsAsked}
@@ -31,7 +30,7 @@ pub record RunsThread {T H G : Type 0} (course : H → HostDef) (c : Component) 
 -- It took a step, whose label was added, and the works of its hosts are held. Of ids and groups that stays as this says.
 pub record StepsWith {T H G : Type 0} (Keeps : StateView → StateView → Type 0) (course : H → HostDef) (c : Component) (n : ℕ)
     (s : Store T H G) (q : StepResult) (t : Store T H G) (before after : List Label) : Type 0 where
-  pub makes : Added (λ made. MakesStep c (turn.Run n) s.state made t.state × IsFree made.turn) q before after
+  pub makes : Added (λ made. MakesFree c (turn.Run n) s.state made t.state) q before after
   pub works : Keeps s.state t.state
   pub hosts : HoldsHosts course t
 
@@ -54,18 +53,18 @@ pub record RanThread {T H G : Type 0} (course : H → HostDef) (c : Component) (
 
 -- a step of this turn was made, whatever main is
 abbrev pub TurnsAnyhow : Turn → (s t : StateView) → StepResult → (before after : List Label) → Type 0
-TurnsAnyhow p s t q before after =
-    Added (λ made. (x : Setting) → (m : Main) → PendsIn x s.core m p → Turns x p m s made m t) q before after
+TurnsAnyhow p s t q before after = Added (λ made. TurnsBeside p s made t) q before after
 
 -- an entry was taken in this turn, or it was seen that nothing is there
 abbrev pub Takes : Component → (trap_on_idle ended : Bool) → StateView → Option StepResult → StateView → (before after : List Label) → Type 0
-Takes c b ended s q t before after = AddedOrNone (λ made. TurnedBeside c b (turn.Take ended) s made t) q before after × KeepsWorks s t
+Takes c b ended s q t before after = TakesBeside c b ended s q t before after × KeepsWorks s t
 
--- It was told, and the thread that runs then is of this group.
+-- It was told, and the thread that runs then is of this group. Each group that has ended was told of.
 pub record ToldBeside (s : StateView) (old : Listeners) (p : Turn) (running : ℕ) (t : StateView) (new : Listeners) : Type 0 where
   pub told : TellsTurn s p t old new
   pub hook_is_ok : errors_of new ≡ errors_of old
   pub group : running ≡ current_group t
+  pub asked : IsAsked t
 
 -- The hook answered an error as it was told.
 pub record FailsTold (s : Core) (p : Turn) (t : StateView) (old new : Listeners) : Type 0 where
@@ -86,6 +85,15 @@ PollsTold p running s q t before after =
 abbrev pub FailsPoll : {T H G : Type 0} → Turn → (s t : Store T H G) → (before after : List Label) → Type 0
 FailsPoll p s t before after =
     FailsTold s.state.core p t.state s.listeners t.listeners × ((q : StepResult) × TurnsAnyhow p s.state t.state q before after)
+
+-- An entry was taken, and that was told; or nothing is there, and nothing was told.
+abbrev pub TakesTold : {T H G : Type 0} → Component → (trap_on_idle ended : Bool) → (running : ℕ) → (s : Store T H G) → Option StepResult →
+    (t : Store T H G) → (before after : List Label) → Type 0
+TakesTold c b ended running s None t before after =
+    Takes c b ended s.state None t.state before after × ((t.listeners ≡ s.listeners) × IsAsked t.state)
+TakesTold c b ended running s (Some q) t before after =
+    Takes c b ended s.state (Some q) t.state before after
+    × ToldBeside s.state s.listeners (turn.Take ended) running t.state t.listeners
 
 -- It answered one as the taking of an entry was told.
 abbrev pub FailsTake : {T H G : Type 0} → Component → (trap_on_idle ended : Bool) → (s t : Store T H G) →

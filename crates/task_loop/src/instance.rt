@@ -25,7 +25,7 @@ impl Instance {
     /// Does `task.return`: the task of the current thread, which is of this instance, ends as returned with the value, and the
     /// thread goes on after its op. The type, the encoding and the memory are those of the lifted function where all three are 0.
     /// Refused with trap 1 exactly where the task has ended, and else with trap 3 where they aren't 0 or the function isn't
-    /// async-lifted, and else with trap 19 if the task still lends something (`call_context` of the state). Nothing is changed
+    /// async-lifted, and else with trap 19 if the task still holds borrows (`call_context` of the state). Nothing is changed
     /// then.
     pub fn task_return<T, H, G: TaskGroupHook>(
         self,
@@ -65,7 +65,7 @@ impl Instance {
     }
 
     /// Ends the task as cancelled, once a cancel request was delivered to it. Refused with trap 2 if none was, else with trap 1 if
-    /// the task has ended, and else with trap 19 if it still lends something. Nothing is changed then.
+    /// the task has ended, and else with trap 19 if it still holds borrows. Nothing is changed then.
     pub fn task_cancel<T, H, G: TaskGroupHook>(
         self,
         component: &Component,

@@ -1,6 +1,6 @@
 //! Polls of a run: it goes on until it yields, so that a host can do other things in between.
 ghost use Rattle.std.specs.Prelude.{◌≡◌};
-ghost use Rattle.task_loop.specs.HasRun.{Keeps, MayRun, PollsTo, at};
+ghost use Rattle.task_loop.specs.HasRun.{Keeps, MayRun, PollGives, at};
 ghost use Rattle.task_loop.specs.RunPolls.{stop_answer};
 
 use crate::main_task::MainTask;
@@ -61,8 +61,8 @@ impl RunConcurrent {
     ) -> Result<RunPoll, TaskError>
         requires may { MayRun M.says H.course component.now (at self.old main.old store.old trace.old) }
         ensures keeps { Keeps M.says (at self.old main.old store.old trace.old) (at self.new main.new store.new trace.new) }
-        ensures polls { PollsTo M.says H.course component.now G.listens steps result self.old.yield_budget
-            (at self.old main.old store.old trace.old) (at self.new main.new store.new trace.new) self.new.yield_budget }
+        ensures polls { PollGives M.says H.course component.now G.listens steps result
+            self.old main.old store.old trace.old self.new main.new store.new trace.new }
     {
         // read so that the proof knows the invariant of `store`
         let _hooked = store.listeners.is_hooked();

@@ -1,12 +1,11 @@
-ghost use Rattle.std.specs.Prelude.{◌≡◌, Bool, Err, IfErr, IfOk, IfSome, None, Ok, OnErr, OnOk, Some, false, true};
+ghost use Rattle.std.specs.Prelude.{◌≡◌, IfErr, IfOk, OnErr, OnOk, false, true};
 ghost use Rattle.laws_labels.specs.Own.{next_mark};
 ghost use Rattle.ops_dispatch.specs.Fits.{calls_host};
 ghost use Rattle.run_trace.specs.YieldBudget.{unless_yielded};
-ghost use Rattle.task_loop.specs.HasRun.{DrivesTo, GoesTo, HasHalted, HasTurned, IsLost, IsStopped, Keeps, MayRun, MayStep};
-ghost use Rattle.task_loop.specs.HasRun.{MayTurn, StepsTo, TurnsTo, at, at_main};
+ghost use Rattle.task_loop.specs.HasRun.{DriveGives, Keeps, MainHalted, MainTurned, MayRun, MayStep, MayTurn, StepsTo, TurnGives, TurnsGive, at};
 ghost use Rattle.task_loop.specs.Constants.{constants};
 ghost use Rattle.task_loop.specs.Threads.{FailsPoll, FailsTake, FailsThread, PollsTold, RanThread, RunsThread};
-ghost use Rattle.task_loop.specs.Threads.{StepsUntold, Takes, ToldBeside};
+ghost use Rattle.task_loop.specs.Threads.{StepsUntold, TakesTold};
 ghost use Rattle.task_loop.specs.Told.{group_running};
 ghost use Rattle.ops_guests.specs.Works.{KeepsWorks};
 ghost use Rattle.machine_rules.specs.Scripts.{op_of};
@@ -113,13 +112,11 @@ fn step_main<T, H: HostWork, G: TaskGroupHook, M: MainTask<T, H, G>>(
     requires why { why.old ≡ Halt.NoMemory }
     ensures stands { constants store.new ≡ constants store.old }
     ensures script { M.says.script main.new ≡ M.says.script main.old }
-    ensures turned { IfOk result (λ made. (idle : Bool) →
-        HasTurned M.says H.course component.now (Some made) 0
-        (at_main idle main.old store.old trace.old) (at_main idle main.new store.new trace.new)) }
+    ensures turned { IfOk result (λ q.
+        MainTurned M.says H.course component.now q main.old store.old trace.old main.new store.new trace.new) }
     ensures why { OnOk result (why.new ≡ Halt.NoMemory) }
-    ensures halted { OnErr result ((idle : Bool) →
-        HasHalted M.says H.course component.now why.new
-        (at_main idle main.old store.old trace.old) (at_main idle main.new store.new trace.new)) }
+    ensures halted { OnErr result (
+        MainHalted M.says H.course component.now why.new main.old store.old trace.old main.new store.new trace.new) }
 {
     let step = match ask_main(component, store, main) {
         Ok(step) => step,
@@ -271,7 +268,6 @@ fn poll_work<T, H: AccessorTask<T> + FromHost, G: TaskGroupHook>(
     ensures works { KeepsWorks store.old.state store.new.state × HoldsHosts H.course store.new }
     ensures polled { IfOk result (λ stepped.
         PollsTold (Turn.Futures polled) running.new store.old stepped store.new trace.old trace.new) }
-    ensures asked { OnOk result (IsAsked store.new.state) }
     ensures why { OnOk result (why.new ≡ Halt.NoMemory) }
     ensures err { OnErr result (why.new ≡ Halt.NoMemory → trace.new ≡ trace.old) }
     ensures failed { OnErr result (why.new ≡ Halt.HookFailed →
@@ -308,12 +304,8 @@ fn take_entry<T, H: AccessorTask<T> + FromHost, G: TaskGroupHook>(
     requires at { IsAtTurn component.now (Turn.Take ended) store.old.state }
     requires asked { IsAsked store.old.state }
     requires why { why.old ≡ Halt.NoMemory }
-    ensures taken { IfOk result (λ stepped.
-        Takes component.now trap_on_idle ended store.old.state stepped store.new.state trace.old trace.new) }
-    ensures told { IfOk result (λ stepped. IfSome stepped (λ made.
-        ToldBeside store.old.state store.old.listeners (Turn.Take ended) running.new store.new.state store.new.listeners)) }
-    ensures asked { OnOk result (IsAsked store.new.state) }
-    ensures none { result ≡ Ok None → store.new.listeners ≡ store.old.listeners }
+    ensures taken { IfOk result (λ q.
+        TakesTold component.now trap_on_idle ended running.new store.old q store.new trace.old trace.new) }
     ensures why { OnOk result (why.new ≡ Halt.NoMemory) }
     ensures err { OnErr result (why.new ≡ Halt.NoMemory → trace.new ≡ trace.old) }
     ensures failed { OnErr result (why.new ≡ Halt.HookFailed →
@@ -396,8 +388,8 @@ impl RunConcurrent {
     ) -> Result<Outcome, NoMemory>
         requires may { MayRun M.says H.course component.now (at self.old main.old store.old trace.old) }
         ensures keeps { Keeps M.says (at self.old main.old store.old trace.old) (at self.new main.new store.new trace.new) }
-        ensures drives { DrivesTo M.says H.course component.now G.listens steps result self.old.yield_budget
-            (at self.old main.old store.old trace.old) (at self.new main.new store.new trace.new) self.new.yield_budget }
+        ensures drives { DriveGives M.says H.course component.now G.listens steps result
+            self.old main.old store.old trace.old self.new main.new store.new trace.new }
     {
         // read so that the proof knows the invariant of `store`
         let _hooked = store.listeners.is_hooked();
@@ -445,15 +437,8 @@ impl RunConcurrent {
         requires may { MayRun M.says H.course component.now (at self.old main.old store.old trace.old) }
         ensures keeps { Keeps M.says (at self.old main.old store.old trace.old) (at self.new main.new store.new trace.new) }
         ensures kept { P.YIELDS ≡ false → self.new.yield_budget ≡ self.old.yield_budget }
-        ensures gone { IfOk result (λ stop.
-            GoesTo M.says H.course component.now P.YIELDS steps stop self.old.yield_budget
-            (at self.old main.old store.old trace.old) (at self.new main.new store.new trace.new) self.new.yield_budget) }
-        ensures lost { result ≡ Err Halt.NoMemory →
-            IsLost M.says H.course component.now steps
-            (at self.old main.old store.old trace.old) (at self.new main.new store.new trace.new) }
-        ensures stopped { result ≡ Err Halt.HookFailed →
-            IsStopped M.says H.course component.now steps
-            (at self.old main.old store.old trace.old) (at self.new main.new store.new trace.new) }
+        ensures gone { TurnsGive M.says H.course component.now P.YIELDS steps result
+            self.old main.old store.old trace.old self.new main.new store.new trace.new }
     {
         let mut added = 0;
         let mut running = group_now(&store.state);
@@ -523,8 +508,8 @@ impl RunConcurrent {
     ) -> Result<Option<StepResult>, Halted>
         requires may { MayTurn M.says H.course component.now running.old why.old (at self.now main.old store.old trace.old) }
         ensures keeps { Keeps M.says (at self.now main.old store.old trace.old) (at self.now main.new store.new trace.new) }
-        ensures turned { TurnsTo M.says H.course component.now result running.new why.new
-            (at self.now main.old store.old trace.old) (at self.now main.new store.new trace.new) }
+        ensures turned { TurnGives M.says H.course component.now result running.new why.new
+            self.now main.old store.old trace.old main.new store.new trace.new }
     {
         match self.turn {
             Turn::Main => {

@@ -1,7 +1,7 @@
 -- The host works that a store holds.
 use Rattle.laws_order.specs.Cells.{is_spawned, phase_told}
 use Rattle.store_works.specs.KeptWorks.{Found, HeldWork, after_poll, held}
-use Rattle.std.specs.Prelude.{◌==◌, ◌≡◌, ◌≤◌, Bool, None, Option, Some, cond, false, is_some, true, ℕ}
+use Rattle.std.specs.Prelude.{◌==◌, ◌≡◌, ◌≤◌, Bool, None, Option, Some, cond, false, is_some, option_map, true, ℕ}
 use Rattle.machine_data.specs.Core.{Core}
 use Rattle.machine_data.specs.Maps.{get}
 use Rattle.machine_data.specs.declared.component.HostDef.{HostDef}
@@ -56,6 +56,15 @@ abbrev pub held_after_call : Option ℕ → Option HostDef → (ℕ → Option H
 held_after_call None d left i = left i
 held_after_call (Some k) None left i = left i
 held_after_call (Some k) (Some d) left i = cond (k == i) (running d) (left i)
+
+-- the same works are held as before, but for that with this number, of which this is held
+abbrev pub HoldsBut : ℕ → Option HeldWork → (old new : ℕ → Option HeldWork) → Type 0
+HoldsBut n o old new = (i : ℕ) → new i ≡ cond (n == i) o (old i)
+
+-- but for that which a guest's call has polled first, if it has made one
+abbrev pub HoldsCalled : {T H G : Type 0} → (H → HostDef) → Option ℕ → Option H → (s t : Store T H G) → Type 0
+HoldsCalled course work called s t =
+    (i : ℕ) → held_by course t i ≡ held_after_call work (option_map course called) (held_by course s) i
 
 -- what is held of a work once its call polled it first, found this, and was made, or was refused
 abbrev pub settled : Bool → HostPoll → Option HeldWork → Option HeldWork

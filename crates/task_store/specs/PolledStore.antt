@@ -7,10 +7,10 @@ use Rattle.machine_data.specs.Read.{course_of, is_aborted, phase_of}
 use Rattle.machine_data.specs.Write.{set_trapped}
 use Rattle.ops_guests.specs.declared.work_ops.PollNews.{PollNews}
 use Rattle.ops_guests.specs.declared.work_ops.PollNews.TheVariants as told
-use Rattle.ops_guests.specs.PolledWorks.{PolledTo}
+use Rattle.ops_turns.specs.Worked.{PollsWork}
 use Rattle.task_store.specs.Hosts.{HoldsWorks}
 use Rattle.store_works.specs.KeptWorks.{HeldWork}
-use Rattle.machine_rules.specs.Works.{Asked, Ends, FailsNow, Poll, StillPends, has_end, poll_ends, poll_of, poll_pends}
+use Rattle.machine_rules.specs.Works.{Asked, Ends, FailsNow, Poll, StillPends, has_end, poll_ends, poll_pends}
 
 -- what a work tells that answers this
 abbrev pub told_of : HostPoll → PollNews
@@ -27,7 +27,7 @@ polled_core i (Asked next) s = s
 
 -- the store holds what the core has once it has become, by the poll of the work, what the work has told
 abbrev pub HoldsPolled : PollNews → ℕ → (ℕ → Option HeldWork) → Core → Type 0
-HoldsPolled r i held s = (t : Core) → PolledTo r i (poll_of i s) s t → HoldsWorks held t
+HoldsPolled r i held s = (t : Core) → PollsWork r i s t → HoldsWorks held t
 
 -- it was aborted, or has ended, and isn't polled
 abbrev pub is_over : ℕ → Core → Bool

@@ -1,23 +1,19 @@
 //! The host works of a store: those of guests' calls, and those that a host spawns.
-ghost use Rattle.std.specs.Prelude.{◌==◌, ◌≡◌, ◌<◌, ◌^◌, ℕ, IfOk, None, OnErr, OnOk, Some, cond, option_map, true};
-ghost use Rattle.laws_states.specs.Order.{WorksQueued};
-ghost use Rattle.machine_data.specs.Core.{Main};
+ghost use Rattle.std.specs.Prelude.{◌≡◌, ◌<◌, ◌^◌, ℕ, IfOk, None, OnErr, OnOk, Some, option_map, true};
 ghost use Rattle.machine_data.specs.Read.{is_aborted};
 ghost use Rattle.machine_data.specs.declared.records.Turn.{Turn};
 ghost use Rattle.ops_guests.specs.PolledWorks.{TellsPoll};
 ghost use Rattle.ops_guests.specs.Works.{KeepsTold};
 ghost use Rattle.machine_rules.specs.Calls.{next_work};
-ghost use Rattle.machine_rules.specs.Places.{Placed};
-ghost use Rattle.machine_rules.specs.Stalled.{Setting};
 ghost use Rattle.machine_rules.specs.Works.{has_end, poll_of, polled_course};
 ghost use Rattle.store_works.specs.Course.{one_fewer};
 ghost use Rattle.store_works.specs.KeptWorks.{MayAnswer, after_poll};
 ghost use Rattle.machine_data.specs.declared.component.HostDef.{HostDef};
-ghost use Rattle.task_store.specs.Hosts.{HoldsHosts, held_after_call, held_by, running};
+ghost use Rattle.task_store.specs.Hosts.{HoldsBut, HoldsCalled, HoldsHosts, held_by, running};
 ghost use Rattle.task_store.specs.PolledStore.{HoldsPolled, told_of};
 ghost use Rattle.task_store.specs.Spawns.{Spawns};
-ghost use Rattle.ops_turns.specs.Turn.{IsSettled, PendsIn, Turns, given};
-ghost use Rattle.ops_turns.specs.Worked.{tracked_worked_group};
+ghost use Rattle.ops_turns.specs.Turn.{TurnsBeside, given};
+ghost use Rattle.ops_turns.specs.Worked.{MayPoll, tracked_worked_group};
 ghost use Rattle.core_primitives.specs.StateView.{work_of};
 
 use crate::spawn::SpawnHandle;
@@ -102,13 +98,10 @@ impl<T, H: AccessorTask<T>, G: TaskGroupHook> Store<T, H, G> {
 
     /// Polls the live work that is next, past those with numbers up to `polled`. Its group is asked.
     pub fn poll_next(&mut self, polled: u64, worked: &mut Option<u64>) -> MadeStep
-        requires placed { Placed self.old.state.core }
-        requires works { WorksQueued self.old.state.core }
-        requires current { self.old.state.current ≡ None }
-        requires settled { IsSettled self.old.state.core (Turn.Futures polled) }
+        requires may { MayPoll polled self.old.state }
         requires hosts { HoldsHosts H.course self.old }
         ensures worked { worked.new ≡ tracked_worked_group self.old.state (Turn.Futures polled) }
-        ensures turns { (x : Setting) → (m : Main) → PendsIn x self.old.state.core m (Turn.Futures polled) → Turns x (Turn.Futures polled) m self.old.state result m self.new.state }
+        ensures turns { TurnsBeside (Turn.Futures polled) self.old.state result self.new.state }
         ensures works { KeepsTold self.old.state self.new.state }
         ensures hosts { HoldsHosts H.course self.new }
         ensures rest { self.new ≡ record self.old { value = self.new.value; state = self.new.state; works = self.new.works } }
@@ -128,7 +121,7 @@ impl<T, H: AccessorTask<T>, G: TaskGroupHook> Store<T, H, G> {
     pub fn hold_next(&mut self, work: H) -> Result<u64, NoMemory>
         requires given { given self.old.state.core < 2 ^ 61 }
         ensures number { IfOk result (λ i. i ≡ next_work self.old.state.core) }
-        ensures ok { OnOk result ((i : ℕ) → held_by H.course self.new i ≡ cond (next_work self.old.state.core == i) (running (H.course work)) (held_by H.course self.old i)) }
+        ensures ok { OnOk result (HoldsBut (next_work self.old.state.core) (running (H.course work)) (held_by H.course self.old) (held_by H.course self.new)) }
         ensures err { OnErr result ((i : ℕ) → held_by H.course self.new i ≡ held_by H.course self.old i) }
         ensures rest { self.new ≡ record self.old { works = self.new.works } }
     {
@@ -141,7 +134,7 @@ impl<T, H: AccessorTask<T>, G: TaskGroupHook> Store<T, H, G> {
     pub fn poll_held(&mut self, number: u64) -> HostPoll
         requires { (d : HostDef) × (held_by H.course self.old number ≡ running d) }
         ensures answer { MayAnswer (held_by H.course self.old number) (Some result) }
-        ensures left { (i : ℕ) → held_by H.course self.new i ≡ cond (number == i) (after_poll (Some result) (held_by H.course self.old number)) (held_by H.course self.old i) }
+        ensures left { HoldsBut number (after_poll (Some result) (held_by H.course self.old number)) (held_by H.course self.old) (held_by H.course self.new) }
         ensures rest { self.new ≡ record self.old { value = self.new.value; works = self.new.works } }
     {
         match self.works.poll(number, &mut self.value) {
@@ -152,7 +145,7 @@ impl<T, H: AccessorTask<T>, G: TaskGroupHook> Store<T, H, G> {
 
     /// Lets the work with this number go, whose call was refused.
     pub fn let_held_go(&mut self, number: u64)
-        ensures left { (i : ℕ) → held_by H.course self.new i ≡ cond (number == i) None (held_by H.course self.old i) }
+        ensures left { HoldsBut number None (held_by H.course self.old) (held_by H.course self.new) }
         ensures rest { self.new ≡ record self.old { works = self.new.works } }
     {
         self.works.let_go(number);
@@ -177,7 +170,7 @@ impl<T, H: AccessorTask<T> + FromHost, G: TaskGroupHook> Store<T, H, G> {
     /// Holds the work that a guest's call has polled first, if the call goes on with it. It is held from then on. If it is out of
     /// memory, it isn't.
     pub fn hold_called(&mut self, called: Option<H>, work: Option<WorkId>) -> Result<(), NoMemory>
-        ensures held { OnOk result ((i : ℕ) → held_by H.course self.new i ≡ held_after_call (option_map (λ id. work_of self.old.state id) work) (option_map H.course called) (held_by H.course self.old) i) }
+        ensures held { OnOk result (HoldsCalled H.course (option_map (λ id. work_of self.old.state id) work) called self.old self.new) }
         ensures rest { self.new ≡ record self.old { works = self.new.works } }
     {
         let Some(work) = work else {

@@ -1,4 +1,4 @@
--- A thread runs on where its task lends something.
+-- A thread runs on where its task holds borrows.
 use Rattle.laws_order.proofs.BorrowLemmas.{borrows_keep_order, same_instance}
 use Rattle.laws_order.specs.Borrows.{BorrowsKeepOrder, borrowing}
 use Rattle.std.proofs.Common.{subst, sym}

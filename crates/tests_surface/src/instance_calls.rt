@@ -443,7 +443,7 @@ fn finishes_a_group(rt: &impl Abort, alloc: Global) -> bool {
     dropped.is_ok() && live > 0 && at.store.state.groups() == live - 1
 }
 
-// The running thread's task lends so many things.
+// The running thread's task holds so many borrows.
 fn lend(store: &mut Store<(), ScriptedHost>, borrows: u32) -> bool
     ensures running { (c : Component) → IsRunningIn c store.old.state → IsRunningIn c store.new.state }
 {

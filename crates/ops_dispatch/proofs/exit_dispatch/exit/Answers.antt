@@ -1,5 +1,5 @@
 use Rattle.ops_dispatch.proofs.OpLemmas.{direct_quiet, direct_unanswered, scripted_op_rule, quiet_goes, rule_op, stops_op}
-use Rattle.ops_dispatch.proofs.RowLemmas.{thread_exit_stops}
+use Rattle.ops_dispatch.proofs.RuleLemmas.{thread_exit_stops}
 use Rattle.ops_dispatch.proofs.exit_dispatch.exit.Goals as goal
 use Rattle.ops_dispatch.specs.Rules.{exits, exits_by_kind}
 use Rattle.std.proofs.Common.{ap, rules, sym, ◌∙◌}

@@ -1,5 +1,5 @@
 use Rattle.ops_dispatch.proofs.OpLemmas.{scripted_op_rule, stops_op}
-use Rattle.ops_dispatch.proofs.RowLemmas.{blocking_exit_stops, code_stops, sync_exit_stops, thread_exit_stops}
+use Rattle.ops_dispatch.proofs.RuleLemmas.{blocking_exit_stops, code_stops, sync_exit_stops, thread_exit_stops}
 use Rattle.ops_dispatch.proofs.exit_dispatch.exit_by_kind.Goals as goal
 use Rattle.ops_dispatch.specs.Rules.{exits_by_kind}
 use Rattle.std.proofs.Common.{ap, refl, rules, subst}

@@ -1,5 +1,5 @@
 use Rattle.ops_dispatch.proofs.OpLemmas.{scripted_op_rule, stops_op}
-use Rattle.ops_dispatch.proofs.RowLemmas.{code_stops}
+use Rattle.ops_dispatch.proofs.RuleLemmas.{code_stops}
 use Rattle.ops_dispatch.proofs.task_dispatch.ends.Goals as goal
 use Rattle.ops_dispatch.specs.Rules.{ends_with}
 use Rattle.std.proofs.Common.{refl}

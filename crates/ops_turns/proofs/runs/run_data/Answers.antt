@@ -1,5 +1,5 @@
 use Rattle.ops_dispatch.proofs.GoesLemmasDispatch.{same_goes}
-use Rattle.ops_dispatch.proofs.RowLemmas.{data_shows}
+use Rattle.ops_dispatch.proofs.RuleLemmas.{data_shows}
 use Rattle.ops_dispatch.proofs.StayLemmas.{same_stays}
 use Rattle.std.proofs.lemmas.Option.{IfSome_then}
 use Rattle.machine_data.specs.declared.op.Op.TheVariants as op

@@ -2,7 +2,7 @@
 use Rattle.std.proofs.Common.{ap, refl, subst, sym, ◌∙◌}
 use Rattle.std.specs.Prelude.{[], is_some, true, ◌≡◌}
 use Rattle.task_group.specs.Listeners.{AnsweredErr, Listeners, errors_of}
-use Rattle.task_loop.proofs.IdleLemmas.{poll_leaves_none}
+use Rattle.task_loop.proofs.IdleLemmas.{none_current, poll_leaves_none}
 use Rattle.task_loop.proofs.ToldLemmas.{turns_asked}
 use Rattle.task_loop.proofs.TurnTellLemmas.{asked_after, part_core, tells_in_part, tells_turn, turns_part, works_asked, works_part}
 use Rattle.task_loop.proofs.run.poll_work.Goals as goal
@@ -12,11 +12,10 @@ use Rattle.machine_data.specs.declared.records.Turn.TheVariants as turn
 use Rattle.task_store.specs.Hosts.{HoldsWorks, held_by}
 use Rattle.ops_turns.specs.Turn.{setting_of}
 
-pub poll_next-made-requires-clause-placed : goal.poll_next-made-requires-clause-placed
-poll_next-made-requires-clause-placed g c = (c.requires.at.order.order Unscripted).in_place.placed
-
-pub poll_next-made-requires-clause-works : goal.poll_next-made-requires-clause-works
-poll_next-made-requires-clause-works g c = (c.requires.at.order.order Unscripted).works
+pub poll_next-made-requires-clause-may : goal.poll_next-made-requires-clause-may
+poll_next-made-requires-clause-may g c =
+    let order = c.requires.at.order.order Unscripted in
+    record { placed = order.in_place.placed; works = order.works; current = none_current c.args.store.now.state c.requires.at.running; settled = c.requires.at.settled }
 
 pub put-requires : goal.put-requires
 put-requires g c = record { over = (c.poll_next-made.ensures.turns (setting_of c.args.component.now [] true) Unscripted refl).over }
@@ -56,11 +55,9 @@ returns-clause-polled g c =
             (subst (λ (l : Listeners). TellsWhole a t.state u l c.tell_poll.new.listeners) same told.whole);
         hook_is_ok = told.hook.hook_is_ok ∙ ap errors_of same;
         group = c.in-Ok-tell_poll.ensures.running;
+        asked = asked_after t.state u told.whole.asked;
       },
     )
-
-pub returns-clause-asked : goal.returns-clause-asked
-returns-clause-asked g c = asked_after c.poll_next-made.new.self.state c.tell_poll.new.core c.in-Ok-tell_poll.ensures.told.whole.asked
 
 -- the step was made, and the hook failed in what it gave
 pub returns-in_default-tell_poll-clause-works : goal.returns-in_default-tell_poll-clause-works

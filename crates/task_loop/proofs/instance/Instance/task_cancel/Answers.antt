@@ -1,4 +1,4 @@
--- The op is done elsewhere than at its thread's place, unless the task still lends something.
+-- The op is done elsewhere than at its thread's place, unless the task still holds borrows.
 use Rattle.ops_state.specs.declared.error.TaskError.TheVariants as task_error
 use Rattle.ops_dispatch.specs.Makes.{takes_memory}
 use Rattle.std.proofs.Common.{ap, refl, sym, ◌∙◌}

@@ -1,4 +1,4 @@
--- The rule of the return is done, unless the task still lends something.
+-- The rule of the return is done, unless the task still holds borrows.
 use Rattle.ops_state.specs.declared.error.TaskError.TheVariants as task_error
 use Rattle.std.proofs.Common.{ap, refl, subst, sym, ◌∙◌}
 use Rattle.std.specs.Option.{option_map}

@@ -30,14 +30,12 @@ unreachable-requires-in-Yields g c = absurd (never_yields g.M.MainTask.says g.H.
 pub returns-in-Err-NoMemory-clause-drives : goal.returns-in-Err-NoMemory-clause-drives
 unfolding set_trapped
 returns-in-Err-NoMemory-clause-drives g c =
-    let at = c.in-Err-NoMemory.field-0-is in
-    rw (← c.trace.view_is) (has_lost _ _ _ _ _ c.args.steps (c.in-Err-NoMemory.ensures.lost (cc)) (rw c.set_trapped.ensures.rest refl), c.go_on.ensures.kept refl)
+    rw (← c.trace.view_is) (has_lost _ _ _ _ _ c.args.steps (rw c.in-Err-NoMemory.field-0-is at c.in-Err-NoMemory.ensures.gone) (rw c.set_trapped.ensures.rest refl), c.go_on.ensures.kept refl)
 
 pub returns-in-Err-HookFailed-clause-drives : goal.returns-in-Err-HookFailed-clause-drives
 returns-in-Err-HookFailed-clause-drives g c =
-    let at = c.in-Err-HookFailed.field-0-is in
     let trapped = c.set_trapped-in-Err-HookFailed.ensures in
-    let q = c.in-Err-HookFailed.ensures.stopped (cc) in
+    let q = rw c.in-Err-HookFailed.field-0-is at c.in-Err-HookFailed.ensures.gone in
     let main = c.go_on.new.main in
     let m = c.go_on.new.store in
     rw (← c.trace.view_is) (drives_failed _ _ _ _ _ c.args.steps g.G.TaskGroupHook.listens c.is_hooked-hooked.result m c.args.self.now.yield_budget c.go_on.new.self.yield_budget c.is_hooked-hooked.ensures.hook c.is_hooked-hooked.ensures.listens q.0

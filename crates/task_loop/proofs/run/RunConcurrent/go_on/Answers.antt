@@ -4,13 +4,12 @@ use Rattle.run_trace.specs.YieldBudget.{counted, yields_before}
 use Rattle.std.proofs.Common.{ap, arith, refl, subst, sym, ◌∙◌}
 use Rattle.std.specs.Prelude.{None, Option, Some, false, true, ◌+◌, ◌<◌, ◌^◌, ◌≡◌}
 use Rattle.task_loop.proofs.HasPolledLemmas.{polled_idles, polled_none, polled_out, polled_over, polled_rests, polled_yields}
-use Rattle.task_loop.proofs.HasRunLemmas.{come_computed, come_first, come_goes, come_lost, come_may, come_none, come_out, come_over, come_rests, come_short, come_stopped, goes_on_by, stops_by, turned, turned_as}
+use Rattle.task_loop.proofs.HasRunLemmas.{come_computed, come_first, come_goes, come_lost, come_may, come_none, come_out, come_over, come_rests, come_short, come_stopped, gives_halt, goes_on_by, stops_by, turned, turned_as}
 use Rattle.task_loop.proofs.PausedLemmas.{spent_data, spent_none, poll_goes}
 use Rattle.task_loop.proofs.RunPollLemmas.{and_false}
 use Rattle.task_loop.proofs.ToldLemmas.{current_is, group_computed}
 use Rattle.task_loop.proofs.run.RunConcurrent.go_on.Goals as goal
 use Rattle.task_loop.specs.HasRun.{GoesTo, at, numbers, setting, state}
-use Rattle.task_loop.specs.declared.run.Halt.TheVariants as halt
 use Rattle.task_loop.specs.declared.run.RunConcurrent.{RunConcurrent}
 use Rattle.task_loop.specs.declared.run.Stop.TheVariants as stop
 use Rattle.machine_data.specs.declared.outcome.Outcome.TheVariants as outcome
@@ -113,9 +112,9 @@ turns-preserved g c =
     let is = c.in-Some-Continues.is ∙ ap (λ (q : StepResult). Some q) (rw c.in-Some-Continues.is at c.in-Some-Continues.field-0-is) in
     let op_result = turned_as says course d u v r _ (Some (stepped.Continues q computed)) is e.turned.0 in
     let goes = come_goes says course d a u n come v r q computed op_result c.turn.ensures.keeps in
-    let all = c.in-Ok-all.ensures in
+    let all = c.in-Ok-all.ensures.ok in
     record {
-      come = come_computed says course d a (record v { turn = q }) (n + 1) goes c.compute-all.new.w c.compute-all.new.trace c.in-Ok-all.all all.on all.computes all.still all.works
+      come = come_computed says course d a (record v { turn = q }) (n + 1) goes c.compute-all.new.w c.compute-all.new.trace c.in-Ok-all.all all.on all.computes all.still c.in-Ok-all.ensures.works
           (λ last knows. g.met.M.MainTask.stays c.turn.new.main c.turn.new.store.state c.compute-all.new.w last knows);
       kept = λ driven. c.spent_by-self.ensures.kept driven ∙ c.turns.invariant.kept driven;
       spent = λ polled.
@@ -126,9 +125,9 @@ turns-preserved g c =
           let more = poll_goes (setting says course d a) (state says course d a) a.trace (numbers says course d a) yield_budget c.args.steps u.turn (says.part u.main) u.store.state u.trace n b k come.on (spent polled) (says.part v.main) v.store.state v.trace q computed
           (turned says course d a u n come v r (stepped.Continues q computed) op_result) stays c.spent_by-self.result.passes c.spent_by-self.result.since rests since (c.spent_by-self.ensures.passes polled) in
           spent_data yield_budget.passes yield_budget.since a.trace c.turn.new.trace c.spent_by-self.result.passes c.spent_by-self.result.since more all.computes.labels c.compute-all.new.trace all.computes.computing all.computes.trace (c.spent_by-self.ensures.passes polled);
-      few = all.few.1;
+      few = all.few;
       why = e.turned.1;
-      running = op_result.group ∙ sym (group_computed d c.turn.new.store.state c.turn.new.trace (n + 1) c.compute-all.new.w c.compute-all.new.trace c.in-Ok-all.all (setting says course d a) refl (ap (λ (ts : Tags). ts.tracked) all.works.tags) q all.computes all.still);
+      running = op_result.group ∙ sym (group_computed d c.turn.new.store.state c.turn.new.trace (n + 1) c.compute-all.new.w c.compute-all.new.trace c.in-Ok-all.all (setting says course d a) refl (ap (λ (ts : Tags). ts.tracked) c.in-Ok-all.ensures.works.tags) q all.computes all.still);
     }
 
 -- ---- What it has resulted in
@@ -280,8 +279,8 @@ returns-clause-gone g c =
 
 -- ---- It is out of memory, or the hook fails
 
-pub returns-in_default-clause-lost : goal.returns-in_default-clause-lost
-returns-in_default-clause-lost g c =
+pub returns-in_default-clause-gone : goal.returns-in_default-clause-gone
+returns-in_default-clause-gone g c =
     let says = g.M.MainTask.says in
     let course = g.H.HostWork.course in
     let d = c.args.component.now in
@@ -290,10 +289,12 @@ returns-in_default-clause-lost g c =
     let n = c.turns.added in
     let come = c.turns.invariant.come in
     let v = at c.turns.self c.turn.new.main c.turn.new.store c.turn.new.trace in
-    λ is. let short : c.turn.new.why ≡ halt.NoMemory = cc in come_lost says course d a u n come v c.turn.new.why c.args.steps c.turns.invariant.few short c.in_default.ensures.turned
+    gives_halt says course d g.P.Policy.YIELDS c.args.steps _ _ _ _ _ _ _ _ c.turn.new.why
+    (λ short. come_lost says course d a u n come v c.turn.new.why c.args.steps c.turns.invariant.few short c.in_default.ensures.turned)
+    (λ fails. come_stopped says course d a u n come v c.turn.new.why c.args.steps (omega arith) fails c.in_default.ensures.turned)
 
-pub returns-in_default-all-clause-lost : goal.returns-in_default-all-clause-lost
-returns-in_default-all-clause-lost g c =
+pub returns-in_default-all-clause-gone : goal.returns-in_default-all-clause-gone
+returns-in_default-all-clause-gone g c =
     let says = g.M.MainTask.says in
     let course = g.H.HostWork.course in
     let d = c.args.component.now in
@@ -309,19 +310,7 @@ returns-in_default-all-clause-lost g c =
     let is = c.in-Some-Continues.is ∙ ap (λ (q : StepResult). Some q) (rw c.in-Some-Continues.is at c.in-Some-Continues.field-0-is) in
     let op_result = turned_as says course d u v r _ (Some (stepped.Continues q computed)) is e.turned.0 in
     let goes = come_goes says course d a u n come v r q computed op_result c.turn.ensures.keeps in
-    λ is. come_short says course d a (record v { turn = q }) (n + 1) goes c.args.steps c.compute-all.new.trace c.in_default-all.ensures.err
-
-pub returns-in_default-clause-stopped : goal.returns-in_default-clause-stopped
-returns-in_default-clause-stopped g c =
-    let says = g.M.MainTask.says in
-    let course = g.H.HostWork.course in
-    let d = c.args.component.now in
-    let a = at c.args.self.now c.args.main.now c.args.store.now c.args.trace.now in
-    let u = at c.turns.self c.turns.main c.turns.store c.turns.trace in
-    let n = c.turns.added in
-    let come = c.turns.invariant.come in
-    let v = at c.turns.self c.turn.new.main c.turn.new.store c.turn.new.trace in
-    λ is. let fails : c.turn.new.why ≡ halt.HookFailed = cc in come_stopped says course d a u n come v c.turn.new.why c.args.steps (omega arith) fails c.in_default.ensures.turned
+    come_short says course d a (record v { turn = q }) (n + 1) goes c.args.steps c.compute-all.new.trace c.in_default-all.ensures.err
 
 -- ---- What stays
 

@@ -11,14 +11,12 @@ returns-in-Ok-clause-polls g c =
 pub returns-in-Err-NoMemory-clause-polls : goal.returns-in-Err-NoMemory-clause-polls
 unfolding set_trapped
 returns-in-Err-NoMemory-clause-polls g c =
-    let at = c.in-Err-NoMemory.field-0-is in
-    rw (← c.trace.view_is) (has_lost _ _ _ _ _ c.args.steps (c.in-Err-NoMemory.ensures.lost (cc)) (rw c.set_trapped.ensures.rest refl))
+    rw (← c.trace.view_is) (has_lost _ _ _ _ _ c.args.steps (rw c.in-Err-NoMemory.field-0-is at c.in-Err-NoMemory.ensures.gone) (rw c.set_trapped.ensures.rest refl))
 
 pub returns-in-Err-HookFailed-clause-polls : goal.returns-in-Err-HookFailed-clause-polls
 returns-in-Err-HookFailed-clause-polls g c =
-    let at = c.in-Err-HookFailed.field-0-is in
     let trapped = c.set_trapped-in-Err-HookFailed.ensures in
-    let q = c.in-Err-HookFailed.ensures.stopped (cc) in
+    let q = rw c.in-Err-HookFailed.field-0-is at c.in-Err-HookFailed.ensures.gone in
     let main = c.go_on.new.main in
     let m = c.go_on.new.store in
     rw (← c.trace.view_is) (polls_failed _ _ _ _ _ c.args.steps g.G.TaskGroupHook.listens c.is_hooked-hooked.result m c.args.self.now.yield_budget c.go_on.new.self.yield_budget c.is_hooked-hooked.ensures.hook c.is_hooked-hooked.ensures.listens q.0

@@ -211,7 +211,7 @@ returns-in-Ok-poll_work-clause-turned g c =
         suits = may.stands.suits;
         knows = by_poll (says.knows main) s t (λ last. g.met.M.MainTask.stays main s t last may.stands.knows) x m c.in-Futures.polled made.0 (subst (λ (w : Turn). CoreInOrder d w s.core) c.in-Futures.is may.stands.order) made.1.1 c.poll_work.ensures.works.0;
         works = c.poll_work.ensures.works.1;
-        asked = e.asked;
+        asked = told.asked;
       },
       e.why,
     )
@@ -273,7 +273,7 @@ returns-in-Take-clause-turned g c =
     let u = at c.args.self.now main c.args.store.now c.args.trace.now in
     let e = c.take_entry.ensures in
     took says course d main c.args.self.now.trap_on_idle c.in-Take.ended c.args.self.now.turn c.in-Take.is c.args.store.now c.take_entry.new.store c.args.trace.now c.take_entry.new.trace c.take_entry.new.running c.take_entry.new.why c.args.running.now c.args.why.now may
-    (λ u last. g.met.M.MainTask.stays main c.args.store.now.state u last) e.rest c.take_entry.result e.taken e.told e.asked e.none e.why e.err e.failed
+    (λ u last. g.met.M.MainTask.stays main c.args.store.now.state u last) e.rest c.take_entry.result e.taken e.why e.err e.failed
 
 -- ---- What stays
 

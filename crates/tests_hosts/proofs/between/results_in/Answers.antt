@@ -1,5 +1,5 @@
 -- The store has its instance, and nothing was made in it.
-use Rattle.tests_hosts.proofs.between.comes_to.Goals as goal
+use Rattle.tests_hosts.proofs.between.results_in.Goals as goal
 use Rattle.std.proofs.Common.{ap, refl, ℕ}
 use Rattle.std.specs.Prelude.{IsSome, is_some}
 use Rattle.machine_data.proofs.MapLemmas.{get-insert_same}
