@@ -114,8 +114,6 @@ impl Func {
         ensures does { StartsOrLeaves G.listens component.now (callee_of self) params.now store.old result store.new }
         ensures keeps { KeepsStore component.now store.old store.new }
     {
-        // so a run that isn't proved stops at a call with another number of words
-        prove!(self.param_count(component) as usize == params.len());
         match start_refusal(&store.state) {
             Some(trap) => Err(TaskError::Trap(trap)),
             None => self.start_fitting(component, store, params),

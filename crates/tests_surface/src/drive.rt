@@ -15,7 +15,7 @@ ghost use Rattle.core_primitives.specs.StateView.{with_core};
 
 use core_primitives::{ThreadPrimitives, View};
 use futures::task::Poll;
-use host_watch::WatchedMain;
+use host_watch::{WatchedMain, start_watched};
 use machine_data::{DataOp, ExportKind, LoopLabel, MainLabel, NoMemory, Seq, TaskOp, Trap, Turn};
 use std::alloc::{AllocError, Global};
 use std::process::Abort;
@@ -152,7 +152,7 @@ pub(crate) fn called(
     ensures hosts { HoldsHosts ⟦<ScriptedHost as HostWork>⟧.course store.new }
     ensures groups { IsAsked store.new.state }
 {
-    match CALLEE.start_call_concurrent(component, store, &[7]) {
+    match start_watched(CALLEE, component, store, &[7]) {
         Ok(call) => call,
         Err(_) => panic!(rt; "a call"),
     }
