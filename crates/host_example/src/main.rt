@@ -3,11 +3,9 @@
 
 use std::alloc::Global;
 use std::io::{self, BufRead, Lines, Write};
-use vatbramble_host::{
-    Answer, Ask, CallWords, CalledTask, Func, HostMain, HostPoll, Hosted, OpenTask,
-};
+use vatbramble_host::{CallOnce, HostFunctions, HostPoll, Hosted};
 
-// A guest that adds three numbers of the host, whose line says no more than that there is one.
+// A guest that adds three numbers of the host.
 const GUEST: &[u8] = b"scenario 1
 handles 100
 table 100
@@ -23,32 +21,18 @@ call_sync r1 number
 add r0 r1
 ret r0
 exit
-main
-start adder.sum
-finish 1 r0
-answer r0
-end
 ";
 
 // The host's value: the lines of its input.
 #[derive(Drop)]
-struct Input<R: BufRead + Drop> {
+struct Numbers<R: BufRead + Drop> {
     lines: Lines<R, Global>,
 }
 
-// A call of the host: the next number is its answer. It fails if there is none.
-#[derive(Drop)]
-struct NextNumber;
-
-impl CalledTask for NextNumber {
-    fn called(_place: u32) -> Self {
-        NextNumber
-    }
-}
-
-impl<R: BufRead + Drop> OpenTask<Input<R>> for NextNumber {
-    fn poll(&mut self, input: &mut Input<R>) -> HostPoll {
-        let Some(Ok(line)) = input.lines.next() else {
+impl<R: BufRead + Drop> HostFunctions for Numbers<R> {
+    // Answers the next number, and fails if there is none.
+    fn call(&mut self, _place: u32) -> HostPoll {
+        let Some(Ok(line)) = self.lines.next() else {
             return HostPoll::Failed;
         };
         match line.trim().parse() {
@@ -58,30 +42,11 @@ impl<R: BufRead + Drop> OpenTask<Input<R>> for NextNumber {
     }
 }
 
-// Calls an export, and ends with what it returns.
-#[derive(Drop)]
-struct Caller {
-    sum: Func,
-}
-
-impl HostMain for Caller {
-    fn next(&mut self, last: Answer) -> Ask {
-        match last {
-            Answer::Begun => Ask::Start(self.sum, CallWords::of(&[])),
-            Answer::Started(call) => Ask::Finish(call),
-            Answer::Finished(word) => Ask::Answer(word),
-            _ => Ask::Answer(0),
-        }
-    }
-}
-
 fn main(rt: HostRuntime) -> anyhow::Result<()> {
-    let hosted = Hosted::read(rt.alloc(), GUEST)?.with_open_host(0)?;
-    let sum = hosted.func("adder", "sum")?;
-    let input = Input {
-        lines: rt.reader().lines(rt.alloc()),
-    };
-    let run = hosted.run_open::<_, NextNumber, _>(rt.alloc(), input, Caller { sum }, 1000)?;
+    let guest = Hosted::read_component(rt.alloc(), GUEST)?.with_open_host("number")?;
+    let sum = guest.func("adder", "sum")?;
+    let lines = rt.reader().lines(rt.alloc());
+    let run = guest.run_with(rt.alloc(), Numbers { lines }, CallOnce::of(sum, &[]), 1000)?;
     let report = run.print(rt.alloc())?;
     io::writer(&rt).write_all(report.as_slice())?;
     Ok(())

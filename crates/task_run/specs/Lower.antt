@@ -35,6 +35,9 @@ work_def work.Never = host_line.Settled None None
 abbrev pub host_def : HostText → HostDef
 host_def h = work_def h.work
 
+abbrev pub host_name : HostText → List ℕ
+host_name h = h.name
+
 -- what runs of an export; without a `react` line its react script is empty
 abbrev pub export_def : ExportText → ExportDef
 export_def e = record { kind = e.kind; params = e.params; start = e.start; react = unwrap_or e.react [] }
@@ -75,6 +78,7 @@ scenario_of s = record {
   idle = s.idle;
   component = record { instances = map instance_def s.instances; hosts = map host_def s.hosts };
   names = map names_of s.instances;
+  host_names = map host_name s.hosts;
   main = map main_op s.main ++ op.Answer s.answer ∷ [];
   aborters = s.aborters;
 }

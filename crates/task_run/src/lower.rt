@@ -1,6 +1,6 @@
 //! From the text's tree to what is run: empty lines of the tree are gone, and the names are apart.
 ghost use Rattle.std.specs.Prelude.{◌≡◌, ◌≤◌, [], ◌∷◌, ◌++◌, length, map, replicate, slice_set, unwrap_or, IfOk, OnOk, IsOkUnless};
-ghost use Rattle.task_run.specs.Lower.{host_def, export_def, instance_def, names_of, func_of, main_op, scenario_of, Reads, ReadsAs};
+ghost use Rattle.task_run.specs.Lower.{host_def, host_name, export_def, instance_def, names_of, func_of, main_op, scenario_of, Reads, ReadsAs};
 ghost use Rattle.task_run.specs.declared.scenario.Scenario.{Scenario};
 
 use crate::copy::copy_component;
@@ -54,14 +54,18 @@ fn host_def(host: &HostText) -> HostDef
     }
 }
 
-fn host_defs(alloc: Global, hosts: &[HostText]) -> Result<Seq<HostDef>, AllocError>
-    ensures { IfOk result (λ defs. defs ≡ map host_def hosts.now) }
+type Hosts = (Seq<Seq<u8>>, Seq<HostDef>);
+
+fn host_defs(alloc: Global, hosts: Seq<HostText>) -> Result<Hosts, AllocError>
+    ensures { IfOk result (λ p. p ≡ (map host_name hosts, map host_def hosts)) }
 {
+    let mut names = Seq::new(alloc);
     let mut defs = Seq::new(alloc);
-    for host in hosts {
-        defs.push(host_def(host))?;
+    for host in hosts.into_vec() {
+        defs.push(host_def(&host))?;
+        names.push(host.name)?;
     }
-    Ok(defs)
+    Ok((names, defs))
 }
 
 fn ops_or_none(alloc: Global, ops: Option<Seq<Op>>) -> Seq<Op>
@@ -210,15 +214,14 @@ pub fn scenario_of(alloc: Global, text: ScenarioText) -> Result<Scenario, AllocE
     ensures { IfOk result (λ x. x ≡ scenario_of text) }
 {
     let (names, instances) = instance_defs(alloc, text.instances)?;
+    let (host_names, hosts) = host_defs(alloc, text.hosts)?;
     Ok(Scenario {
         handles: text.handles,
         table: text.table,
         idle: text.idle,
-        component: Component {
-            instances,
-            hosts: host_defs(alloc, text.hosts.as_slice())?,
-        },
+        component: Component { instances, hosts },
         names,
+        host_names,
         main: main_ops(alloc, text.main, text.answer)?,
         aborters: text.aborters,
     })

@@ -40,6 +40,8 @@ pub struct Scenario {
     pub component: Component,
     /// The names that the text gives; a run doesn't use them.
     pub names: Seq<InstanceNames>,
+    /// The names that the text gives to its hosts, in order; a run doesn't use them either.
+    pub host_names: Seq<Seq<u8>>,
     pub main: Seq<MainOp>,
     /// For each aborter the spawns that it aborts, in order.
     pub aborters: Seq<Seq<u32>>,

@@ -79,7 +79,7 @@ fn a_full_page_is_taken_away(rt: HostRuntime) {
     assert!(rt; page.fill(&mut list.labels()));
     assert!(rt; page.full().len() == PAGE);
     assert!(rt; page.full().starts_with(b"rest\nrest\n"));
-    page.turn();
+    page.take_full();
     let behind: &[u8] = b"st\n";
     assert!(rt; page.as_slice() == behind);
 }

@@ -1,8 +1,7 @@
 use std::alloc::Global;
 use std::process::Abort;
 use vatbramble_host::{
-    Answer, Ask, CallWords, CalledTask, Func, HostError, HostMain, HostPoll, Hosted, OpenTask,
-    Outcome,
+    CallOnce, CalledTask, Func, HostError, HostFunctions, HostPoll, Hosted, OpenTask, Outcome,
 };
 
 // A guest adds what a settled host and an open one answer.
@@ -13,7 +12,7 @@ fn hosted(rt: &impl Abort, alloc: Global) -> Hosted {
     let Ok(hosted) = Hosted::read(alloc, TEXT) else {
         panic!(rt; "no scenario");
     };
-    match hosted.with_open_host(1) {
+    match hosted.with_open_host("free") {
         Ok(hosted) => hosted,
         Err(_) => panic!(rt; "no such host"),
     }
@@ -23,23 +22,6 @@ fn func(rt: &impl Abort, hosted: &Hosted) -> Func {
     match hosted.func("a", "f") {
         Ok(func) => func,
         Err(_) => panic!(rt; "no such export"),
-    }
-}
-
-// Calls the export, and ends with what that returns.
-#[derive(Drop)]
-struct Caller {
-    func: Func,
-}
-
-impl HostMain for Caller {
-    fn next(&mut self, last: Answer) -> Ask {
-        match last {
-            Answer::Begun => Ask::Start(self.func, CallWords::of(&[])),
-            Answer::Started(call) => Ask::Finish(call),
-            Answer::Finished(word) => Ask::Answer(word),
-            _ => Ask::Answer(0),
-        }
     }
 }
 
@@ -72,34 +54,29 @@ impl OpenTask<u64> for Counting {
 fn open_works_pend_and_end(rt: HostRuntime) {
     let hosted = hosted(&rt, rt.alloc());
     let func = func(&rt, &hosted);
-    let run = hosted.run_open::<u64, Counting, Caller>(rt.alloc(), 0, Caller { func }, 100);
+    let main = CallOnce::of(func, &[]);
+    let run = hosted.run_open::<u64, Counting, CallOnce>(rt.alloc(), 0, main, 100);
     let Ok(run) = run else {
         panic!(rt; "no memory");
     };
     assert!(rt; matches!(run.outcome, Outcome::Done(108)));
 }
 
-// Fails at its first poll.
+// Lets each call fail at once.
 #[derive(Drop)]
 struct Failing;
 
-impl CalledTask for Failing {
-    fn called(_place: u32) -> Self {
-        Failing
-    }
-}
-
-impl OpenTask<()> for Failing {
-    fn poll(&mut self, _host: &mut ()) -> HostPoll {
+impl HostFunctions for Failing {
+    fn call(&mut self, _place: u32) -> HostPoll {
         HostPoll::Failed
     }
 }
 
 #[test]
-fn a_failing_open_work_ends_the_run(rt: HostRuntime) {
+fn a_failing_call_ends_the_run(rt: HostRuntime) {
     let hosted = hosted(&rt, rt.alloc());
     let func = func(&rt, &hosted);
-    let run = hosted.run_open::<(), Failing, Caller>(rt.alloc(), (), Caller { func }, 100);
+    let run = hosted.run_with(rt.alloc(), Failing, CallOnce::of(func, &[]), 100);
     let Ok(run) = run else {
         panic!(rt; "no memory");
     };
@@ -109,5 +86,5 @@ fn a_failing_open_work_ends_the_run(rt: HostRuntime) {
 #[test]
 fn a_host_that_is_not_there_cannot_be_opened(rt: HostRuntime) {
     let hosted = hosted(&rt, rt.alloc());
-    assert!(rt; matches!(hosted.with_open_host(2), Err(HostError::NoHost)));
+    assert!(rt; matches!(hosted.with_open_host("locked"), Err(HostError::NoHost)));
 }

@@ -4,14 +4,14 @@ use vatbramble_host::{
     Answer, Ask, CalledTask, HostMain, HostPoll, Hosted, OpenTask, Outcome, Refusal, SpawnId,
 };
 
-// A store without scripts that anybody calls.
+// A component that nobody calls.
 const TEXT: &[u8] =
-    b"scenario 1\nhandles 100\ntable 8\nidle trap\ninstance a\nexport f stackful 0\nexit\nmain\nanswer 0\nend\n";
+    b"scenario 1\nhandles 100\ntable 8\nidle trap\ninstance a\nexport f stackful 0\nexit\n";
 
 fn hosted(rt: &impl Abort, alloc: Global) -> Hosted {
-    match Hosted::read(alloc, TEXT) {
+    match Hosted::read_component(alloc, TEXT) {
         Ok(hosted) => hosted,
-        Err(_) => panic!(rt; "no scenario"),
+        Err(_) => panic!(rt; "no component"),
     }
 }
 

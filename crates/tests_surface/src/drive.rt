@@ -15,6 +15,7 @@ ghost use Rattle.core_primitives.specs.StateView.{with_core};
 
 use core_primitives::{ThreadPrimitives, View};
 use futures::task::Poll;
+use host_watch::{WatchedMain, start_watched};
 use machine_data::{DataOp, ExportKind, LoopLabel, MainLabel, NoMemory, Seq, TaskOp, Trap, Turn};
 use std::alloc::{AllocError, Global};
 use std::process::Abort;
@@ -151,7 +152,7 @@ pub(crate) fn called(
     ensures hosts { HoldsHosts ⟦<ScriptedHost as HostWork>⟧.course store.new }
     ensures groups { IsAsked store.new.state }
 {
-    match CALLEE.start_call_concurrent(component, store, &[7]) {
+    match start_watched(CALLEE, component, store, &[7]) {
         Ok(call) => call,
         Err(_) => panic!(rt; "a call"),
     }
@@ -198,7 +199,7 @@ fn a_call_runs_while_main_waits(rt: HostRuntime) {
         panic!(rt; "a run")
     };
     assert!(rt; is_recursive(&mut store));
-    let mut main = Host { answer: None };
+    let mut main = WatchedMain::new(Host { answer: None });
     let mut trace = Trace::new(rt.alloc());
     let outcome = run.drive(&component, &mut store, &mut main, 16, &mut trace);
     assert!(rt; matches!(outcome, Ok(Outcome::Idle)));
@@ -206,6 +207,7 @@ fn a_call_runs_while_main_waits(rt: HostRuntime) {
     let result = CALLEE.finish_call_concurrent(&mut store, &mut call);
     assert!(rt; matches!(result, Poll::Ready(9)));
     run.end(&mut store);
+    assert!(rt; main.into_main().answer.is_none());
     assert!(rt; run_concurrent(&mut store, true).is_ok());
 }
 

@@ -7,6 +7,7 @@ ghost use Rattle.task_run.specs.Runnable.{IsRunnable};
 ghost use Rattle.core_primitives.specs.Groups.{IsAsked};
 ghost use Rattle.core_primitives.specs.StateView.{with_core};
 
+use host_watch::WatchedWork;
 use machine_data::HostDef;
 use std::alloc::Global;
 use std::process::Abort;
@@ -72,13 +73,13 @@ impl FromHost for Counting {
 }
 
 // A new store with one instance, whose value counts.
-fn new_store(rt: &impl Abort, alloc: Global) -> Store<u64, Counting>
+fn new_store(rt: &impl Abort, alloc: Global) -> Store<u64, WatchedWork<Counting>>
     ensures state { result.state ≡ with_core (fresh 1 100000 1000000) nothing }
     ensures works { HoldsNone result.works }
     ensures groups { IsAsked result.state }
     ensures running { result.running ≡ false }
 {
-    let mut store: Store<u64, Counting> = Store::new(alloc, 0, true, 1);
+    let mut store: Store<u64, WatchedWork<Counting>> = Store::new(alloc, 0, true, 1);
     match store.add_instance() {
         Ok(_) => store,
         Err(_) => panic!(rt; "no memory"),
@@ -90,7 +91,7 @@ fn drive(
     rt: &impl Abort,
     alloc: Global,
     scenario: &Scenario,
-    store: &mut Store<u64, Counting>,
+    store: &mut Store<u64, WatchedWork<Counting>>,
 ) -> Outcome
     requires runnable { IsRunnable scenario.now }
     requires one { length scenario.now.component.instances ≡ 1 }

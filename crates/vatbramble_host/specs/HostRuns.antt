@@ -1,5 +1,6 @@
 -- What the run of a host is.
-use Rattle.std.specs.Prelude.{List, [], length, slice_set, ℕ, ◌≤◌}
+use Rattle.std.specs.Prelude.{List, Option, Some, [], codes, length, slice_get, slice_set, ℕ, ◌++◌, ◌∷◌, ◌≤◌}
+use Rattle.text_lines.specs.Tokens.{◌>>=◌}
 use Rattle.machine_data.specs.Core.{State, Unscripted, fresh}
 use Rattle.machine_data.specs.declared.component.HostDef.TheVariants as host_def
 use Rattle.machine_data.specs.declared.label.Label.{Label}
@@ -12,10 +13,20 @@ use Rattle.machine_rules.specs.Run.{Run}
 use Rattle.machine_rules.specs.Stalled.{Setting}
 use Rattle.task_run.specs.declared.scenario.Scenario.{Scenario}
 use Rattle.ops_turns.specs.Turn.{state_at}
+use Rattle.vatbramble_host.specs.Named.{name_place}
 
--- the scenario whose host at this place is open
-abbrev pub with_open_host : ℕ → Scenario → Scenario
-with_open_host place x = record x { component = record x.component { hosts = slice_set x.component.hosts place host_def.Open } }
+-- the scenario in which the host at this place is open; none if there is no such host
+abbrev pub opened_at : ℕ → Scenario → Option Scenario
+opened_at place x = slice_get x.component.hosts place >>= (λ was.
+    Some (record x { component = record x.component { hosts = slice_set x.component.hosts place host_def.Open } }))
+
+-- the scenario in which the host of this name is open; none if the text has no such host
+unfoldable pub with_open_host : List ℕ → Scenario → Option Scenario
+with_open_host name x = name_place x.host_names name >>= (λ place. opened_at place x)
+
+-- the lines of a text whose main answers 0 at once, from `main` on
+abbrev pub empty_main : List ℕ
+empty_main = codes "main" ++ 10 ∷ codes "answer 0" ++ 10 ∷ codes "end" ++ 10 ∷ []
 
 -- the scenario's component and idle line, beside a main that is no script
 abbrev pub host_setting : Scenario → Setting

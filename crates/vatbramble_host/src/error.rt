@@ -12,6 +12,6 @@ pub enum HostError {
     TooLong,
     #[error("no export has this name")]
     NoExport,
-    #[error("the text has no such host")]
+    #[error("no host has this name")]
     NoHost,
 }

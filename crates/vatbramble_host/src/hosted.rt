@@ -1,17 +1,17 @@
 //! A component with the limits of its store, and the run of a host over it.
-ghost use Rattle.std.specs.Prelude.{◌≡◌, ◌<◌, ◌≤◌, ◌↔◌, Err, IfErr, IfOk, IsOk, IsSome, None, OnErr, OnOk, Some, length, slice_get, ℕ};
+ghost use Rattle.std.specs.Prelude.{◌≡◌, ◌++◌, ◌<◌, ◌≤◌, Err, IfErr, IfOk, None, OnErr, OnOk, Some, length, ℕ};
 ghost use Rattle.text_scenario.specs.Grammar.{IsBadLine};
 ghost use Rattle.laws_states.specs.Settings.{CodesInCallbacks};
 ghost use Rattle.machine_rules.specs.Texts.{text};
 ghost use Rattle.task_run.specs.Lower.{Reads};
 ghost use Rattle.ops_turns.specs.WellFormed.{IsWellFormed};
-ghost use Rattle.vatbramble_host.specs.HostRuns.{IsHostRunOf, with_open_host};
+ghost use Rattle.vatbramble_host.specs.HostRuns.{IsHostRunOf, empty_main, opened_at, with_open_host};
 ghost use Rattle.vatbramble_host.specs.Named.{func_named};
 
 use crate::error::HostError;
-use crate::{AskingMain, HostMain, names};
+use crate::{AskingMain, FunctionCall, HostFunctions, HostMain, names};
 use machine_data::{Component, HostDef, Seq};
-use std::alloc::Global;
+use std::alloc::{AllocError, Global};
 use store_works::{AccessorTask, CalledTask, FromHost, OpenTask, OpenWork, ScriptedHost};
 use task_loop::{Func, NoMemory, Outcome, Trace, run_concurrent};
 use task_run::{RunError, Scenario, new_store, print_run, read_scenario, traps_on_idle};
@@ -40,6 +40,16 @@ pub struct HostRun<D: Drop> {
     pub host: D,
 }
 
+// The lines, and a main that answers 0.
+fn with_empty_main(alloc: Global, lines: &[u8]) -> Result<Vec<u8>, AllocError>
+    ensures { IfOk result (λ text. text.items ≡ lines.now ++ empty_main) }
+{
+    let mut text = Vec::new(alloc);
+    text.extend_from_slice(lines)?;
+    text.extend_from_slice(b"main\nanswer 0\nend\n")?;
+    Ok(text)
+}
+
 impl Hosted {
     /// Reads the component of a scenario's text, and the limits of its store. A text that is no scenario is refused with its first bad
     /// line, and one of more than 1,048,576 bytes isn't looked at.
@@ -59,6 +69,20 @@ impl Hosted {
         }
     }
 
+    /// Reads a component alone: the lines of a scenario's text that come before its `main`, with a line feed after each. They are
+    /// read as the text that goes on with a main which answers 0 at once, and refused as that is.
+    pub fn read_component(alloc: Global, lines: &[u8]) -> Result<Self, HostError>
+        ensures read { IfOk result (λ h. Reads (lines.now ++ empty_main) h.scenario) }
+        ensures bad { (n : ℕ) → result ≡ Err (HostError.BadLine n) → IsBadLine (lines.now ++ empty_main) n }
+        ensures long { result ≡ Err HostError.TooLong → 1048576 < length (lines.now ++ empty_main) }
+        ensures there { result ≡ Err HostError.NoExport → ⊥ }
+    {
+        match with_empty_main(alloc, lines) {
+            Ok(text) => Hosted::read(alloc, text.as_slice()),
+            Err(_) => Err(HostError::NoMemory),
+        }
+    }
+
     /// Returns the export that the text gives these names to, of an instance and in it. It is refused exactly if there is none.
     pub fn func(&self, instance: &str, export: &str) -> Result<Func, HostError>
         ensures named { IfOk result (λ f. func_named self.now.scenario.names instance.now export.now ≡ Some f) }
@@ -72,11 +96,25 @@ impl Hosted {
         }
     }
 
-    /// Opens the text's host at this place, from 0: a call of it results in what a work of the host's own answers, and nothing that its
-    /// line says is so any more. It is refused exactly if the text has no such host.
-    pub fn with_open_host(self, place: u32) -> Result<Self, HostError>
-        ensures opened { IfOk result (λ h. h.scenario ≡ with_open_host place self.scenario) }
-        ensures there { IsOk result ↔ IsSome (slice_get self.scenario.component.hosts place) }
+    /// Opens the text's host of this name: a call of it results in what a work of the host's own answers, and nothing that its line
+    /// says is so any more. It is refused exactly if the text has no such host.
+    #[tactic(auto, unfolding(crate::specs::HostRuns::with_open_host))]
+    pub fn with_open_host(self, host: &str) -> Result<Self, HostError>
+        ensures opened { IfOk result (λ h. with_open_host host.now self.scenario ≡ Some h.scenario) }
+        ensures none { IfErr result (λ e. with_open_host host.now self.scenario ≡ None) }
+        ensures error { IfErr result (λ e. e ≡ HostError.NoHost) }
+    {
+        let names = self.scenario.host_names.as_slice();
+        match names::name_place(names, host.as_bytes()) {
+            Some(place) => self.opened_at(place),
+            None => Err(HostError::NoHost),
+        }
+    }
+
+    // Opens the host at this place.
+    fn opened_at(self, place: u32) -> Result<Self, HostError>
+        ensures opened { IfOk result (λ h. opened_at place self.scenario ≡ Some h.scenario) }
+        ensures none { IfErr result (λ e. opened_at place self.scenario ≡ None) }
         ensures error { IfErr result (λ e. e ≡ HostError.NoHost) }
     {
         let Hosted { scenario } = self;
@@ -86,6 +124,7 @@ impl Hosted {
             idle,
             component,
             names,
+            host_names,
             main,
             aborters,
         } = scenario;
@@ -106,6 +145,7 @@ impl Hosted {
                 idle,
                 component,
                 names,
+                host_names,
                 main,
                 aborters,
             },
@@ -146,6 +186,20 @@ impl Hosted {
             Ok(run) => Ok(run),
             Err(_) => Err(HostError::NoMemory),
         }
+    }
+
+    /// Runs the component with a value of the host that answers all calls of open hosts.
+    pub fn run_with<T: HostFunctions, D: HostMain + Drop>(
+        &self,
+        alloc: Global,
+        value: T,
+        host: D,
+        steps: u32,
+    ) -> Result<HostRun<D>, HostError>
+        ensures run { IfOk result (λ r. IsHostRunOf self.now.scenario steps r.trace r.outcome) }
+        ensures error { IfErr result (λ e. e ≡ HostError.NoMemory) }
+    {
+        self.run_open::<T, FunctionCall, D>(alloc, value, host, steps)
     }
 
     // The run in a store with this value, for works of this kind.

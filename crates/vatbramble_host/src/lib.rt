@@ -7,6 +7,7 @@ mod asking;
 mod error;
 mod hosted;
 mod names;
+mod once;
 mod steps;
 
 pub use ask::{Answer, Ask, CallId, CallWords, HostMain, Refusal, SpawnId};
@@ -14,5 +15,6 @@ pub use asking::AskingMain;
 pub use error::HostError;
 pub use hosted::{HostRun, Hosted};
 pub use machine_data::Trap;
+pub use once::{CallOnce, FunctionCall, HostFunctions};
 pub use store_works::{CalledTask, HostPoll, OpenTask};
 pub use task_loop::{Func, Instance, Outcome, Trace};

@@ -25,7 +25,8 @@ fn name_position(names: &[Seq<u8>], name: &[u8]) -> Option<usize>
     names.iter().position(|n| n.as_slice() == name)
 }
 
-fn name_place(names: &[Seq<u8>], name: &[u8]) -> Option<u32>
+/// Finds the place of the first of the names that is this.
+pub(crate) fn name_place(names: &[Seq<u8>], name: &[u8]) -> Option<u32>
     ensures { result ≡ name_place names.now name.now }
 {
     u32::try_from(name_position(names, name)?).ok()

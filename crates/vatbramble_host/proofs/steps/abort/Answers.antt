@@ -1,5 +1,6 @@
 -- The work was asked to end.
 use Rattle.vatbramble_host.proofs.OpenMainLemmas.{did_abort}
+use Rattle.vatbramble_host.proofs.SpawnLemmas.{spawned_at}
 use Rattle.vatbramble_host.proofs.steps.abort.Goals as goal
 use Rattle.vatbramble_host.specs.Asks.{KnowsSpawns, asking_says, spawns_later}
 use Rattle.std.proofs.Common.{ap, refl, subst, sym}
@@ -17,7 +18,7 @@ use Rattle.ops_turns.specs.declared.mains.MainStep.TheVariants as step
 use Rattle.core_primitives.specs.StateView.{StateView, on_core}
 
 pub abort-phase-requires-clause-spawned : goal.abort-phase-requires-clause-spawned
-abort-phase-requires-clause-spawned g c = c.requires.may.knows c.args.work.place c.in-Some.handle.now (sym c.in-Some.ensures)
+abort-phase-requires-clause-spawned g c = spawned_at c.args.main.now.spawns.items c.deref.result.now c.args.work.place c.in-Some.handle.now c.args.access.now.store.now.state c.deref.ensures.value c.in-Some.ensures.lookup.3.0 c.in-Some.ensures.lookup.1 c.requires.may.knows
 
 pub returns-clause-step : goal.returns-clause-step
 returns-clause-step g c =
@@ -30,7 +31,7 @@ returns-clause-step g c =
     let k = c.number_of.result in
     let phase = c.abort-phase.result in
     let state = ap (λ k. k.state) c.abort-phase.ensures.state in
-    let spawned = may.knows c.args.work.place c.in-Some.handle.now (sym c.in-Some.ensures) in
+    let spawned = spawned_at c.args.main.now.spawns.items c.deref.result.now c.args.work.place c.in-Some.handle.now c.args.access.now.store.now.state c.deref.ensures.value c.in-Some.ensures.lookup.3.0 c.in-Some.ensures.lookup.1 c.requires.may.knows in
     let did =
     subst (λ (u : StateView). Did d [] Unscripted s.state.core (label.Main (main_label.Abort phase k)) Unscripted u.core) (sym state)
     (subst (λ (p : Phase). Did d [] Unscripted s.state.core (label.Main (main_label.Abort p k)) Unscripted (main_aborted n s.state.core)) (sym c.abort-phase.ensures.phase)

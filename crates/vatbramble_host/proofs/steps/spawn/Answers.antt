@@ -39,7 +39,7 @@ returns-clause-step g c =
     let kept = c.spawn.ensures.spawns in
     let own = did_spawn_own d s.state.core k i (g.H.HostWork.course c.from_host.result) t.state.core c.from_host.ensures (c.number-future.ensures ∙ made.number) made.core in
     let last = spawn_last _ s.state t.state made.core kept.tags in
-    let knows = subst (λ (xs : List SpawnHandle). KnowsSpawns xs t.state) (sym c.in-Ok-push.ensures.ok) (spawns_more main.spawns.items c.in-Ok.work s.state t.state last may.knows made.spawned) in
+    let knows = subst (λ (xs : List SpawnHandle). KnowsSpawns xs t.state) (sym c.in-Ok-push.ensures.items) (spawns_more main.spawns.items c.in-Ok.work s.state t.state last may.knows made.spawned) in
     stepped_quietly asking_says g.H.HostWork.course d (step.Did (label.Main (main_label.Spawn k i))) main s _ t (ap (λ k. k.listeners) kept.rest) kept.tags.same own refl may.asked
     (current_still s.state t.state kept.current may.idle ∙ sym may.idle) answered tt knows
     (kept.hosts (may.order.order Unscripted).works.made may.works)

@@ -1,6 +1,6 @@
 -- What a scenario keeps whose host is opened.
 use Rattle.vatbramble_host.proofs.OpenLemmas.{codes_still, formed_still}
-use Rattle.vatbramble_host.proofs.hosted.Hosted.with_open_host.Goals as goal
+use Rattle.vatbramble_host.proofs.hosted.Hosted.opened_at.Goals as goal
 
 pub invariant_of-result : goal.invariant_of-result
 invariant_of-result c =

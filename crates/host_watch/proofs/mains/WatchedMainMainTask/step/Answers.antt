@@ -1,0 +1,29 @@
+-- What the main that is watched does is what its watcher does.
+use Rattle.std.proofs.Common.{ap, subst, sym}
+use Rattle.host_watch.proofs.WatchLemmas.{failed_outside, may_inside, step_thread, step_work, stepped_outside}
+use Rattle.host_watch.proofs.mains.WatchedMainMainTask.step.Goals as goal
+
+pub step-requires : goal.step-requires
+step-requires g c = record { may = may_inside g.M.MainTask.says g.H.HostWork.course c.args.component.now c.args.self.now c.args.access.now.store.now c.requires.may }
+
+pub test_step-requires-clause-thread : goal.test_step-requires-clause-thread
+test_step-requires-clause-thread g c =
+    let says = g.M.MainTask.says in
+    let main = c.args.self.now.main in
+    rw (c.made-before.ensures, c.made-after.ensures)
+    (step_thread c.args.component.now (says.script main) c.in-Ok.step (says.part main) (says.part c.step.new.self) c.args.access.now.store.now.state.core c.step.new.access.store.now.state.core c.in-Ok.ensures.steps.steps)
+
+pub test_step-requires-clause-work : goal.test_step-requires-clause-work
+test_step-requires-clause-work g c =
+    let says = g.M.MainTask.says in
+    let main = c.args.self.now.main in
+    rw (c.made-before.ensures, c.made-after.ensures)
+    (step_work c.args.component.now (says.script main) c.in-Ok.step (says.part main) (says.part c.step.new.self) c.args.access.now.store.now.state.core c.step.new.access.store.now.state.core c.in-Ok.ensures.steps.steps)
+
+pub returns-in-Ok-clause-steps : goal.returns-in-Ok-clause-steps
+returns-in-Ok-clause-steps g c =
+    stepped_outside g.M.MainTask.says g.H.HostWork.course c.args.component.now c.in-Ok.step c.args.self.now (record { main = c.step.new.self }) c.args.access.now.store.now c.step.new.access.store.now c.in-Ok.ensures.steps
+
+pub returns-in-Err-clause-steps : goal.returns-in-Err-clause-steps
+returns-in-Err-clause-steps g c =
+    failed_outside g.M.MainTask.says g.H.HostWork.course c.args.component.now c.in-Err.error c.args.self.now (record { main = c.step.new.self }) c.args.access.now.store.now c.step.new.access.store.now c.in-Err.ensures.steps
