@@ -40,7 +40,7 @@ record Shows (l : Label) (s t : Core) : Type 0 where
   work : IsShown (label_work l) s.made.works t.made.works
 
 -- what an act of main results in shows what it makes
-ShowsFrom : MainProgress → Core → Type 0
+abbrev ShowsFrom : MainProgress → Core → Type 0
 ShowsFrom (Does l new) s = Shows (label.Main l) s new
 ShowsFrom Pends s = Unit {0}
 ShowsFrom (Answers v) s = Unit {0}
