@@ -14,7 +14,7 @@ ghost use Rattle.ops_turns.specs.Turn.{IsAtTurn, RunnerThere, CoreInOrder, Reste
 ghost use Rattle.core_primitives.specs.StateView.{work_of};
 
 use crate::futures::step_poll;
-use crate::made::{MadeStep, PackedStep, StepResult, put, stepped_by};
+use crate::made::{MadeStep, StepResult, put};
 use crate::rests::step_deadlock;
 use crate::settles::queues_are_empty;
 use crate::stretches::stretch;
@@ -87,13 +87,9 @@ pub fn take<W: Primitives>(
     ensures works { OnOk result (KeepsTold (W.view w.old) (W.view w.new)) }
     ensures err { OnErr result (trace.new ≡ trace.old) }
 {
-    let brief = step_take(component, w, ended, trace, worked);
-    let PackedStep::Nothing = brief else {
-        let Some(stepped) = stepped_by(brief, trace) else {
-            return Err(NoMemory);
-        };
+    if let Some(stepped) = step_take(component, w, ended, trace, worked)? {
         return Ok(Some(stepped));
-    };
+    }
     if ended {
         unreachable!()
     }
@@ -112,8 +108,7 @@ pub fn take<W: Primitives>(
 pub fn compute<W: Primitives>(
     component: &Component,
     w: &mut W,
-    computed: bool,
-    turn: Turn,
+    stepped: StepResult,
     trace: &mut PackedLabels,
     added: u32,
     steps: u32,
@@ -126,11 +121,8 @@ pub fn compute<W: Primitives>(
     ensures err { OnErr result (StopsShort component.now turn (W.view w.old) trace.old added trace.new steps) }
     ensures works { SameWorks (W.view w.old) (W.view w.new) }
 {
-    if !computed {
-        return Ok(added);
-    }
-    match turn {
-        Turn::Run { thread } => stretch(component, w, thread, trace, added, steps),
+    match stepped {
+        StepResult::Computes(thread) => stretch(component, w, thread, trace, added, steps),
         _ => Ok(added),
     }
 }

@@ -20,7 +20,7 @@ use core_primitives::{QueuePrimitives, View};
 use machine_data::{Component, Mark, NoMemory, Outcome, Trap, Turn};
 use ops_calls::{TaskError, host_called};
 use ops_turns::{
-    MainStep, RunStep, StepResult, compute, is_idle, made_by_main, put, step_call, step_run, take,
+    MainStep, StepResult, compute, is_idle, last_outcome, made_by_main, put, step_call, step_run, take, turn_of,
 };
 use run_trace::{
     Driven, PackedLabels, Policy, YieldBudget, ended_by, paced_by, rests_with, yields_by,
@@ -202,8 +202,8 @@ fn step_thread<T, H: AccessorTask<T> + FromHost, G: TaskGroupHook>(
         return Err(NoMemory);
     };
     match step {
-        RunStep::Shown(stepped) => Ok(stepped),
-        RunStep::Calls => call_host(component, store, thread, trace),
+        None => call_host(component, store, thread, trace),
+        Some(stepped) => Ok(stepped),
     }
 }
 
@@ -456,18 +456,21 @@ impl RunConcurrent {
             };
             match stepped {
                 None => return Ok(self.ends::<P>(Outcome::Idle, false)),
-                Some(StepResult::Over(outcome)) => {
+                Some(StepResult::Over) => {
                     self.turn = Turn::Over;
-                    return Ok(self.ends::<P>(outcome, false));
+                    match last_outcome(trace) {
+                        Some(outcome) => return Ok(self.ends::<P>(outcome, false)),
+                        None => unreachable!(),
+                    }
                 }
-                Some(StepResult::Continues { turn, computed }) => {
-                    self.turn = turn;
+                Some(stepped) => {
+                    self.turn = turn_of(stepped);
                     self.yield_budget = paced_by::<P>(self.yield_budget, next);
                     if rests {
                         return Ok(Stop::Rests);
                     }
                     let core = &mut store.state;
-                    let all = compute(component, core, computed, turn, trace, added + 1, steps);
+                    let all = compute(component, core, stepped, trace, added + 1, steps);
                     let Ok(all) = all else {
                         return Err(Halt::NoMemory);
                     };
