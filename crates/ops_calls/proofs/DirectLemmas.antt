@@ -1,13 +1,33 @@
 -- What the halves of a direct call need of the running thread, and what they result in.
 use Rattle.std.proofs.Common.{ap, arith, refl, subst, sym, ◌∙◌}
 use Rattle.std.proofs.lemmas.Bool.Decides.{nat_tests}
-use Rattle.std.specs.Option.{option_map_or}
-use Rattle.std.specs.Prelude.{IfSome, IsSome, List, None, Option, Some, [], is_some, slice_index, slice_set, ℕ, ◌∷◌, ◌≡◌}
-use Rattle.ops_calls.specs.Directs.{IsDirect}
+use Rattle.std.specs.Option.{option_map, option_map_or}
+use Rattle.std.specs.Prelude.{Bool, IfSome, IsSome, List, None, Ok, Option, Some, [], false, is_some, not, slice_index, slice_set, true, ℕ, ◌<◌, ◌∷◌, ◌≡◌}
+use Rattle.machine_data.specs.declared.component.Callee.{Callee}
+use Rattle.machine_data.specs.declared.component.ExportKind.{ExportKind}
+use Rattle.machine_data.specs.declared.label.CallLabel.TheVariants as call_label
+use Rattle.machine_data.specs.declared.label.Label.TheVariants as label
+use Rattle.machine_data.specs.declared.trap.Trap.TheVariants as trap
+use Rattle.machine_rules.specs.Calls.{enter_rule, enter_runs, next_thread}
+use Rattle.machine_rules.specs.Finish.{Doer, SomeHost}
+use Rattle.machine_rules.specs.Scripts.{export_kind}
+use Rattle.ops_calls.proofs.AskLemmas.{current_runs, did_rule, not_stopped}
+use Rattle.ops_calls.proofs.AtOnceLemmas.{IsFree, goes_on}
+use Rattle.ops_calls.specs.Asks.{Did}
+use Rattle.ops_calls.specs.OpAnswers.{answered, has_stopped}
+use Rattle.ops_calls.specs.declared.answer_calls.Step.TheVariants as step
+use Rattle.ops_dispatch.proofs.OpLemmas.{tags_told, told_names}
+use Rattle.ops_guests.specs.Does.{DoesRule, KeepsTags}
+use Rattle.ops_guests.specs.Ended.{ended}
+use Rattle.ops_guests.specs.Shown.{goes_as}
+use Rattle.ops_guests.specs.declared.op_result.OpResult.{OpResult}
+use Rattle.ops_subtasks.specs.Rules.{enters_call}
+use Rattle.ops_turns.proofs.OrderLemmas.{number_at}
+use Rattle.ops_calls.specs.Directs.{IsDirect, enters_rule, thread_entered}
 use Rattle.machine_data.proofs.CommuteLemmas.{change-change_same, insert-present}
 use Rattle.machine_data.specs.Core.{Core, Unscripted}
 use Rattle.machine_data.specs.Maps.{change, changed, get, insert}
-use Rattle.machine_data.specs.Read.{is_under, place_of, register_of, under_of}
+use Rattle.machine_data.specs.Read.{at_handle_limit, fits, is_under, place_of, register_of, under_of}
 use Rattle.machine_data.specs.Write.{on_thread, set_register}
 use Rattle.machine_data.specs.declared.component.Component.{Component}
 use Rattle.machine_data.specs.declared.label.Label.{Label}
@@ -19,11 +39,11 @@ use Rattle.ops_moves.proofs.UntouchedLemmas.{set_register_untouched}
 use Rattle.ops_guests.proofs.BesideLemmas.{quiet_stand}
 use Rattle.ops_guests.proofs.BlockLemmas.{first_found}
 use Rattle.ops_guests.proofs.RunLemmas.{stands_on}
-use Rattle.ops_guests.specs.OpResult.{Implements}
+use Rattle.ops_guests.specs.OpResult.{Implements, IsCurrent}
 use Rattle.ops_guests.specs.Running.{IsRunning}
 use Rattle.ops_guests.specs.declared.op_result.OpResult.TheVariants as op_result
 use Rattle.machine_rules.specs.Ends.{direct_exit_rule}
-use Rattle.machine_rules.specs.Progress.{Asks, Fails, Continues, Never, Ordered, Progress, Stops, Traps}
+use Rattle.machine_rules.specs.Progress.{Asks, Continues, Fails, Never, Ordered, Progress, Stops, Traps, trap_if}
 use Rattle.task_table.specs.declared.id.TableId.{TableId}
 use Rattle.ops_turns.specs.Turn.{CoreInOrder, running_of}
 use Rattle.task_wait.specs.declared.keys.ThreadKey.{ThreadKey}
@@ -75,6 +95,68 @@ module _ (id : TableId ThreadKey) (v : ℕ) (s t : StateView) (is : t ≡ on_cor
       let here = ap is_some (order.in_place.runs n refl) in
       let below = order.directs n here d.implicit d.direct in
       written_under below.0 (below.1 ∙ ap (λ k. Some (place.Under k)) (sym named))
+
+-- ---- The half that enters, of which nothing is to be ended
+
+-- a direct call, once its two traps are told apart
+abbrev entering : (full limit : Bool) → (n m : ℕ) → Core → Progress
+entering full limit n m x = trap_if full trap.TableFull (trap_if limit trap.HandleLimit (Continues (label.Call (call_label.Enters n m)) x m))
+
+entering_free : (a b : Bool) (n m : ℕ) (x : Core) → IsFree (entering a b n m x)
+entering_free true b n m x = tt
+entering_free false true n m x = tt
+entering_free false false n m x = tt
+
+-- whoever has it done
+entering_met : (a b : Bool) (n m : ℕ) (x s : Core) (d : Doer) (k : ℕ) (r : OpResult) (t : Core) → Implements (entering a b n m x) s r (ended d k r t) → Implements (entering a b n m x) s r t
+entering_met true b n m x s d k r t h = (h.0, subst (λ (q : OpResult). ended d k q t ≡ s) h.0 h.1)
+entering_met false true n m x s d k r t h = (h.0, subst (λ (q : OpResult). ended d k q t ≡ s) h.0 h.1)
+entering_met false false n m x s d k r t h = (h.0, subst (λ (q : OpResult). ended d k q t ≡ x) h.0 h.1)
+
+-- one that wasn't refused has entered this thread
+entering_went : (a b : Bool) (n m : ℕ) (x s : Core) (r : OpResult) (t : Core) (said : OpAnswer) → Implements (entering a b n m x) s r t → Ok (step.Done said) ≡ answered (λ a. a) r → r ≡ goes_as (label.Call (call_label.Enters n m)) m
+entering_went true b n m x s r t said h ok = let went = subst (λ (q : OpResult). Ok (step.Done said) ≡ answered (λ a. a) q) h.0 ok in absurd (cc)
+entering_went false true n m x s r t said h ok = let went = subst (λ (q : OpResult). Ok (step.Done said) ≡ answered (λ a. a) q) h.0 ok in absurd (cc)
+entering_went false false n m x s r t said h ok = h.0
+
+module _ (c : Component) (e : Callee) (words : List ℕ) (x : ExportKind) (kind : x ≡ export_kind c e) (id : TableId ThreadKey) (n : ℕ) (s : StateView) (runs : running_of s ≡ Some n) (number : thread_of s id ≡ n) (r : OpResult) (t : StateView) (does : DoesRule KeepsTags (enters_call x e words) id s r t) (current : IsCurrent r t) where
+  abbrev full : Bool
+  full = not (fits 3 s.core)
+
+  abbrev limit : Bool
+  limit = at_handle_limit s.core
+
+  abbrev runs_then : Core
+  runs_then = enter_runs (thread_of s id) e x words s.core
+
+  pub enters_on : has_stopped r ≡ false
+  enters_on = goes_on (enter_rule (thread_of s id) e x words s.core) s.core r (ended SomeHost (thread_of s id) r t.core)
+      (entering_free full limit (thread_of s id) (next_thread s.core) runs_then) (does.meets SomeHost)
+
+  enters_met : Implements (enter_rule (thread_of s id) e x words s.core) s.core r t.core
+  enters_met = entering_met full limit (thread_of s id) (next_thread s.core) runs_then s.core SomeHost (thread_of s id) r t.core (does.meets SomeHost)
+
+  pub enters_did : Did (enters_rule c e words s.core) s r t
+  enters_did =
+      subst (Did (enters_rule c e words s.core) s r) (not_stopped r t enters_on)
+      (did_rule c n r s t runs (current_runs r t current) does.stays (enters_rule c e words s.core) (told_names s t (tags_told s t does.kept))
+      (subst (λ (y : ExportKind). Implements (enter_rule n e y words s.core) s.core r t.core) kind
+      (subst (λ (k : ℕ). Implements (enter_rule k e x words s.core) s.core r t.core) number enters_met)))
+
+  module _ (said : OpAnswer) (ok : Ok (step.Done said) ≡ answered (λ a. a) r) (to : TableId ThreadKey) (here : t.current ≡ Some to) where
+    entered_as : r ≡ goes_as (label.Call (call_label.Enters (thread_of s id) (next_thread s.core))) (next_thread s.core)
+    entered_as = entering_went full limit (thread_of s id) (next_thread s.core) runs_then s.core r t.core said enters_met ok
+
+    entered_number : thread_of t to ≡ next_thread s.core
+    entered_number =
+        let there = subst (λ (q : OpResult). IsCurrent q t) entered_as current in
+        number_at (next_thread s.core) t (ap (option_map (λ i. thread_of t i)) there.1.0 ∙ ap (λ (k : ℕ). Some k) there.1.1) to here
+
+    pub entered_answer : Ok (step.Done (thread_of t to)) ≡ answered thread_entered r
+    entered_answer = ap (λ (k : ℕ). Ok (step.Done k)) entered_number ∙ sym (ap (answered thread_entered) entered_as)
+
+    pub entered_live : 0 < thread_of t to
+    entered_live = grind (arith, entered_number)
 
 -- ---- The row of the exit, with the register written before
 

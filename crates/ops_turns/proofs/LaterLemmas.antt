@@ -7,7 +7,7 @@ use Rattle.machine_data.specs.Maps.{Records, get}
 use Rattle.machine_data.specs.Read.{work_caller_of}
 use Rattle.machine_data.specs.declared.records.WorkCaller.TheVariants as callers
 use Rattle.machine_data.specs.declared.label.Label.{Label}
-use Rattle.machine_data.specs.declared.records.MadeCounts.{MadeStep as Count}
+use Rattle.machine_data.specs.declared.records.MadeCounts.{MadeCounts as Count}
 use Rattle.machine_data.specs.declared.records.Turn.{Turn}
 use Rattle.machine_data.specs.declared.records.Work.{Work}
 use Rattle.ops_guests.specs.Works.{KeepsWorks, NamesWorks}
