@@ -94,9 +94,9 @@ abbrev pub TakingShown : Mark → TableId ThreadKey → StateView → List Label
 TakingShown mark id s before stepped t after =
     RuleShown (taking_rule mark (thread_of s id) s.core) id (with_current (Some id) s) before stepped t after
 
--- An entry was taken, and what that shows is in the trace.
-abbrev pub TookShown : Component → (ended : Bool) → StateView → List Label → StepResult → StateView → List Label → Type 0
-TookShown c ended s before stepped t after = Added (λ made. Took c ended s (Some made) t) stepped before after
+-- An entry was taken, and what that shows is in the trace; or nothing is there.
+abbrev pub TookShown : Component → (ended : Bool) → StateView → List Label → Option StepResult → StateView → List Label → Type 0
+TookShown c ended s before q t after = AddedOrNone (λ made. Took c ended s made t) q before after
 
 -- The next entry was taken in this turn, or it was seen that nothing is there.
 abbrev pub TakesBeside : Component → (trap_on_idle ended : Bool) → StateView → Option StepResult → StateView → (before after : List Label) →

@@ -2,7 +2,7 @@
 ghost use Rattle.ops_dispatch.specs.Fits.{HasHandles, HasInstances, calls_host, is_plain, op_fits};
 ghost use Rattle.ops_dispatch.specs.Polls.{polled_host};
 ghost use Rattle.ops_dispatch.specs.RunnerDispatch.{Runner};
-ghost use Rattle.std.specs.Prelude.{◌≡◌, ◌+◌, ◌<◌, ◌^◌, IfNone, IfOk, IfSome, OnErr, OnOk, OnSome, Some, is_some, true};
+ghost use Rattle.std.specs.Prelude.{◌≡◌, ◌+◌, ◌<◌, ◌^◌, IfOk, OnErr, OnOk, Some, is_some, true};
 ghost use Rattle.machine_data.specs.Maps.{get};
 ghost use Rattle.machine_data.specs.Read.{op_progress_of, instance_of, position_of};
 ghost use Rattle.ops_guests.specs.Works.{KeepsTold, NamesTold};

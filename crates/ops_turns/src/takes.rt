@@ -1,6 +1,6 @@
 //! The taking of an entry of a thread.
 ghost use Rattle.ops_turns.specs.Worked.{tracked_entry_group};
-ghost use Rattle.std.specs.Prelude.{◌≡◌, ◌≢◌, ◌<◌, IfNone, IfOk, IfSome, None, OnOk, OnSome, Some};
+ghost use Rattle.std.specs.Prelude.{◌≡◌, ◌<◌, IfOk, None, OnErr, OnOk, Some};
 ghost use Rattle.machine_data.specs.Moves.{why_of};
 ghost use Rattle.machine_data.specs.Read.{next_entry};
 ghost use Rattle.machine_data.specs.declared.label.Label.TheVariants as labels;
@@ -12,7 +12,7 @@ ghost use Rattle.ops_guests.specs.Stays.{StaysAfter};
 ghost use Rattle.ops_guests.specs.Works.{KeepsTold};
 ghost use Rattle.machine_rules.specs.Places.{Placed};
 ghost use Rattle.machine_rules.specs.Takes.{pushed};
-ghost use Rattle.ops_turns.specs.StepResult.{Shown, TakingShown, TookShown, stepped_by};
+ghost use Rattle.ops_turns.specs.StepResult.{Shown, TakingShown, TookShown};
 ghost use Rattle.ops_turns.specs.Taken.{FindsSet, Taken, TakesDelivery, TakesHost, TakesThread};
 ghost use Rattle.ops_turns.specs.Turn.{CanUnwind, OpGoesOn, Shows, CoreInOrder, Took};
 ghost use Rattle.core_primitives.specs.StateView.{on_core, thread_of, work_of};
@@ -172,7 +172,6 @@ pub(crate) fn step_take<W: Primitives>(
     requires order { CoreInOrder component.now (Turn.Take ended) (W.view w.old).core }
     requires current { (W.view w.old).current ≡ None }
     ensures worked { worked.new ≡ tracked_entry_group (next_entry (W.view w.old).core) (W.view w.old) }
-    ensures none { result ≡ PackedStep.Nothing → Took component.now ended (W.view w.old) None (W.view w.new) }
     ensures took { IfOk result (λ q. TookShown component.now ended (W.view w.old) trace.old q (W.view w.new) trace.new) }
     ensures works { OnOk result (KeepsTold (W.view w.old) (W.view w.new)) }
     ensures err { OnErr result (trace.new ≡ trace.old) }
@@ -182,15 +181,20 @@ pub(crate) fn step_take<W: Primitives>(
     w.none_is_zero();
     match w.take_next() {
         None => Ok(None),
-        Some((mark, EntryId::Thread(thread))) => Ok(Some(step_thread(w, mark, thread, trace)?)),
+        Some((mark, EntryId::Thread(thread))) => {
+            let stepped = step_thread(w, mark, thread, trace)?;
+            Ok(Some(stepped))
+        }
         Some((mark, EntryId::Push(work))) => {
             let made = step_push(w, mark, work);
-            Ok(Some(put(trace, made)?))
+            let stepped = put(trace, made)?;
+            Ok(Some(stepped))
         }
         Some((mark, EntryId::Host(work))) => {
             *worked = w.work_group(work);
             let made = step_host(w, mark, work);
-            Ok(Some(put(trace, made)?))
+            let stepped = put(trace, made)?;
+            Ok(Some(stepped))
         }
     }
 }

@@ -1,16 +1,15 @@
 //! The turns of a run in which main has no part.
 ghost use Rattle.ops_turns.specs.Worked.{MayPoll, PollsWork, TellsOfNext, tracked_worked_group};
-ghost use Rattle.std.specs.Prelude.{◌≡◌, ◌≤◌, IfOk, IfSome, None, is_none, OnErr, OnOk};
+ghost use Rattle.std.specs.Prelude.{◌≡◌, ◌≤◌, IfOk, None, OnErr, OnOk};
 ghost use Rattle.laws_states.specs.Order.{WorksQueued};
 ghost use Rattle.machine_data.specs.Read.{next_entry};
 ghost use Rattle.ops_guests.specs.Works.{KeepsTold};
-ghost use Rattle.machine_rules.specs.Outcome.{outcome_of_label};
 ghost use Rattle.machine_rules.specs.Stalled.{is_unended_take};
 ghost use Rattle.ops_turns.specs.Later.{SameWorks};
 ghost use Rattle.ops_turns.specs.WellFormed.{IsWellFormed};
 ghost use Rattle.ops_turns.specs.Drive.{Computed, StopsShort};
-ghost use Rattle.ops_turns.specs.StepResult.{TakesBeside};
-ghost use Rattle.ops_turns.specs.Turn.{IsAtTurn, RunnerThere, CoreInOrder, Rested, TellsRest, TurnsBeside, is_open, running_of, runs_in};
+ghost use Rattle.ops_turns.specs.StepResult.{TakesBeside, turn_of};
+ghost use Rattle.ops_turns.specs.Turn.{IsAtTurn, RunnerThere, CoreInOrder, Rested, TellsRest, TurnsBeside, running_of, runs_in};
 ghost use Rattle.core_primitives.specs.StateView.{work_of};
 
 use crate::futures::step_poll;
@@ -50,7 +49,6 @@ fn rest<W: Primitives>(w: &mut W, trap_on_idle: bool) -> Option<MadeStep>
     requires current { (W.view w.old).current ≡ None }
     requires none { next_entry (W.view w.old).core ≡ None }
     ensures turned { Rested trap_on_idle (W.view w.old) result (W.view w.new) }
-    ensures over { IfSome result (λ made. is_none (outcome_of_label made.label) ≡ is_open made.turn) }
     ensures current { (W.view w.new).current ≡ None }
     ensures works { KeepsTold (W.view w.old) (W.view w.new) }
 {
@@ -87,9 +85,10 @@ pub fn take<W: Primitives>(
     ensures works { OnOk result (KeepsTold (W.view w.old) (W.view w.new)) }
     ensures err { OnErr result (trace.new ≡ trace.old) }
 {
-    if let Some(stepped) = step_take(component, w, ended, trace, worked)? {
-        return Ok(Some(stepped));
-    }
+    let taken = step_take(component, w, ended, trace, worked)?;
+    let None = taken else {
+        return Ok(taken);
+    };
     if ended {
         unreachable!()
     }
@@ -114,11 +113,11 @@ pub fn compute<W: Primitives>(
     steps: u32,
 ) -> Result<u32, NoMemory>
     requires covered { IsWellFormed component.now }
-    requires order { CoreInOrder component.now turn (W.view w.old).core }
-    requires runs { running_of (W.view w.old) ≡ runs_in turn }
+    requires order { CoreInOrder component.now (turn_of stepped) (W.view w.old).core }
+    requires runs { running_of (W.view w.old) ≡ runs_in (turn_of stepped) }
     requires few { added ≤ steps }
-    ensures ok { IfOk result (λ k. Computed component.now turn (W.view w.old) trace.old added (W.view w.new) trace.new steps k) }
-    ensures err { OnErr result (StopsShort component.now turn (W.view w.old) trace.old added trace.new steps) }
+    ensures ok { IfOk result (λ k. Computed component.now (turn_of stepped) (W.view w.old) trace.old added (W.view w.new) trace.new steps k) }
+    ensures err { OnErr result (StopsShort component.now (turn_of stepped) (W.view w.old) trace.old added trace.new steps) }
     ensures works { SameWorks (W.view w.old) (W.view w.new) }
 {
     match stepped {

@@ -41,7 +41,7 @@ use Rattle.machine_data.specs.declared.records.Turn.{Turn}
 use Rattle.machine_data.specs.declared.records.Turn.TheVariants as turn
 use Rattle.machine_data.specs.declared.scenario.MainOpDef.{MainOpDef}
 use Rattle.machine_data.specs.declared.trap.Trap.TheVariants as trap
-use Rattle.machine_rules.specs.Outcome.{IsOutcome, is_at_rest}
+use Rattle.machine_rules.specs.Outcome.{IsOutcome, is_at_rest, last_outcome}
 use Rattle.machine_rules.specs.Stalled.{Setting}
 use Rattle.task_store.proofs.HostLemmas.{holds_same}
 use Rattle.store_notices.specs.Moves.{finishes}
@@ -51,11 +51,11 @@ use Rattle.task_store.specs.declared.store.Store.{Store}
 use Rattle.ops_turns.proofs.DriveLemmas.{on_begins, on_out_at, on_rests, was_on, was_on_short}
 use Rattle.ops_turns.proofs.KeptLemmas.{core_in_order_after}
 use Rattle.ops_turns.proofs.LaterLemmas.{last_by_works}
-use Rattle.ops_turns.proofs.SteppedLemmas.{added_ends, added_more, added_none}
+use Rattle.ops_turns.proofs.SteppedLemmas.{AddedTo, added_ends, added_more, added_none, added_open, added_over, outcome_told}
 use Rattle.ops_turns.specs.Drive.{Computes, Drives, Drove, IsOn, KeepsOn, StopsShort, WasGoing}
 use Rattle.ops_turns.specs.Later.{SameWorks, WorksLast}
-use Rattle.ops_turns.specs.StepResult.{Added, AddedOrNone}
-use Rattle.ops_turns.specs.Turn.{IsAtTurn, PendsIn, Turns, runs_in, setting_of, state_at}
+use Rattle.ops_turns.specs.StepResult.{Added, AddedOrNone, turn_of}
+use Rattle.ops_turns.specs.Turn.{IsAtTurn, PendsIn, Turns, is_open, runs_in, setting_of, state_at}
 use Rattle.ops_turns.specs.WellFormed.{IsWellFormed}
 use Rattle.ops_turns.specs.declared.made.MadeStep.{MadeStep}
 use Rattle.ops_turns.specs.declared.made.StepResult.{StepResult}
@@ -174,29 +174,33 @@ module _ {M T H G : Type 0} (says : Says M) (course : H → HostDef) (c : Compon
       pub turned : (q : StepResult) → HasTurned says course c (Some q) r u v → Added (λ (made : MadeStep). Turns x u.turn (says.part u.main) u.store.state made (says.part v.main) v.store.state) q u.trace v.trace
       turned q op_result = let t = told (Some q) op_result in (t.0, (t.1.0, t.1.1.turned))
 
-      come_on : (q : Turn) (computed : Bool) → HasTurned says course c (Some (stepped.Continues q computed)) r u v →
-          IsOn x s a.trace (numbers says course c a) q (says.part v.main) v.store.state v.trace (n + 1)
-      come_on q computed op_result =
-          added_more x s a.trace (numbers says course c a) u.turn (says.part u.main) u.store.state u.trace n come.on (says.part v.main) v.store.state v.trace q computed (turned (stepped.Continues q computed) op_result)
+      pub opened : (q : StepResult) → is_open (turn_of q) ≡ true → HasTurned says course c (Some q) r u v → AddedTo (λ (made : MadeStep). Turns x u.turn (says.part u.main) u.store.state made (says.part v.main) v.store.state) (turn_of q) None u.trace v.trace
+      opened q open op_result = added_open x u.turn (says.part u.main) u.store.state u.trace (says.part v.main) v.store.state v.trace q open (turned q op_result)
 
       -- it goes on in that turn
-      pub come_goes : (q : Turn) (computed : Bool) → HasTurned says course c (Some (stepped.Continues q computed)) r u v → Keeps says u v → HasCome says course c a (turned_to q) (n + 1)
-      come_goes q computed op_result kept =
-          let p = stepped.Continues q computed in
-          record {
-            on = come_on q computed op_result;
-            ran = ran_more says.does x s a.main a.trace a.store.listeners says.part u.turn u.main u.store.state u.trace u.store.listeners v.main v.store.state v.store.listeners p v.trace come.ran (told (Some p) op_result) op_result.did;
-            keeps = let k = keeps_on a u v come.keeps kept in record { script = k.script; idle = k.idle; standing = k.standing };
-            suits = op_result.suits;
-            knows = op_result.knows;
-            works = op_result.works;
-            asked = op_result.asked;
-          }
+      pub come_goes : (q : StepResult) → is_open (turn_of q) ≡ true → HasTurned says course c (Some q) r u v → Keeps says u v → HasCome says course c a (turned_to (turn_of q)) (n + 1)
+      come_goes q open op_result kept = record {
+        on = added_more x s a.trace (numbers says course c a) u.turn (says.part u.main) u.store.state u.trace n come.on (says.part v.main) v.store.state v.trace (turn_of q) (opened q open op_result);
+        ran = ran_more says.does x s a.main a.trace a.store.listeners says.part u.turn u.main u.store.state u.trace u.store.listeners v.main v.store.state v.store.listeners q v.trace come.ran (told (Some q) op_result) op_result.did;
+        keeps = let k = keeps_on a u v come.keeps kept in record { script = k.script; idle = k.idle; standing = k.standing };
+        suits = op_result.suits;
+        knows = op_result.knows;
+        works = op_result.works;
+        asked = op_result.asked;
+      }
 
-      pub ran_over : (o : Outcome) → HasTurned says course c (Some (stepped.Over o)) r u v → RanTo says course c a (turned_to turn.Over)
-      ran_over o op_result =
-          let p = stepped.Over o in
-          ran_more says.does x s a.main a.trace a.store.listeners says.part u.turn u.main u.store.state u.trace u.store.listeners v.main v.store.state v.store.listeners p v.trace come.ran (told (Some p) op_result) op_result.did
+      pub ran_over : (q : StepResult) → q ≡ stepped.Over → HasTurned says course c (Some q) r u v → RanTo says course c a (turned_to turn.Over)
+      ran_over q is op_result =
+          subst (λ (p : Turn). RanTo says course c a (turned_to p)) (ap turn_of is)
+          (ran_more says.does x s a.main a.trace a.store.listeners says.part u.turn u.main u.store.state u.trace u.store.listeners v.main v.store.state v.store.listeners q v.trace come.ran (told (Some q) op_result) op_result.did)
+
+      -- the last label says how the run has ended
+      pub over_told : (q : StepResult) → q ≡ stepped.Over → HasTurned says course c (Some q) r u v → is_some (last_outcome v.trace) ≡ true
+      over_told q is op_result = outcome_told x u.turn (says.part u.main) u.store.state u.trace (says.part v.main) v.store.state v.trace q is (turned q op_result)
+
+      pub over_added : (q : StepResult) (o : Outcome) → q ≡ stepped.Over → last_outcome v.trace ≡ Some o → HasTurned says course c (Some q) r u v
+          → AddedTo (λ (made : MadeStep). Turns x u.turn (says.part u.main) u.store.state made (says.part v.main) v.store.state) turn.Over (Some o) u.trace v.trace
+      over_added q o is last op_result = added_over x u.turn (says.part u.main) u.store.state u.trace (says.part v.main) v.store.state v.trace q o is last (turned q op_result)
 
       pub ran_kept : HasTurned says course c None r u v → RanTo says course c a v
       ran_kept op_result =
@@ -204,11 +208,11 @@ module _ {M T H G : Type 0} (says : Says M) (course : H → HostDef) (c : Compon
           (ran_still says.does x s a.main a.trace a.store.listeners says.part u.turn u.main u.store.state u.trace u.store.listeners v.main v.store.state v.store.listeners v.trace come.ran (told None op_result) op_result.did.0)
 
       -- it is over
-      pub come_over : (steps : ℕ) (o : Outcome) → n < steps → HasTurned says course c (Some (stepped.Over o)) r u v → HasGone says course c steps o a (turned_to turn.Over)
-      come_over steps o room op_result =
+      pub come_over : (steps : ℕ) (q : StepResult) (o : Outcome) → n < steps → q ≡ stepped.Over → last_outcome v.trace ≡ Some o → HasTurned says course c (Some q) r u v → HasGone says course c steps o a (turned_to turn.Over)
+      come_over steps q o room is last op_result =
           gone steps o (turned_to turn.Over)
-          (added_ends x s a.trace (numbers says course c a) u.turn (says.part u.main) u.store.state u.trace n come.on (says.part v.main) v.store.state v.trace o steps room (turned (stepped.Over o) op_result))
-          (ran_over o op_result) op_result.suits op_result.knows op_result.works op_result.asked
+          (added_ends x s a.trace (numbers says course c a) u.turn (says.part u.main) u.store.state u.trace n come.on (says.part v.main) v.store.state v.trace o steps room (over_added q o is last op_result))
+          (ran_over q is op_result) op_result.suits op_result.knows op_result.works op_result.asked
 
       -- nothing can go on, and that is no deadlock
       pub come_none : (steps : ℕ) → n ≤ steps → HasTurned says course c None r u v → HasGone says course c steps outcome.Idle a v

@@ -20,7 +20,7 @@ use core_primitives::{QueuePrimitives, View};
 use machine_data::{Component, Mark, NoMemory, Outcome, Trap, Turn};
 use ops_calls::{TaskError, host_called};
 use ops_turns::{
-    MainStep, StepResult, compute, is_idle, last_outcome, made_by_main, put, step_call, step_run, take, turn_of,
+    MainStep, StepResult, compute, is_idle, made_by_main, outcome_in, put, step_call, step_run, take, turn_of,
 };
 use run_trace::{
     Driven, PackedLabels, Policy, YieldBudget, ended_by, paced_by, rests_with, yields_by,
@@ -160,9 +160,9 @@ fn call_host_outlined<T, H: AccessorTask<T> + FromHost, G: TaskGroupHook>(
     // The host's work is polled before its call is done: what the call comes to is what it answers.
     let host = host_called(component, &store.state, thread);
     let (called, answer) = store.first_called(host);
-    let ran = step_call(component, &mut store.state, thread, answer)?;
-    store.hold_called(called, ran.work)?;
-    put(trace, ran.made)
+    let stepped = step_call(component, &mut store.state, thread, answer)?;
+    store.hold_called(called, stepped.1)?;
+    put(trace, stepped.0)
 }
 
 // Does the step in line: room for its answer is made only if a host is called.
@@ -458,10 +458,7 @@ impl RunConcurrent {
                 None => return Ok(self.ends::<P>(Outcome::Idle, false)),
                 Some(StepResult::Over) => {
                     self.turn = Turn::Over;
-                    match last_outcome(trace) {
-                        Some(outcome) => return Ok(self.ends::<P>(outcome, false)),
-                        None => unreachable!(),
-                    }
+                    return Ok(self.ends::<P>(outcome_in(trace), false));
                 }
                 Some(stepped) => {
                     self.turn = turn_of(stepped);

@@ -17,9 +17,6 @@ poll_next-made-requires-clause-may g c =
     let order = c.requires.at.order.order Unscripted in
     record { placed = order.in_place.placed; works = order.works; current = none_current c.args.store.now.state c.requires.at.running; settled = c.requires.at.settled }
 
-pub put-requires : goal.put-requires
-put-requires g c = record { over = (c.poll_next-made.ensures.turns (setting_of c.args.component.now [] true) Unscripted refl).over }
-
 pub tell_poll-requires : goal.tell_poll-requires
 tell_poll-requires g c =
     let x = setting_of c.args.component.now [] true in

@@ -19,21 +19,6 @@ made_by_main-pends-requires g c = c.in-Ok.ensures.steps.idle ∙ c.requires.may.
 pub made_by_main-made-requires : goal.made_by_main-made-requires
 made_by_main-made-requires g c = c.in-Ok.ensures.steps.idle ∙ c.requires.may.idle
 
-pub put-requires : goal.put-requires
-put-requires g c =
-    let main = c.args.main.now in
-    let ops = g.M.MainTask.says.script main in
-    let part = g.M.MainTask.says.part in
-    let s = c.args.store.now.state in
-    let ok = subst (λ (w : MainStep). Steps c.args.component.now ops (part main) s.core w (part c.ask_main.new.main) c.ask_main.new.store.state.core) c.in-Pends.is c.in-Ok.ensures.steps.steps in
-    record { over = (c.made_by_main-pends.ensures.turns (setting_of c.args.component.now ops true) (part main) (part c.ask_main.new.main) s ok).over }
-
-pub put-requires-2 : goal.put-requires-2
-put-requires-2 g c =
-    let main = c.args.main.now in
-    let part = g.M.MainTask.says.part in
-    record { over = (c.made_by_main-made.ensures.turns (setting_of c.args.component.now (g.M.MainTask.says.script main) true) (part main) (part c.ask_main.new.main) c.args.store.now.state c.in-Ok.ensures.steps.steps).over }
-
 pub returns-in-Pends-clause-turned : goal.returns-in-Pends-clause-turned
 returns-in-Pends-clause-turned g c =
     step_turned g.M.MainTask.says g.H.HostWork.course c.args.component.now c.in-Ok.step step.Pends c.in-Pends.is c.args.main.now c.args.store.now c.ask_main.new.main c.ask_main.new.store c.in-Ok.ensures.steps c.requires.may.idle
