@@ -85,13 +85,9 @@ module _ {M T H G : Type 0} (says : Says M) (course : H → HostDef) (c : Compon
   pub turned_as : (u v : At M T H G) (r : ℕ) (w o : Option StepResult) → w ≡ o → HasTurned says course c w r u v → HasTurned says course c o r u v
   turned_as u v r w o is op_result = subst (λ (q : Option StepResult). HasTurned says course c q r u v) is op_result
 
-  pub halted_by : (why : Halt) (u v : At M T H G) → (why ≡ halt.NoMemory → v.trace ≡ u.trace) → (why ≡ halt.HookFailed → FailsTurn says course c u v) → HasHalted says course c why u v
-  halted_by halt.NoMemory u v lost failed = lost refl
-  halted_by halt.HookFailed u v lost failed = failed refl
-
   -- how the store is at the turn
-  pub at_turn : (r : ℕ) (why : Halt) (u : At M T H G) → MayTurn says course c r why u → IsAtTurn c u.turn u.store.state
-  at_turn r why u may = record { order = may.stands.order; running = may.stands.running; settled = may.stands.settled; unfinished = may.unfinished }
+  pub at_turn : (r : ℕ) (u : At M T H G) → MayTurn says course c r u → IsAtTurn c u.turn u.store.state
+  at_turn r u may = record { order = may.stands.order; running = may.stands.running; settled = may.stands.settled; unfinished = may.unfinished }
 
   pub come_first : (a : At M T H G) → MayRun says course c a → HasCome says course c a a 0
   come_first a may =
@@ -143,8 +139,8 @@ module _ {M T H G : Type 0} (says : Says M) (course : H → HostDef) (c : Compon
     come_pends = subst (λ (y : Setting). PendsIn y u.store.state.core (says.part u.main) u.turn) (sym (setting_kept a u come.keeps)) come.on.pends
 
     -- the next turn may be taken
-    pub come_may : (r : ℕ) (why : Halt) → IsWellFormed c → numbers says course c u + 4 < 2 ^ 61 → r ≡ group_running u.store.state u.turn → why ≡ halt.NoMemory → MayTurn says course c r why u
-    come_may r why covered few group unstopped = record {
+    pub come_may : (r : ℕ) → IsWellFormed c → numbers says course c u + 4 < 2 ^ 61 → r ≡ group_running u.store.state u.turn → MayTurn says course c r u
+    come_may r covered few group = record {
       covered = covered;
       stands = record {
         order = come.on.at.order;
@@ -159,7 +155,6 @@ module _ {M T H G : Type 0} (says : Says M) (course : H → HostDef) (c : Compon
       unfinished = come.on.at.unfinished;
       few = few;
       group = group;
-      unstopped = unstopped;
     }
 
     module _ (v : At M T H G) (r : ℕ) where
@@ -257,10 +252,6 @@ module _ {M T H G : Type 0} (says : Says M) (course : H → HostDef) (c : Compon
     pub come_short : (steps : ℕ) (after : List Label) → StopsShort c u.turn u.store.state u.trace n after steps → WasGoing x s a.trace after steps
     come_short steps after short = was_on_short x s a.trace (numbers says course c a) u.turn (says.part u.main) u.store.state u.trace after n steps come.on short
 
-    -- in this turn
-    pub come_lost : (v : At M T H G) (why : Halt) (steps : ℕ) → n ≤ steps → why ≡ halt.NoMemory → HasHalted says course c why u v → IsLost says course c steps a v
-    come_lost v why steps few is halted = lost steps v.trace few (subst (λ (k : Halt). HasHalted says course c k u v) is halted)
-
     -- the turns before were heeded whole, and the hook failed in this one
     stopped : (v : At M T H G) (steps : ℕ) → n < steps → FailsTurn says course c u v → HasStopped says course c steps a v.main v.trace v.store.state v.store.listeners
     stopped v steps room fails =
@@ -307,10 +298,10 @@ module _ {M T H G : Type 0} (says : Says M) (course : H → HostDef) (c : Compon
           suits = subst (λ (m : M). says.suits m c) (sym main) come.suits;
         }
 
-    pub come_stopped : (v : At M T H G) (why : Halt) (steps : ℕ) → n < steps → why ≡ halt.HookFailed → HasHalted says course c why u v → IsStopped says course c steps a v
-    come_stopped v why steps room is halted =
-        let fails : FailsTurn says course c u v = subst (λ (k : Halt). HasHalted says course c k u v) is halted in
-        (stopped v steps room fails, (fails.knows, fails.works))
+    -- the turns stop before the run does, by why
+    pub come_halts : (v : At M T H G) (why : Halt) (steps : ℕ) → n < steps → HasHalted says course c why u v → (why ≡ halt.NoMemory → IsLost says course c steps a v) × (why ≡ halt.HookFailed → IsStopped says course c steps a v)
+    come_halts v halt.NoMemory steps room same = (λ is. lost steps v.trace (omega (arith, room)) same, λ is. absurd (cc))
+    come_halts v halt.HookFailed steps room fails = (λ is. absurd (cc), λ is. (stopped v steps room fails, (fails.knows, fails.works)))
 
 -- ---- What a call gives
 
@@ -438,7 +429,7 @@ module _ {M T H G : Type 0} (says : Says M) (course : H → HostDef) (c : Compon
 -- where they stop before the run does, by why
 module _ {M T H G : Type 0} (says : Says M) (course : H → HostDef) (c : Component) (yields : Bool) (steps : ℕ) where
   pub gives_halt : (run : RunConcurrent) (m : M) (s : Store T H G) (before : List Label) (run' : RunConcurrent) (n : M) (t : Store T H G) (after : List Label) (why : Halt) →
-      (why ≡ halt.NoMemory → IsLost says course c steps (at run m s before) (at run' n t after)) → (why ≡ halt.HookFailed → IsStopped says course c steps (at run m s before) (at run' n t after)) →
+      (why ≡ halt.NoMemory → IsLost says course c steps (at run m s before) (at run' n t after)) × (why ≡ halt.HookFailed → IsStopped says course c steps (at run m s before) (at run' n t after)) →
       TurnsGive says course c yields steps (Err why) run m s before run' n t after
-  gives_halt run m s before run' n t after halt.NoMemory lost stopped = lost refl
-  gives_halt run m s before run' n t after halt.HookFailed lost stopped = stopped refl
+  gives_halt run m s before run' n t after halt.NoMemory h = h.0 refl
+  gives_halt run m s before run' n t after halt.HookFailed h = h.1 refl

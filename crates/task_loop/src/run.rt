@@ -2,10 +2,9 @@ ghost use Rattle.std.specs.Prelude.{◌≡◌, IfErr, IfOk, OnErr, OnOk, false, 
 ghost use Rattle.laws_labels.specs.Own.{next_mark};
 ghost use Rattle.ops_dispatch.specs.Fits.{calls_host};
 ghost use Rattle.run_trace.specs.YieldBudget.{unless_yielded};
-ghost use Rattle.task_loop.specs.HasRun.{DriveGives, Keeps, MainHalted, MainTurned, MayRun, MayStep, MayTurn, StepsTo, TurnGives, TurnsGive, at};
+ghost use Rattle.task_loop.specs.HasRun.{DriveGives, Keeps, MainTurned, MayRun, MayStep, MayTurn, StepsTo, TurnGives, TurnsGive, at};
 ghost use Rattle.task_loop.specs.Standing.{standing};
-ghost use Rattle.task_loop.specs.Threads.{FailsPoll, FailsTake, FailsThread, PollsTold, RanThread, RunsThread};
-ghost use Rattle.task_loop.specs.Threads.{StepsUntold, TakesTold};
+ghost use Rattle.task_loop.specs.Threads.{RunsThread, RunsTo, StepsUntold, TakesTo, WorkPollsTo};
 ghost use Rattle.task_loop.specs.Told.{group_running};
 ghost use Rattle.ops_guests.specs.Works.{KeepsWorks};
 ghost use Rattle.machine_rules.specs.Scripts.{op_of};
@@ -81,10 +80,6 @@ pub(crate) enum Stop {
     Yields,
 }
 
-/// The turns stop before the run is over. Why they do is told beside, so that each turn's answer stays small.
-#[derive(Clone, Copy)]
-pub(crate) struct Halted;
-
 // Lends the store to main for an op.
 fn ask_main<T, H: HostWork, G: TaskGroupHook, M: MainTask<T, H, G>>(
     component: &Component,
@@ -106,37 +101,29 @@ fn step_main<T, H: HostWork, G: TaskGroupHook, M: MainTask<T, H, G>>(
     store: &mut Store<T, H, G>,
     main: &mut M,
     trace: &mut PackedLabels,
-    why: &mut Halt,
-) -> Result<StepResult, Halted>
+) -> Result<StepResult, Halt>
     requires may { MayStep M.says H.course component.now main.old store.old }
-    requires why { why.old ≡ Halt.NoMemory }
     ensures stands { standing store.new ≡ standing store.old }
     ensures script { M.says.script main.new ≡ M.says.script main.old }
-    ensures turned { IfOk result (λ q.
-        MainTurned M.says H.course component.now q main.old store.old trace.old main.new store.new trace.new) }
-    ensures why { OnOk result (why.new ≡ Halt.NoMemory) }
-    ensures halted { OnErr result (
-        MainHalted M.says H.course component.now why.new main.old store.old trace.old main.new store.new trace.new) }
+    ensures turned {
+        MainTurned M.says H.course component.now result main.old store.old trace.old main.new store.new trace.new }
 {
     let step = match ask_main(component, store, main) {
         Ok(step) => step,
-        Err(TaskError::Trap(_)) => {
-            *why = Halt::HookFailed;
-            return Err(Halted);
-        }
-        Err(_) => return Err(Halted),
+        Err(TaskError::Trap(_)) => return Err(Halt::HookFailed),
+        Err(_) => return Err(Halt::NoMemory),
     };
     // Most steps of a main pend: the label of this one is known here.
     if let MainStep::Pends = step {
         let pends = made_by_main(&store.state, MainStep::Pends);
         let Ok(stepped) = put(trace, pends) else {
-            return Err(Halted);
+            return Err(Halt::NoMemory);
         };
         return Ok(stepped);
     }
     let made = made_by_main(&store.state, step);
     let Ok(stepped) = put(trace, made) else {
-        return Err(Halted);
+        return Err(Halt::NoMemory);
     };
     Ok(stepped)
 }
@@ -216,23 +203,17 @@ fn run_thread<T, H: AccessorTask<T> + FromHost, G: TaskGroupHook>(
     thread: u64,
     trace: &mut PackedLabels,
     running: &mut u64,
-    why: &mut Halt,
-) -> Result<StepResult, Halted>
+) -> Result<StepResult, Halt>
     requires runs { RunsThread H.course component.now thread store.old }
     requires running { running.old ≡ group_running store.old.state (Turn.Run thread) }
     requires asked { IsAsked store.old.state }
-    requires why { why.old ≡ Halt.NoMemory }
     ensures stands { standing store.new ≡ standing store.old }
-    ensures ran { IfOk result (λ stepped.
-        RanThread H.course component.now thread store.old stepped running.new store.new trace.old trace.new) }
-    ensures why { OnOk result (why.new ≡ Halt.NoMemory) }
-    ensures err { OnErr result (why.new ≡ Halt.NoMemory → trace.new ≡ trace.old) }
-    ensures failed { OnErr result (why.new ≡ Halt.HookFailed →
-        FailsThread H.course component.now thread store.old store.new trace.old trace.new) }
+    ensures ran {
+        RunsTo H.course component.now thread store.old result running.new store.new trace.old trace.new }
 {
     store.state.none_is_zero();
     let Ok(stepped) = step_thread(component, store, thread, trace) else {
-        return Err(Halted);
+        return Err(Halt::NoMemory);
     };
     store.state.count_ended();
     let told = tell_run(
@@ -243,8 +224,7 @@ fn run_thread<T, H: AccessorTask<T> + FromHost, G: TaskGroupHook>(
         *running,
     );
     let Ok(next) = told else {
-        *why = Halt::HookFailed;
-        return Err(Halted);
+        return Err(Halt::HookFailed);
     };
     *running = next;
     Ok(stepped)
@@ -258,20 +238,14 @@ fn poll_work<T, H: AccessorTask<T> + FromHost, G: TaskGroupHook>(
     polled: u64,
     trace: &mut PackedLabels,
     running: &mut u64,
-    why: &mut Halt,
-) -> Result<StepResult, Halted>
+) -> Result<StepResult, Halt>
     requires at { IsAtTurn component.now (Turn.Futures polled) store.old.state }
     requires hosts { HoldsHosts H.course store.old }
     requires asked { IsAsked store.old.state }
-    requires why { why.old ≡ Halt.NoMemory }
     ensures stands { standing store.new ≡ standing store.old }
     ensures works { KeepsWorks store.old.state store.new.state × HoldsHosts H.course store.new }
-    ensures polled { IfOk result (λ stepped.
-        PollsTold (Turn.Futures polled) running.new store.old stepped store.new trace.old trace.new) }
-    ensures why { OnOk result (why.new ≡ Halt.NoMemory) }
-    ensures err { OnErr result (why.new ≡ Halt.NoMemory → trace.new ≡ trace.old) }
-    ensures failed { OnErr result (why.new ≡ Halt.HookFailed →
-        FailsPoll (Turn.Futures polled) store.old store.new trace.old trace.new) }
+    ensures polled {
+        WorkPollsTo (Turn.Futures polled) store.old result running.new store.new trace.old trace.new }
 {
     // only the contract speaks of `component`
     let _component = component;
@@ -279,12 +253,11 @@ fn poll_work<T, H: AccessorTask<T> + FromHost, G: TaskGroupHook>(
     let mut worked = None;
     let made = store.poll_next(polled, &mut worked);
     let Ok(stepped) = put(trace, made) else {
-        return Err(Halted);
+        return Err(Halt::NoMemory);
     };
     store.state.count_ended();
     let Ok(next) = tell_poll(&mut store.state, &mut store.listeners, worked) else {
-        *why = Halt::HookFailed;
-        return Err(Halted);
+        return Err(Halt::HookFailed);
     };
     *running = next;
     Ok(stepped)
@@ -299,17 +272,11 @@ fn take_entry<T, H: AccessorTask<T> + FromHost, G: TaskGroupHook>(
     trap_on_idle: bool,
     trace: &mut PackedLabels,
     running: &mut u64,
-    why: &mut Halt,
-) -> Result<Option<StepResult>, Halted>
+) -> Result<Option<StepResult>, Halt>
     requires at { IsAtTurn component.now (Turn.Take ended) store.old.state }
     requires asked { IsAsked store.old.state }
-    requires why { why.old ≡ Halt.NoMemory }
-    ensures taken { IfOk result (λ q.
-        TakesTold component.now trap_on_idle ended running.new store.old q store.new trace.old trace.new) }
-    ensures why { OnOk result (why.new ≡ Halt.NoMemory) }
-    ensures err { OnErr result (why.new ≡ Halt.NoMemory → trace.new ≡ trace.old) }
-    ensures failed { OnErr result (why.new ≡ Halt.HookFailed →
-        FailsTake component.now trap_on_idle ended store.old store.new trace.old trace.new) }
+    ensures taken {
+        TakesTo component.now trap_on_idle ended store.old result running.new store.new trace.old trace.new }
     ensures rest { store.new ≡ record store.old { state = store.new.state; listeners = store.new.listeners } }
 {
     store.state.none_is_zero();
@@ -322,15 +289,14 @@ fn take_entry<T, H: AccessorTask<T> + FromHost, G: TaskGroupHook>(
         trace,
         &mut worked,
     ) else {
-        return Err(Halted);
+        return Err(Halt::NoMemory);
     };
     match taken {
         None => Ok(None),
         Some(stepped) => {
             store.state.count_ended();
             let Ok(next) = tell_work(&mut store.state, &mut store.listeners, worked) else {
-                *why = Halt::HookFailed;
-                return Err(Halted);
+                return Err(Halt::HookFailed);
             };
             *running = next;
             Ok(Some(stepped))
@@ -442,7 +408,6 @@ impl RunConcurrent {
     {
         let mut added = 0;
         let mut running = group_now(&store.state);
-        let mut why = Halt::NoMemory;
         'turns: while added < steps {
             let next = next_mark::<P, T, H, G>(store, self.turn);
             if yields_by::<P>(self.yield_budget, next) {
@@ -450,10 +415,7 @@ impl RunConcurrent {
                 return Ok(Stop::Yields);
             }
             let rests = rests_with::<P>(self.turn, next);
-            let Ok(stepped) = self.turn(component, store, main, trace, &mut running, &mut why)
-            else {
-                return Err(why);
-            };
+            let stepped = self.turn(component, store, main, trace, &mut running)?;
             match stepped {
                 None => return Ok(self.ends::<P>(Outcome::Idle, false)),
                 Some(StepResult::Over) => {
@@ -495,7 +457,7 @@ impl RunConcurrent {
     }
 
     // Makes a step, adds its label to the trace, and tells what it gave of groups; none where nothing can go on and that is no
-    // deadlock. `running` is the group of the thread that runs, 0 if none does. Where the turns stop, `why` says why.
+    // deadlock. `running` is the group of the thread that runs, 0 if none does.
     #[inline(always)]
     pub(crate) fn turn<T, H: AccessorTask<T> + FromHost, G: TaskGroupHook, M: MainTask<T, H, G>>(
         &self,
@@ -504,34 +466,26 @@ impl RunConcurrent {
         main: &mut M,
         trace: &mut PackedLabels,
         running: &mut u64,
-        why: &mut Halt,
-    ) -> Result<Option<StepResult>, Halted>
-        requires may { MayTurn M.says H.course component.now running.old why.old (at self.now main.old store.old trace.old) }
+    ) -> Result<Option<StepResult>, Halt>
+        requires may { MayTurn M.says H.course component.now running.old (at self.now main.old store.old trace.old) }
         ensures keeps { Keeps M.says (at self.now main.old store.old trace.old) (at self.now main.new store.new trace.new) }
-        ensures turned { TurnGives M.says H.course component.now result running.new why.new
+        ensures turned { TurnGives M.says H.course component.now result running.new
             self.now main.old store.old trace.old main.new store.new trace.new }
     {
         match self.turn {
             Turn::Main => {
-                let Ok(stepped) = step_main(component, store, main, trace, why) else {
-                    return Err(Halted);
-                };
+                let stepped = step_main(component, store, main, trace)?;
                 Ok(Some(stepped))
             }
             Turn::Futures { polled } => {
-                let Ok(stepped) = poll_work(component, store, polled, trace, running, why) else {
-                    return Err(Halted);
-                };
+                let stepped = poll_work(component, store, polled, trace, running)?;
                 Ok(Some(stepped))
             }
             Turn::Take { ended } => {
-                let idle = self.trap_on_idle;
-                take_entry(component, store, ended, idle, trace, running, why)
+                take_entry(component, store, ended, self.trap_on_idle, trace, running)
             }
             Turn::Run { thread } => {
-                let Ok(stepped) = run_thread(component, store, thread, trace, running, why) else {
-                    return Err(Halted);
-                };
+                let stepped = run_thread(component, store, thread, trace, running)?;
                 Ok(Some(stepped))
             }
             Turn::Over => unreachable!(),

@@ -67,8 +67,8 @@ returns-in_default-tell_poll-clause-works g c =
       subst (λ (d : Core). HoldsWorks (held_by g.H.HostWork.course t) d) (sym (part_core a t.state u t.listeners c.tell_poll.new.listeners part)) c.poll_next-made.ensures.hosts,
     )
 
-pub returns-in_default-tell_poll-clause-failed : goal.returns-in_default-tell_poll-clause-failed
-returns-in_default-tell_poll-clause-failed g c = λ stopped.
+pub returns-in_default-tell_poll-clause-polled : goal.returns-in_default-tell_poll-clause-polled
+returns-in_default-tell_poll-clause-polled g c =
     let s = c.args.store.now in
     let t = c.poll_next-made.new.self in
     let u = c.tell_poll.new.core in
