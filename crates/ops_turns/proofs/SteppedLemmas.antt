@@ -2,7 +2,7 @@
 use Rattle.ops_dispatch.specs.Fits.{calls_host}
 use Rattle.ops_dispatch.specs.Polls.{polled_host}
 use Rattle.std.proofs.Common.{ap, refl, subst, sym, ◌∙◌}
-use Rattle.std.specs.Prelude.{Bool, Err, IfOk, IfSome, List, None, Ok, Option, Result, Some, [], false, is_none, is_some, option_map, true, ℕ, ◌+◌, ◌++◌, ◌<◌, ◌≡◌, ◌≤◌, ◌∷◌}
+use Rattle.std.specs.Prelude.{Bool, Err, IfOk, IfSome, List, None, Ok, Option, Result, Some, [], false, is_none, is_some, not, option_map, true, ℕ, ◌+◌, ◌++◌, ◌<◌, ◌≡◌, ◌≤◌, ◌∷◌}
 use Rattle.machine_data.specs.Core.{Core, Main, State}
 use Rattle.machine_data.specs.Labels.{choice_of}
 use Rattle.machine_data.specs.Read.{op_progress_of, next_entry, place_of}
@@ -41,12 +41,23 @@ use Rattle.ops_turns.specs.StepResult.{Added, AddedOrNone, CallStepped, OpPolls,
 use Rattle.ops_turns.specs.Turn.{IsFree, MakesStep, Turned, Turns, is_open, running_of, runs_in, state_at}
 use Rattle.ops_turns.specs.declared.made.MadeStep.{MadeStep}
 use Rattle.ops_turns.specs.declared.made.StepResult.{StepResult}
-use Rattle.ops_turns.specs.declared.made.StepResult.TheVariants as stepped
 use Rattle.task_wait.specs.declared.keys.HostTaskKey.{HostTaskKey}
 use Rattle.task_wait.specs.declared.keys.ThreadKey.{ThreadKey}
 use Rattle.core_primitives.specs.Names.{entry_in}
 use Rattle.core_primitives.specs.StateView.{StateView, on_core, thread_of, work_of}
 use Rattle.core_primitives.specs.declared.names.EntryId.{EntryId}
+
+-- a run that isn't over goes on
+pub opens : (b : Bool) → not b ≡ false → b ≡ true
+opens true e = refl
+opens false e = absurd (cc)
+
+pub closes : (p : Turn) → not (is_open p) ≡ true → p ≡ turn.Over
+closes p e = closed p (off (is_open p) e)
+  where
+    off : (b : Bool) → not b ≡ true → b ≡ false
+    off false e = refl
+    off true e = absurd (cc)
 
 -- a turn in which nothing more is made
 pub closed : (p : Turn) → is_open p ≡ false → p ≡ turn.Over
@@ -197,22 +208,12 @@ module _ (x : Setting) (p : Turn) (m : Main) (t : StateView) (mid : List Label) 
   added_open q open h = (h.0, ((h.1.0.0, (h.1.0.1, none_of (outcome_of_label h.0.label) (h.1.1.over ∙ (ap is_open h.1.0.1 ∙ open)))), h.1.1))
 
   -- it is over, and the last label says how
-  pub outcome_told : (q : StepResult) → q ≡ stepped.Over → Added (λ made. Turns x p m t made m' t') q mid after → is_some (last_outcome after) ≡ true
+  pub outcome_told : (q : StepResult) → turn_of q ≡ turn.Over → Added (λ made. Turns x p m t made m' t') q mid after → is_some (last_outcome after) ≡ true
   outcome_told q is h =
-      ap is_some (ap last_outcome h.1.0.0 ∙ last_outcome-push mid h.0.label) ∙ not_none (outcome_of_label h.0.label) (h.1.1.over ∙ ap is_open (h.1.0.1 ∙ ap turn_of is))
+      ap is_some (ap last_outcome h.1.0.0 ∙ last_outcome-push mid h.0.label) ∙ not_none (outcome_of_label h.0.label) (h.1.1.over ∙ ap is_open (h.1.0.1 ∙ is))
 
-  pub added_over : (q : StepResult) (o : Outcome) → q ≡ stepped.Over → last_outcome after ≡ Some o → Added (λ made. Turns x p m t made m' t') q mid after → AddedTo (λ made. Turns x p m t made m' t') turn.Over (Some o) mid after
-  added_over q o is last h = (h.0, ((h.1.0.0, (h.1.0.1 ∙ ap turn_of is, sym (ap last_outcome h.1.0.0 ∙ last_outcome-push mid h.0.label) ∙ last)), h.1.1))
-
--- a run goes on after any other step
-pub open_unless : (q : StepResult) → (q ≡ stepped.Over → ⊥) → is_open (turn_of q) ≡ true
-open_unless stepped.Over other = absurd (other refl)
-open_unless stepped.Main other = refl
-open_unless (stepped.Polls n) other = refl
-open_unless stepped.Takes other = refl
-open_unless stepped.TakesEnded other = refl
-open_unless (stepped.Runs n) other = refl
-open_unless (stepped.Computes n) other = refl
+  pub added_over : (q : StepResult) (o : Outcome) → turn_of q ≡ turn.Over → last_outcome after ≡ Some o → Added (λ made. Turns x p m t made m' t') q mid after → AddedTo (λ made. Turns x p m t made m' t') turn.Over (Some o) mid after
+  added_over q o is last h = (h.0, ((h.1.0.0, (h.1.0.1 ∙ is, sym (ap last_outcome h.1.0.0 ∙ last_outcome-push mid h.0.label) ∙ last)), h.1.1))
 
 module _ (x : Setting) (s : State) (before : List Label) (numbers : ℕ) (p : Turn) (m : Main) (t : StateView) (mid : List Label) (n : ℕ) (on : IsOn x s before numbers p m t mid n)
     (m' : Main) (t' : StateView) (after : List Label) where

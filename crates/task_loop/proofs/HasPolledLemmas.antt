@@ -27,7 +27,6 @@ use Rattle.task_store.specs.Hosts.{HoldsHosts}
 use Rattle.ops_turns.specs.StepResult.{turn_of}
 use Rattle.ops_turns.specs.Turn.{is_open}
 use Rattle.ops_turns.specs.declared.made.StepResult.{StepResult}
-use Rattle.ops_turns.specs.declared.made.StepResult.TheVariants as stepped
 
 module _ {M T H G : Type 0} (says : Says M) (course : H → HostDef) (c : Component) (a b : At M T H G) (steps : ℕ) where
   has_polled : (r : Result RunPoll TaskError) (yield_budget yield_budget' : YieldBudget) → Paused (setting says course c a) (state says course c a) a.trace (numbers says course c a) yield_budget steps r b.turn (says.part b.main) b.store.state b.trace yield_budget' →
@@ -102,7 +101,7 @@ module _ {M T H G : Type 0} (says : Says M) (course : H → HostDef) (c : Compon
         (ran_kept says course c a u n come v r op_result) op_result.suits op_result.knows op_result.works op_result.asked
 
     -- the run is over
-    pub polled_over : (q : StepResult) (o : Outcome) → n < steps → q ≡ stepped.Over → last_outcome v.trace ≡ Some o → HasTurned says course c (Some q) r u v → yield_budget'.since ≡ k' → yield_budget'.passes ≡ false →
+    pub polled_over : (q : StepResult) (o : Outcome) → n < steps → turn_of q ≡ turn.Over → last_outcome v.trace ≡ Some o → HasTurned says course c (Some q) r u v → yield_budget'.since ≡ k' → yield_budget'.passes ≡ false →
         HasPolled says course c steps (run_answer o) yield_budget a (record v { turn = turn.Over }) yield_budget'
     polled_over q o room is last op_result since passes =
         has_polled says course c a (record v { turn = turn.Over }) steps (run_answer o) yield_budget yield_budget'

@@ -59,7 +59,6 @@ use Rattle.ops_turns.specs.Turn.{IsAtTurn, PendsIn, Turns, is_open, runs_in, set
 use Rattle.ops_turns.specs.WellFormed.{IsWellFormed}
 use Rattle.ops_turns.specs.declared.made.MadeStep.{MadeStep}
 use Rattle.ops_turns.specs.declared.made.StepResult.{StepResult}
-use Rattle.ops_turns.specs.declared.made.StepResult.TheVariants as stepped
 use Rattle.core_primitives.specs.StateView.{StateView, Tags, on_core}
 
 -- ---- The turns of the run
@@ -84,6 +83,11 @@ module _ {M T H G : Type 0} (says : Says M) (course : H → HostDef) (c : Compon
   -- the step is this one
   pub turned_as : (u v : At M T H G) (r : ℕ) (w o : Option StepResult) → w ≡ o → HasTurned says course c w r u v → HasTurned says course c o r u v
   turned_as u v r w o is op_result = subst (λ (q : Option StepResult). HasTurned says course c q r u v) is op_result
+
+  -- by what a part of the turn gives in each case
+  pub halts_by : (why : Halt) (u v : At M T H G) (Gives : Halt → Type 0) → (Gives halt.NoMemory → v.trace ≡ u.trace) → (Gives halt.HookFailed → FailsTurn says course c u v) → Gives why → HasHalted says course c why u v
+  halts_by halt.NoMemory u v Gives lost failed h = lost h
+  halts_by halt.HookFailed u v Gives lost failed h = failed h
 
   -- how the store is at the turn
   pub at_turn : (r : ℕ) (u : At M T H G) → MayTurn says course c r u → IsAtTurn c u.turn u.store.state
@@ -184,16 +188,16 @@ module _ {M T H G : Type 0} (says : Says M) (course : H → HostDef) (c : Compon
         asked = op_result.asked;
       }
 
-      pub ran_over : (q : StepResult) → q ≡ stepped.Over → HasTurned says course c (Some q) r u v → RanTo says course c a (turned_to turn.Over)
+      pub ran_over : (q : StepResult) → turn_of q ≡ turn.Over → HasTurned says course c (Some q) r u v → RanTo says course c a (turned_to turn.Over)
       ran_over q is op_result =
-          subst (λ (p : Turn). RanTo says course c a (turned_to p)) (ap turn_of is)
+          subst (λ (p : Turn). RanTo says course c a (turned_to p)) is
           (ran_more says.does x s a.main a.trace a.store.listeners says.part u.turn u.main u.store.state u.trace u.store.listeners v.main v.store.state v.store.listeners q v.trace come.ran (told (Some q) op_result) op_result.did)
 
       -- the last label says how the run has ended
-      pub over_told : (q : StepResult) → q ≡ stepped.Over → HasTurned says course c (Some q) r u v → is_some (last_outcome v.trace) ≡ true
+      pub over_told : (q : StepResult) → turn_of q ≡ turn.Over → HasTurned says course c (Some q) r u v → is_some (last_outcome v.trace) ≡ true
       over_told q is op_result = outcome_told x u.turn (says.part u.main) u.store.state u.trace (says.part v.main) v.store.state v.trace q is (turned q op_result)
 
-      pub over_added : (q : StepResult) (o : Outcome) → q ≡ stepped.Over → last_outcome v.trace ≡ Some o → HasTurned says course c (Some q) r u v
+      pub over_added : (q : StepResult) (o : Outcome) → turn_of q ≡ turn.Over → last_outcome v.trace ≡ Some o → HasTurned says course c (Some q) r u v
           → AddedTo (λ (made : MadeStep). Turns x u.turn (says.part u.main) u.store.state made (says.part v.main) v.store.state) turn.Over (Some o) u.trace v.trace
       over_added q o is last op_result = added_over x u.turn (says.part u.main) u.store.state u.trace (says.part v.main) v.store.state v.trace q o is last (turned q op_result)
 
@@ -203,7 +207,7 @@ module _ {M T H G : Type 0} (says : Says M) (course : H → HostDef) (c : Compon
           (ran_still says.does x s a.main a.trace a.store.listeners says.part u.turn u.main u.store.state u.trace u.store.listeners v.main v.store.state v.store.listeners v.trace come.ran (told None op_result) op_result.did.0)
 
       -- it is over
-      pub come_over : (steps : ℕ) (q : StepResult) (o : Outcome) → n < steps → q ≡ stepped.Over → last_outcome v.trace ≡ Some o → HasTurned says course c (Some q) r u v → HasGone says course c steps o a (turned_to turn.Over)
+      pub come_over : (steps : ℕ) (q : StepResult) (o : Outcome) → n < steps → turn_of q ≡ turn.Over → last_outcome v.trace ≡ Some o → HasTurned says course c (Some q) r u v → HasGone says course c steps o a (turned_to turn.Over)
       come_over steps q o room is last op_result =
           gone steps o (turned_to turn.Over)
           (added_ends x s a.trace (numbers says course c a) u.turn (says.part u.main) u.store.state u.trace n come.on (says.part v.main) v.store.state v.trace o steps room (over_added q o is last op_result))

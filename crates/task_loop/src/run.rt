@@ -19,7 +19,7 @@ use core_primitives::{QueuePrimitives, View};
 use machine_data::{Component, Mark, NoMemory, Outcome, Trap, Turn};
 use ops_calls::{TaskError, host_called};
 use ops_turns::{
-    MainStep, StepResult, compute, is_idle, made_by_main, outcome_in, put, step_call, step_run, take, turn_of,
+    MainStep, StepResult, compute, is_idle, is_over, made_by_main, outcome_in, put, step_call, step_run, take, turn_of,
 };
 use run_trace::{
     Driven, PackedLabels, Policy, YieldBudget, ended_by, paced_by, rests_with, yields_by,
@@ -415,15 +415,14 @@ impl RunConcurrent {
                 return Ok(Stop::Yields);
             }
             let rests = rests_with::<P>(self.turn, next);
-            let stepped = self.turn(component, store, main, trace, &mut running)?;
-            match stepped {
+            let turned = self.turn(component, store, main, trace, &mut running)?;
+            match turned {
                 None => return Ok(self.ends::<P>(Outcome::Idle, false)),
-                Some(StepResult::Over) => {
-                    self.turn = Turn::Over;
-                    return Ok(self.ends::<P>(outcome_in(trace), false));
-                }
                 Some(stepped) => {
                     self.turn = turn_of(stepped);
+                    if is_over(stepped) {
+                        return Ok(self.ends::<P>(outcome_in(trace), false));
+                    }
                     self.yield_budget = paced_by::<P>(self.yield_budget, next);
                     if rests {
                         return Ok(Stop::Rests);

@@ -93,3 +93,6 @@ returns-in_default-tell_poll-clause-polled g c =
         ),
       ),
     )
+
+pub returns-in_default-clause-polled : goal.returns-in_default-clause-polled
+returns-in_default-clause-polled g c = c.in_default.ensures.err

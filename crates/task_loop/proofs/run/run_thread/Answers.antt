@@ -91,3 +91,6 @@ returns-in_default-told-clause-ran g c =
         },
       ),
     )
+
+pub returns-in_default-clause-ran : goal.returns-in_default-clause-ran
+returns-in_default-clause-ran g c = c.in_default.ensures.err
