@@ -52,13 +52,6 @@ pub opens : (b : Bool) → not b ≡ false → b ≡ true
 opens true e = refl
 opens false e = absurd (cc)
 
-pub closes : (p : Turn) → not (is_open p) ≡ true → p ≡ turn.Over
-closes p e = closed p (off (is_open p) e)
-  where
-    off : (b : Bool) → not b ≡ true → b ≡ false
-    off false e = refl
-    off true e = absurd (cc)
-
 -- a turn in which nothing more is made
 pub closed : (p : Turn) → is_open p ≡ false → p ≡ turn.Over
 closed turn.Over e = refl
@@ -66,6 +59,13 @@ closed turn.Main e = absurd (cc)
 closed (turn.Futures n) e = absurd (cc)
 closed (turn.Take b) e = absurd (cc)
 closed (turn.Run n) e = absurd (cc)
+
+pub closes : (p : Turn) → not (is_open p) ≡ true → p ≡ turn.Over
+closes p e = closed p (off (is_open p) e)
+  where
+    off : (b : Bool) → not b ≡ true → b ≡ false
+    off false e = refl
+    off true e = absurd (cc)
 
 pub added_as : (P Q : MadeStep → Type 0) (stepped : StepResult) (before after : List Label) → ((made : MadeStep) → P made → Q made) → Added P stepped before after → Added Q stepped before after
 added_as P Q stepped before after f h = (h.0, (h.1.0, f h.0 h.1.1))
