@@ -13,7 +13,7 @@ use Rattle.machine_data.specs.Write.{remove_thread, remove_threads, set_trapped}
 use Rattle.machine_data.specs.declared.component.Component.{Component}
 use Rattle.ops_subtasks.specs.First.{first_heard}
 use Rattle.machine_data.specs.declared.component.HostDef.{HostDef}
-use Rattle.machine_data.specs.declared.words.HostPoll.{HostPoll}
+use Rattle.machine_data.specs.declared.statuses.HostPoll.{HostPoll}
 use Rattle.machine_data.specs.declared.op.Op.{Op}
 use Rattle.machine_data.specs.declared.records.Course.TheVariants as course
 use Rattle.machine_data.specs.declared.records.OpProgress.{OpProgress}
@@ -36,15 +36,15 @@ unfolding remove_thread
 removed_works [] s = refl
 removed_works (n ∷ ns) s = removed_works ns (remove_thread n s)
 
-struck_works : (n : ℕ) (s : Core) → (unwound n s).works ≡ s.works
+unwound_works : (n : ℕ) (s : Core) → (unwound n s).works ≡ s.works
 unfolding unwound set_trapped
-struck_works n s = removed_works (strand_of n s) s
+unwound_works n s = removed_works (strand_of n s) s
 
 after_works : (n : ℕ) (r : OpResult) (s : Core) → (core_after n r s).works ≡ s.works
 after_works n (op_result.Continues l m said) s = refl
 after_works n (op_result.Stops l) s = refl
-after_works n (op_result.Traps why) s = struck_works n s
-after_works n (op_result.Fails i) s = struck_works n s
+after_works n (op_result.Traps why) s = unwound_works n s
+after_works n (op_result.Fails i) s = unwound_works n s
 
 -- the next number names no work
 next_free : (s : Core) → WorksQueued s → get s.works (s.made.works + 1) ≡ None

@@ -13,7 +13,7 @@ use Rattle.machine_data.specs.declared.component.Component.{Component}
 use Rattle.machine_data.specs.declared.component.HostDef.{HostDef}
 use Rattle.machine_data.specs.declared.op.Op.{Op}
 use Rattle.machine_data.specs.declared.records.Course.TheVariants as course
-use Rattle.machine_data.specs.declared.words.HostPoll.{HostPoll}
+use Rattle.machine_data.specs.declared.statuses.HostPoll.{HostPoll}
 use Rattle.machine_rules.specs.Calls.{Later}
 use Rattle.machine_rules.specs.Scripts.{op_of}
 use Rattle.task_table.specs.declared.id.TableId.{TableId}

@@ -10,7 +10,7 @@ use Rattle.machine_data.specs.declared.records.Delivery.{Delivery}
 use Rattle.machine_data.specs.declared.records.Place.TheVariants as place
 use Rattle.machine_data.specs.declared.records.Subtask.TheVariants as subtask
 use Rattle.machine_data.specs.declared.records.Why.TheVariants as why
-use Rattle.machine_data.specs.declared.words.Mark.{Mark}
+use Rattle.machine_data.specs.declared.statuses.Mark.{Mark}
 use Rattle.ops_moves.specs.Idle.{IsJoinThere}
 use Rattle.machine_rules.specs.Progress.{Progress}
 use Rattle.machine_rules.specs.Takes.{delivery_rule, scripted_host_rule, thread_taken}

@@ -6,7 +6,7 @@ use Rattle.machine_data.specs.Core.{Core}
 use Rattle.machine_data.specs.declared.records.Entry.{Entry}
 use Rattle.machine_data.specs.declared.records.Turn.{Turn}
 use Rattle.machine_data.specs.declared.records.Turn.TheVariants as turn
-use Rattle.machine_data.specs.declared.words.Mark.{Mark}
+use Rattle.machine_data.specs.declared.statuses.Mark.{Mark}
 use Rattle.machine_rules.specs.Places.{Placed}
 use Rattle.machine_rules.specs.Works.{next_polled, poll_of}
 use Rattle.ops_guests.specs.PolledWorks.{PolledTo, TellsPoll}

@@ -100,14 +100,14 @@ pub(crate) fn computes_in<W: Primitives>(
             assigns(context, *to, answer);
             DataLabel::Handle(number, answer)
         }
-        DataOp::Load { to, word } => {
-            let answer = w.word(instance, *word);
+        DataOp::Load { to, cell } => {
+            let answer = w.memory_cell(instance, *cell);
             assigns(context, *to, answer);
             DataLabel::Load(number, answer)
         }
-        DataOp::Store { word, value } => {
+        DataOp::Store { cell, value } => {
             let answer = operand_value(&context.registers, *value);
-            w.set_word(instance, *word, answer);
+            w.set_memory_cell(instance, *cell, answer);
             context.position += 1;
             DataLabel::Store(number, answer)
         }

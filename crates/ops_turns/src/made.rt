@@ -11,7 +11,7 @@ ghost use Rattle.core_primitives.specs.StateView.{thread_of};
 
 use core_primitives::{Primitives, ThreadId};
 use machine_data::{CallLabel, Label, LoopLabel, MainLabel, NoMemory, Outcome, Trap, Turn};
-use ops_guests::{OpResult, strike};
+use ops_guests::{OpResult, unwind_thread};
 use run_trace::PackedLabels;
 
 /// A step that was made: its label, and whose turn it is then.
@@ -139,7 +139,7 @@ fn fell<W: Primitives>(w: &mut W, thread: ThreadId, label: Label) -> MadeStep
     ensures made { result ≡ record { label = label; turn = Turn.Over } }
     ensures works { KeepsTold (W.view w.old) (W.view w.new) }
 {
-    strike(w, thread);
+    unwind_thread(w, thread);
     w.set_current(None);
     MadeStep {
         label,

@@ -25,8 +25,8 @@ use Rattle.laws_states.specs.Courses.{CallsHost, MakesWork, Spawns}
 use Rattle.machine_rules.specs.Calls.{Later}
 use Rattle.ops_subtasks.specs.First.{first_heard}
 use Rattle.machine_data.specs.declared.component.HostDef.TheVariants as host_def
-use Rattle.machine_data.specs.declared.words.HostPoll.{HostPoll}
-use Rattle.machine_data.specs.declared.words.HostPoll.TheVariants as host_poll
+use Rattle.machine_data.specs.declared.statuses.HostPoll.{HostPoll}
+use Rattle.machine_data.specs.declared.statuses.HostPoll.TheVariants as host_poll
 use Rattle.machine_rules.specs.OpParts.{queues_work}
 use Rattle.machine_rules.proofs.WalkSteps.{step_walks}
 use Rattle.machine_rules.specs.Chains.{WalkedAs}

@@ -23,7 +23,7 @@ use Rattle.machine_data.specs.declared.outcome.Outcome.{Outcome}
 use Rattle.machine_data.specs.declared.outcome.Outcome.TheVariants as outcome
 use Rattle.machine_data.specs.declared.records.Turn.{Turn}
 use Rattle.machine_data.specs.declared.records.Turn.TheVariants as turn
-use Rattle.machine_data.specs.declared.words.Mark.{Mark}
+use Rattle.machine_data.specs.declared.statuses.Mark.{Mark}
 use Rattle.laws_places.proofs.OrderLemmas.{steps_make_few}
 use Rattle.machine_rules.specs.Outcome.{is_at_rest, last_outcome, outcome_of_label}
 use Rattle.machine_rules.specs.Run.{Run}

@@ -9,9 +9,9 @@ use Rattle.machine_data.specs.declared.records.Course.{Course}
 use Rattle.machine_data.specs.declared.records.Course.TheVariants as courses
 use Rattle.machine_data.specs.declared.records.Work.{Work}
 use Rattle.machine_data.specs.declared.records.WorkCaller.{WorkCaller}
-use Rattle.machine_data.specs.declared.words.HostPoll.{HostPoll}
-use Rattle.machine_data.specs.declared.words.Phase.{Phase}
-use Rattle.machine_data.specs.declared.words.Phase.TheVariants as phases
+use Rattle.machine_data.specs.declared.statuses.HostPoll.{HostPoll}
+use Rattle.machine_data.specs.declared.statuses.Phase.{Phase}
+use Rattle.machine_data.specs.declared.statuses.Phase.TheVariants as phases
 use Rattle.machine_rules.specs.MainOps.{is_complete}
 use Rattle.machine_rules.specs.Works.{has_end}
 use Rattle.task_store.specs.declared.store.Store.{Store}

@@ -1,7 +1,7 @@
 -- A poll of a host work by the loop.
 use Rattle.std.specs.Prelude.{◌||◌, Bool, Option, Some, ℕ}
-use Rattle.machine_data.specs.declared.words.HostPoll.{HostPoll}
-use Rattle.machine_data.specs.declared.words.HostPoll.TheVariants as answers
+use Rattle.machine_data.specs.declared.statuses.HostPoll.{HostPoll}
+use Rattle.machine_data.specs.declared.statuses.HostPoll.TheVariants as answers
 use Rattle.machine_data.specs.Core.{Core}
 use Rattle.machine_data.specs.Read.{course_of, is_aborted, phase_of}
 use Rattle.machine_data.specs.Write.{set_trapped}

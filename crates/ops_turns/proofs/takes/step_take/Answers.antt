@@ -3,7 +3,7 @@ use Rattle.std.specs.Prelude.{Option, Some, option_map, ◌<◌}
 use Rattle.std.proofs.lemmas.Option.{IfSome_then}
 use Rattle.machine_data.specs.declared.records.Entry.{Entry}
 use Rattle.machine_data.specs.declared.records.Subtask.TheVariants as subtask
-use Rattle.machine_data.specs.declared.words.Mark.{Mark}
+use Rattle.machine_data.specs.declared.statuses.Mark.{Mark}
 use Rattle.ops_moves.specs.Idle.{IsJoinThere}
 use Rattle.machine_rules.specs.Places.{Placed}
 use Rattle.ops_turns.proofs.WorkedLemmas.{worked_is}

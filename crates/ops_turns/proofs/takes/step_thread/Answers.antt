@@ -8,7 +8,7 @@ use Rattle.ops_guests.specs.Stays.{StaysAfter}
 use Rattle.ops_guests.specs.Steps.{label_of}
 use Rattle.ops_guests.specs.declared.op_result.OpResult.{OpResult}
 use Rattle.machine_rules.specs.Takes.{thread_taken}
-use Rattle.ops_turns.proofs.ShowLemmas.{taken_strikes}
+use Rattle.ops_turns.proofs.ShowLemmas.{taken_unwinds}
 use Rattle.ops_turns.proofs.takes.step_thread.Goals as goal
 use Rattle.ops_turns.specs.StepResult.{RuleShown}
 use Rattle.ops_turns.specs.Taken.{Taken}
@@ -21,7 +21,7 @@ take_thread-requires-clause-taken g c = subst (λ (u : StateView). Taken c.args.
 pub show_taken-requires-clause-unwinds : goal.show_taken-requires-clause-unwinds
 show_taken-requires-clause-unwinds g c =
     let v = g.W.View.view in
-    taken_strikes c.args.mark c.in-Ok.op_result c.args.thread (v c.set_current.new.self) (v c.take_thread.new.w)
+    taken_unwinds c.args.mark c.in-Ok.op_result c.args.thread (v c.set_current.new.self) (v c.take_thread.new.w)
     (subst (λ (u : StateView). Taken c.args.mark (thread_of u c.args.thread) u.core) (sym c.set_current.ensures) c.requires.taken) c.in-Ok.ensures.stays
 
 pub returns-clause-shown : goal.returns-clause-shown

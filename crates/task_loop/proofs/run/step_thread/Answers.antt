@@ -6,7 +6,7 @@ use Rattle.task_loop.proofs.HoldLemmas.{held_run}
 use Rattle.task_loop.proofs.run.step_thread.Goals as goal
 use Rattle.task_loop.specs.Threads.{RunsThread, StepsUntold}
 use Rattle.machine_data.specs.declared.label.Label.{Label}
-use Rattle.machine_data.specs.declared.words.HostPoll.TheVariants as host_poll
+use Rattle.machine_data.specs.declared.statuses.HostPoll.TheVariants as host_poll
 use Rattle.machine_rules.specs.Scripts.{op_of}
 use Rattle.task_store.specs.Hosts.{held_by}
 use Rattle.ops_turns.specs.StepResult.{RunStepped}

@@ -14,7 +14,7 @@ use Rattle.task_loop.specs.declared.run.RunConcurrent.{RunConcurrent}
 use Rattle.task_loop.specs.declared.run.Stop.TheVariants as stop
 use Rattle.machine_data.specs.declared.outcome.Outcome.TheVariants as outcome
 use Rattle.machine_data.specs.declared.records.Turn.TheVariants as turn
-use Rattle.machine_data.specs.declared.words.Mark.{Mark}
+use Rattle.machine_data.specs.declared.statuses.Mark.{Mark}
 use Rattle.machine_rules.proofs.Machine.{and_parts}
 use Rattle.ops_turns.specs.Turn.{given, idle_line_of, is_open}
 use Rattle.machine_data.specs.declared.records.Turn.{Turn}
