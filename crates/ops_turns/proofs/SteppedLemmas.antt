@@ -82,7 +82,7 @@ IfOk_then (Err e) h f = tt
 
 module _ (id : TableId ThreadKey) (s t : StateView) (stepped : StepResult) (before after : List Label) where
   pub rule_as : (P Q : OpResult → Progress) → ((r : OpResult) (u : Core) → Implements (P r) s.core r u → Implements (Q r) s.core r u) → RuleShown P id s before stepped t after → RuleShown Q id s before stepped t after
-  rule_as P Q same h = record { op_result = h.op_result; left = h.left; meets = same h.op_result h.left.core h.meets; stays = h.stays; shown = h.shown }
+  rule_as P Q same h = record { op_result = h.op_result; left = h.left; implements = same h.op_result h.left.core h.implements; stays = h.stays; shown = h.shown }
 
   -- an op that met its row made a step
   pub run_added : (c : Component) (n : ℕ) → thread_of s id ≡ n → RuleShown (λ r. did c (thread_of s id) s.core (choice_of (label_of (thread_of s id) r))) id s before stepped t after
@@ -90,7 +90,7 @@ module _ (id : TableId ThreadKey) (s t : StateView) (stepped : StepResult) (befo
   run_added c n number h =
       let made = made_by (thread_of h.left id) h.op_result in
       let makes : MakesStep c (turn.Run n) s made t = record {
-        step = ran_at id n s h.left number c h.op_result made.label made.turn t.core h.meets h.stays refl refl h.shown.core;
+        step = ran_at id n s h.left number c h.op_result made.label made.turn t.core h.implements h.stays refl refl h.shown.core;
         running = h.shown.running;
         over = h.shown.over;
       } in
@@ -102,7 +102,7 @@ module _ (id : TableId ThreadKey) (s t : StateView) where
       → MakesStep c (turn.Run n) s made t × IsFree made.turn
   ran_made c n number made h =
       let makes : MakesStep c (turn.Run n) s made t = record {
-        step = ran_at id n s h.left number c h.op_result made.label made.turn t.core h.meets h.stays h.label h.turn h.core;
+        step = ran_at id n s h.left number c h.op_result made.label made.turn t.core h.implements h.stays h.label h.turn h.core;
         running = h.running;
         over = h.over;
       } in
@@ -110,7 +110,7 @@ module _ (id : TableId ThreadKey) (s t : StateView) where
 
   pub rule_ran_as : (P Q : OpResult → Progress) (made : MadeStep) → ((r : OpResult) (u : Core) → Implements (P r) s.core r u → Implements (Q r) s.core r u) → RuleRan P id s made t → RuleRan Q id s made t
   rule_ran_as P Q made same h =
-      record { op_result = h.op_result; left = h.left; meets = same h.op_result h.left.core h.meets; stays = h.stays; label = h.label; turn = h.turn; core = h.core; running = h.running; over = h.over }
+      record { op_result = h.op_result; left = h.left; implements = same h.op_result h.left.core h.implements; stays = h.stays; label = h.label; turn = h.turn; core = h.core; running = h.running; over = h.over }
 
 -- what an op by its row resulted in is a step of the running thread
 module _ (c : Component) (id : TableId ThreadKey) (n : ℕ) (s t : StateView) (number : thread_of s id ≡ n) (o : Op) (is : op_of c (thread_of s id) s.core ≡ o)
@@ -138,10 +138,10 @@ module _ (c : Component) (id : TableId ThreadKey) (n : ℕ) (s t : StateView) (n
 pub take_added : (c : Component) (ended : Bool) (mark : Mark) (id : TableId ThreadKey) (n : ℕ) (s u v t : StateView) (r : OpResult) (stepped : StepResult) (before after : List Label) → thread_of u id ≡ n → u.core ≡ popped mark s.core
     → next_entry s.core ≡ Some (mark, entry.Thread n) → Implements (thread_taken mark (thread_of u id) (choice_of (label_of (thread_of u id) r)) u.core (place_of (thread_of u id) u.core)) u.core r v.core → StaysAfter r u v
     → Shown id r v before stepped t after → Added (λ made. MakesStep c (turn.Take ended) s made t × IsFree made.turn) stepped before after
-take_added c ended mark id n s u v t r stepped before after number base next meets stays shown =
+take_added c ended mark id n s u v t r stepped before after number base next implements stays shown =
     let made = made_by (thread_of v id) r in
     let makes : MakesStep c (turn.Take ended) s made t = record {
-      step = took c ended mark id n s u v r made.label made.turn t.core number base next meets stays refl refl shown.core;
+      step = took c ended mark id n s u v r made.label made.turn t.core number base next implements stays refl refl shown.core;
       running = shown.running;
       over = shown.over;
     } in
@@ -177,9 +177,9 @@ module _ (c : Component) (ended : Bool) (mark : Mark) (id : TableId HostTaskKey)
   -- so is the entry of an ended host work
   pub host_makes : next_entry s.core ≡ Some (mark, entry.Host (work_of s id)) → Implements (scripted_host_rule mark (work_of u id) (choice_of made.label).woken u.core) u.core (op_result.Stops made.label) t.core → t.current ≡ u.current → made.turn ≡ turn.Main
       → MakesStep c (turn.Take ended) s made t × IsFree made.turn
-  host_makes next meets current turn_is =
+  host_makes next implements current turn_is =
       let i = work_of s id in
-      let named = subst (λ k. Implements (scripted_host_rule mark k (choice_of made.label).woken u.core) u.core (op_result.Stops made.label) t.core) (ap (λ (v : StateView). work_of v id) left) meets in
+      let named = subst (λ k. Implements (scripted_host_rule mark k (choice_of made.label).woken u.core) u.core (op_result.Stops made.label) t.core) (ap (λ (v : StateView). work_of v id) left) implements in
       let makes : MakesStep c (turn.Take ended) s made t = record {
         step = λ x component m. subst (λ (p : Turn). Step x (state_at s.core m (turn.Take ended)) made.label (state_at t.core m p)) (sym turn_is)
             (took_host c ended mark i s u t (op_result.Stops made.label) made.label (ap (λ (v : StateView). v.core) left) next named refl x component m);

@@ -25,7 +25,7 @@ use Rattle.machine_data.specs.declared.records.Script.{Script}
 use Rattle.machine_data.specs.declared.records.Thread.{Thread}
 use Rattle.machine_data.specs.declared.records.Turn.{Turn}
 use Rattle.machine_data.specs.declared.records.Turn.TheVariants as turn
-use Rattle.ops_guests.proofs.MeetLemmas.{meeting_is_step}
+use Rattle.ops_guests.proofs.ImplementLemmas.{implementing_is_step}
 use Rattle.ops_guests.specs.OpResult.{Implements}
 use Rattle.ops_guests.specs.declared.op_result.OpResult.TheVariants as op_result
 use Rattle.machine_rules.specs.Data.{data_rule}
@@ -107,16 +107,16 @@ module _ (c : Component) (n : ℕ) (t : StateView) (th : Thread) (found : get t.
     abbrev made : MadeStep
     made = record { label = label.Data l; turn = turn.Run n }
 
-    meets : Implements (did c n there (choice_of (label.Data l))) there (goes_as (label.Data l) n) (in_context n y u.core)
+    implements : Implements (did c n there (choice_of (label.Data l))) there (goes_as (label.Data l) n) (in_context n y u.core)
     unfolding did
-    meets = subst (λ (q : Op). Implements (scripted_op_rule c n there (choice_of (label.Data l)) q) there (goes_as (label.Data l) n) (in_context n y u.core)) (sym (op_there (op.Data o) here))
+    implements = subst (λ (q : Op). Implements (scripted_op_rule c n there (choice_of (label.Data l)) q) there (goes_as (label.Data l) n) (in_context n y u.core)) (sym (op_there (op.Data o) here))
         (subst (λ (p : Progress). Implements p there (goes_as (label.Data l) n) (in_context n y u.core)) (sym row) (refl, refl))
 
     step : (z : Setting) → z.component ≡ c → (m : Main) → Step z (state_at there m (turn.Run n)) (label.Data l) (state_at (in_context n y u.core) m (turn.Run n))
     step z component m =
         subst (Step z (state_at there m (turn.Run n)) (label.Data l)) (settled (goes_as (label.Data l) n) there m (turn.Run n) (in_context n y u.core))
-        (meeting_is_step z (state_at there m (turn.Run n)) n (goes_as (label.Data l) n) (in_context n y u.core) refl
-        (subst (λ (d : Component). Implements (did d n there (choice_of (label.Data l))) there (goes_as (label.Data l) n) (in_context n y u.core)) (sym component) meets))
+        (implementing_is_step z (state_at there m (turn.Run n)) n (goes_as (label.Data l) n) (in_context n y u.core) refl
+        (subst (λ (d : Component). Implements (did d n there (choice_of (label.Data l))) there (goes_as (label.Data l) n) (in_context n y u.core)) (sym component) implements))
 
     turns : (z : Setting) → z.component ≡ c → (m : Main) → Turns z (turn.Run n) m (state_in n x t) made m (state_in n y u)
     turns z component m = record {

@@ -73,7 +73,7 @@ pub record RuleShown (row : OpResult → Progress) (id : TableId ThreadKey) (s :
     (t : StateView) (after : List Label) : Type 0 where
   pub op_result : OpResult
   pub left : StateView
-  pub meets : Implements (row op_result) s.core op_result left.core
+  pub implements : Implements (row op_result) s.core op_result left.core
   pub stays : StaysAfter op_result s left
   pub shown : Shown id op_result left before stepped t after
 
@@ -107,7 +107,7 @@ TakesBeside c b ended s q t before after = AddedOrNone (λ made. TurnedBeside c 
 pub record RuleRan (row : OpResult → Progress) (id : TableId ThreadKey) (s : StateView) (made : MadeStep) (t : StateView) : Type 0 where
   pub op_result : OpResult
   pub left : StateView
-  pub meets : Implements (row op_result) s.core op_result left.core
+  pub implements : Implements (row op_result) s.core op_result left.core
   pub stays : StaysAfter op_result s left
   pub label : made.label ≡ label_of (thread_of left id) op_result
   pub turn : made.turn ≡ turn_after op_result

@@ -131,7 +131,7 @@ pub fn outcome_in(trace: &PackedLabels) -> Outcome
 }
 
 // The strand of the thread is gone, and none runs.
-fn fell<W: Primitives>(w: &mut W, thread: ThreadId, label: Label) -> MadeStep
+fn unwound_by<W: Primitives>(w: &mut W, thread: ThreadId, label: Label) -> MadeStep
     requires live { 0 < thread_of (W.view w.old) thread }
     requires top { IsTopmost (thread_of (W.view w.old) thread) (W.view w.old).core }
     ensures core { (W.view w.new).core ≡ unwound (thread_of (W.view w.old) thread) (W.view w.old).core }
@@ -174,11 +174,11 @@ pub(crate) fn made_of<W: Primitives>(w: &mut W, thread: ThreadId, op_result: OpR
         }
         OpResult::Traps(trap) => {
             let number = w.number(thread);
-            fell(w, thread, Label::Loop(LoopLabel::Trap(trap, number)))
+            unwound_by(w, thread, Label::Loop(LoopLabel::Trap(trap, number)))
         }
         OpResult::Fails(work) => {
             let number = w.number(thread);
-            fell(w, thread, Label::Call(CallLabel::Fails(number, work)))
+            unwound_by(w, thread, Label::Call(CallLabel::Fails(number, work)))
         }
     }
 }

@@ -36,7 +36,7 @@ fn take_delivery<W: Primitives>(
     requires taken { Taken mark (thread_of (W.view w.old) thread) (W.view w.old).core }
     requires finds { FindsSet (thread_of (W.view w.old) thread) (W.view w.old).core }
     requires why { why_of (thread_of (W.view w.old) thread) (W.view w.old).core ≡ whys.Delivery delivery }
-    ensures meets { TakesDelivery mark (thread_of (W.view w.old) thread) (W.view w.old).core delivery result (W.view w.new).core }
+    ensures implements { TakesDelivery mark (thread_of (W.view w.old) thread) (W.view w.old).core delivery result (W.view w.new).core }
     ensures shows { Shows (thread_of (W.view w.old) thread) result }
     ensures stays { StaysAfter result (W.view w.old) (W.view w.new) }
     ensures tags { (W.view w.new).tags ≡ (W.view w.old).tags }
@@ -64,7 +64,7 @@ fn take_delivery<W: Primitives>(
 fn take_thread<W: Primitives>(w: &mut W, mark: Mark, thread: ThreadId) -> Result<OpResult, NoMemory>
     requires taken { Taken mark (thread_of (W.view w.old) thread) (W.view w.old).core }
     requires finds { FindsSet (thread_of (W.view w.old) thread) (W.view w.old).core }
-    ensures meets { IfOk result (λ op_result. TakesThread mark (thread_of (W.view w.old) thread) (W.view w.old).core op_result (W.view w.new).core) }
+    ensures implements { IfOk result (λ op_result. TakesThread mark (thread_of (W.view w.old) thread) (W.view w.old).core op_result (W.view w.new).core) }
     ensures shows { IfOk result (λ op_result. Shows (thread_of (W.view w.old) thread) op_result) }
     ensures stays { IfOk result (λ op_result. StaysAfter op_result (W.view w.old) (W.view w.new)) }
     ensures tags { (W.view w.new).tags ≡ (W.view w.old).tags }
@@ -144,7 +144,7 @@ fn step_host<W: Primitives>(w: &mut W, mark: Mark, work: WorkId) -> MadeStep
     requires live { 0 < work_of (W.view w.old) work }
     requires placed { Placed (W.view w.old).core }
     requires there { IsJoinThere (subtasks.Host (work_of (W.view w.old) work)) (W.view w.old).core }
-    ensures meets { TakesHost mark (work_of (W.view w.old) work) (W.view w.old).core result.label (W.view w.new).core }
+    ensures implements { TakesHost mark (work_of (W.view w.old) work) (W.view w.old).core result.label (W.view w.new).core }
     ensures current { (W.view w.new).current ≡ (W.view w.old).current }
     ensures turn { result.turn ≡ Turn.Main }
     ensures works { KeepsTold (W.view w.old) (W.view w.new) }

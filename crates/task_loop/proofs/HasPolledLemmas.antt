@@ -7,7 +7,7 @@ use Rattle.std.proofs.Common.{subst, sym, ◌∙◌}
 use Rattle.std.proofs.lemmas.List.{append_cancel_left}
 use Rattle.std.specs.Prelude.{Bool, List, None, Ok, Result, Some, false, length, not, true, ℕ, ◌&&◌, ◌<◌, ◌==◌, ◌≡◌, ◌≤◌}
 use Rattle.task_loop.proofs.HasRunLemmas.{HasCome, come_goes, opened, over_added, ran_kept, ran_over, told}
-use Rattle.task_loop.proofs.PausedLemmas.{Paced, Paused, idle_turned, idles, poll_ends, poll_rests, used_up, yields_now}
+use Rattle.task_loop.proofs.PausedLemmas.{Spent, Paused, idle_turned, idles, poll_ends, poll_rests, used_up, yields_now}
 use Rattle.task_loop.specs.HasRun.{At, HasPolled, HasTurned, Keeps, RanTo, numbers, setting, state}
 use Rattle.task_loop.specs.RunPolls.{is_yielded, poll_answer, rests_last, run_answer, since_left}
 use Rattle.task_loop.specs.Says.{Says}
@@ -62,7 +62,7 @@ module _ {M T H G : Type 0} (says : Says M) (course : H → HostDef) (c : Compon
 -- ---- Where a poll stops
 
 module _ {M T H G : Type 0} (says : Says M) (course : H → HostDef) (c : Component) (a u : At M T H G) (n : ℕ) (come : HasCome says course c a u n) (yield_budget : YieldBudget) (steps : ℕ) (b' : Bool) (k' : ℕ)
-    (so_far : Paced yield_budget.passes yield_budget.since a.trace u.trace b' k') (yield_budget' : YieldBudget) where
+    (so_far : Spent yield_budget.passes yield_budget.since a.trace u.trace b' k') (yield_budget' : YieldBudget) where
   abbrev x : Setting
   x = setting says course c a
 

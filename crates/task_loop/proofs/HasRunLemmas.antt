@@ -22,7 +22,7 @@ use Rattle.task_loop.specs.YieldBudgets.{LeavesYieldBudget}
 use Rattle.task_loop.specs.Ran.{Ran}
 use Rattle.task_loop.specs.RunPolls.{stop_answer}
 use Rattle.task_loop.specs.Says.{Says}
-use Rattle.task_loop.specs.Standing.{standing}
+use Rattle.task_loop.specs.Constants.{constants}
 use Rattle.task_loop.specs.Told.{TurnTold, group_running}
 use Rattle.task_loop.specs.declared.poll_methods.RunPoll.{RunPoll}
 use Rattle.task_loop.specs.declared.run.Halt.{Halt}
@@ -75,7 +75,7 @@ pub record HasCome {M T H G : Type 0} (says : Says M) (course : H → HostDef) (
 
 module _ {M T H G : Type 0} (says : Says M) (course : H → HostDef) (c : Component) where
   pub keeps_on : (a u v : At M T H G) → Keeps says a u → Keeps says u v → Keeps says a v
-  keeps_on a u v k l = record { script = l.script ∙ k.script; idle = l.idle ∙ k.idle; standing = l.standing ∙ k.standing }
+  keeps_on a u v k l = record { script = l.script ∙ k.script; idle = l.idle ∙ k.idle; constants = l.constants ∙ k.constants }
 
   setting_kept : (a u : At M T H G) → Keeps says a u → setting says course c u ≡ setting says course c a
   setting_kept a u k = ap₂ (λ (ops : List MainOpDef) (b : Bool). setting_of c ops b) k.script k.idle
@@ -100,7 +100,7 @@ module _ {M T H G : Type 0} (says : Says M) (course : H → HostDef) (c : Compon
         on = on_begins (setting says course c a) a.trace a.turn (says.part a.main) a.store.state
             (record { order = s.order; running = s.running; settled = s.settled; unfinished = may.unfinished }) s.pends;
         ran = nothing_ran says.does (setting says course c a) (state says course c a) a.main a.trace a.store.listeners;
-        keeps = record { script = refl; idle = refl; standing = refl };
+        keeps = record { script = refl; idle = refl; constants = refl };
         suits = s.suits;
         knows = s.knows;
         works = s.works;
@@ -181,7 +181,7 @@ module _ {M T H G : Type 0} (says : Says M) (course : H → HostDef) (c : Compon
       come_goes q open op_result kept = record {
         on = added_more x s a.trace (numbers says course c a) u.turn (says.part u.main) u.store.state u.trace n come.on (says.part v.main) v.store.state v.trace (turn_of q) (opened q open op_result);
         ran = ran_more says.does x s a.main a.trace a.store.listeners says.part u.turn u.main u.store.state u.trace u.store.listeners v.main v.store.state v.store.listeners q v.trace come.ran (told (Some q) op_result) op_result.did;
-        keeps = let k = keeps_on a u v come.keeps kept in record { script = k.script; idle = k.idle; standing = k.standing };
+        keeps = let k = keeps_on a u v come.keeps kept in record { script = k.script; idle = k.idle; constants = k.constants };
         suits = op_result.suits;
         knows = op_result.knows;
         works = op_result.works;
@@ -242,7 +242,7 @@ module _ {M T H G : Type 0} (says : Says M) (course : H → HostDef) (c : Compon
       come_computed = record {
         on = on x refl s a.trace (numbers says course c a) (says.part u.main) come.on;
         ran = ran_computed says.does x s a.main a.trace a.store.listeners says.part u.turn u.main u.store.state u.trace u.store.listeners w n after k come.ran computes still;
-        keeps = record { script = come.keeps.script; idle = come.keeps.idle; standing = come.keeps.standing };
+        keeps = record { script = come.keeps.script; idle = come.keeps.idle; constants = come.keeps.constants };
         suits = come.suits;
         knows = stays (last_by_works u.store.state w same) come.knows;
         works = holds_same u.store.state.core w.core (held_by course u.store) same.works come.works;

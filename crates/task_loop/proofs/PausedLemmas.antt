@@ -122,7 +122,7 @@ left_same (Err e) k h = refl
 -- ---- How far it has come
 
 -- The labels so far end no poll, and so many entries were taken.
-pub record Paced (b : Bool) (k : ℕ) (before mid : List Label) (b' : Bool) (k' : ℕ) : Type 0 where
+pub record Spent (b : Bool) (k : ℕ) (before mid : List Label) (b' : Bool) (k' : ℕ) : Type 0 where
   pub added : List Label
   pub trace : mid ≡ before ++ added
   pub unyielded : is_unyielded b k added ≡ true
@@ -130,8 +130,8 @@ pub record Paced (b : Bool) (k : ℕ) (before mid : List Label) (b' : Bool) (k' 
   pub since : k' ≡ since_after k added
   pub passes : b' ≡ passes_after b added
 
-pub paced_none : (b : Bool) (k : ℕ) (before : List Label) → Paced b k before before b k
-paced_none b k before = record { added = []; trace = sym (append-nil before); unyielded = refl; unrested = refl; since = refl; passes = refl }
+pub spent_none : (b : Bool) (k : ℕ) (before : List Label) → Spent b k before before b k
+spent_none b k before = record { added = []; trace = sym (append-nil before); unyielded = refl; unrested = refl; since = refl; passes = refl }
 
 unyielded_last : (b : Bool) (k : ℕ) (l : Label) → yields_before b k (mark_taken l) ≡ false → is_unyielded b k (l ∷ []) ≡ true
 unyielded_last b k l h = grind (arith, h)
@@ -139,7 +139,7 @@ unyielded_last b k l h = grind (arith, h)
 one_unrested : (l : Label) → is_rest l ≡ false → none_rests (l ∷ []) ≡ true
 one_unrested l h = grind (arith, h)
 
-module _ (b : Bool) (k : ℕ) (before mid : List Label) (b' : Bool) (k' : ℕ) (so_far : Paced b k before mid b' k') where
+module _ (b : Bool) (k : ℕ) (before mid : List Label) (b' : Bool) (k' : ℕ) (so_far : Spent b k before mid b' k') where
   abbrev ls : List Label
   ls = so_far.added
 
@@ -155,8 +155,8 @@ module _ (b : Bool) (k : ℕ) (before mid : List Label) (b' : Bool) (k' : ℕ) (
     since_then k'' is = is ∙ (ap (λ (j : ℕ). counted j (mark_taken l)) so_far.since ∙ sym (since_both k ls (l ∷ [])))
 
     -- a label that ends no poll is added
-    pub paced_more : is_rest l ≡ false → (after : List Label) → after ≡ mid ++ l ∷ [] → (b'' : Bool) (k'' : ℕ) → b'' ≡ false → k'' ≡ counted k' (mark_taken l) → Paced b k before after b'' k''
-    paced_more goes after pushed b'' k'' none is = record {
+    pub spent_more : is_rest l ≡ false → (after : List Label) → after ≡ mid ++ l ∷ [] → (b'' : Bool) (k'' : ℕ) → b'' ≡ false → k'' ≡ counted k' (mark_taken l) → Spent b k before after b'' k''
+    spent_more goes after pushed b'' k'' none is = record {
       added = ls ++ l ∷ [];
       trace = pushed ∙ (ap (λ (ms : List Label). ms ++ l ∷ []) so_far.trace ∙ append_assoc before ls (l ∷ []));
       unyielded = unyielded_then;
@@ -166,8 +166,8 @@ module _ (b : Bool) (k : ℕ) (before mid : List Label) (b' : Bool) (k' : ℕ) (
     }
 
   -- labels of registers and memory cells are added
-  pub paced_data : (ks after : List Label) → list_all is_data ks ≡ true → after ≡ mid ++ ks → b' ≡ false → Paced b k before after b' k'
-  paced_data ks after all more none = record {
+  pub spent_data : (ks after : List Label) → list_all is_data ks ≡ true → after ≡ mid ++ ks → b' ≡ false → Spent b k before after b' k'
+  spent_data ks after all more none = record {
     added = ls ++ ks;
     trace = more ∙ (ap (λ (ms : List Label). ms ++ ks) so_far.trace ∙ append_assoc before ls ks);
     unyielded = unyielded_both b k ls ks so_far.unyielded (data_unyielded (passes_after b ls) (since_after k ls) ks all);
@@ -194,7 +194,7 @@ as_many : (ls : List Label) (n steps : ℕ) → length ls ≡ n → n ≡ steps 
 as_many ls n steps is all = grind (arith, nat_tests, is, all)
 
 module _ (x : Setting) (s : State) (before : List Label) (numbers : ℕ) (yield_budget : YieldBudget) (steps : ℕ) (p : Turn) (m : Main) (t : StateView) (mid : List Label) (n : ℕ) (b' : Bool) (k' : ℕ)
-    (on : IsOn x s before numbers p m t mid n) (so_far : Paced yield_budget.passes yield_budget.since before mid b' k') where
+    (on : IsOn x s before numbers p m t mid n) (so_far : Spent yield_budget.passes yield_budget.since before mid b' k') where
   abbrev b : Bool
   b = yield_budget.passes
 
@@ -321,7 +321,7 @@ module _ (x : Setting) (s : State) (before : List Label) (numbers : ℕ) (yield_
 
 -- A step that was added: it ends the poll by its outcome, or as it rests; or the poll goes on.
 module _ (x : Setting) (s : State) (before : List Label) (numbers : ℕ) (yield_budget : YieldBudget) (steps : ℕ) (p : Turn) (m : Main) (t : StateView) (mid : List Label) (n : ℕ) (b' : Bool) (k' : ℕ)
-    (on : IsOn x s before numbers p m t mid n) (so_far : Paced yield_budget.passes yield_budget.since before mid b' k') (m' : Main) (t' : StateView) (after : List Label) where
+    (on : IsOn x s before numbers p m t mid n) (so_far : Spent yield_budget.passes yield_budget.since before mid b' k') (m' : Main) (t' : StateView) (after : List Label) where
   abbrev next : Option Mark
   next = next_mark p t.core
 
@@ -351,13 +351,13 @@ module _ (x : Setting) (s : State) (before : List Label) (numbers : ℕ) (yield_
         (ends_now x s before numbers yield_budget steps p m t mid n b' k' on so_far yield_budget' h.0 m' t' h.1.1 after h.1.0.0 (Ok poll.Rest) room (rest_answer h.0.label (shows.1 ∙ rests))
         unyielded (counts yield_budget'.since since) passes)
 
-    pub poll_goes : (b'' : Bool) (k'' : ℕ) → rests_by p (next_mark p t.core) ≡ false → k'' ≡ counted k' (next_mark p t.core) → b'' ≡ false → Paced yield_budget.passes yield_budget.since before after b'' k''
+    pub poll_goes : (b'' : Bool) (k'' : ℕ) → rests_by p (next_mark p t.core) ≡ false → k'' ≡ counted k' (next_mark p t.core) → b'' ≡ false → Spent yield_budget.passes yield_budget.since before after b'' k''
     poll_goes b'' k'' rests since passes =
-        paced_more yield_budget.passes yield_budget.since before mid b' k' so_far h.0.label unyielded (shows.1 ∙ rests) after h.1.0.0 b'' k'' passes (counts k'' since)
+        spent_more yield_budget.passes yield_budget.since before mid b' k' so_far h.0.label unyielded (shows.1 ∙ rests) after h.1.0.0 b'' k'' passes (counts k'' since)
 
 -- nothing can go on, and nothing was changed by that turn
 pub idle_turned : (x : Setting) (s : State) (before : List Label) (numbers : ℕ) (yield_budget : YieldBudget) (steps : ℕ) (p : Turn) (m : Main) (t : StateView) (mid : List Label) (n : ℕ) (b' : Bool) (k' : ℕ)
-    → IsOn x s before numbers p m t mid n → Paced yield_budget.passes yield_budget.since before mid b' k' → (m' : Main) (t' : StateView) (after : List Label) (yield_budget' : YieldBudget) → n ≤ steps
+    → IsOn x s before numbers p m t mid n → Spent yield_budget.passes yield_budget.since before mid b' k' → (m' : Main) (t' : StateView) (after : List Label) (yield_budget' : YieldBudget) → n ≤ steps
     → Turned x p m t None m' t' × (after ≡ mid) → yield_budget'.since ≡ k' → yield_budget'.passes ≡ false → Paused x s before numbers yield_budget steps (Ok poll.Idle) p m' t' after yield_budget'
 idle_turned x s before numbers yield_budget steps p m t mid n b' k' on so_far m' t' after yield_budget' room h since passes =
     subst (λ (ls : List Label). Paused x s before numbers yield_budget steps (Ok poll.Idle) p m' t' ls yield_budget') (sym h.1)

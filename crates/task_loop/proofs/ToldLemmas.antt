@@ -18,7 +18,7 @@ use Rattle.std.specs.Option.{option_map_or}
 use Rattle.task_group.proofs.GroupLemmas.{told-none}
 use Rattle.task_group.specs.Listeners.{Listeners, ToldListeners, errors_of}
 use Rattle.ops_state.specs.declared.error.TaskError.{TaskError}
-use Rattle.ops_calls.specs.Asks.{turn_for, turn_in}
+use Rattle.ops_calls.specs.HostOps.{turn_for, turn_in}
 use Rattle.task_loop.specs.Told.{RunTold, TellsCall, TellsTurn, TurnTold, current_group, group_running, main_notices, runs_on, told_by, turn_of}
 use Rattle.machine_data.specs.Core.{Core, Main, State, Unscripted}
 use Rattle.machine_data.specs.Maps.{get}

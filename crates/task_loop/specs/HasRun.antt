@@ -11,7 +11,7 @@ use Rattle.task_loop.specs.Hooked.{FailsMain, StopsTurn, TellsInPart}
 use Rattle.task_loop.specs.Ran.{DoesStep, Ran}
 use Rattle.task_loop.specs.RunPolls.{is_yielded, may_poll, poll_answer, rests_last, since_left, since_left_by, stop_answer}
 use Rattle.task_loop.specs.Says.{Says}
-use Rattle.task_loop.specs.Standing.{standing}
+use Rattle.task_loop.specs.Constants.{constants}
 use Rattle.task_loop.specs.Told.{StartFails, TurnTold, group_running, main_notices, turn_of}
 use Rattle.task_loop.specs.declared.poll_methods.RunPoll.{RunPoll}
 use Rattle.task_loop.specs.declared.run.Halt.{Halt}
@@ -66,7 +66,7 @@ at_main idle main store trace = record { turn = turn.Main; idle = idle; main = m
 pub record Keeps {M T H G : Type 0} (says : Says M) (a b : At M T H G) : Type 0 where
   pub script : says.script b.main ≡ says.script a.main
   pub idle : b.idle ≡ a.idle
-  pub standing : standing b.store ≡ standing a.store
+  pub constants : constants b.store ≡ constants a.store
 
 module _ {M T H G : Type 0} (says : Says M) (course : H → HostDef) (c : Component) where
   abbrev pub setting : At M T H G → Setting

@@ -3,7 +3,7 @@ ghost use Rattle.laws_labels.specs.Own.{next_mark};
 ghost use Rattle.ops_dispatch.specs.Fits.{calls_host};
 ghost use Rattle.run_trace.specs.YieldBudget.{unless_yielded};
 ghost use Rattle.task_loop.specs.HasRun.{DriveGives, Keeps, MainTurned, MayRun, MayStep, MayTurn, StepsTo, TurnGives, TurnsGive, at};
-ghost use Rattle.task_loop.specs.Standing.{standing};
+ghost use Rattle.task_loop.specs.Constants.{constants};
 ghost use Rattle.task_loop.specs.Threads.{RunsThread, RunsTo, StepsUntold, TakesTo, WorkPollsTo};
 ghost use Rattle.task_loop.specs.Told.{group_running};
 ghost use Rattle.ops_guests.specs.Works.{KeepsWorks};
@@ -22,7 +22,7 @@ use ops_turns::{
     MainStep, StepResult, compute, is_idle, is_over, made_by_main, outcome_in, put, step_call, step_run, take, turn_of,
 };
 use run_trace::{
-    Driven, PackedLabels, Policy, YieldBudget, ended_by, paced_by, rests_with, yields_by,
+    Driven, PackedLabels, Policy, YieldBudget, ended_by, spent_by, rests_with, yields_by,
 };
 use task_group::TaskGroupHook;
 use task_store::{Access, AccessorTask, ActiveRun, FromHost, HostWork, Store};
@@ -32,7 +32,7 @@ use task_store::{Access, AccessorTask, ActiveRun, FromHost, HostWork, Store};
 pub struct RunConcurrent {
     pub(crate) turn: Turn,
     pub(crate) trap_on_idle: bool,
-    standing: ActiveRun,
+    active: ActiveRun,
     pub(crate) yield_budget: YieldBudget,
 }
 
@@ -51,10 +51,10 @@ pub fn run_concurrent<T, H, G: TaskGroupHook>(
     ensures store { store.new ≡ record store.old { running = true } }
 {
     match store.begin_run() {
-        Ok(standing) => Ok(RunConcurrent {
+        Ok(active) => Ok(RunConcurrent {
             turn: Turn::Main,
             trap_on_idle,
-            standing,
+            active,
             yield_budget: YieldBudget::new(),
         }),
         Err(trap) => Err(trap),
@@ -87,7 +87,7 @@ fn ask_main<T, H: HostWork, G: TaskGroupHook, M: MainTask<T, H, G>>(
     main: &mut M,
 ) -> Result<MainStep, TaskError>
     requires may { MayStep M.says H.course component.now main.old store.old }
-    ensures stands { standing store.new ≡ standing store.old }
+    ensures stands { constants store.new ≡ constants store.old }
     ensures script { M.says.script main.new ≡ M.says.script main.old }
     ensures steps { StepsTo M.says H.course component.now result main.old store.old main.new store.new }
 {
@@ -103,7 +103,7 @@ fn step_main<T, H: HostWork, G: TaskGroupHook, M: MainTask<T, H, G>>(
     trace: &mut PackedLabels,
 ) -> Result<StepResult, Halt>
     requires may { MayStep M.says H.course component.now main.old store.old }
-    ensures stands { standing store.new ≡ standing store.old }
+    ensures stands { constants store.new ≡ constants store.old }
     ensures script { M.says.script main.new ≡ M.says.script main.old }
     ensures turned {
         MainTurned M.says H.course component.now result main.old store.old trace.old main.new store.new trace.new }
@@ -139,7 +139,7 @@ fn call_host_outlined<T, H: AccessorTask<T> + FromHost, G: TaskGroupHook>(
 ) -> Result<StepResult, NoMemory>
     requires runs { RunsThread H.course component.now thread store.old }
     requires calls { calls_host (op_of component.now thread store.old.state.core) ≡ true }
-    ensures stands { standing store.new ≡ standing store.old }
+    ensures stands { constants store.new ≡ constants store.old }
     ensures steps { IfOk result (λ stepped. StepsUntold H.course component.now thread store.old stepped store.new trace.old trace.new) }
     ensures listeners { OnOk result (store.new.listeners ≡ store.old.listeners) }
     ensures err { OnErr result (trace.new ≡ trace.old) }
@@ -162,7 +162,7 @@ fn call_host<T, H: AccessorTask<T> + FromHost, G: TaskGroupHook>(
 ) -> Result<StepResult, NoMemory>
     requires runs { RunsThread H.course component.now thread store.old }
     requires calls { calls_host (op_of component.now thread store.old.state.core) ≡ true }
-    ensures stands { standing store.new ≡ standing store.old }
+    ensures stands { constants store.new ≡ constants store.old }
     ensures steps { IfOk result (λ stepped. StepsUntold H.course component.now thread store.old stepped store.new trace.old trace.new) }
     ensures listeners { OnOk result (store.new.listeners ≡ store.old.listeners) }
     ensures err { OnErr result (trace.new ≡ trace.old) }
@@ -180,7 +180,7 @@ fn step_thread<T, H: AccessorTask<T> + FromHost, G: TaskGroupHook>(
     trace: &mut PackedLabels,
 ) -> Result<StepResult, NoMemory>
     requires runs { RunsThread H.course component.now thread store.old }
-    ensures stands { standing store.new ≡ standing store.old }
+    ensures stands { constants store.new ≡ constants store.old }
     ensures steps { IfOk result (λ stepped. StepsUntold H.course component.now thread store.old stepped store.new trace.old trace.new) }
     ensures listeners { OnOk result (store.new.listeners ≡ store.old.listeners) }
     ensures err { OnErr result (trace.new ≡ trace.old) }
@@ -207,7 +207,7 @@ fn run_thread<T, H: AccessorTask<T> + FromHost, G: TaskGroupHook>(
     requires runs { RunsThread H.course component.now thread store.old }
     requires running { running.old ≡ group_running store.old.state (Turn.Run thread) }
     requires asked { IsAsked store.old.state }
-    ensures stands { standing store.new ≡ standing store.old }
+    ensures stands { constants store.new ≡ constants store.old }
     ensures ran {
         RunsTo H.course component.now thread store.old result running.new store.new trace.old trace.new }
 {
@@ -242,7 +242,7 @@ fn poll_work<T, H: AccessorTask<T> + FromHost, G: TaskGroupHook>(
     requires at { IsAtTurn component.now (Turn.Futures polled) store.old.state }
     requires hosts { HoldsHosts H.course store.old }
     requires asked { IsAsked store.old.state }
-    ensures stands { standing store.new ≡ standing store.old }
+    ensures stands { constants store.new ≡ constants store.old }
     ensures works { KeepsWorks store.old.state store.new.state × HoldsHosts H.course store.new }
     ensures polled {
         WorkPollsTo (Turn.Futures polled) store.old result running.new store.new trace.old trace.new }
@@ -423,7 +423,7 @@ impl RunConcurrent {
                     if is_over(stepped) {
                         return Ok(self.ends::<P>(outcome_in(trace), false));
                     }
-                    self.yield_budget = paced_by::<P>(self.yield_budget, next);
+                    self.yield_budget = spent_by::<P>(self.yield_budget, next);
                     if rests {
                         return Ok(Stop::Rests);
                     }
@@ -495,6 +495,6 @@ impl RunConcurrent {
     pub fn end<T, H, G: TaskGroupHook>(self, store: &mut Store<T, H, G>)
         ensures { store.new ≡ record store.old { running = false } }
     {
-        store.end_run(self.standing);
+        store.end_run(self.active);
     }
 }

@@ -1,5 +1,5 @@
 use Rattle.ops_dispatch.proofs.GoesLemmasDispatch.{same_goes}
-use Rattle.ops_dispatch.proofs.RowLemmas.{data_shows}
+use Rattle.ops_dispatch.proofs.RuleLemmas.{data_shows}
 use Rattle.ops_dispatch.proofs.StayLemmas.{same_stays}
 use Rattle.ops_turns.proofs.SteppedLemmas.{IfOk_then}
 use Rattle.machine_data.specs.declared.op.Op.TheVariants as op
@@ -14,13 +14,13 @@ show-requires-clause-unwinds g c =
     let v = g.W.View.view in
     let s = v c.args.w.now in
     let u = v c.compute-op_result.new.w in
-    unwinds c.compute-op_result.result c.args.thread s u c.requires.runner (same_stays _ s u c.compute-op_result.result (c.compute-op_result.ensures.meets c.args.component.now c.requires.within.1) c.compute-op_result.ensures.tags c.compute-op_result.ensures.current)
+    unwinds c.compute-op_result.result c.args.thread s u c.requires.runner (same_stays _ s u c.compute-op_result.result (c.compute-op_result.ensures.implements c.args.component.now c.requires.within.1) c.compute-op_result.ensures.tags c.compute-op_result.ensures.current)
 
 pub show-requires-clause-goes : goal.show-requires-clause-goes
 show-requires-clause-goes g c =
     let v = g.W.View.view in
     let u = v c.compute-op_result.new.w in
-    same_goes c.args.thread _ (v c.args.w.now) u c.compute-op_result.result (data_shows c.args.component.now _ _ c.args.op.now) (c.compute-op_result.ensures.meets c.args.component.now c.requires.within.1) c.requires.runner.current c.compute-op_result.ensures.tags c.compute-op_result.ensures.current
+    same_goes c.args.thread _ (v c.args.w.now) u c.compute-op_result.result (data_shows c.args.component.now _ _ c.args.op.now) (c.compute-op_result.ensures.implements c.args.component.now c.requires.within.1) c.requires.runner.current c.compute-op_result.ensures.tags c.compute-op_result.ensures.current
 
 pub returns-clause-shown : goal.returns-clause-shown
 returns-clause-shown g c =
@@ -33,7 +33,7 @@ returns-clause-shown g c =
     (λ q h. record {
       op_result = c.compute-op_result.result;
       left = u;
-      meets = c.compute-op_result.ensures.meets c.args.component.now c.requires.within.1;
-      stays = same_stays _ s u c.compute-op_result.result (c.compute-op_result.ensures.meets c.args.component.now c.requires.within.1) c.compute-op_result.ensures.tags c.compute-op_result.ensures.current;
+      implements = c.compute-op_result.ensures.implements c.args.component.now c.requires.within.1;
+      stays = same_stays _ s u c.compute-op_result.result (c.compute-op_result.ensures.implements c.args.component.now c.requires.within.1) c.compute-op_result.ensures.tags c.compute-op_result.ensures.current;
       shown = h;
     })

@@ -48,7 +48,7 @@ returns-clause-ran g c =
     record {
       op_result = c.in_ok-done.done.op_result;
       left = u;
-      meets = did.meets;
+      implements = did.implements;
       stays = did.stays;
       label = c.made_of.ensures.label;
       turn = c.made_of.ensures.turn;

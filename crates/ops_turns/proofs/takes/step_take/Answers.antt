@@ -64,7 +64,7 @@ returns-in_ok-stepped-clause-took g c =
     let after = c.step_thread.new.trace in
     let h = c.in_ok-stepped.ensures.shown in
     take_added c.args.component.now c.args.ended q.mark q.thread (thread_of s q.thread) s (with_current (Some q.thread) u) h.left t h.op_result c.in_ok-stepped.stepped before after
-    (ap (λ (x : StateView). thread_of x q.thread) left) (ap (λ (x : StateView). x.core) left) next h.meets h.stays h.shown
+    (ap (λ (x : StateView). thread_of x q.thread) left) (ap (λ (x : StateView). x.core) left) next h.implements h.stays h.shown
 
 -- ---- A push
 
@@ -123,7 +123,7 @@ returns-in_ok-stepped-in-Some-default-Host-clause-took g c =
     let q = c.in-Some-default-Host in
     let at = q.is ∙ ap (λ (e : EntryId). Some (q.mark, e)) q.field-0-1-is in
     let makes = host_makes c.args.component.now c.args.ended q.mark q.work s u (v c.step_host-made.new.w) c.step_host-made.result c.requires.current (left_is s u c.take_next.result q.mark (entries.Host q.work) c.take_next.ensures.taken at)
-    (next_is s c.take_next.result q.mark (entries.Host q.work) c.take_next.ensures.next at) c.step_host-made.ensures.meets c.step_host-made.ensures.current c.step_host-made.ensures.turn in
+    (next_is s c.take_next.result q.mark (entries.Host q.work) c.take_next.ensures.next at) c.step_host-made.ensures.implements c.step_host-made.ensures.current c.step_host-made.ensures.turn in
     let t = v c.step_host-made.new.w in
     let before = c.args.trace.now in
     (c.step_host-made.result, (c.in_ok-stepped-in-Some-default-Host.ensures.stands, makes))

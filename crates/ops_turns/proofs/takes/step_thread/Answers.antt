@@ -32,7 +32,7 @@ returns-clause-shown g c =
     let t = v c.show_taken.new.w in
     let id = c.args.thread in
     let op_result = c.in-Ok.op_result in
-    let meets = subst (λ (u : StateView). Implements (thread_taken c.args.mark (thread_of u id) (choice_of (label_of (thread_of u id) op_result)) u.core (place_of (thread_of u id) u.core)) u.core op_result w.core) c.set_current.ensures c.in-Ok.ensures.meets in
+    let implements = subst (λ (u : StateView). Implements (thread_taken c.args.mark (thread_of u id) (choice_of (label_of (thread_of u id) op_result)) u.core (place_of (thread_of u id) u.core)) u.core op_result w.core) c.set_current.ensures c.in-Ok.ensures.implements in
     let stays = subst (λ (u : StateView). StaysAfter op_result u w) c.set_current.ensures c.in-Ok.ensures.stays in
     IfOk_then c.show_taken.result {Q = λ (q : StepResult). RuleShown (λ (r : OpResult). thread_taken c.args.mark (thread_of s id) (choice_of (label_of (thread_of s id) r)) s.core (place_of (thread_of s id) s.core)) id (with_current (Some id) s) c.args.trace.now q t c.show_taken.new.trace} c.show_taken.ensures.shown
-    (λ q shown. record { op_result = op_result; left = w; meets = meets; stays = stays; shown = shown })
+    (λ q shown. record { op_result = op_result; left = w; implements = implements; stays = stays; shown = shown })

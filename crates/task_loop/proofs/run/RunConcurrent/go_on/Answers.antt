@@ -5,7 +5,7 @@ use Rattle.std.proofs.Common.{ap, arith, refl, subst, sym, ◌∙◌}
 use Rattle.std.specs.Prelude.{None, Option, Some, false, true, ◌+◌, ◌<◌, ◌^◌, ◌≡◌}
 use Rattle.task_loop.proofs.HasPolledLemmas.{polled_idles, polled_none, polled_out, polled_over, polled_rests, polled_yields}
 use Rattle.task_loop.proofs.HasRunLemmas.{come_computed, come_first, come_goes, come_halts, come_may, come_none, come_out, come_over, come_rests, come_short, gives_halt, goes_on_by, opened, over_told, stops_by, turned_as}
-use Rattle.task_loop.proofs.PausedLemmas.{paced_data, paced_none, poll_goes}
+use Rattle.task_loop.proofs.PausedLemmas.{spent_data, spent_none, poll_goes}
 use Rattle.task_loop.proofs.RunPollLemmas.{and_false}
 use Rattle.task_loop.proofs.ToldLemmas.{current_is, group_computed}
 use Rattle.task_loop.proofs.run.RunConcurrent.go_on.Goals as goal
@@ -27,7 +27,7 @@ turns-init g c =
     record {
       come = come_first _ _ _ _ c.requires.may;
       kept = λ driven. refl;
-      paced = λ polled. paced_none c.args.self.now.yield_budget.passes c.args.self.now.yield_budget.since c.args.trace.now;
+      spent = λ polled. spent_none c.args.self.now.yield_budget.passes c.args.self.now.yield_budget.since c.args.trace.now;
       few = omega arith;
       running = c.group_now-running.ensures ∙ current_is c.args.store.now.state c.args.self.now.turn c.requires.may.stands.running;
     }
@@ -46,8 +46,8 @@ turn-requires g c =
     let room : given c.turns.store.state.core + 4 < 2 ^ 61 = omega (arith, few, first) in
     record { may = come_may says course d a u n come c.turns.running c.requires.may.covered room c.turns.invariant.running }
 
-pub paced_by-self-requires : goal.paced_by-self-requires
-paced_by-self-requires g c = sym c.yields_by.ensures ∙ c.if-yields_by.false
+pub spent_by-self-requires : goal.spent_by-self-requires
+spent_by-self-requires g c = sym c.yields_by.ensures ∙ c.if-yields_by.false
 
 pub compute-all-requires-clause-covered : goal.compute-all-requires-clause-covered
 compute-all-requires-clause-covered g c = c.requires.may.covered
@@ -99,7 +99,7 @@ turns-preserved g c =
     let yield_budget = c.args.self.now.yield_budget in
     let b = c.turns.self.yield_budget.passes in
     let k = c.turns.self.yield_budget.since in
-    let paced = c.turns.invariant.paced in
+    let spent = c.turns.invariant.spent in
     let v = at c.turns.self c.turn.new.main c.turn.new.store c.turn.new.trace in
     let r = c.turn.new.running in
     let q = c.in-Some.stepped in
@@ -110,15 +110,15 @@ turns-preserved g c =
     record {
       come = come_computed says course d a (record v { turn = turn_of q }) (n + 1) goes c.compute-all.new.w c.compute-all.new.trace c.in-Ok-all.all all.on all.computes all.still c.in-Ok-all.ensures.works
           (λ last knows. g.met.M.MainTask.stays c.turn.new.main c.turn.new.store.state c.compute-all.new.w last knows);
-      kept = λ driven. c.paced_by-self.ensures.kept driven ∙ c.turns.invariant.kept driven;
-      paced = λ polled.
+      kept = λ driven. c.spent_by-self.ensures.kept driven ∙ c.turns.invariant.kept driven;
+      spent = λ polled.
           let next = c.next_mark-next.ensures polled in
           let stays = subst (λ (o : Option Mark). yields_before b k o ≡ false) next (and_false stops (yields_before b k c.next_mark-next.result) polled (sym c.yields_by.ensures ∙ c.if-yields_by.false)) in
           let rests = subst (λ (o : Option Mark). rests_by c.turns.self.turn o ≡ false) next (and_false stops (rests_by c.turns.self.turn c.next_mark-next.result) polled (sym c.rests_with-rests.ensures ∙ c.if-rests.false)) in
-          let since = c.paced_by-self.ensures.since polled ∙ ap (λ (o : Option Mark). counted k o) next in
-          let more = poll_goes (setting says course d a) (state says course d a) a.trace (numbers says course d a) yield_budget c.args.steps u.turn (says.part u.main) u.store.state u.trace n b k come.on (paced polled) (says.part v.main) v.store.state v.trace (turn_of q)
-          (opened says course d a u n come v r q open op_result) stays c.paced_by-self.result.passes c.paced_by-self.result.since rests since (c.paced_by-self.ensures.passes polled) in
-          paced_data yield_budget.passes yield_budget.since a.trace c.turn.new.trace c.paced_by-self.result.passes c.paced_by-self.result.since more all.computes.labels c.compute-all.new.trace all.computes.computing all.computes.trace (c.paced_by-self.ensures.passes polled);
+          let since = c.spent_by-self.ensures.since polled ∙ ap (λ (o : Option Mark). counted k o) next in
+          let more = poll_goes (setting says course d a) (state says course d a) a.trace (numbers says course d a) yield_budget c.args.steps u.turn (says.part u.main) u.store.state u.trace n b k come.on (spent polled) (says.part v.main) v.store.state v.trace (turn_of q)
+          (opened says course d a u n come v r q open op_result) stays c.spent_by-self.result.passes c.spent_by-self.result.since rests since (c.spent_by-self.ensures.passes polled) in
+          spent_data yield_budget.passes yield_budget.since a.trace c.turn.new.trace c.spent_by-self.result.passes c.spent_by-self.result.since more all.computes.labels c.compute-all.new.trace all.computes.computing all.computes.trace (c.spent_by-self.ensures.passes polled);
       few = all.few;
       running = op_result.group ∙ sym (group_computed d c.turn.new.store.state c.turn.new.trace (n + 1) c.compute-all.new.w c.compute-all.new.trace c.in-Ok-all.all (setting says course d a) refl (ap (λ (ts : Tags). ts.tracked) c.in-Ok-all.ensures.works.tags) (turn_of q) all.computes all.still);
     }
@@ -138,11 +138,11 @@ returns-then-yields_by-clause-gone g c =
     let yield_budget = c.args.self.now.yield_budget in
     let b = c.turns.self.yield_budget.passes in
     let k = c.turns.self.yield_budget.since in
-    let paced = c.turns.invariant.paced in
+    let spent = c.turns.invariant.spent in
     let both = and_parts stops (yields_before b k c.next_mark-next.result) (sym c.yields_by.ensures ∙ c.if-yields_by.true) in
     let yields = subst (λ (o : Option Mark). yields_before b k o ≡ true) (c.next_mark-next.ensures both.0) both.1 in
     stops_by says course d a u c.args.steps stops stop.Yields yield_budget c.yielded-self.result both.0
-    (polled_yields says course d a u n come yield_budget c.args.steps b k (paced both.0) c.yielded-self.result (omega arith) yields c.yielded-self.ensures.since c.yielded-self.ensures.passes)
+    (polled_yields says course d a u n come yield_budget c.args.steps b k (spent both.0) c.yielded-self.result (omega arith) yields c.yielded-self.ensures.since c.yielded-self.ensures.passes)
 
 pub returns-in-None-clause-gone : goal.returns-in-None-clause-gone
 returns-in-None-clause-gone g c =
@@ -157,7 +157,7 @@ returns-in-None-clause-gone g c =
     let yield_budget = c.args.self.now.yield_budget in
     let b = c.turns.self.yield_budget.passes in
     let k = c.turns.self.yield_budget.since in
-    let paced = c.turns.invariant.paced in
+    let spent = c.turns.invariant.spent in
     let v = at c.turns.self c.turn.new.main c.turn.new.store c.turn.new.trace in
     let r = c.turn.new.running in
     let op_result = turned_as says course d u v r _ None c.in-None.is c.in_ok-turned.ensures.turned in
@@ -165,7 +165,7 @@ returns-in-None-clause-gone g c =
     rw c.ends.ensures.stop
     (subst (λ (w : RunConcurrent). GoesTo says course d stops c.args.steps (stop.Ends outcome.Idle) yield_budget a (at w c.turn.new.main c.turn.new.store c.turn.new.trace) yield_budget') (sym c.ends.ensures.new)
     (goes_on_by says course d a v c.args.steps stops (stop.Ends outcome.Idle) yield_budget yield_budget' (λ driven. come_none says course d a u n come v r c.args.steps (omega arith) op_result)
-    (λ polled. polled_none says course d a u n come yield_budget c.args.steps b k (paced polled) yield_budget' v r (omega arith) op_result (c.ends.ensures.since polled) (c.ends.ensures.passes polled))))
+    (λ polled. polled_none says course d a u n come yield_budget c.args.steps b k (spent polled) yield_budget' v r (omega arith) op_result (c.ends.ensures.since polled) (c.ends.ensures.passes polled))))
 
 pub outcome_in-requires : goal.outcome_in-requires
 outcome_in-requires g c =
@@ -193,7 +193,7 @@ returns-then-is_over-clause-gone g c =
     let yield_budget = c.args.self.now.yield_budget in
     let b = c.turns.self.yield_budget.passes in
     let k = c.turns.self.yield_budget.since in
-    let paced = c.turns.invariant.paced in
+    let spent = c.turns.invariant.spent in
     let v = at c.turns.self c.turn.new.main c.turn.new.store c.turn.new.trace in
     let r = c.turn.new.running in
     let q = c.in-Some.stepped in
@@ -206,7 +206,7 @@ returns-then-is_over-clause-gone g c =
     (subst (λ (w : RunConcurrent). GoesTo says course d stops c.args.steps (stop.Ends o) yield_budget a (at w c.turn.new.main c.turn.new.store c.turn.new.trace) yield_budget') (sym ends.ensures.new)
     (subst (λ (p : Turn). GoesTo says course d stops c.args.steps (stop.Ends o) yield_budget a (record v { turn = p }) yield_budget') (sym over)
     (goes_on_by says course d a (record v { turn = turn.Over }) c.args.steps stops (stop.Ends o) yield_budget yield_budget' (λ driven. come_over says course d a u n come v r c.args.steps q o (omega arith) over c.outcome_in.ensures op_result)
-    (λ polled. polled_over says course d a u n come yield_budget c.args.steps b k (paced polled) yield_budget' v r q o (omega arith) over c.outcome_in.ensures op_result (ends.ensures.since polled) (ends.ensures.passes polled)))))
+    (λ polled. polled_over says course d a u n come yield_budget c.args.steps b k (spent polled) yield_budget' v r q o (omega arith) over c.outcome_in.ensures op_result (ends.ensures.since polled) (ends.ensures.passes polled)))))
 
 pub returns-then-rests-clause-gone : goal.returns-then-rests-clause-gone
 returns-then-rests-clause-gone g c =
@@ -221,7 +221,7 @@ returns-then-rests-clause-gone g c =
     let yield_budget = c.args.self.now.yield_budget in
     let b = c.turns.self.yield_budget.passes in
     let k = c.turns.self.yield_budget.since in
-    let paced = c.turns.invariant.paced in
+    let spent = c.turns.invariant.spent in
     let v = at c.turns.self c.turn.new.main c.turn.new.store c.turn.new.trace in
     let r = c.turn.new.running in
     let q = c.in-Some.stepped in
@@ -233,9 +233,9 @@ returns-then-rests-clause-gone g c =
     let next = c.next_mark-next.ensures polled in
     let stays = subst (λ (o : Option Mark). yields_before b k o ≡ false) next (and_false stops (yields_before b k c.next_mark-next.result) polled (sym c.yields_by.ensures ∙ c.if-yields_by.false)) in
     let rests = subst (λ (o : Option Mark). rests_by c.turns.self.turn o ≡ true) next both.1 in
-    let since = c.paced_by-self.ensures.since polled ∙ ap (λ (o : Option Mark). counted k o) next in
-    stops_by says course d a (record v { turn = turn_of q }) c.args.steps stops stop.Rests yield_budget c.paced_by-self.result polled
-    (polled_rests says course d a u n come yield_budget c.args.steps b k (paced polled) c.paced_by-self.result v r q open (omega arith) op_result c.turn.ensures.keeps stays rests since (c.paced_by-self.ensures.passes polled))
+    let since = c.spent_by-self.ensures.since polled ∙ ap (λ (o : Option Mark). counted k o) next in
+    stops_by says course d a (record v { turn = turn_of q }) c.args.steps stops stop.Rests yield_budget c.spent_by-self.result polled
+    (polled_rests says course d a u n come yield_budget c.args.steps b k (spent polled) c.spent_by-self.result v r q open (omega arith) op_result c.turn.ensures.keeps stays rests since (c.spent_by-self.ensures.passes polled))
 
 pub returns-then-is_idle-clause-gone : goal.returns-then-is_idle-clause-gone
 returns-then-is_idle-clause-gone g c =
@@ -250,14 +250,14 @@ returns-then-is_idle-clause-gone g c =
     let yield_budget = c.args.self.now.yield_budget in
     let b = c.turns.self.yield_budget.passes in
     let k = c.turns.self.yield_budget.since in
-    let paced = c.turns.invariant.paced in
+    let spent = c.turns.invariant.spent in
     let rests = c.is_idle.ensures (setting says course d a) come.on.at.order (ap idle_line_of (sym come.keeps.idle)) (says.part c.turns.main) come.on.pends ∙ c.if-is_idle.true in
     let ends = c.ends-then-is_idle in
     let yield_budget' = ends.new.self.yield_budget in
     rw ends.ensures.stop
     (subst (λ (w : RunConcurrent). GoesTo says course d stops c.args.steps (stop.Ends outcome.Idle) yield_budget a (at w c.turns.main c.turns.store c.turns.trace) yield_budget') (sym ends.ensures.new)
     (goes_on_by says course d a u c.args.steps stops (stop.Ends outcome.Idle) yield_budget yield_budget' (λ driven. come_rests says course d a u n come c.args.steps (omega arith) rests)
-    (λ polled. polled_idles says course d a u n come yield_budget c.args.steps b k (paced polled) yield_budget' (omega arith) rests (ends.ensures.since polled) (ends.ensures.passes polled))))
+    (λ polled. polled_idles says course d a u n come yield_budget c.args.steps b k (spent polled) yield_budget' (omega arith) rests (ends.ensures.since polled) (ends.ensures.passes polled))))
 
 pub returns-clause-gone : goal.returns-clause-gone
 returns-clause-gone g c =
@@ -272,14 +272,14 @@ returns-clause-gone g c =
     let yield_budget = c.args.self.now.yield_budget in
     let b = c.turns.self.yield_budget.passes in
     let k = c.turns.self.yield_budget.since in
-    let paced = c.turns.invariant.paced in
+    let spent = c.turns.invariant.spent in
     let moves = c.is_idle.ensures (setting says course d a) come.on.at.order (ap idle_line_of (sym come.keeps.idle)) (says.part c.turns.main) come.on.pends ∙ c.if-is_idle.false in
     let ends = c.ends-2 in
     let yield_budget' = ends.new.self.yield_budget in
     rw ends.ensures.stop
     (subst (λ (w : RunConcurrent). GoesTo says course d stops c.args.steps (stop.Ends outcome.OutOfSteps) yield_budget a (at w c.turns.main c.turns.store c.turns.trace) yield_budget') (sym ends.ensures.new)
     (goes_on_by says course d a u c.args.steps stops (stop.Ends outcome.OutOfSteps) yield_budget yield_budget' (λ driven. come_out says course d a u n come c.args.steps (omega arith) moves)
-    (λ polled. polled_out says course d a u n come yield_budget c.args.steps b k (paced polled) yield_budget' (omega arith) moves (ends.ensures.since polled) (ends.ensures.passes polled))))
+    (λ polled. polled_out says course d a u n come yield_budget c.args.steps b k (spent polled) yield_budget' (omega arith) moves (ends.ensures.since polled) (ends.ensures.passes polled))))
 
 -- ---- It is out of memory, or the hook fails
 
@@ -316,53 +316,53 @@ pub returns-in_err-turned-clause-keeps : goal.returns-in_err-turned-clause-keeps
 returns-in_err-turned-clause-keeps g c =
     let come = c.turns.invariant.come in
     let kept = c.turn.ensures.keeps in
-    record { script = kept.script ∙ come.keeps.script; idle = come.keeps.idle; standing = kept.standing ∙ come.keeps.standing }
+    record { script = kept.script ∙ come.keeps.script; idle = come.keeps.idle; constants = kept.constants ∙ come.keeps.constants }
 
 pub returns-in_default-all-clause-keeps : goal.returns-in_default-all-clause-keeps
 returns-in_default-all-clause-keeps g c =
     let come = c.turns.invariant.come in
     let kept = c.turn.ensures.keeps in
-    record { script = kept.script ∙ come.keeps.script; idle = come.keeps.idle; standing = kept.standing ∙ come.keeps.standing }
+    record { script = kept.script ∙ come.keeps.script; idle = come.keeps.idle; constants = kept.constants ∙ come.keeps.constants }
 
 pub returns-in-None-clause-keeps : goal.returns-in-None-clause-keeps
 returns-in-None-clause-keeps g c =
     let come = c.turns.invariant.come in
     let kept = c.turn.ensures.keeps in
-    record { script = kept.script ∙ come.keeps.script; idle = ap (λ (r : RunConcurrent). r.trap_on_idle) c.ends.ensures.new ∙ come.keeps.idle; standing = kept.standing ∙ come.keeps.standing }
+    record { script = kept.script ∙ come.keeps.script; idle = ap (λ (r : RunConcurrent). r.trap_on_idle) c.ends.ensures.new ∙ come.keeps.idle; constants = kept.constants ∙ come.keeps.constants }
 
 pub returns-then-is_over-clause-keeps : goal.returns-then-is_over-clause-keeps
 returns-then-is_over-clause-keeps g c =
     let come = c.turns.invariant.come in
     let kept = c.turn.ensures.keeps in
-    record { script = kept.script ∙ come.keeps.script; idle = ap (λ (r : RunConcurrent). r.trap_on_idle) c.ends-then-is_over.ensures.new ∙ come.keeps.idle; standing = kept.standing ∙ come.keeps.standing }
+    record { script = kept.script ∙ come.keeps.script; idle = ap (λ (r : RunConcurrent). r.trap_on_idle) c.ends-then-is_over.ensures.new ∙ come.keeps.idle; constants = kept.constants ∙ come.keeps.constants }
 
 pub returns-then-rests-clause-keeps : goal.returns-then-rests-clause-keeps
 returns-then-rests-clause-keeps g c =
     let come = c.turns.invariant.come in
     let kept = c.turn.ensures.keeps in
-    record { script = kept.script ∙ come.keeps.script; idle = come.keeps.idle; standing = kept.standing ∙ come.keeps.standing }
+    record { script = kept.script ∙ come.keeps.script; idle = come.keeps.idle; constants = kept.constants ∙ come.keeps.constants }
 
 pub returns-then-yields_by-clause-keeps : goal.returns-then-yields_by-clause-keeps
 returns-then-yields_by-clause-keeps g c =
     let come = c.turns.invariant.come in
-    record { script = come.keeps.script; idle = come.keeps.idle; standing = come.keeps.standing }
+    record { script = come.keeps.script; idle = come.keeps.idle; constants = come.keeps.constants }
 
 pub returns-then-is_idle-clause-keeps : goal.returns-then-is_idle-clause-keeps
 returns-then-is_idle-clause-keeps g c =
     let come = c.turns.invariant.come in
-    record { script = come.keeps.script; idle = ap (λ (r : RunConcurrent). r.trap_on_idle) c.ends-then-is_idle.ensures.new ∙ come.keeps.idle; standing = come.keeps.standing }
+    record { script = come.keeps.script; idle = ap (λ (r : RunConcurrent). r.trap_on_idle) c.ends-then-is_idle.ensures.new ∙ come.keeps.idle; constants = come.keeps.constants }
 
 pub returns-clause-keeps : goal.returns-clause-keeps
 returns-clause-keeps g c =
     let come = c.turns.invariant.come in
-    record { script = come.keeps.script; idle = ap (λ (r : RunConcurrent). r.trap_on_idle) c.ends-2.ensures.new ∙ come.keeps.idle; standing = come.keeps.standing }
+    record { script = come.keeps.script; idle = ap (λ (r : RunConcurrent). r.trap_on_idle) c.ends-2.ensures.new ∙ come.keeps.idle; constants = come.keeps.constants }
 
 -- the pace stays if the policy never stops the turns
 pub returns-in_err-turned-clause-kept : goal.returns-in_err-turned-clause-kept
 returns-in_err-turned-clause-kept g c = λ driven. c.turns.invariant.kept driven
 
 pub returns-in_default-all-clause-kept : goal.returns-in_default-all-clause-kept
-returns-in_default-all-clause-kept g c = λ driven. c.paced_by-self.ensures.kept driven ∙ c.turns.invariant.kept driven
+returns-in_default-all-clause-kept g c = λ driven. c.spent_by-self.ensures.kept driven ∙ c.turns.invariant.kept driven
 
 pub returns-in-None-clause-kept : goal.returns-in-None-clause-kept
 returns-in-None-clause-kept g c = λ driven. c.ends.ensures.kept driven ∙ c.turns.invariant.kept driven
@@ -371,7 +371,7 @@ pub returns-then-is_over-clause-kept : goal.returns-then-is_over-clause-kept
 returns-then-is_over-clause-kept g c = λ driven. c.ends-then-is_over.ensures.kept driven ∙ c.turns.invariant.kept driven
 
 pub returns-then-rests-clause-kept : goal.returns-then-rests-clause-kept
-returns-then-rests-clause-kept g c = λ driven. c.paced_by-self.ensures.kept driven ∙ c.turns.invariant.kept driven
+returns-then-rests-clause-kept g c = λ driven. c.spent_by-self.ensures.kept driven ∙ c.turns.invariant.kept driven
 
 pub returns-then-yields_by-clause-kept : goal.returns-then-yields_by-clause-kept
 returns-then-yields_by-clause-kept g c = λ driven. let on = (and_parts g.P.Policy.YIELDS (yields_before c.turns.self.yield_budget.passes c.turns.self.yield_budget.since c.next_mark-next.result) (sym c.yields_by.ensures ∙ c.if-yields_by.true)).0 in absurd (cc)

@@ -2,7 +2,7 @@
 use Rattle.std.proofs.Common.{◌≡◌, ◌≤◌, ◌-◌}
 use Rattle.std.specs.Prelude.{false, true}
 use Rattle.task_loop.proofs.HasRunLemmas.{HasCome}
-use Rattle.task_loop.proofs.PausedLemmas.{Paced}
+use Rattle.task_loop.proofs.PausedLemmas.{Spent}
 use Rattle.task_loop.proofs.run.RunConcurrent.go_on.Given as goal
 use Rattle.task_loop.specs.HasRun.{at}
 use Rattle.task_loop.specs.Told.{group_running}
@@ -11,7 +11,7 @@ abbrev pub invariant-turns : goal.invariant-turns
 invariant-turns g l = record {
   come : HasCome g.M.MainTask.says g.H.HostWork.course l.component (at l.initial.self l.initial.main l.initial.store l.initial.trace) (at l.self l.main l.store l.trace) l.added;
   kept : g.P.Policy.YIELDS ≡ false → l.self.yield_budget ≡ l.initial.self.yield_budget;
-  paced : g.P.Policy.YIELDS ≡ true → Paced l.initial.self.yield_budget.passes l.initial.self.yield_budget.since l.initial.trace l.trace l.self.yield_budget.passes l.self.yield_budget.since;
+  spent : g.P.Policy.YIELDS ≡ true → Spent l.initial.self.yield_budget.passes l.initial.self.yield_budget.since l.initial.trace l.trace l.self.yield_budget.passes l.self.yield_budget.since;
   few : l.added ≤ l.steps;
   running : l.running ≡ group_running l.store.state l.self.turn;
 }

@@ -12,7 +12,7 @@ use Rattle.task_loop.proofs.run.RunConcurrent.turn.Goals as goal
 use Rattle.task_loop.specs.HasRun.{HasHalted, HasTurned, at}
 use Rattle.task_loop.specs.Threads.{RunsTo, WorkPollsTo}
 use Rattle.task_loop.specs.Ran.{DoesStep}
-use Rattle.task_loop.specs.Standing.{standing}
+use Rattle.task_loop.specs.Constants.{constants}
 use Rattle.task_loop.specs.Told.{TurnTold, group_running, turn_of}
 use Rattle.task_loop.specs.declared.run.Halt.TheVariants as halt
 use Rattle.machine_data.specs.Core.{Main}
@@ -261,25 +261,25 @@ returns-in-Take-clause-turned g c =
 -- ---- What stays
 
 pub returns-in_ok-stepped-clause-keeps : goal.returns-in_ok-stepped-clause-keeps
-returns-in_ok-stepped-clause-keeps g c = record { script = c.step_main.ensures.script; idle = refl; standing = c.step_main.ensures.stands }
+returns-in_ok-stepped-clause-keeps g c = record { script = c.step_main.ensures.script; idle = refl; constants = c.step_main.ensures.stands }
 
 pub returns-in_err-stepped-clause-keeps : goal.returns-in_err-stepped-clause-keeps
-returns-in_err-stepped-clause-keeps g c = record { script = c.step_main.ensures.script; idle = refl; standing = c.step_main.ensures.stands }
+returns-in_err-stepped-clause-keeps g c = record { script = c.step_main.ensures.script; idle = refl; constants = c.step_main.ensures.stands }
 
 pub returns-in_ok-stepped-in-Futures-clause-keeps : goal.returns-in_ok-stepped-in-Futures-clause-keeps
-returns-in_ok-stepped-in-Futures-clause-keeps g c = record { script = refl; idle = refl; standing = c.poll_work.ensures.stands }
+returns-in_ok-stepped-in-Futures-clause-keeps g c = record { script = refl; idle = refl; constants = c.poll_work.ensures.stands }
 
 pub returns-in_err-stepped-in-Futures-clause-keeps : goal.returns-in_err-stepped-in-Futures-clause-keeps
-returns-in_err-stepped-in-Futures-clause-keeps g c = record { script = refl; idle = refl; standing = c.poll_work.ensures.stands }
+returns-in_err-stepped-in-Futures-clause-keeps g c = record { script = refl; idle = refl; constants = c.poll_work.ensures.stands }
 
 pub returns-in_ok-stepped-in-Run-clause-keeps : goal.returns-in_ok-stepped-in-Run-clause-keeps
-returns-in_ok-stepped-in-Run-clause-keeps g c = record { script = refl; idle = refl; standing = c.run_thread.ensures.stands }
+returns-in_ok-stepped-in-Run-clause-keeps g c = record { script = refl; idle = refl; constants = c.run_thread.ensures.stands }
 
 pub returns-in_err-stepped-in-Run-clause-keeps : goal.returns-in_err-stepped-in-Run-clause-keeps
-returns-in_err-stepped-in-Run-clause-keeps g c = record { script = refl; idle = refl; standing = c.run_thread.ensures.stands }
+returns-in_err-stepped-in-Run-clause-keeps g c = record { script = refl; idle = refl; constants = c.run_thread.ensures.stands }
 
 pub returns-in-Take-clause-keeps : goal.returns-in-Take-clause-keeps
-returns-in-Take-clause-keeps g c = record { script = refl; idle = refl; standing = ap (λ (st : Store _ _ _). standing st) c.take_entry.ensures.rest }
+returns-in-Take-clause-keeps g c = record { script = refl; idle = refl; constants = ap (λ (st : Store _ _ _). constants st) c.take_entry.ensures.rest }
 
 -- the run isn't over
 pub unreachable-requires : goal.unreachable-requires
