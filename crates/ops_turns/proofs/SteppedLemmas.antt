@@ -84,7 +84,7 @@ module _ (id : TableId ThreadKey) (s t : StateView) (stepped : StepResult) (befo
   pub rule_as : (P Q : OpResult → Progress) → ((r : OpResult) (u : Core) → Implements (P r) s.core r u → Implements (Q r) s.core r u) → RuleShown P id s before stepped t after → RuleShown Q id s before stepped t after
   rule_as P Q same h = record { op_result = h.op_result; left = h.left; implements = same h.op_result h.left.core h.implements; stays = h.stays; shown = h.shown }
 
-  -- an op that met its row made a step
+  -- an op that did its rule made a step
   pub run_added : (c : Component) (n : ℕ) → thread_of s id ≡ n → RuleShown (λ r. did c (thread_of s id) s.core (choice_of (label_of (thread_of s id) r))) id s before stepped t after
       → Added (λ made. MakesStep c (turn.Run n) s made t × IsFree made.turn) stepped before after
   run_added c n number h =
@@ -97,7 +97,7 @@ module _ (id : TableId ThreadKey) (s t : StateView) (stepped : StepResult) (befo
       (made, (h.shown.stands, (makes, after_free h.op_result)))
 
 module _ (id : TableId ThreadKey) (s t : StateView) where
-  -- an op that met its row made a step, whose label is still to be added
+  -- an op that did its rule made a step, whose label is still to be added
   pub ran_made : (c : Component) (n : ℕ) → thread_of s id ≡ n → (made : MadeStep) → RuleRan (λ r. did c (thread_of s id) s.core (choice_of (label_of (thread_of s id) r))) id s made t
       → MakesStep c (turn.Run n) s made t × IsFree made.turn
   ran_made c n number made h =
@@ -112,7 +112,7 @@ module _ (id : TableId ThreadKey) (s t : StateView) where
   rule_ran_as P Q made same h =
       record { op_result = h.op_result; left = h.left; implements = same h.op_result h.left.core h.implements; stays = h.stays; label = h.label; turn = h.turn; core = h.core; running = h.running; over = h.over }
 
--- what an op by its row resulted in is a step of the running thread
+-- what an op by its rule resulted in is a step of the running thread
 module _ (c : Component) (id : TableId ThreadKey) (n : ℕ) (s t : StateView) (number : thread_of s id ≡ n) (o : Op) (is : op_of c (thread_of s id) s.core ≡ o)
     (same : (op_result : OpResult) (u : Core) → Implements (scripted_op_rule c (thread_of s id) s.core (choice_of (label_of (thread_of s id) op_result)) o) s.core op_result u → Implements (did c (thread_of s id) s.core (choice_of (label_of (thread_of s id) op_result))) s.core op_result u) where
   polled_at : (host : Option HostDef) → host ≡ polled_host c (op_progress_of (thread_of s id) s.core) o → host ≡ polled_host c (op_progress_of n s.core) (op_of c n s.core)
@@ -134,7 +134,7 @@ module _ (c : Component) (id : TableId ThreadKey) (n : ℕ) (s t : StateView) (n
       let did_it = rule_ran_as id s t (λ op_result. scripted_op_rule c (thread_of s id) s.core (choice_of (label_of (thread_of s id) op_result)) o) (λ op_result. did c (thread_of s id) s.core (choice_of (label_of (thread_of s id) op_result))) q.0 same row in
       (ran_made id s t c n number q.0 did_it, subst (λ (h : Option HostDef). WorkMade answer h q.1 s t) (polled_at _ refl) work)
 
--- a taking that met its row made a step
+-- a taking that did its rule made a step
 pub take_added : (c : Component) (ended : Bool) (mark : Mark) (id : TableId ThreadKey) (n : ℕ) (s u v t : StateView) (r : OpResult) (stepped : StepResult) (before after : List Label) → thread_of u id ≡ n → u.core ≡ popped mark s.core
     → next_entry s.core ≡ Some (mark, entry.Thread n) → Implements (thread_taken mark (thread_of u id) (choice_of (label_of (thread_of u id) r)) u.core (place_of (thread_of u id) u.core)) u.core r v.core → StaysAfter r u v
     → Shown id r v before stepped t after → Added (λ made. MakesStep c (turn.Take ended) s made t × IsFree made.turn) stepped before after

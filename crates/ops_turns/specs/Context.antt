@@ -30,7 +30,7 @@ DoesData n end o l x s y t =
     (c : Component) → length (script_of c n (in_context n x s)) ≡ end →
     data_rule c n (in_context n x s) o ≡ Continues (label.Data l) (in_context n y t) n
 
--- From s to t instances alone are changed, and none but in its words.
+-- From s to t instances alone are changed, and none but in its memory cells.
 pub record KeepsBeside (s t : StateView) : Type 0 where
   pub threads : t.core.threads ≡ s.core.threads
   pub calls : t.core.calls ≡ s.core.calls

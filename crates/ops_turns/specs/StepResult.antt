@@ -59,7 +59,7 @@ AddedOrNone P (Some stepped) before after = Added (λ made. P (Some made)) stepp
 abbrev pub made_by : ℕ → OpResult → MadeStep
 made_by n r = record { label = label_of n r; turn = turn_after r }
 
--- What the op came to is in the trace, and the strand is gone where it trapped.
+-- What the op resulted in is in the trace, and the strand is gone where it trapped.
 pub record Shown (id : TableId ThreadKey) (r : OpResult) (s : StateView) (before : List Label) (stepped : StepResult) (t : StateView)
     (after : List Label) : Type 0 where
   pub stands : Stands stepped before (made_by (thread_of s id) r) after
@@ -68,7 +68,7 @@ pub record Shown (id : TableId ThreadKey) (r : OpResult) (s : StateView) (before
   pub tags : is_going r ≡ true → t.tags ≡ s.tags
   pub over : is_none (outcome_of_label (label_of (thread_of s id) r)) ≡ is_open (turn_after r)
 
--- The op of the thread came to what its rule says, and what it shows is in the trace.
+-- The op of the thread resulted in what its rule says, and what it shows is in the trace.
 pub record RuleShown (row : OpResult → Progress) (id : TableId ThreadKey) (s : StateView) (before : List Label) (stepped : StepResult)
     (t : StateView) (after : List Label) : Type 0 where
   pub op_result : OpResult

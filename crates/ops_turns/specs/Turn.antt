@@ -114,7 +114,7 @@ CanUnwind (op_result.Traps why) n s = (0 < n) × IsTopmost n s
 CanUnwind (op_result.Fails i) n s = (0 < n) × IsTopmost n s
 CanUnwind _ n s = Unit {0}
 
--- the same of a turn in which main has no part, whatever main is
+-- what a turn leads to in which main has no part, whatever main is
 abbrev pub TurnedBeside : Component → (trap_on_idle : Bool) → Turn → StateView → Option MadeStep → StateView → Type 0
 TurnedBeside c b p s made t =
     (x : Setting) → x.component ≡ c → x.idle ≡ idle_line_of b → (m : Main) → PendsIn x s.core m p → Turned x p m s made m t

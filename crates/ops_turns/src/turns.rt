@@ -101,7 +101,7 @@ pub fn take<W: Primitives>(
     }
 }
 
-/// Returns the ops on registers and memory cells that come next, where a thread runs. They are looked for only where such an op
+/// Does the ops on registers and memory cells that come next, if a thread runs. They are looked for only where such an op
 /// made the last label and another seems to follow it, since ops mostly come alone.
 #[inline(always)]
 pub fn compute<W: Primitives>(

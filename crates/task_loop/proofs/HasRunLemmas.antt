@@ -372,7 +372,7 @@ module _ {M T H G : Type 0} (says : Says M) (course : H → HostDef) (c : Compon
 
   -- ---- Of a drive
 
-  -- what the rows come to is no failed hook
+  -- what the rules result in is no failed hook
   drives_by : (listens : Bool) (o : Outcome) (yield_budget yield_budget' : YieldBudget) → (o ≡ hook_failed → ⊥) → HasDriven says course c steps o yield_budget a b yield_budget' → DrivesTo says course c listens steps (Ok o) yield_budget a b yield_budget'
   drives_by false o yield_budget yield_budget' other d = d
   drives_by true (outcome.Trap trap.HookFailed) yield_budget yield_budget' other d = absurd (other refl)

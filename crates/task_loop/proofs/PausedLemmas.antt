@@ -75,7 +75,7 @@ may_go (outcome.HostFailed i) = refl
 may_go outcome.Idle = refl
 may_go outcome.OutOfSteps = refl
 
--- What an answer by a label is: it is no yield, memory isn't wanting, and the label gives an outcome exactly where the run is over.
+-- What an answer by a label is: it is no yield, it isn't out of memory, and the label gives an outcome exactly where the run is over.
 pub record Ends (l : Label) (r : Result RunPoll TaskError) : Type 0 where
   pub unyielded : is_yielded r ≡ false
   pub there : r ≡ Err task_error.NoMemory → ⊥

@@ -58,11 +58,11 @@ pub record At (M T H G : Type 0) : Type 0 where
 abbrev pub at : {M T H G : Type 0} → RunConcurrent → M → Store T H G → List Label → At M T H G
 at run main store trace = record { turn = run.turn; idle = run.trap_on_idle; main = main; store = store; trace = trace }
 
--- the same at main's turn, with this idle line
+-- a run at main's turn, with this idle line
 abbrev pub at_main : {M T H G : Type 0} → (idle : Bool) → M → Store T H G → List Label → At M T H G
 at_main idle main store trace = record { turn = turn.Main; idle = idle; main = main; store = store; trace = trace }
 
--- What stays whatever a call comes to.
+-- What stays whatever a call results in.
 pub record Keeps {M T H G : Type 0} (says : Says M) (a b : At M T H G) : Type 0 where
   pub script : says.script b.main ≡ says.script a.main
   pub idle : b.idle ≡ a.idle
@@ -197,7 +197,7 @@ module _ {M T H G : Type 0} (says : Says M) (course : H → HostDef) (c : Compon
   RanTo a b =
       Ran says.does (setting a) (state a) a.main a.trace a.store.listeners (state b) b.main b.trace b.store.listeners
 
-  -- ---- It has come to an answer
+  -- ---- It has resulted in an answer
 
   -- A run of at most so many labels was added, and the loop could go on.
   pub record HasRun (steps : ℕ) (a b : At M T H G) : Type 0 where

@@ -1,4 +1,4 @@
--- What the parts of a turn come to in which main has no part: a step of the thread that runs, the poll of a work, the taking of an entry.
+-- What those parts of a turn result in in which main has no part: a step of the thread that runs, the poll of a work, the taking of an entry.
 use Rattle.std.specs.Prelude.{Bool, Err, List, None, Ok, Option, Result, Some, ℕ, is_some, ◌+◌, ◌<◌, ◌^◌, ◌≡◌}
 use Rattle.task_group.specs.Listeners.{Listeners, errors_of}
 use Rattle.task_loop.specs.Hooked.{TellsInPart}

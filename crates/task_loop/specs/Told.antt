@@ -40,7 +40,7 @@ runs_on _ _ = false
 abbrev pub group_running : StateView → Turn → ℕ
 group_running s p = running_in s.tags.tracked s.core p
 
--- the same of the thread that runs in a store
+-- the group of the thread that runs in a store, as long as it is tracked; default: 0
 abbrev pub current_group : StateView → ℕ
 current_group s = option_map_or (λ n. tracked_group n s) (running_of s) 0
 
@@ -58,7 +58,7 @@ pub record TurnTold
   pub hook_is_ok : IsHookIsOk made old new
   pub fewer : FewerIn p s.core t.core
 
--- the same of a step of the running thread, whatever main is
+-- what is told of a step of the running thread, whatever main is
 abbrev pub RunTold : Component → ℕ → StateView → Listeners → MadeStep → StateView → Listeners → Type 0
 RunTold c n s old made t new = (x : Setting) → x.component ≡ c → (m : Main) → TurnTold x (turn.Run n) m s old (Some made) m t new
 

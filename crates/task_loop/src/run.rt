@@ -144,7 +144,7 @@ fn call_host_outlined<T, H: AccessorTask<T> + FromHost, G: TaskGroupHook>(
     ensures listeners { OnOk result (store.new.listeners ≡ store.old.listeners) }
     ensures err { OnErr result (trace.new ≡ trace.old) }
 {
-    // The host's work is polled before its call is done: what the call comes to is what it answers.
+    // The host's work is polled before its call is done: what the call results in is what it answers.
     let host = host_called(component, &store.state, thread);
     let (called, answer) = store.first_called(host);
     let stepped = step_call(component, &mut store.state, thread, answer)?;
@@ -491,7 +491,7 @@ impl RunConcurrent {
         }
     }
 
-    /// Ends the run: it no longer rests on the store.
+    /// Ends the run: it is no longer active on the store.
     pub fn end<T, H, G: TaskGroupHook>(self, store: &mut Store<T, H, G>)
         ensures { store.new ≡ record store.old { running = false } }
     {

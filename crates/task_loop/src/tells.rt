@@ -66,7 +66,7 @@ pub(crate) fn tell_all<G: TaskGroupHook>(
     Ok(group_now(core))
 }
 
-// The same where there is no hook. It is a function of its own, as few steps give more than a notice.
+// Tells the notices if there is no hook. It is a function of its own, as few steps give more than a notice.
 #[cold]
 #[inline(never)]
 fn tell_unhooked<G: TaskGroupHook>(
@@ -126,7 +126,7 @@ pub(crate) fn tell_work<G: TaskGroupHook>(
     Ok(tell_step(core, listeners, asked, after))
 }
 
-/// Returns the same of a poll of a work, after which no thread runs.
+/// Tells the groups the notices of a poll of a work, after which no thread runs.
 #[inline(always)]
 pub(crate) fn tell_poll<G: TaskGroupHook>(
     core: &mut TaskCore,

@@ -357,7 +357,7 @@ returns-clause-keeps g c =
     let come = c.turns.invariant.come in
     record { script = come.keeps.script; idle = ap (λ (r : RunConcurrent). r.trap_on_idle) c.ends-2.ensures.new ∙ come.keeps.idle; constants = come.keeps.constants }
 
--- the pace stays if the policy never stops the turns
+-- the yield budget stays if the policy never stops the turns
 pub returns-in_err-turned-clause-kept : goal.returns-in_err-turned-clause-kept
 returns-in_err-turned-clause-kept g c = λ driven. c.turns.invariant.kept driven
 
