@@ -135,7 +135,11 @@ fn show_exit<W: Primitives>(
 
 // The thread exits at its script's end.
 #[inline(never)]
-fn run_exit<W: Primitives>(w: &mut W, thread: ThreadId, trace: &mut PackedLabels) -> Result<StepResult, NoMemory>
+fn run_exit<W: Primitives>(
+    w: &mut W,
+    thread: ThreadId,
+    trace: &mut PackedLabels,
+) -> Result<StepResult, NoMemory>
     requires runner { Runner thread (W.view w.old) }
     ensures shown { IfOk result (λ q. ExitShown thread (W.view w.old) trace.old q (W.view w.new) trace.new) }
     ensures works { OnOk result (KeepsTold (W.view w.old) (W.view w.new)) }

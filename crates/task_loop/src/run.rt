@@ -19,10 +19,11 @@ use core_primitives::{QueuePrimitives, View};
 use machine_data::{Component, Mark, NoMemory, Outcome, Trap, Turn};
 use ops_calls::{TaskError, host_called};
 use ops_turns::{
-    MainStep, StepResult, compute, is_idle, is_over, made_by_main, outcome_in, put, step_call, step_run, take, turn_of,
+    MainStep, StepResult, compute, is_idle, is_over, made_by_main, outcome_in, put, step_call,
+    step_run, take, turn_of,
 };
 use run_trace::{
-    Driven, PackedLabels, Policy, YieldBudget, ended_by, spent_by, rests_with, yields_by,
+    Driven, PackedLabels, Policy, YieldBudget, ended_by, rests_with, spent_by, yields_by,
 };
 use task_group::TaskGroupHook;
 use task_store::{Access, AccessorTask, ActiveRun, FromHost, HostWork, Store};
@@ -105,8 +106,7 @@ fn step_main<T, H: HostWork, G: TaskGroupHook, M: MainTask<T, H, G>>(
     requires may { MayStep M.says H.course component.now main.old store.old }
     ensures stands { constants store.new ≡ constants store.old }
     ensures script { M.says.script main.new ≡ M.says.script main.old }
-    ensures turned {
-        MainTurned M.says H.course component.now result main.old store.old trace.old main.new store.new trace.new }
+    ensures turned { MainTurned M.says H.course component.now result main.old store.old trace.old main.new store.new trace.new }
 {
     let step = match ask_main(component, store, main) {
         Ok(step) => step,
@@ -208,8 +208,7 @@ fn run_thread<T, H: AccessorTask<T> + FromHost, G: TaskGroupHook>(
     requires running { running.old ≡ group_running store.old.state (Turn.Run thread) }
     requires asked { IsAsked store.old.state }
     ensures stands { constants store.new ≡ constants store.old }
-    ensures ran {
-        RunsTo H.course component.now thread store.old result running.new store.new trace.old trace.new }
+    ensures ran { RunsTo H.course component.now thread store.old result running.new store.new trace.old trace.new }
 {
     store.state.none_is_zero();
     let Ok(stepped) = step_thread(component, store, thread, trace) else {
@@ -244,8 +243,7 @@ fn poll_work<T, H: AccessorTask<T> + FromHost, G: TaskGroupHook>(
     requires asked { IsAsked store.old.state }
     ensures stands { constants store.new ≡ constants store.old }
     ensures works { KeepsWorks store.old.state store.new.state × HoldsHosts H.course store.new }
-    ensures polled {
-        WorkPollsTo (Turn.Futures polled) store.old result running.new store.new trace.old trace.new }
+    ensures polled { WorkPollsTo (Turn.Futures polled) store.old result running.new store.new trace.old trace.new }
 {
     // only the contract speaks of `component`
     let _component = component;
@@ -275,8 +273,7 @@ fn take_entry<T, H: AccessorTask<T> + FromHost, G: TaskGroupHook>(
 ) -> Result<Option<StepResult>, Halt>
     requires at { IsAtTurn component.now (Turn.Take ended) store.old.state }
     requires asked { IsAsked store.old.state }
-    ensures taken {
-        TakesTo component.now trap_on_idle ended store.old result running.new store.new trace.old trace.new }
+    ensures taken { TakesTo component.now trap_on_idle ended store.old result running.new store.new trace.old trace.new }
     ensures rest { store.new ≡ record store.old { state = store.new.state; listeners = store.new.listeners } }
 {
     store.state.none_is_zero();

@@ -82,6 +82,7 @@ returns-in_ok-stepped-clause-ran g c =
     let after = c.run_exit.new.trace in
     let shown = c.in_ok-stepped.ensures.shown comp in
     let did_it = rule_as c.in-Some.thread s t c.in_ok-stepped.stepped before after (λ r. scripted_op_rule comp n s.core (choice_of (label_of n r)) (op.Task task.Exit)) (λ r. did comp n s.core (choice_of (label_of n r)))
-    (λ r u h. row_at c.args.component.now n s.core q.thread q.here c.script_ops-script.result.now c.at-point.result.callee (task_of n s.core) c.at-point.result.position c.at-point.result.script c.at-point.ensures.callee refl (c.at-point.ensures.script q.thread q.here) c.script_ops-script.ensures c.at-point.ensures.position None e r u h) shown in
-    (run_added c.in-Some.thread s t c.in_ok-stepped.stepped before after comp c.args.number number did_it,
-    subst (λ k. polled_host comp (op_progress_of k s.core) (op_of comp k s.core) ≡ None) number (ap (polled_host comp (op_progress_of n s.core)) is))
+    (λ r u h. row_at c.args.component.now n s.core q.thread q.here c.script_ops-script.result.now c.at-point.result.callee (task_of n s.core) c.at-point.result.position c.at-point.result.script c.at-point.ensures.callee refl (c.at-point.ensures.script q.thread q.here) c.script_ops-script.ensures c.at-point.ensures.position None e r u h) shown in (
+      run_added c.in-Some.thread s t c.in_ok-stepped.stepped before after comp c.args.number number did_it,
+      subst (λ k. polled_host comp (op_progress_of k s.core) (op_of comp k s.core) ≡ None) number (ap (polled_host comp (op_progress_of n s.core)) is),
+    )
