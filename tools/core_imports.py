@@ -41,7 +41,7 @@ PLACES = [
          'core_removals', 'core_makes', 'core_makes', 'core_removals', 'core_state'],
         [f'{crate}.{kind}' for crate in ('std', 'machine_data', 'machine_rules', 'task_table', 'table_links', 'task_wait', 'table_lists',
                                          'task_handles', 'core_primitives') for kind in ('specs', 'proofs')] + ['core_records.specs'],
-        '-- The words of std, of the machine, of the crates below and of the records that the proofs of the core cite, in one place.',
+        '-- The names of std, of the machine, of the crates below and of the records that the proofs of the core cite, in one place.',
     ),
 ]
 

@@ -387,7 +387,7 @@ def definitions(name, scenario, labels):
 
 def proof(name, steps, end, exchanges):
     """The piece for a file of proofs/."""
-    return (f'pub {name}_shown : Example {name} {steps} {name}_labels {end}\nunfolding the_words\n'
+    return (f'pub {name}_shown : Example {name} {steps} {name}_labels {end}\nunfolding the_definitions\n'
             f'{name}_shown = example {name} {exchanges} {steps} {name}_labels {end} refl refl\n')
 
 

@@ -5,7 +5,7 @@
 
 Some files of proofs pass names on. machine_rules' Machine passes on each name of std, of machine_data's specs and of machine_rules' specs
 that a proof file of these crates brings in, and each lemma of machine_data's proofs; its Walks those and the lemmas of moves to the
-walks over the rows. laws_states' Rules passes all of the rules on to the laws, with the definitions of laws_states, and its Words what
+walks over the rows. laws_states' Rules passes all of the rules on to the laws, with the definitions of laws_states, and its Primitives what
 is known of each word; laws_places' Laws passes that and the laws on to the laws of places. Every proof file gets one `use` line
 for what such a file passes on to it, and one for the modules of a folder beside. In a proof file new names are written as `use` lines of the
 modules that declare them; then this is run, and `rt fmt`. Names that a file no longer cites go. A variant is written behind its
@@ -27,7 +27,7 @@ VARIANTS = re.compile(r'(?m)^use (Rattle\.[\w.]+\.(\w+))\.TheVariants as (\w+)$'
 MACHINE = 'Rattle.machine_rules.proofs.Machine'
 WALKS = 'Rattle.machine_rules.proofs.Walks'
 RULES = 'Rattle.laws_states.proofs.Rules'
-WORDS = 'Rattle.laws_states.proofs.Words'
+WORDS = 'Rattle.laws_states.proofs.Primitives'
 LAWS = 'Rattle.laws_places.proofs.Laws'
 DECLARED = 'Rattle.machine_data.specs.declared'  # its types, each in a module of its own, are passed on by one line
 PRELUDE, COMMON = 'Rattle.std.specs.Prelude', 'Rattle.std.proofs.Common'  # the second passes on names of the first

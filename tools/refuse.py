@@ -106,17 +106,17 @@ def tried(name, runs, only):
     plain, many = runs.run(0)
     if not many:
         raise Failed(f'{name}: the run asked for no memory, or the library was not loaded')
-    wanting, without, wrong = 0, 0, []
+    refused, without, wrong = 0, 0, []
     for at in [only] if only else range(1, many + 1):
         found, _ = runs.run(at)
         if found == NO_MEMORY:
-            wanting += 1
+            refused += 1
         elif found == plain:
             without += 1
         else:
             wrong.append(f'{name}: growth {at} of {many} refused: status {found[0]} and {len(found[1])} bytes; status {plain[0]} and '
                          f'{len(plain[1])} where nothing is refused')
-    print(f'{name}: {many} growths; one refused: {wanting} times status 1 and nothing written, {without} times as without')
+    print(f'{name}: {many} growths; one refused: {refused} times status 1 and nothing written, {without} times as without')
     return wrong
 
 

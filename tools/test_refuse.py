@@ -64,12 +64,12 @@ class Refuse(unittest.TestCase):
     def test_one_growth_alone(self):
         self.assertIn('1 times status 1 and nothing written, 0 times', self.call(self.program(), str(self.text), '--at', '2')[1])
 
-    def test_a_status_that_hides_the_want_of_memory(self):
+    def test_a_status_that_hides_the_lack_of_memory(self):
         status, said, _ = self.call(self.program('-DFORGETS'), str(self.text))
         self.assertEqual(status, 1)
         self.assertIn('growth 1 of 3 refused: status 0 and 0 bytes; status 0 and 11 where nothing is refused', said)
 
-    def test_something_written_before_memory_was_wanting(self):
+    def test_something_written_before_it_was_out_of_memory(self):
         status, said, _ = self.call(self.program('-DHASTY'), str(self.text))
         self.assertEqual(status, 1)
         self.assertIn('growth 2 of 3 refused: status 1 and 6 bytes', said)

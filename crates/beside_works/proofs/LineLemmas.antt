@@ -35,7 +35,7 @@ regrouped [] ys x = refl
 regrouped (z ∷ xs) ys x = ap (λ zs. z ∷ zs) (regrouped xs ys x)
 
 module _ (ids : List CellId) (splits : List ℕ) (lines : List (List ℕ)) (i : ℕ) (lt : i < length splits) where
-  -- what a new aborter of a line has done to the spawn, if memory wasn't wanting
+  -- what a new aborter of a line has done to the spawn, unless it was out of memory
   counted : (k : ℕ) (line : List ℕ) (a b : Aborter) → slice_get lines k ≡ Some line → IsNew ids splits k a → HasRun (line_at lines a.number) a b → b.out_of_memory ≡ false →
       slice_get (counts_in b.passes.items) i ≡ Some (named (i + 1) line)
   unfolding named

@@ -21,8 +21,8 @@ use Rattle.task_abort.specs.declared.log.CallMade.{CallMade}
 use Rattle.task_abort.specs.declared.log.PhaseCall.{PhaseCall}
 use Rattle.task_abort.specs.declared.log.PhaseCall.TheVariants.{Abort, PollHandle}
 use Rattle.task_abort.specs.declared.log.PassView.{PassView}
-use Rattle.machine_data.specs.declared.words.Phase.{Phase}
-use Rattle.machine_data.specs.declared.words.Phase.TheVariants.{AbortRequested, Complete, Running}
+use Rattle.machine_data.specs.declared.statuses.Phase.{Phase}
+use Rattle.machine_data.specs.declared.statuses.Phase.TheVariants.{AbortRequested, Complete, Running}
 use Rattle.futures.specs.declared.task.Poll.TheVariants.{Pending, Ready}
 
 -- a pass more is the last one

@@ -6,7 +6,7 @@ use Rattle.task_abort.specs.Staged.{Aborter, aborts_of}
 use Rattle.task_abort.specs.declared.log.HandleCaller.{HandleCaller}
 use Rattle.task_abort.specs.declared.log.LogEntry.{LogEntry}
 use Rattle.task_abort.specs.declared.log.PhaseCall.TheVariants.{Abort}
-use Rattle.machine_data.specs.declared.words.Phase.{Phase}
+use Rattle.machine_data.specs.declared.statuses.Phase.{Phase}
 
 -- the entries of aborts that found these phases
 abbrev pub aborts_by : Name → List Phase → Log

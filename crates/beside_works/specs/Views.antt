@@ -6,7 +6,7 @@ use Rattle.beside_works.specs.declared.cells.SharedSpawn.{SharedSpawn}
 use Rattle.task_abort.specs.Cells.{CellId, handle_cell, view_of}
 use Rattle.task_abort.specs.declared.log.CallMade.{CallMade}
 use Rattle.task_abort.specs.declared.log.PassView.{PassView}
-use Rattle.machine_data.specs.declared.words.Phase.{Phase}
+use Rattle.machine_data.specs.declared.statuses.Phase.{Phase}
 
 -- the cell, and what the run's pass has seen and done there
 abbrev pub spawn_cell : SharedSpawn → CellId

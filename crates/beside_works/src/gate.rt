@@ -2,13 +2,13 @@
 
 /// What is called round each abort, and before each time that main pends. Its calls may wait.
 pub trait Gate {
-    /// Is before an aborter's abort: both are counted from 1, aborters in the order of their lines.
+    /// Runs before an aborter's abort: both are counted from 1, aborters in the order of their lines.
     fn before(&self, aborter: u32, number: u32);
 
-    /// Is behind that abort.
+    /// Runs after that abort.
     fn after(&self, aborter: u32, number: u32);
 
-    /// Is before main pends, counted from 1.
+    /// Runs before main pends; the pends are counted from 1.
     fn pends(&self, number: u32);
 }
 

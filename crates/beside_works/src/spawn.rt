@@ -8,8 +8,8 @@ ghost use Rattle.task_abort.specs.PhaseLog.{IsLegal, first_view, split_left, spl
 ghost use Rattle.task_abort.specs.Rule.{Calls, Meets};
 ghost use Rattle.task_abort.specs.Staged.{LastRound, made, staged, told};
 ghost use Rattle.task_abort.specs.declared.log.PhaseCall.TheVariants.{Abort, Finish, PollFuture, PollHandle};
-ghost use Rattle.machine_data.specs.declared.words.Phase.{Phase};
-ghost use Rattle.machine_data.specs.declared.words.Phase.TheVariants.{Complete};
+ghost use Rattle.machine_data.specs.declared.statuses.Phase.{Phase};
+ghost use Rattle.machine_data.specs.declared.statuses.Phase.TheVariants.{Complete};
 
 use crate::cells::{AborterPass, SharedSpawn};
 use crate::log::{Found, add, staged};

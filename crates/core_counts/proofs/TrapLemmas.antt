@@ -1,7 +1,7 @@
 -- The store is trapped: the groups up to the last that was made are finished, which are all.
 use Rattle.std.specs.Prelude.{Vec, vec_capacity, ◌++◌}
 use Rattle.core_counts.proofs.EndedLemmas.{all_ended, all_known, trap_ends}
-use Rattle.core_records.proofs.LaterLemmas.{beside, beside_whole, same_made}
+use Rattle.core_records.proofs.LaterLemmas.{state_target, beside_whole, same_made}
 use Rattle.core_records.proofs.Core.{AreEnded, ap₂, Global, tracked_of, core_of, subst, [], ap, arith, bare, Bool, cond, eq-eqb, eq_by_cmp, false, filter, find, get, get-records, group_key, image, IsSoundCore, IsWhole, length, List, ltb-true, map, nat_cmp, nat_lt, None, numbers, on_core, Option, CoreImage, parts_of, records, refl, seen, set_trapped, Some, sym, table_use, true, unsigned_tied, ℕ, ◌*◌, ◌+◌, ◌-◌, ◌<◌, ◌∙◌, ◌∷◌, ◌≡◌, ◌≤◌}
 use Rattle.core_records.specs.declared.{parts.CoreParts.CoreParts}
 use Rattle.core_records.proofs.KeptLemmas.{groups_are, used_is}
@@ -29,7 +29,7 @@ all_made : (n : ℕ) → n ≤ n
 all_made n = omega arith
 
 abbrev pub after_trap : CoreImage → CoreImage
-after_trap p = beside p p.made (same_made p.made) p.made.groups (record p.kept { used = p.kept.used - p.kept.groups; groups = 0 }) p.results p.capacity
+after_trap p = state_target p p.made (same_made p.made) p.made.groups (record p.kept { used = p.kept.used - p.kept.groups; groups = 0 }) p.results p.capacity
 
 module _ (p : CoreImage) (none : filter (nat_lt p.made.groups) (numbers (records group_key p.groups.places)) ≡ []) where
   pub trapped_whole : IsWhole p → IsWhole (after_trap p)

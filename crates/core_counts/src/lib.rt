@@ -1,4 +1,4 @@
-//! Words that a core answers by the numbers that it keeps: what is left of a call or a set, how
+//! Primitives that answer by the numbers that a core keeps: what is left of a call or a set, how
 //! full a store is, and whether something moves.
 #![tactic(auto)]
 

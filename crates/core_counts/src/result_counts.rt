@@ -68,7 +68,7 @@ pub fn make_room(parts: &mut CoreParts, call: u64) -> Result<(), NoMemory>
     }
 }
 
-/// Has main take a result. Its room stays as long as the call.
+/// Takes the result of a call for main. The result's room stays as long as the call.
 pub fn take_result(parts: &mut CoreParts, call: u64)
     requires { IsSoundCore parts.old }
     ensures sound { IsSoundCore parts.new }

@@ -124,7 +124,7 @@ pub fn task_event(parts: &CoreParts, call: CallId) -> Option<TaskEvent>
     }
 }
 
-/// Returns whether a cancel request has come to the task.
+/// Returns whether the task was asked to cancel.
 pub fn cancel_was_delivered(parts: &CoreParts, call: CallId) -> bool
     requires { IsSoundCore parts.now }
     ensures { result ≡ cancel_was_delivered (call_of (seen parts.now) call) (seen parts.now).core }
@@ -174,7 +174,7 @@ pub fn thread_group(parts: &CoreParts, thread: ThreadId) -> u64
     }
 }
 
-/// Returns the same of a thread that is there: nothing is tested.
+/// Returns the group of a thread that is there, or 0 if it isn't tracked: the thread isn't tested.
 pub fn group_unchecked(parts: &CoreParts, thread: ThreadId) -> u64
     requires sound { IsSoundCore parts.now }
     requires live { 0 < thread_of (seen parts.now) thread }

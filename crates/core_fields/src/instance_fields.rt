@@ -1,11 +1,11 @@
 ghost use Rattle.std.specs.Prelude.{◌≡◌, is_some};
 ghost use Rattle.machine_data.specs.Maps.{get};
-ghost use Rattle.machine_data.specs.Read.{backpressure_of, may_not_enter, may_not_suspend, word_of};
-ghost use Rattle.machine_data.specs.Write.{set_backpressure, set_do_not_enter, set_do_not_suspend, set_word};
+ghost use Rattle.machine_data.specs.Read.{backpressure_of, may_not_enter, may_not_suspend, memory_cell_of};
+ghost use Rattle.machine_data.specs.Write.{set_backpressure, set_do_not_enter, set_do_not_suspend, set_memory_cell};
 ghost use Rattle.core_records.specs.Seen.{IsSoundCore, seen};
 ghost use Rattle.core_primitives.specs.StateView.{on_core};
 
-use crate::words::{put_word, word_in};
+use crate::arrays::{number_in, put_number};
 use core_records::CoreParts;
 
 /// Returns whether there is such an instance.
@@ -46,11 +46,11 @@ pub fn may_not_suspend(parts: &CoreParts, instance: u32) -> bool
 }
 
 /// Returns one of the instance's memory cells, 0 to 15; 0 if there is none.
-pub fn word(parts: &CoreParts, instance: u32, word: u8) -> u64
-    ensures { result ≡ word_of instance word (seen parts.now).core }
+pub fn memory_cell(parts: &CoreParts, instance: u32, cell: u8) -> u64
+    ensures { result ≡ memory_cell_of instance cell (seen parts.now).core }
 {
     match core_records::instance(parts, instance) {
-        Some(entry) => word_in(&entry.instance.words, word),
+        Some(entry) => number_in(&entry.instance.memory_cells, cell),
         None => 0,
     }
 }
@@ -92,13 +92,13 @@ pub fn set_do_not_suspend(parts: &mut CoreParts, instance: u32, flag: bool)
 }
 
 /// Writes one of the instance's memory cells, 0 to 15.
-pub fn set_word(parts: &mut CoreParts, instance: u32, word: u8, value: u64)
+pub fn set_memory_cell(parts: &mut CoreParts, instance: u32, cell: u8, value: u64)
     requires { IsSoundCore parts.old }
     ensures sound { IsSoundCore parts.new }
-    ensures new { seen parts.new ≡ on_core (set_word instance word value) (seen parts.old) }
+    ensures new { seen parts.new ≡ on_core (set_memory_cell instance cell value) (seen parts.old) }
 {
     if (instance as usize) < parts.instances.len() {
         let entry = &mut parts.instances[instance as usize];
-        put_word(&mut entry.instance.words, word, value);
+        put_number(&mut entry.instance.memory_cells, cell, value);
     }
 }

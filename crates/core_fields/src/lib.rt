@@ -2,6 +2,7 @@
 //! threads, subtasks and sets and taken back.
 #![tactic(auto)]
 
+mod arrays;
 mod call_fields;
 mod groups;
 mod handle_fields;
@@ -13,7 +14,6 @@ mod subtask_fields;
 mod subtask_handles;
 mod thread_fields;
 mod thread_handles;
-mod words;
 mod work_fields;
 
 pub use call_fields::{
@@ -25,8 +25,8 @@ pub use call_fields::{
 };
 pub use handle_fields::{new_handle, new_thread_handle, set_at, subtask_at, thread_at};
 pub use instance_fields::{
-    backpressure, has_instance, may_not_enter, may_not_suspend, set_backpressure, set_do_not_enter,
-    set_do_not_suspend, set_word, word,
+    backpressure, has_instance, may_not_enter, may_not_suspend, memory_cell, set_backpressure,
+    set_do_not_enter, set_do_not_suspend, set_memory_cell,
 };
 pub use items::{free_handle, insert_handle};
 pub use named_handles::name_thread;

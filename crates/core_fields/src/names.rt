@@ -46,14 +46,14 @@ fn op_progress_id(parts: &CoreParts, place: u32, op_progress: OpProgress) -> OpP
     }
 }
 
-/// Returns how far the op at a thread's position has come.
+/// Returns the op progress of a thread: how far the op at its position has come.
 #[inline(always)]
 pub fn op_progress(parts: &CoreParts, thread: ThreadId) -> OpProgressId
     requires { IsSoundCore parts.now }
     ensures { op_progress_in (seen parts.now).tags result ≡ live_op_progress (op_progress_of (thread_of (seen parts.now) thread) (seen parts.now).core) (seen parts.now).core }
 {
     match core_records::thread(parts, thread) {
-        Some(entry) => op_progress_id(parts, entry.awaited, entry.thread.op_progress),
+        Some(entry) => op_progress_id(parts, entry.op_target, entry.thread.op_progress),
         None => OpProgressId::Fresh,
     }
 }

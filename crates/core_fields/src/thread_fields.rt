@@ -7,7 +7,7 @@ ghost use Rattle.core_records.specs.Seen.{IsSoundCore, seen};
 ghost use Rattle.core_primitives.specs.Barred.{is_barred};
 ghost use Rattle.core_primitives.specs.StateView.{call_of, on_core, thread_of};
 
-use crate::words::{put_word, word_in};
+use crate::arrays::{number_in, put_number};
 use core_primitives::{CallId, ThreadAt, ThreadId};
 use core_records::CoreParts;
 use task_wait::GuestTaskKey;
@@ -69,7 +69,7 @@ pub fn register(parts: &CoreParts, thread: ThreadId, register: u8) -> u64
     ensures { result ≡ register_of (thread_of (seen parts.now) thread) register (seen parts.now).core }
 {
     match core_records::thread(parts, thread) {
-        Some(entry) => word_in(&entry.thread.registers, register),
+        Some(entry) => number_in(&entry.thread.registers, register),
         None => 0,
     }
 }
@@ -80,7 +80,7 @@ pub fn register_unchecked(parts: &CoreParts, thread: ThreadId, register: u8) -> 
     requires live { 0 < thread_of (seen parts.now) thread }
     ensures { result ≡ register_of (thread_of (seen parts.now) thread) register (seen parts.now).core }
 {
-    word_in(
+    number_in(
         &core_records::thread_there(parts, thread).thread.registers,
         register,
     )
@@ -192,7 +192,7 @@ pub fn set_register(parts: &mut CoreParts, thread: ThreadId, register: u8, value
     ensures new { seen parts.new ≡ on_core (set_register (thread_of (seen parts.old) thread) register value) (seen parts.old) }
 {
     if let Ok(entry) = parts.threads.get_mut(thread) {
-        put_word(&mut entry.thread.registers, register, value);
+        put_number(&mut entry.thread.registers, register, value);
     }
 }
 

@@ -119,16 +119,16 @@ module _ (k : Kinds) (n : ℕ) (new : k.made.sets < n) where
   neither a true c no_a no_c = ap₂ (λ (x y : Bool). x || (true && y)) no_a no_c
   neither a false c no_a no_c = ap (λ (x : Bool). x || false) no_a
 
-  pub none_keeps : (t : Thread) (beside awaited : ℕ) → IsNamedAt k beside (place_target t.place) → IsNamedAt k awaited (op_progress_target t.op_progress) → keeps_set n t t.place ≡ false
-  none_keeps t beside awaited at far = by_place t.place at
+  pub none_keeps : (t : Thread) (state_target op_target : ℕ) → IsNamedAt k state_target (place_target t.place) → IsNamedAt k op_target (op_progress_target t.op_progress) → keeps_set n t t.place ≡ false
+  none_keeps t state_target op_target at far = by_place t.place at
     where
-      by_place : (x : Place) → IsNamedAt k beside (place_target x) → keeps_set n t x ≡ false
+      by_place : (x : Place) → IsNamedAt k state_target (place_target x) → keeps_set n t x ≡ false
       by_place Place.New at = refl
-      by_place (Place.Ready m w) at = neither (is_delivery_for n w) (is_resumption w) (is_inside_wait n t.op_progress) (none_delivered w beside at) (none_inside t.op_progress awaited far)
+      by_place (Place.Ready m w) at = neither (is_delivery_for n w) (is_resumption w) (is_inside_wait n t.op_progress) (none_delivered w state_target at) (none_inside t.op_progress op_target far)
       by_place Place.Running at = refl
       by_place (Place.Under m) at = refl
       by_place (Place.Behind m) at = refl
       by_place (Place.Waiting y by_callback) at = ne_eqb n y (not_new y at.0)
       by_place (Place.Blocked sub) at = refl
-      by_place (Place.Held w) at = none_delivered w beside at
+      by_place (Place.Held w) at = none_delivered w state_target at
       by_place Place.Suspended at = refl

@@ -33,8 +33,8 @@ module _ (p : CoreImage) (g : GuestThread) (threads : SoundTable thread_key p.th
     instance = grows.instance h.task h.thread.call home.call home.there ∙ home.instance;
     barred = ap (bars_start h.thread.explicit) (grows.kind h.task h.thread.call home.call home.there) ∙ home.barred;
     within = home.within;
-    place = at_grown h.beside _ home.place;
-    op_progress = at_grown h.awaited _ home.op_progress;
+    place = at_grown h.state_target _ home.place;
+    op_progress = at_grown h.op_target _ home.op_progress;
   }
 
   pub call_grown : (c : GuestTask) → IsCallNamed p c → IsCallNamed grown c

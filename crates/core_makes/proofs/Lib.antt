@@ -16,13 +16,13 @@ pub mod CallPushLemmas
 pub mod ThreadSeenLemmas
 pub mod GroupLemmas
 pub mod GrowLemmas
-pub mod StrandCountLemmas
-pub mod StrandLemmas
+pub mod CallThreadCountLemmas
+pub mod CallThreadLemmas
 pub mod NodeLemmas
-pub mod StrandAddLemmas
+pub mod CallThreadAddLemmas
 pub mod GroupPushLemmas
 pub mod RequestLemmas
 pub mod MainLemmas
-pub mod StrandUndoLemmas
+pub mod CallThreadUndoLemmas
 pub mod MemberLemmas
 pub mod MemberAddLemmas

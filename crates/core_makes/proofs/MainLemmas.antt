@@ -3,7 +3,7 @@ use Rattle.core_records.proofs.Core.{call_number, Keeps, KeepsWith, set_number, 
 use Rattle.core_records.specs.declared.{call_records.TaskGroup.TaskGroup, parts.CoreParts.CoreParts, parts.CachedCounts.CachedCounts, single.Single.Single}
 use Rattle.core_makes.proofs.RestoreLemmas.{Restores-deleted, restored_from}
 use Rattle.core_makes.specs.Restored.{IsRestored, Restores}
-use Rattle.core_makes.specs.LooseCalls.{AreStrandLoose}
+use Rattle.core_makes.specs.LooseCalls.{AreCallAndThreadLoose}
 use Rattle.core_makes.specs.declared.node_makes.CallNodes.{CallNodes}
 use Rattle.core_makes.specs.declared.node_makes.ThreadNodes.{ThreadNodes}
 
@@ -25,8 +25,8 @@ keeps_grouped s new kept = record { threads = kept.threads; calls = kept.calls; 
 
 -- ---- Nodes that hang on nothing hang on nothing beside another group
 
-pub strand_loose_beside : (a : CoreParts) (groups : Table (Single TaskGroup)) (made : MadeCounts) (kept : CachedCounts) (c : CallNodes) (t : ThreadNodes) → AreStrandLoose (bare (parts_of a)) c t → AreStrandLoose (bare (parts_of (record a { groups = groups; made = made; kept = kept }))) c t
-strand_loose_beside a groups made kept c t loose = record {
+pub call_thread_loose_beside : (a : CoreParts) (groups : Table (Single TaskGroup)) (made : MadeCounts) (kept : CachedCounts) (c : CallNodes) (t : ThreadNodes) → AreCallAndThreadLoose (bare (parts_of a)) c t → AreCallAndThreadLoose (bare (parts_of (record a { groups = groups; made = made; kept = kept }))) c t
+call_thread_loose_beside a groups made kept c t loose = record {
   call = record { ready = loose.call.ready; blocked = loose.call.blocked };
   thread = record { node = loose.thread.node; mark = loose.thread.mark; instance_queue = loose.thread.instance_queue; caller = loose.thread.caller; callers = loose.thread.callers; under = loose.thread.under; no_work = loose.thread.no_work };
   two = loose.two;

@@ -6,7 +6,7 @@ use Rattle.core_makes.proofs.RestoreLemmas.{Restores-deleted, Restores-pushed, R
 use Rattle.core_makes.specs.Restored.{IsRestored}
 use Rattle.core_makes.proofs.GrowLemmas.{at_grown}
 use Rattle.core_makes.proofs.MemberLemmas.{grows, member_whole}
-use Rattle.core_makes.proofs.StrandAddLemmas.{places_few, tables_bare}
+use Rattle.core_makes.proofs.CallThreadAddLemmas.{places_few, tables_bare}
 use Rattle.core_makes.proofs.ThreadPushLemmas.{nodes_of}
 use Rattle.core_makes.proofs.ThreadSeenLemmas.{callers_are, thread_new, thread_still, threads_are}
 use Rattle.core_makes.specs.LooseCalls.{AreThreadLoose}

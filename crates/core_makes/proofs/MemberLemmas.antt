@@ -4,7 +4,7 @@ use Rattle.core_records.specs.declared.{call_records.GuestTask.GuestTask, set_re
 use Rattle.core_makes.proofs.MoreLemmas.{at_written, each_but, number_written, passing_more, size_more}
 use Rattle.core_queues.proofs.BareLemmas.{number_positive, one_place}
 use Rattle.core_makes.proofs.GrowLemmas.{Grows, call_grown, named_grown}
-use Rattle.core_makes.proofs.StrandCountLemmas.{fails_none, passes_one}
+use Rattle.core_makes.proofs.CallThreadCountLemmas.{fails_none, passes_one}
 use Rattle.core_makes.proofs.ThreadPushLemmas.{PlacesNamed, nodes_of, thread_chained, thread_nodes}
 use Rattle.core_makes.specs.LooseCalls.{AreThreadLoose}
 use Rattle.core_makes.specs.Member.{IsMember}
@@ -104,8 +104,8 @@ module _ (p : CoreImage) (whole : IsWhole p) (tables : AreTables p) (rep : ℕ) 
     instance = ap (λ (o : Option Call). (option_map_or (λ (d : Call). d.callee) o no_callee).instance) call_found ∙ sym is.instance;
     barred = ap (λ (o : Option Call). bars_start g.thread.explicit (option_map_or (λ (d : Call). d.kind) o ExportKind.Callback)) call_found ∙ is.barred;
     within = is.within;
-    place = subst (λ (x : Place). AtPlace with_member g.beside (place_target x)) (sym is.unplaced) tt;
-    op_progress = subst (λ (x : OpProgress). AtPlace with_member g.awaited (op_progress_target x)) (sym is.fresh) tt;
+    place = subst (λ (x : Place). AtPlace with_member g.state_target (place_target x)) (sym is.unplaced) tt;
+    op_progress = subst (λ (x : OpProgress). AtPlace with_member g.op_target (op_progress_target x)) (sym is.fresh) tt;
   }
 
   -- ---- Kept numbers

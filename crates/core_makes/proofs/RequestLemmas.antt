@@ -2,7 +2,7 @@
 use Rattle.core_records.proofs.Core.{add_call, add_thread, ap, ap₂, AtPlace, bare, bare_call, bare_instance, bare_thread, Bool, Call, call_instance, caller_target, cond, Core, eq-eqb, false, get, get-insert, Goal, handle_table, HasRoom, instance_of, is_some, IsSome, List, named_of, new_call, new_thread, next_place, next_place-mapped, no_callee, None, on_item, Option, option_map, option_map_or, parts_of, refl, Script, seen, slice_get, slice_get-map, Some, subst, sym, Thread, true, ℕ, ◌+◌, ◌∙◌, ◌≡◌, is_sync, not}
 use Rattle.core_records.specs.declared.{call_records.GuestTask.GuestTask, instance_records.InstanceRecord.InstanceRecord, parts.CoreParts.CoreParts, thread_records.GuestThread.GuestThread}
 use Rattle.core_makes.specs.Member.{IsMember}
-use Rattle.core_makes.specs.Strand.{IsStrand}
+use Rattle.core_makes.specs.CallThread.{IsCallWithThread}
 use Rattle.core_makes.specs.declared.record_makes.Request.{Request}
 use Rattle.core_records.proofs.HomeLemmas.{place_in_bare}
 use Rattle.core_records.proofs.InstanceReads.{handles_read, instance_read}
@@ -30,12 +30,12 @@ module _ (a : CoreParts) (i : ℕ) where
 module _ (a : CoreParts) (request : Request) (group : ℕ) (words : List ℕ) (c : GuestTask) (g : GuestThread)
     (call_number : c.number ≡ a.made.threads + 1) (call_is : c.call ≡ new_call request.caller request.callee request.kind request.goal group) (maker : c.maker ≡ request.maker) (one : c.threads ≡ 1)
     (thread_number : g.number ≡ a.made.threads + 1) (thread_is : g.thread ≡ new_thread (a.made.threads + 1) false Script.Start words None) (instance : g.instance ≡ request.callee.instance) (barred : g.barred ≡ not (is_sync request.kind)) where
-  pub request_strand :
+  pub request_call_thread :
       AtPlace (parts_of a) request.maker (caller_target request.caller)
       → IsSome (get (seen a).core.instances request.callee.instance)
       → (request.goal ≡ Goal.Main → HasRoom (a.made.threads + 1) a.results)
-      → IsStrand (bare (parts_of a)) (bare_call (record c { first = next_place a.threads })) (bare_thread (record g { task = next_place a.calls }))
-  request_strand caller there room = record {
+      → IsCallWithThread (bare (parts_of a)) (bare_call (record c { first = next_place a.threads })) (bare_thread (record g { task = next_place a.calls }))
+  request_call_thread caller there room = record {
     call_next = call_number;
     thread_next = thread_number;
     first = ap (λ (t : Thread). t.call) thread_is ∙ sym call_number;

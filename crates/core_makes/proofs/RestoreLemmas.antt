@@ -120,8 +120,8 @@ module _ (p : CoreImage) (threads : Table (Single GuestThread)) (calls : Table (
     instance = ap (λ (s : Core). call_instance g.thread.call s) core_same ∙ h.instance;
     barred = ap (λ s. bars_start g.thread.explicit (kind_of g.thread.call s)) core_same ∙ h.barred;
     within = h.within;
-    place = at_restored g.beside _ h.place;
-    op_progress = at_restored g.awaited _ h.op_progress;
+    place = at_restored g.state_target _ h.place;
+    op_progress = at_restored g.op_target _ h.op_progress;
   }
 
   call_kept : (g : GuestTask) → IsCallNamed p g → IsCallNamed restored g

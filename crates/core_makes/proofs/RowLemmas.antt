@@ -1,4 +1,4 @@
--- A node or a chain is made among the marks or the shelves: every list stays as it is.
+-- A node or a chain is made among the marks or the instances' queues: every list stays as it is.
 use Rattle.core_records.proofs.Core.{[], ap, ap₂, bare, cases_eq, chained, High, image, inl, inr, is_made, is_of_instance, IsRows, IsRows-made, IsKeyed, IsSoundCore, List, Low, map, None, part, CoreImage, parts_of, Renames, Row, row, row_chain, seen, instance_queue_chain, Spot, spot_is_made, spot_link, true, Unmade, ℕ, ◌∙◌, ◌≡◌, ◌⊎◌}
 use Rattle.core_records.specs.declared.{parts.CoreParts.CoreParts, thread_records.Queued.Queued}
 use Rattle.core_queues.proofs.WholeLemmas.{KeepsNodes, chains_sound, row_is, rows_whole}

@@ -41,7 +41,7 @@ module _ (p : CoreImage) (whole : IsWhole p) (tables : SoundTable set_key p.sets
   at_more rep (SetOf n) at = (let few = at.0 in omega arith, stands_more (λ (y : WaitSet). y.number) (λ (y : WaitSet). y.set) p.sets p.made.sets tables x next rep n at.0 at.1)
 
   home_more : (g : GuestThread) → HasHome p g → HasHome with_set g
-  home_more g h = record { call = h.call; there = h.there; instance = h.instance; barred = h.barred; within = h.within; place = at_more g.beside _ h.place; op_progress = at_more g.awaited _ h.op_progress }
+  home_more g h = record { call = h.call; there = h.there; instance = h.instance; barred = h.barred; within = h.within; place = at_more g.state_target _ h.place; op_progress = at_more g.op_target _ h.op_progress }
 
   call_more : (g : GuestTask) → IsCallNamed p g → IsCallNamed with_set g
   call_more g h = record { caller = at_more g.maker _ h.caller; first = at_more g.first (ThreadOf g.number) h.first; join = at_more g.joined _ h.join; group = h.group; positive = h.positive }
@@ -75,7 +75,7 @@ module _ (p : CoreImage) (whole : IsWhole p) (tables : SoundTable set_key p.sets
       by_place (Some q) at is =
           let g = q.entry.item in
           let one : where_at g.instance g.barred g.thread.place ≡ f.key = ap (λ (h : Filing Where OrderKey). h.key) (same_Some _ f is) in
-          waits_on_none (kinds p) x.number later g.instance g.barred g.thread.place g.beside (whole.named.threads rep q at).place (one ∙ key)
+          waits_on_none (kinds p) x.number later g.instance g.barred g.thread.place g.state_target (whole.named.threads rep q at).place (one ∙ key)
 
   none_call : (rep : ℕ) (f : Filing ℕ OrderKey) → filings ready_call p.calls rep ≡ Some f → f.key ≡ Some x.number → ⊥
   unfolding filings
@@ -122,7 +122,7 @@ module _ (p : CoreImage) (whole : IsWhole p) (tables : SoundTable set_key p.sets
       by_thread r e (Some q) at is =
           let g = q.entry.item in
           let home = whole.named.threads r q at in
-          ap (λ (d : ℕ × Thread). keeps_set x.number d.1 d.1.place) (sym (same_Some (g.number, g.thread) e is)) ∙ none_keeps (kinds p) x.number later g.thread g.beside g.awaited home.place home.op_progress
+          ap (λ (d : ℕ × Thread). keeps_set x.number d.1 d.1.place) (sym (same_Some (g.number, g.thread) e is)) ∙ none_keeps (kinds p) x.number later g.thread g.state_target g.op_target home.place home.op_progress
 
   set_kept : (y : WaitSet) → IsSetKept (core_of p) y → IsSetKept (core_of with_set) y
   set_kept y h = record { members = h.members; entries = h.entries }

@@ -37,7 +37,7 @@ names_list k rep i b (Place.Held y) w at is = subst (λ v. IsNamedAt k rep (targ
 names_list k rep i b Place.Suspended w at is = absurd (cc)
 
 abbrev pub PlacesNamed : Kinds → Table (Single GuestThread) → Type 0
-PlacesNamed k t = EachEntry (λ (g : GuestThread). IsNamedAt k g.beside (place_target g.thread.place)) t
+PlacesNamed k t = EachEntry (λ (g : GuestThread). IsNamedAt k g.state_target (place_target g.thread.place)) t
 
 -- nobody is in the list of what was not made
 pub none_in_list : (k : Kinds) (t : Table (Single GuestThread)) (w : Where) → PlacesNamed k t → ((rep : ℕ) → IsNamedAt k rep (target_of w) → ⊥) → (rep : ℕ) (f : Filing Where OrderKey) → filings place_filing t rep ≡ Some f → f.key ≡ Some w → ⊥
@@ -48,7 +48,7 @@ none_in_list k t w named new rep f is key = by (place_at t rep) refl is
     by None at is = absurd (cc)
     by (Some q) at is =
         let g = q.entry.item in
-        new g.beside (names_list k g.beside g.instance g.barred g.thread.place w (named rep q at) (ap (λ (h : Filing Where OrderKey). h.key) (same_Some _ f is) ∙ key))
+        new g.state_target (names_list k g.state_target g.instance g.barred g.thread.place w (named rep q at) (ap (λ (h : Filing Where OrderKey). h.key) (same_Some _ f is) ∙ key))
 
 abbrev under_in : Where → ℕ
 under_in (UnderOf n) = n

@@ -4,7 +4,7 @@ pub mod Instances
 pub mod Restored
 pub mod LooseCalls
 pub mod Extends
-pub mod Strand
+pub mod CallThread
 pub mod Pushed
 pub mod Member
 pub mod Ends

@@ -28,7 +28,7 @@ pub record AreCallLoose (p : CoreImage) (n : CallNodes) : Type 0 where
   pub blocked : IsLoose (place_chain p) p.places n.blocked
 
 -- Those of a call and of its first thread.
-pub record AreStrandLoose (p : CoreImage) (c : CallNodes) (t : ThreadNodes) : Type 0 where
+pub record AreCallAndThreadLoose (p : CoreImage) (c : CallNodes) (t : ThreadNodes) : Type 0 where
   pub call : AreCallLoose p c
   pub thread : AreThreadLoose p t
   pub two : t.under ≡ c.blocked → ⊥

@@ -1,6 +1,6 @@
 -- What a make of records asks, and what it changed, so that it can be taken back.
 use Rattle.std.specs.Prelude.{◌≡◌, ◌+◌, ◌<◌, ◌≤◌, ◌^◌, ℕ, IsSome, List, Ok, length, true}
-use Rattle.core_makes.specs.LooseCalls.{AreStrandLoose}
+use Rattle.core_makes.specs.LooseCalls.{AreCallAndThreadLoose}
 use Rattle.core_makes.specs.declared.node_makes.CallNodes.{CallNodes}
 use Rattle.core_makes.specs.declared.node_makes.ThreadNodes.{ThreadNodes}
 use Rattle.core_makes.specs.declared.record_makes.Request.{Request}
@@ -32,10 +32,10 @@ pub record MayAdd
   pub group : Ok of ≡ item_at item_of a.groups id.rep id.serial
   pub there : IsSome (get (seen a).core.instances request.callee.instance)
   pub result : request.goal ≡ goals.Main → HasRoom (a.made.threads + 1) a.results
-  pub loose : AreStrandLoose (bare (parts_of a)) nodes.0 nodes.1
+  pub loose : AreCallAndThreadLoose (bare (parts_of a)) nodes.0 nodes.1
 
 -- A call more, of this group, and its first thread.
-pub record PushesStrand
+pub record PushesCallWithThread
     (a b : CoreParts) (id : TableId GroupKey) (group : TaskGroup) (first : TableId ThreadKey) (task : TableId GuestTaskKey) : Type 0 where
   pub thread : GuestThread
   pub call : GuestTask

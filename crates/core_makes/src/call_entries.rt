@@ -30,7 +30,7 @@ pub(crate) fn take_thread(places: &mut TablePlaces, task: u32) -> Result<Entries
 
 // The places of a call and then of its first thread. If it is out of memory, none is taken.
 #[inline(always)]
-pub(crate) fn take_strand(places: &mut TablePlaces) -> Result<Entries, NoMemory>
+pub(crate) fn take_call_entries(places: &mut TablePlaces) -> Result<Entries, NoMemory>
     ensures entries { IfOk result (λ e. e ≡ record { task = next_place places.old; set = next_place (taken places.old); thread = next_place (taken (taken places.old)) }) }
     ensures places { OnOk result (places.new ≡ taken (taken (taken places.old))) }
 {
@@ -53,7 +53,7 @@ pub(crate) fn give_thread(places: &mut TablePlaces, entries: Entries)
 }
 
 // The places of the thread and then of the call are free.
-pub(crate) fn give_strand(places: &mut TablePlaces, entries: Entries)
+pub(crate) fn give_call_entries(places: &mut TablePlaces, entries: Entries)
     ensures { places.new ≡ given entries.task (given entries.set (given entries.thread places.old)) }
 {
     give_thread(places, entries);

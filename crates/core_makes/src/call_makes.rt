@@ -1,8 +1,8 @@
 ghost use Rattle.std.specs.Prelude.{◌≡◌, ◌+◌, ◌<◌, ◌≤◌, ◌^◌, IfOk, IsSome, OnErr, OnOk, length, true};
 ghost use Rattle.core_makes.specs.Restored.{IsRestored};
 ghost use Rattle.core_makes.specs.Ends.{HasEndRoom};
-ghost use Rattle.core_makes.specs.LooseCalls.{AreStrandLoose};
-ghost use Rattle.core_makes.specs.Pushed.{MayAdd, PushesStrand};
+ghost use Rattle.core_makes.specs.LooseCalls.{AreCallAndThreadLoose};
+ghost use Rattle.core_makes.specs.Pushed.{MayAdd, PushesCallWithThread};
 ghost use Rattle.machine_data.specs.Maps.{get};
 ghost use Rattle.machine_data.specs.Read.{fits};
 ghost use Rattle.machine_data.specs.Write.{add_group};
@@ -15,11 +15,11 @@ ghost use Rattle.core_records.specs.Sound.{bare};
 ghost use Rattle.machine_rules.specs.Calls.{call_made, next_thread, with_thread_handle};
 ghost use Rattle.core_primitives.specs.BecomesRecord.{MakesRecord, MakesGrouped, names_call};
 
-use crate::call_entries::{Entries, give_strand, take_strand};
+use crate::call_entries::{Entries, give_call_entries, take_call_entries};
+use crate::calls_with_threads::{drop_call_with_thread, push_call_with_thread};
 use crate::group_makes::{drop_group, push_group, reserve_end};
-use crate::node_makes::{CallNodes, ThreadNodes, new_strand_nodes};
+use crate::node_makes::{CallNodes, ThreadNodes, new_call_thread_nodes};
 use crate::record_makes::{Request, bars, call_record, new_call, new_thread, thread_record};
-use crate::strands::{drop_call_with_thread, push_call_with_thread};
 use core_counts::make_room;
 use core_fields::name_thread;
 use core_primitives::{CallId, ThreadId};
@@ -43,7 +43,7 @@ pub fn add_call_with_thread(
     requires caller { AtPlace (parts_of parts.old) request.maker (caller_target request.caller) }
     ensures sound { IsSoundCore parts.new }
     ensures new { MakesRecord (names_call (next_thread (seen parts.old).core)) (call_made request.caller request.callee request.kind request.goal group.number words.now (seen parts.old).core) (seen parts.old) result (seen parts.new) }
-    ensures pushes { IfOk result (λ ids. PushesStrand parts.old parts.new id group ids.0 ids.1) }
+    ensures pushes { IfOk result (λ ids. PushesCallWithThread parts.old parts.new id group ids.0 ids.1) }
     ensures err { OnErr result (IsRestored (parts_of parts.old) (parts_of parts.new)) }
 {
     let number = parts.made.threads + 1;
@@ -79,14 +79,14 @@ pub fn prepare(parts: &mut CoreParts, goal: Goal) -> Result<(CallNodes, ThreadNo
     requires few { (seen parts.old).core.made.threads + 1 < 2 ^ 64 }
     ensures sound { IsSoundCore parts.new }
     ensures seen { seen parts.new ≡ seen parts.old }
-    ensures loose { IfOk result (λ nodes. AreStrandLoose (bare (parts_of parts.new)) nodes.0 nodes.1) }
+    ensures loose { IfOk result (λ nodes. AreCallAndThreadLoose (bare (parts_of parts.new)) nodes.0 nodes.1) }
     ensures result { OnOk result (goal ≡ goals.Main → HasRoom (parts.new.made.threads + 1) parts.new.results) }
 {
     if let Goal::Main = goal {
         let number = parts.made.threads + 1;
         make_room(parts, number)?;
     }
-    let nodes = new_strand_nodes(parts)?;
+    let nodes = new_call_thread_nodes(parts)?;
     Ok(nodes)
 }
 
@@ -104,7 +104,7 @@ pub fn add_call_with_thread_outlined(
     requires caller { AtPlace (parts_of parts.old) request.maker (caller_target request.caller) }
     ensures sound { IsSoundCore parts.new }
     ensures new { MakesRecord (names_call (next_thread (seen parts.old).core)) (call_made request.caller request.callee request.kind request.goal group.number words.now (seen parts.old).core) (seen parts.old) result (seen parts.new) }
-    ensures pushes { IfOk result (λ ids. PushesStrand parts.old parts.new id group ids.0 ids.1) }
+    ensures pushes { IfOk result (λ ids. PushesCallWithThread parts.old parts.new id group ids.0 ids.1) }
     ensures err { OnErr result (IsRestored (parts_of parts.old) (parts_of parts.new)) }
 {
     add_call_with_thread(parts, id, group, request, words, nodes)
@@ -120,14 +120,14 @@ pub fn prepare_outlined(
     requires few { (seen parts.old).core.made.threads + 1 < 2 ^ 64 }
     ensures sound { IsSoundCore parts.new }
     ensures seen { seen parts.new ≡ seen parts.old }
-    ensures loose { IfOk result (λ nodes. AreStrandLoose (bare (parts_of parts.new)) nodes.0 nodes.1) }
+    ensures loose { IfOk result (λ nodes. AreCallAndThreadLoose (bare (parts_of parts.new)) nodes.0 nodes.1) }
     ensures result { OnOk result (goal ≡ goals.Main → HasRoom (parts.new.made.threads + 1) parts.new.results) }
 {
     prepare(parts, goal)
 }
 
 // A call by main in a group that is made for it, at this place of the resource table. If it is out of memory, neither is there.
-fn add_main_strand(
+fn add_main_call(
     parts: &mut CoreParts,
     entry: u32,
     request: Request,
@@ -143,7 +143,7 @@ fn add_main_strand(
     requires caller { request.caller ≡ callers.Main }
     requires there { IsSome (get (seen parts.old).core.instances request.callee.instance) }
     requires result { request.goal ≡ goals.Main → HasRoom (parts.old.made.threads + 1) parts.old.results }
-    requires loose { AreStrandLoose (bare (parts_of parts.old)) nodes.0 nodes.1 }
+    requires loose { AreCallAndThreadLoose (bare (parts_of parts.old)) nodes.0 nodes.1 }
     ensures sound { IsSoundCore parts.new }
     ensures new { MakesGrouped (names_call ((seen parts.old).core.made.threads + 1)) (call_made request.caller request.callee request.kind request.goal ((seen parts.old).core.made.groups + 1) words.now (add_group (seen parts.old).core)) (seen parts.old) result (seen parts.new) }
 {
@@ -197,7 +197,7 @@ fn make_call_by_main_with(
     match prepare_outlined(parts, goal) {
         Ok(nodes) => {
             reserve_end(parts)?;
-            match add_main_strand(parts, entry, request, words, nodes) {
+            match add_main_call(parts, entry, request, words, nodes) {
                 Ok(ids) => Ok(ids),
                 Err(why) => Err(why),
             }
@@ -226,12 +226,12 @@ pub fn make_call_by_main(
     ensures new { MakesGrouped (names_call (next_thread (seen parts.old).core)) (call_made callers.Main callee kind goal ((seen parts.old).core.made.groups + 1) words.now (add_group (seen parts.old).core)) (seen parts.old) result (seen parts.new) }
 {
     let entry = parts.table_places.take()?;
-    match take_strand(&mut parts.table_places) {
+    match take_call_entries(&mut parts.table_places) {
         Ok(entries) => {
             match make_call_by_main_with(parts, callee, kind, goal, words, entry, entries) {
                 Ok(ids) => Ok(ids),
                 Err(why) => {
-                    give_strand(&mut parts.table_places, entries);
+                    give_call_entries(&mut parts.table_places, entries);
                     parts.table_places.give(entry);
                     Err(why)
                 }
@@ -245,7 +245,7 @@ pub fn make_call_by_main(
 }
 
 // A call of a group that is there, and its first thread with its handle. If it is out of memory, neither is there.
-pub fn add_named_strand(
+pub fn add_named_call(
     parts: &mut CoreParts,
     id: TableId<GroupKey>,
     group: TaskGroup,

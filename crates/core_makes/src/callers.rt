@@ -5,7 +5,7 @@ use core_records::CoreParts;
 use machine_data::NoMemory;
 use table_links::Node;
 
-/// Returns a new chain among the callers of threads, which hangs on nothing yet. If it is out of memory, all is as before.
+/// Makes a new chain among the callers of threads, which hangs on nothing yet. If it is out of memory, all is as before.
 #[inline(always)]
 pub fn make_caller_chain(parts: &mut CoreParts) -> Result<usize, NoMemory>
     requires { IsSoundCore parts.old }
@@ -17,7 +17,7 @@ pub fn make_caller_chain(parts: &mut CoreParts) -> Result<usize, NoMemory>
     }
 }
 
-/// Returns a new node among the callers of threads, which hangs on nothing yet. If it is out of memory, all is as before.
+/// Makes a new node among the callers of threads, which hangs on nothing yet. If it is out of memory, all is as before.
 #[inline(always)]
 pub fn make_caller_node(parts: &mut CoreParts) -> Result<Node, NoMemory>
     requires { IsSoundCore parts.old }

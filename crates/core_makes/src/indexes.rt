@@ -5,7 +5,7 @@ use core_records::CoreParts;
 use machine_data::NoMemory;
 use table_links::Node;
 
-/// Returns a new chain among the places of threads, which hangs on nothing yet. If it is out of memory, all is as before.
+/// Makes a new chain among the places of threads, which hangs on nothing yet. If it is out of memory, all is as before.
 #[inline(always)]
 pub fn make_place_chain(parts: &mut CoreParts) -> Result<usize, NoMemory>
     requires { IsSoundCore parts.old }
@@ -17,7 +17,7 @@ pub fn make_place_chain(parts: &mut CoreParts) -> Result<usize, NoMemory>
     }
 }
 
-/// Returns a new node among the places of threads, which hangs on nothing yet. If it is out of memory, all is as before.
+/// Makes a new node among the places of threads, which hangs on nothing yet. If it is out of memory, all is as before.
 #[inline(always)]
 pub fn make_place_node(parts: &mut CoreParts) -> Result<Node, NoMemory>
     requires { IsSoundCore parts.old }
@@ -29,7 +29,7 @@ pub fn make_place_node(parts: &mut CoreParts) -> Result<Node, NoMemory>
     }
 }
 
-/// Returns a new chain among the ready calls of sets, which hangs on nothing yet. If it is out of memory, all is as before.
+/// Makes a new chain among the ready calls of sets, which hangs on nothing yet. If it is out of memory, all is as before.
 #[inline(always)]
 pub fn make_ready_call_chain(parts: &mut CoreParts) -> Result<usize, NoMemory>
     requires { IsSoundCore parts.old }
@@ -41,7 +41,7 @@ pub fn make_ready_call_chain(parts: &mut CoreParts) -> Result<usize, NoMemory>
     }
 }
 
-/// Returns a new node among the ready calls of sets, which hangs on nothing yet. If it is out of memory, all is as before.
+/// Makes a new node among the ready calls of sets, which hangs on nothing yet. If it is out of memory, all is as before.
 #[inline(always)]
 pub fn make_ready_call_node(parts: &mut CoreParts) -> Result<Node, NoMemory>
     requires { IsSoundCore parts.old }
@@ -53,7 +53,7 @@ pub fn make_ready_call_node(parts: &mut CoreParts) -> Result<Node, NoMemory>
     }
 }
 
-/// Returns a new chain among the ready host works of sets, which hangs on nothing yet. If it is out of memory, all is as before.
+/// Makes a new chain among the ready host works of sets, which hangs on nothing yet. If it is out of memory, all is as before.
 #[inline(always)]
 pub fn make_ready_work_chain(parts: &mut CoreParts) -> Result<usize, NoMemory>
     requires { IsSoundCore parts.old }
@@ -65,7 +65,7 @@ pub fn make_ready_work_chain(parts: &mut CoreParts) -> Result<usize, NoMemory>
     }
 }
 
-/// Returns a new node among the ready host works of sets, which hangs on nothing yet. If it is out of memory, all is as before.
+/// Makes a new node among the ready host works of sets, which hangs on nothing yet. If it is out of memory, all is as before.
 #[inline(always)]
 pub fn make_ready_work_node(parts: &mut CoreParts) -> Result<Node, NoMemory>
     requires { IsSoundCore parts.old }
@@ -77,7 +77,7 @@ pub fn make_ready_work_node(parts: &mut CoreParts) -> Result<Node, NoMemory>
     }
 }
 
-/// Returns a new chain among the host works that are polled, which hangs on nothing yet. If it is out of memory, all is as before.
+/// Makes a new chain among the host works that are polled, which hangs on nothing yet. If it is out of memory, all is as before.
 #[inline(always)]
 pub fn make_live_chain(parts: &mut CoreParts) -> Result<usize, NoMemory>
     requires { IsSoundCore parts.old }
@@ -89,7 +89,7 @@ pub fn make_live_chain(parts: &mut CoreParts) -> Result<usize, NoMemory>
     }
 }
 
-/// Returns a new node among the host works that are polled, which hangs on nothing yet. If it is out of memory, all is as before.
+/// Makes a new node among the host works that are polled, which hangs on nothing yet. If it is out of memory, all is as before.
 #[inline(always)]
 pub fn make_live_node(parts: &mut CoreParts) -> Result<Node, NoMemory>
     requires { IsSoundCore parts.old }

@@ -17,7 +17,7 @@ const UNTOUCHED: Instance = Instance {
     backpressure: 0,
     do_not_enter: false,
     do_not_suspend: false,
-    words: [0; 16],
+    memory_cells: [0; 16],
 };
 
 // The chains that an instance is to have, with those of the marks.
@@ -67,7 +67,7 @@ fn add(
     Ok(())
 }
 
-/// Makes an instance and answers its number, from 0: its counters and words are 0, its flags are clear, and it has no handles. If
+/// Makes an instance and answers its number, from 0: its counters and memory cells are 0, its flags are clear, and it has no handles. If
 /// it is out of memory, all is as before.
 pub fn add_instance(parts: &mut CoreParts) -> Result<u32, NoMemory>
     requires sound { IsSoundCore parts.old }

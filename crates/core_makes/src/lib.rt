@@ -5,6 +5,7 @@
 mod call_entries;
 mod call_makes;
 mod callers;
+mod calls_with_threads;
 mod group_makes;
 mod indexes;
 mod instance_makes;
@@ -14,11 +15,11 @@ mod node_makes;
 mod record_makes;
 mod rows;
 mod set_makes;
-mod strands;
 mod thread_calls;
 
 pub use call_makes::make_call_by_main;
 pub use callers::{make_caller_chain, make_caller_node};
+pub use calls_with_threads::{one_less, one_more};
 pub use indexes::{
     make_live_chain, make_live_node, make_place_chain, make_place_node, make_ready_call_chain,
     make_ready_call_node, make_ready_work_chain, make_ready_work_node,
@@ -30,5 +31,4 @@ pub use rows::{
     make_instance_queue_chain, make_instance_queue_node, make_mark_chain, make_mark_node,
 };
 pub use set_makes::open_set;
-pub use strands::{one_less, one_more};
 pub use thread_calls::{group_of, make_call, make_direct_call};

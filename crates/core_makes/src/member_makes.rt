@@ -18,9 +18,9 @@ ghost use Rattle.core_primitives.specs.BecomesRecord.{BecomesRecord, MakesRecord
 ghost use Rattle.core_primitives.specs.StateView.{call_of, thread_of};
 
 use crate::call_entries::{Entries, give_thread, take_thread};
+use crate::calls_with_threads::drop_thread;
 use crate::node_makes::{ThreadNodes, new_thread_nodes};
 use crate::record_makes::{new_thread, thread_record};
-use crate::strands::drop_thread;
 use core_fields::name_thread;
 use core_primitives::{CallId, ThreadId};
 use core_records::{CoreParts, GuestTask, GuestThread, Single};
@@ -168,7 +168,7 @@ fn make_thread_with(
     }
 }
 
-/// Makes a thread of a call that runs the script of a slot of the call's instance with these words, and gives it its handle. If it
+/// Makes a thread of a call that runs the script of a slot of the call's instance with these values, and gives it its handle. If it
 /// is out of memory, all is as before.
 #[tactic(auto, unfolding(core_records::specs::Seen::seen, core_records::specs::Seen::IsSoundCore))]
 pub fn make_thread(

@@ -1,6 +1,6 @@
 ghost use Rattle.std.specs.Prelude.{◌≡◌, IfOk, OnOk};
 ghost use Rattle.core_makes.specs.Extends.{Extends};
-ghost use Rattle.core_makes.specs.LooseCalls.{AreCallLoose, AreStrandLoose, AreThreadLoose};
+ghost use Rattle.core_makes.specs.LooseCalls.{AreCallLoose, AreCallAndThreadLoose, AreThreadLoose};
 ghost use Rattle.table_links.specs.Links.{Unmade, spot_at};
 ghost use Rattle.core_records.specs.Seen.{IsSoundCore, parts_of, seen};
 ghost use Rattle.core_records.specs.Sound.{bare};
@@ -76,11 +76,11 @@ pub fn new_call_nodes(parts: &mut CoreParts) -> Result<CallNodes, NoMemory>
 
 // Those of a call and of its first thread. If it is out of memory, all is as before.
 #[inline(always)]
-pub fn new_strand_nodes(parts: &mut CoreParts) -> Result<(CallNodes, ThreadNodes), NoMemory>
+pub fn new_call_thread_nodes(parts: &mut CoreParts) -> Result<(CallNodes, ThreadNodes), NoMemory>
     requires { IsSoundCore parts.old }
     ensures sound { IsSoundCore parts.new }
     ensures seen { seen parts.new ≡ seen parts.old }
-    ensures loose { IfOk result (λ nodes. AreStrandLoose (bare (parts_of parts.new)) nodes.0 nodes.1) }
+    ensures loose { IfOk result (λ nodes. AreCallAndThreadLoose (bare (parts_of parts.new)) nodes.0 nodes.1) }
     ensures extends { OnOk result (Extends parts.old parts.new) }
 {
     let call = new_call_nodes(parts)?;

@@ -22,7 +22,7 @@ pub struct Request {
     pub entries: Entries,
 }
 
-// The registers of a thread that begins with these words. Mostly that is one word, which is written alone.
+// The registers of a thread that begins with these values. Mostly there is one, which is written alone.
 #[inline(always)]
 pub fn registers_of(words: &[u64]) -> [u64; 16]
     requires { length words.now ≤ 16 }
@@ -131,7 +131,7 @@ pub fn thread_record(
     entries: Entries,
     nodes: ThreadNodes,
 ) -> GuestThread
-    ensures { result ≡ record { number = number; thread = thread; task = task; instance = instance; task_entry = entries.task; entry = entries.thread; set_entry = entries.set; beside = 0; awaited = 0; barred = barred; node = nodes.node; mark = nodes.mark; instance_queue = nodes.instance_queue; caller = nodes.caller; callers = nodes.callers; under = nodes.under } }
+    ensures { result ≡ record { number = number; thread = thread; task = task; instance = instance; task_entry = entries.task; entry = entries.thread; set_entry = entries.set; state_target = 0; op_target = 0; barred = barred; node = nodes.node; mark = nodes.mark; instance_queue = nodes.instance_queue; caller = nodes.caller; callers = nodes.callers; under = nodes.under } }
 {
     GuestThread {
         number,
@@ -141,8 +141,8 @@ pub fn thread_record(
         task_entry: entries.task,
         entry: entries.thread,
         set_entry: entries.set,
-        beside: 0,
-        awaited: 0,
+        state_target: 0,
+        op_target: 0,
         barred,
         node: nodes.node,
         mark: nodes.mark,

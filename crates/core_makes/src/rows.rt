@@ -5,7 +5,7 @@ use core_records::CoreParts;
 use machine_data::NoMemory;
 use table_links::Node;
 
-/// Returns a new chain among the entries of marks, which hangs on nothing yet. If it is out of memory, all is as before.
+/// Makes a new chain among the entries of marks, which hangs on nothing yet. If it is out of memory, all is as before.
 #[inline(always)]
 pub fn make_mark_chain(parts: &mut CoreParts) -> Result<usize, NoMemory>
     requires { IsSoundCore parts.old }
@@ -17,7 +17,7 @@ pub fn make_mark_chain(parts: &mut CoreParts) -> Result<usize, NoMemory>
     }
 }
 
-/// Returns a new node among the entries of marks, which hangs on nothing yet. If it is out of memory, all is as before.
+/// Makes a new node among the entries of marks, which hangs on nothing yet. If it is out of memory, all is as before.
 #[inline(always)]
 pub fn make_mark_node(parts: &mut CoreParts) -> Result<Node, NoMemory>
     requires { IsSoundCore parts.old }
@@ -29,7 +29,7 @@ pub fn make_mark_node(parts: &mut CoreParts) -> Result<Node, NoMemory>
     }
 }
 
-/// Returns a new chain among the entries of instances at a mark, which hangs on nothing yet. If it is out of memory, all is as
+/// Makes a new chain among the entries of instances at a mark, which hangs on nothing yet. If it is out of memory, all is as
 /// before.
 #[inline(always)]
 pub fn make_instance_queue_chain(parts: &mut CoreParts) -> Result<usize, NoMemory>
@@ -42,7 +42,7 @@ pub fn make_instance_queue_chain(parts: &mut CoreParts) -> Result<usize, NoMemor
     }
 }
 
-/// Returns a new node among the entries of instances at a mark, which hangs on nothing yet. If it is out of memory, all is as
+/// Makes a new node among the entries of instances at a mark, which hangs on nothing yet. If it is out of memory, all is as
 /// before.
 #[inline(always)]
 pub fn make_instance_queue_node(parts: &mut CoreParts) -> Result<Node, NoMemory>

@@ -10,10 +10,8 @@ ghost use Rattle.task_table.specs.TableAnswers.{item_at};
 ghost use Rattle.core_primitives.specs.BecomesRecord.{MakesRecord, names_call};
 ghost use Rattle.core_primitives.specs.StateView.{thread_of};
 
-use crate::call_entries::{Entries, give_strand, take_strand};
-use crate::call_makes::{
-    add_call_with_thread_outlined, add_named_strand, prepare, prepare_outlined,
-};
+use crate::call_entries::{Entries, give_call_entries, take_call_entries};
+use crate::call_makes::{add_call_with_thread_outlined, add_named_call, prepare, prepare_outlined};
 use crate::record_makes::Request;
 use core_fields::number;
 use core_primitives::{CallId, ThreadId};
@@ -96,11 +94,11 @@ pub fn make_call(
     ensures sound { IsSoundCore parts.new }
     ensures new { MakesRecord (names_call (next_thread (seen parts.old).core)) (call_made (callers.Thread (thread_of (seen parts.old) thread)) callee kind goal (thread_group (thread_of (seen parts.old) thread) (seen parts.old).core) words.now (seen parts.old).core) (seen parts.old) result (seen parts.new) }
 {
-    let entries = take_strand(&mut parts.table_places)?;
+    let entries = take_call_entries(&mut parts.table_places)?;
     match make_call_with(parts, thread, callee, kind, goal, words, entries) {
         Ok(ids) => Ok(ids),
         Err(why) => {
-            give_strand(&mut parts.table_places, entries);
+            give_call_entries(&mut parts.table_places, entries);
             Err(why)
         }
     }
@@ -137,7 +135,7 @@ fn make_direct_call_with(
     match prepare(parts, request.goal) {
         Ok(nodes) => {
             let (id, group) = group_of(parts, thread);
-            match add_named_strand(parts, id, group, request, words, nodes) {
+            match add_named_call(parts, id, group, request, words, nodes) {
                 Ok(ids) => Ok(ids),
                 Err(why) => Err(why),
             }
@@ -166,11 +164,11 @@ pub fn make_direct_call(
     ensures new { MakesRecord (names_call (next_thread (seen parts.old).core)) (with_thread_handle callee.instance (next_thread (seen parts.old).core) (call_made (callers.Thread (thread_of (seen parts.old) thread)) callee kind goals.Direct (thread_group (thread_of (seen parts.old) thread) (seen parts.old).core) words.now (seen parts.old).core)) (seen parts.old) result (seen parts.new) }
 {
     let number = number(parts, thread);
-    let entries = take_strand(&mut parts.table_places)?;
+    let entries = take_call_entries(&mut parts.table_places)?;
     match make_direct_call_with(parts, thread, number, callee, kind, words, entries) {
         Ok(ids) => Ok(ids),
         Err(why) => {
-            give_strand(&mut parts.table_places, entries);
+            give_call_entries(&mut parts.table_places, entries);
             Err(why)
         }
     }

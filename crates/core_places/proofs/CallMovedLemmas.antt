@@ -39,7 +39,7 @@ module _ (p : CoreImage) (whole : IsWhole p) (calls : Table (Single GuestTask)) 
   kind_told k = sym (quiet_kind (get (core_of told).calls k)) ∙ (ap (λ o. option_map_or (λ (c : Call). c.kind) o ExportKind.Callback) (get_told k) ∙ quiet_kind (get (core_of p).calls k))
 
   home_told : (g : GuestThread) → HasHome p g → HasHome told g
-  home_told g h = record { call = number_alike still_call calls p.calls alike (λ (g : GuestTask). g.number) (λ g. refl) (λ (g : GuestTask). g.call) quiet_call (λ g. refl) g.task ∙ h.call; there = h.there; instance = instance_told g.thread.call ∙ h.instance; barred = ap (bars_start g.thread.explicit) (kind_told g.thread.call) ∙ h.barred; within = h.within; place = at_told g.beside _ h.place; op_progress = at_told g.awaited _ h.op_progress }
+  home_told g h = record { call = number_alike still_call calls p.calls alike (λ (g : GuestTask). g.number) (λ g. refl) (λ (g : GuestTask). g.call) quiet_call (λ g. refl) g.task ∙ h.call; there = h.there; instance = instance_told g.thread.call ∙ h.instance; barred = ap (bars_start g.thread.explicit) (kind_told g.thread.call) ∙ h.barred; within = h.within; place = at_told g.state_target _ h.place; op_progress = at_told g.op_target _ h.op_progress }
 
   call_told : (g : GuestTask) → IsCallNamed p g → IsCallNamed told (still_call g)
   call_told g h = record { caller = at_told g.maker _ h.caller; first = at_told g.first (ThreadOf g.number) h.first; join = tt; group = h.group; positive = h.positive }

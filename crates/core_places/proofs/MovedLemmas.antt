@@ -28,7 +28,7 @@ module _ (p : CoreImage) (whole : IsWhole p) (threads : Table (Single GuestThrea
   at_moved rep (SetOf x) at = (at.0, stands_alike uncounted sets p.sets sets_alike (λ (x : WaitSet). x.number) (λ x. refl) (λ (x : WaitSet). x.set) (λ s. s) (λ x. refl) rep x at.1)
 
   pub home_moved : (g : GuestThread) → HasHome p g → HasHome moved g
-  home_moved g h = record { call = h.call; there = h.there; instance = h.instance; barred = h.barred; within = h.within; place = at_moved g.beside _ h.place; op_progress = at_moved g.awaited _ h.op_progress }
+  home_moved g h = record { call = h.call; there = h.there; instance = h.instance; barred = h.barred; within = h.within; place = at_moved g.state_target _ h.place; op_progress = at_moved g.op_target _ h.op_progress }
 
   call_moved : (g : GuestTask) → IsCallNamed p g → IsCallNamed moved g
   call_moved g h = record { caller = at_moved g.maker _ h.caller; first = at_moved g.first (ThreadOf g.number) h.first; join = at_moved g.joined _ h.join; group = h.group; positive = h.positive }

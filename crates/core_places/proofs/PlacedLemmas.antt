@@ -165,7 +165,7 @@ module _ (a : CoreParts) (sound : IsSoundCore a) (id : TableId ThreadKey) (g : G
 
       -- ---- The parts are whole
 
-      module _ (at_place : AtPlace (parts_of a) h.beside (place_target h.thread.place)) (at_op_progress : AtPlace (parts_of a) h.awaited (op_progress_target h.thread.op_progress)) where
+      module _ (at_place : AtPlace (parts_of a) h.state_target (place_target h.thread.place)) (at_op_progress : AtPlace (parts_of a) h.op_target (op_progress_target h.thread.op_progress)) where
         home_now : HasHome after (bare_thread h)
         home_now =
             let was = thread_home a sound id g is in
@@ -175,8 +175,8 @@ module _ (a : CoreParts) (sound : IsSoundCore a) (id : TableId ThreadKey) (g : G
               instance = subst (λ (x : GuestThread). call_instance x.thread.call (core_of bared) ≡ x.instance) (sym stays) was.instance;
               barred = subst (λ (x : GuestThread). bars_start x.thread.explicit (kind_of x.thread.call (core_of bared)) ≡ x.barred) (sym stays) was.barred;
               within = subst (λ (x : GuestThread). IsSome (slice_get bared.instances x.instance)) (sym stays) was.within;
-              place = at_moved bared is_whole bare_now threads_alike sets_now sets_alike places h.beside _ (place_in_bare a h.beside _ at_place);
-              op_progress = at_moved bared is_whole bare_now threads_alike sets_now sets_alike places h.awaited _ (place_in_bare a h.awaited _ at_op_progress);
+              place = at_moved bared is_whole bare_now threads_alike sets_now sets_alike places h.state_target _ (place_in_bare a h.state_target _ at_place);
+              op_progress = at_moved bared is_whole bare_now threads_alike sets_now sets_alike places h.op_target _ (place_in_bare a h.op_target _ at_op_progress);
             }
 
         homes_now : EachEntry (HasHome after) bare_now
@@ -263,7 +263,7 @@ module _ (a : CoreParts) (sound : IsSoundCore a) (id : TableId ThreadKey) (g : G
           (tags_alike uncounted set_key (λ e. refl) sets_now a.sets sets_alike))))
 
       -- the tables as the functions leave them
-      pub placed_becomes : AtPlace (parts_of a) h.beside (place_target h.thread.place) → AtPlace (parts_of a) h.awaited (op_progress_target h.thread.op_progress) →
+      pub placed_becomes : AtPlace (parts_of a) h.state_target (place_target h.thread.place) → AtPlace (parts_of a) h.op_target (op_progress_target h.thread.op_progress) →
           Refiles a.places places g.node.index (link_for (place_chain bared) (record { node = g.node.index; key = where_at h.instance h.barred h.thread.place; value = thread_order_key id.rep h })) →
           (f : Thread → Thread) → f g.thread ≡ h.thread → (threads : Table (Single GuestThread)) → threads ≡ threads_now →
           (sets : Table (Single WaitSet)) → sets ≡ sets_now → BecomesBy a (record a { threads = threads; sets = sets; places = places }) (on_thread (thread_of (seen a) id) f)

@@ -1,7 +1,7 @@
 -- A thread goes on.
 use Rattle.core_records.proofs.Core.{ap, change, change-change_same, Core, get, get-change_same, OpProgress, moved_to, None, on_thread, Option, option_map, option_map_or, Place, position_of, refl, Script, set_do_not_enter, set_op_progress, set_place, set_position, set_register, set_script, slice_set, Some, sym, Thread, true, ℕ, ◌∙◌, ◌≡◌}
 use Rattle.machine_data.specs.Write.{on_instance}
-use Rattle.machine_data.specs.declared.words.Given.{Given}
+use Rattle.machine_data.specs.declared.statuses.Given.{Given}
 use Rattle.machine_rules.specs.Sets.{given_code, given_handle, given_result, set_given}
 use Rattle.core_places.specs.Moved.{to_answer, to_begun, to_op, to_stand}
 

@@ -1,4 +1,4 @@
--- Words on one thread: its record is read, or there is none.
+-- Primitives on one thread: its record is read, or there is none.
 use Rattle.core_records.proofs.Core.{ap, AtPlace, change, changed, entry_of, get, OpProgress, op_progress_target, IsSoundCore, item_at, item_of, mapped-with_entry_same, None, number_in, Ok, on_core, on_item, on_thread, option_map, option_map_or, Option, parts_of, Place, ready_why, record_at, refl, Result, seen, set_of, set_place, SetKey, Some, StateView, subst, sym, TableId, Thread, thread_key, thread_of, ThreadKey, Why, why_of, why_target, with_entry, ℕ, ◌∙◌, ◌≡◌}
 use Rattle.core_records.specs.declared.{parts.CoreParts.CoreParts, thread_records.GuestThread.GuestThread}
 use Rattle.core_records.proofs.HomeLemmas.{place_bare, thread_home}
@@ -18,9 +18,9 @@ thread_gone s n none f = ap (λ m. record s { core = record s.core { threads = m
 pub becomes_none : (a : CoreParts) → IsSoundCore a → (n : ℕ) → None ≡ get (seen a).core.threads n → (f : Thread → Thread) → BecomesBy a a (on_thread n f)
 becomes_none a sound n none f = record { sound = sound; new = thread_gone (seen a) n none f }
 
-pub put_none : (a : CoreParts) → IsSoundCore a → (id : TableId ThreadKey) (p : Place) (beside : ℕ) (chain : Option ℕ) → None ≡ get (seen a).core.threads (thread_of (seen a) id) → IsPut a a id p beside chain
+pub put_none : (a : CoreParts) → IsSoundCore a → (id : TableId ThreadKey) (p : Place) (state_target : ℕ) (chain : Option ℕ) → None ≡ get (seen a).core.threads (thread_of (seen a) id) → IsPut a a id p state_target chain
 unfolding set_place
-put_none a sound id p beside chain none = record {
+put_none a sound id p state_target chain none = record {
   sound = sound;
   new = thread_gone (seen a) _ none _;
   threads = λ g is. absent g.thread (none ∙ sym (thread_read a sound id g is));
@@ -44,11 +44,11 @@ pub runs_unset : (a : CoreParts) (o : TableId SetKey) (p : Place) (h : OpProgres
 runs_unset a o p h none runs = none ∙ sym (ap (λ q. set_named (entry_set q h) (seen a).core) runs)
 
 module _ (a : CoreParts) (sound : IsSoundCore a) (id : TableId ThreadKey) (g : GuestThread) (is : Ok g ≡ item_at item_of a.threads id.rep id.serial) where
-  pub op_progress_at : AtPlace (parts_of a) g.awaited (op_progress_target g.thread.op_progress)
+  pub op_progress_at : AtPlace (parts_of a) g.op_target (op_progress_target g.thread.op_progress)
   op_progress_at = place_bare a _ _ (thread_home a sound id g is).op_progress
 
-  pub why_at : (w : Why) → w ≡ ready_why g.thread.place → AtPlace (parts_of a) g.beside (why_target w)
-  why_at w reason = subst (λ v. AtPlace (parts_of a) g.beside (why_target v)) (sym reason) (delivery_at (parts_of a) g.beside g.thread.place (place_bare a _ _ (thread_home a sound id g is).place))
+  pub why_at : (w : Why) → w ≡ ready_why g.thread.place → AtPlace (parts_of a) g.state_target (why_target w)
+  why_at w reason = subst (λ v. AtPlace (parts_of a) g.state_target (why_target v)) (sym reason) (delivery_at (parts_of a) g.state_target g.thread.place (place_bare a _ _ (thread_home a sound id g is).place))
 
   -- the numbers at places stay where the thread is at another place
   pub numbers_put : (h : GuestThread) → still_thread h ≡ still_thread g → (r : ℕ) → number_in (record_at thread_key (with_entry id.rep (entry_of h) a.threads).places r) ≡ number_in (record_at thread_key a.threads.places r)

@@ -20,7 +20,7 @@ module _ (p : CoreImage) (whole : IsWhole p) (works : Table (Single WorkRecord))
   at_heard rep (SetOf x) at = (at.0, stands_alike uncounted sets p.sets sets_alike (λ (x : WaitSet). x.number) (λ x. refl) (λ (x : WaitSet). x.set) (λ s. s) (λ x. refl) rep x at.1)
 
   home_heard : (g : GuestThread) → HasHome p g → HasHome heard g
-  home_heard g h = record { call = h.call; there = h.there; instance = h.instance; barred = h.barred; within = h.within; place = at_heard g.beside _ h.place; op_progress = at_heard g.awaited _ h.op_progress }
+  home_heard g h = record { call = h.call; there = h.there; instance = h.instance; barred = h.barred; within = h.within; place = at_heard g.state_target _ h.place; op_progress = at_heard g.op_target _ h.op_progress }
 
   call_heard : (g : GuestTask) → IsCallNamed p g → IsCallNamed heard g
   call_heard g h = record { caller = at_heard g.maker _ h.caller; first = at_heard g.first (ThreadOf g.number) h.first; join = at_heard g.joined _ h.join; group = h.group; positive = h.positive }

@@ -36,7 +36,7 @@ still t = record t { place = place.New; op_progress = op_progress.Fresh }
 
 -- a thread without where it is and how far it has come
 abbrev pub still_thread : GuestThread → GuestThread
-still_thread g = record g { thread = still g.thread; beside = 0; awaited = 0 }
+still_thread g = record g { thread = still g.thread; state_target = 0; op_target = 0 }
 
 -- a set without the numbers of its entries and of its members
 abbrev pub uncounted : WaitSet → WaitSet
@@ -110,20 +110,20 @@ still_work w = record w { work = quiet_work w.work; joined = 0 }
 abbrev pub live_key : Stage → Option (Unit {0})
 live_key x = if is_stage_live x then Some tt else None
 
--- a thread at another place, with where what it names there is
+-- a thread at another place, and the index of the record that this place names
 abbrev pub placed : GuestThread → Place → ℕ → GuestThread
-placed g p beside = record g { thread = record g.thread { place = p }; beside = beside }
+placed g p state_target = record g { thread = record g.thread { place = p }; state_target = state_target }
 
--- a thread that has come to another point of its op, with where what it names there is
+-- a thread with another op progress, and the index of the record that this names
 abbrev pub arrived : GuestThread → OpProgress → ℕ → GuestThread
-arrived g h awaited = record g { thread = record g.thread { op_progress = h }; awaited = awaited }
+arrived g h op_target = record g { thread = record g.thread { op_progress = h }; op_target = op_target }
 
--- a thread at another place, that has come to another point of its op
+-- a thread at another place, with another op progress
 abbrev pub to_stand : Place → OpProgress → Thread → Thread
 to_stand p h t = record t { place = p; op_progress = h }
 
-abbrev pub standing : GuestThread → Place → (beside : ℕ) → OpProgress → (awaited : ℕ) → GuestThread
-standing g p beside h awaited = record g { thread = to_stand p h g.thread; beside = beside; awaited = awaited }
+abbrev pub standing : GuestThread → Place → (state_target : ℕ) → OpProgress → (op_target : ℕ) → GuestThread
+standing g p state_target h op_target = record g { thread = to_stand p h g.thread; state_target = state_target; op_target = op_target }
 
 -- a thread with these registers
 abbrev pub with_registers : (registers : List ℕ) → Thread → Thread
@@ -134,16 +134,16 @@ abbrev pub to_op : (position : ℕ) → Thread → Thread
 to_op p t = record t { position = p; op_progress = op_progress.Fresh }
 
 abbrev pub at_op : GuestThread → (position : ℕ) → GuestThread
-at_op g p = record g { thread = to_op p g.thread; awaited = 0 }
+at_op g p = record g { thread = to_op p g.thread; op_target = 0 }
 
--- the same, with an answer in a register
+-- a thread that is about to begin the op at this position, with an answer in a register
 abbrev pub to_answer : (register : ℕ) → (value : ℕ) → (position : ℕ) → Thread → Thread
 to_answer r v p t = record t { registers = slice_set t.registers r v; position = p; op_progress = op_progress.Fresh }
 
 abbrev pub at_answer : GuestThread → (register : ℕ) → (value : ℕ) → (position : ℕ) → GuestThread
-at_answer g r v p = record g { thread = to_answer r v p g.thread; awaited = 0 }
+at_answer g r v p = record g { thread = to_answer r v p g.thread; op_target = 0 }
 
--- a thread that begins an activation, with these words in r0, r1 and r2
+-- a thread that begins an activation, with these values in r0, r1 and r2
 abbrev pub to_begun : (code : ℕ) → (handle : ℕ) → (status : ℕ) → Thread → Thread
 to_begun code handle status t =
     record t {
@@ -155,4 +155,4 @@ to_begun code handle status t =
     }
 
 abbrev pub begun : GuestThread → (code : ℕ) → (handle : ℕ) → (status : ℕ) → GuestThread
-begun g code handle status = record g { thread = to_begun code handle status g.thread; beside = 0; awaited = 0 }
+begun g code handle status = record g { thread = to_begun code handle status g.thread; state_target = 0; op_target = 0 }

@@ -39,10 +39,10 @@ pub record BecomesBy (a b : CoreParts) (step : Core → Core) : Type 0 where
   pub new : seen b ≡ on_core step (seen a)
 
 -- The thread of the id, if it is there, is at the place, with where what it names there is. In no chain it has no link.
-pub record IsPut (a b : CoreParts) (id : TableId ThreadKey) (p : Place) (beside : ℕ) (chain : Option ℕ) : Type 0 where
+pub record IsPut (a b : CoreParts) (id : TableId ThreadKey) (p : Place) (state_target : ℕ) (chain : Option ℕ) : Type 0 where
   pub sound : IsSoundCore b
   pub new : seen b ≡ on_core (set_place (thread_of (seen a) id) p) (seen a)
   pub threads : (g : GuestThread) → Ok g ≡ item_at item_of a.threads id.rep id.serial →
-      b.threads ≡ with_entry id.rep (entry_of (placed g p beside)) a.threads
+      b.threads ≡ with_entry id.rep (entry_of (placed g p state_target)) a.threads
   pub left : (g : GuestThread) → Ok g ≡ item_at item_of a.threads id.rep id.serial →
       chain ≡ None → b.places ≡ removed g.node.index a.places

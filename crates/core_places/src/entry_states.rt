@@ -94,32 +94,32 @@ fn resumed_set(parts: &CoreParts, place: u32, op_progress: &OpProgress) -> SetId
 pub(crate) fn entry_set(
     parts: &CoreParts,
     place: &Place,
-    beside: u32,
+    state_target: u32,
     op_progress: &OpProgress,
-    awaited: u32,
+    op_target: u32,
 ) -> SetId
     requires sound { IsSoundCore parts.now }
-    requires place { AtPlace (parts_of parts.now) beside (place_target place.now) }
-    requires op_progress { AtPlace (parts_of parts.now) awaited (op_progress_target op_progress.now) }
+    requires place { AtPlace (parts_of parts.now) state_target (place_target place.now) }
+    requires op_progress { AtPlace (parts_of parts.now) op_target (op_progress_target op_progress.now) }
     ensures { set_of (seen parts.now) result ≡ set_named (entry_set place.now op_progress.now) (seen parts.now).core }
 {
     match place {
-        Place::Waiting { set, .. } => kept_set(parts, beside, *set),
+        Place::Waiting { set, .. } => kept_set(parts, state_target, *set),
         Place::Ready {
             why: Why::Delivery {
                 delivery: Delivery::Set { set },
             },
             ..
-        } => kept_set(parts, beside, *set),
+        } => kept_set(parts, state_target, *set),
         Place::Held {
             why: Why::Delivery {
                 delivery: Delivery::Set { set },
             },
-        } => kept_set(parts, beside, *set),
+        } => kept_set(parts, state_target, *set),
         Place::Ready {
             why: Why::Resumption,
             ..
-        } => resumed_set(parts, awaited, op_progress),
+        } => resumed_set(parts, op_target, op_progress),
         _ => no_set(parts),
     }
 }

@@ -1,4 +1,4 @@
-//! Words on where threads are, and on the members of sets.
+//! Primitives on where threads are, and on the members of sets.
 //!
 //! Each is one equation of what contracts see, as the traits of `core_primitives` say it. What is searched
 //! for is the first of a chain.

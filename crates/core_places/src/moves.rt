@@ -74,13 +74,13 @@ fn write_place(
     threads: &mut RecordTable<Single<GuestThread>>,
     id: ThreadId,
     place: Place,
-    beside: u32,
+    state_target: u32,
 )
-    ensures { (g : GuestThread) → Ok g ≡ item_at item_of threads.old id.rep id.serial → threads.new ≡ with_entry id.rep (entry_of (placed g place beside)) threads.old }
+    ensures { (g : GuestThread) → Ok g ≡ item_at item_of threads.old id.rep id.serial → threads.new ≡ with_entry id.rep (entry_of (placed g place state_target)) threads.old }
 {
     if let Ok(entry) = threads.get_mut(id) {
         entry.thread.place = place;
-        entry.beside = beside;
+        entry.state_target = state_target;
     }
 }
 
@@ -89,13 +89,13 @@ fn write_point(
     threads: &mut RecordTable<Single<GuestThread>>,
     id: ThreadId,
     op_progress: OpProgress,
-    awaited: u32,
+    op_target: u32,
 )
-    ensures { (g : GuestThread) → Ok g ≡ item_at item_of threads.old id.rep id.serial → threads.new ≡ with_entry id.rep (entry_of (arrived g op_progress awaited)) threads.old }
+    ensures { (g : GuestThread) → Ok g ≡ item_at item_of threads.old id.rep id.serial → threads.new ≡ with_entry id.rep (entry_of (arrived g op_progress op_target)) threads.old }
 {
     if let Ok(entry) = threads.get_mut(id) {
         entry.thread.op_progress = op_progress;
-        entry.awaited = awaited;
+        entry.op_target = op_target;
     }
 }
 
@@ -104,17 +104,17 @@ fn write_stand(
     threads: &mut RecordTable<Single<GuestThread>>,
     id: ThreadId,
     place: Place,
-    beside: u32,
+    state_target: u32,
     op_progress: OpProgress,
-    awaited: u32,
+    op_target: u32,
 )
-    ensures { (g : GuestThread) → Ok g ≡ item_at item_of threads.old id.rep id.serial → threads.new ≡ with_entry id.rep (entry_of (standing g place beside op_progress awaited)) threads.old }
+    ensures { (g : GuestThread) → Ok g ≡ item_at item_of threads.old id.rep id.serial → threads.new ≡ with_entry id.rep (entry_of (standing g place state_target op_progress op_target)) threads.old }
 {
     if let Ok(entry) = threads.get_mut(id) {
         entry.thread.place = place;
-        entry.beside = beside;
+        entry.state_target = state_target;
         entry.thread.op_progress = op_progress;
-        entry.awaited = awaited;
+        entry.op_target = op_target;
     }
 }
 
@@ -125,7 +125,7 @@ fn write_op(threads: &mut RecordTable<Single<GuestThread>>, id: ThreadId, positi
     if let Ok(entry) = threads.get_mut(id) {
         entry.thread.position = position;
         entry.thread.op_progress = OpProgress::Fresh;
-        entry.awaited = 0;
+        entry.op_target = 0;
     }
 }
 
@@ -153,11 +153,11 @@ fn write_answer(
         put_register(&mut entry.thread.registers, register, value);
         entry.thread.position = position;
         entry.thread.op_progress = OpProgress::Fresh;
-        entry.awaited = 0;
+        entry.op_target = 0;
     }
 }
 
-// The beginning of an activation, with these words in r0, r1 and r2.
+// The beginning of an activation, with these values in r0, r1 and r2.
 #[inline(always)]
 fn write_begun(threads: &mut RecordTable<Single<GuestThread>>, id: ThreadId, words: (u64, u64, u64))
     ensures { (g : GuestThread) → Ok g ≡ item_at item_of threads.old id.rep id.serial → threads.new ≡ with_entry id.rep (entry_of (begun g words.0 words.1 words.2)) threads.old }
@@ -169,9 +169,9 @@ fn write_begun(threads: &mut RecordTable<Single<GuestThread>>, id: ThreadId, wor
         entry.thread.script = Script::React;
         entry.thread.position = 0;
         entry.thread.op_progress = OpProgress::Fresh;
-        entry.awaited = 0;
+        entry.op_target = 0;
         entry.thread.place = Place::Running;
-        entry.beside = 0;
+        entry.state_target = 0;
     }
 }
 
@@ -234,26 +234,26 @@ pub(crate) fn put_counted(
     parts: &mut CoreParts,
     id: ThreadId,
     place: Place,
-    beside: u32,
+    state_target: u32,
     chain: Option<usize>,
 )
     requires sound { IsSoundCore parts.old }
-    requires place { AtPlace (parts_of parts.old) beside (place_target place) }
+    requires place { AtPlace (parts_of parts.old) state_target (place_target place) }
     requires chain { IsChainAt parts.old id place chain }
-    ensures { IsPut parts.old parts.new id place beside chain }
+    ensures { IsPut parts.old parts.new id place state_target chain }
 {
     if let Some(found) = core_records::thread(parts, id) {
         let (node, order_key) = (found.node, thread_order_key(id.rep(), found));
-        let (op_progress, awaited) = (&found.thread.op_progress, found.awaited);
+        let (op_progress, op_target) = (&found.thread.op_progress, found.op_target);
         let from = entry_set(
             parts,
             &found.thread.place,
-            found.beside,
+            found.state_target,
             op_progress,
-            awaited,
+            op_target,
         );
-        let to = entry_set(parts, &place, beside, op_progress, awaited);
-        write_place(&mut parts.threads, id, place, beside);
+        let to = entry_set(parts, &place, state_target, op_progress, op_target);
+        write_place(&mut parts.threads, id, place, state_target);
         recount(&mut parts.sets, from, to);
         refresh_key(&mut parts.places, node, chain, order_key);
     }
@@ -265,15 +265,15 @@ pub(crate) fn put_away(
     parts: &mut CoreParts,
     id: ThreadId,
     place: Place,
-    beside: u32,
+    state_target: u32,
     chain: Option<usize>,
 )
     requires sound { IsSoundCore parts.old }
-    requires place { AtPlace (parts_of parts.old) beside (place_target place) }
+    requires place { AtPlace (parts_of parts.old) state_target (place_target place) }
     requires chain { IsChainAt parts.old id place chain }
-    ensures { IsPut parts.old parts.new id place beside chain }
+    ensures { IsPut parts.old parts.new id place state_target chain }
 {
-    put_counted(parts, id, place, beside, chain);
+    put_counted(parts, id, place, state_target, chain);
 }
 
 // Does what `put` does for a thread that is in no chain and that no set counts: its record alone is written, and its new chain.
@@ -282,14 +282,14 @@ pub(crate) fn put_alone(
     parts: &mut CoreParts,
     id: ThreadId,
     place: Place,
-    beside: u32,
+    state_target: u32,
     chain: Option<usize>,
 )
     requires sound { IsSoundCore parts.old }
     requires alone { (g : GuestThread) → Ok g ≡ item_at item_of parts.old.threads id.rep id.serial → StandsAlone g.thread.place }
-    requires place { AtPlace (parts_of parts.old) beside (place_target place) }
+    requires place { AtPlace (parts_of parts.old) state_target (place_target place) }
     requires chain { IsChainAt parts.old id place chain }
-    ensures { IsPut parts.old parts.new id place beside chain }
+    ensures { IsPut parts.old parts.new id place state_target chain }
 {
     if let Some(found) = core_records::thread(parts, id) {
         let (node, order_key) = (found.node, thread_order_key(id.rep(), found));
@@ -297,11 +297,11 @@ pub(crate) fn put_alone(
         let to = entry_set(
             parts,
             &place,
-            beside,
+            state_target,
             &found.thread.op_progress,
-            found.awaited,
+            found.op_target,
         );
-        write_place(&mut parts.threads, id, place, beside);
+        write_place(&mut parts.threads, id, place, state_target);
         recount(&mut parts.sets, from, to);
         file_in(&mut parts.places, node, chain, order_key);
     }
@@ -313,50 +313,55 @@ pub(crate) fn put(
     parts: &mut CoreParts,
     id: ThreadId,
     place: Place,
-    beside: u32,
+    state_target: u32,
     chain: Option<usize>,
 )
     requires sound { IsSoundCore parts.old }
-    requires place { AtPlace (parts_of parts.old) beside (place_target place) }
+    requires place { AtPlace (parts_of parts.old) state_target (place_target place) }
     requires chain { IsChainAt parts.old id place chain }
-    ensures { IsPut parts.old parts.new id place beside chain }
+    ensures { IsPut parts.old parts.new id place state_target chain }
 {
     if let Some(found) = core_records::thread(parts, id) {
         if stands_alone(&found.thread.place) {
-            put_alone(parts, id, place, beside, chain);
+            put_alone(parts, id, place, state_target, chain);
         } else {
-            put_away(parts, id, place, beside, chain);
+            put_away(parts, id, place, state_target, chain);
         }
     }
 }
 
-// The thread has come to another point of its op, where it is, which may be where a set counts it.
+// The thread gets another op progress where it is, which may be where a set counts it.
 #[inline(never)]
-fn put_there_counted(parts: &mut CoreParts, id: ThreadId, op_progress: OpProgress, awaited: u32)
+fn put_there_counted(parts: &mut CoreParts, id: ThreadId, op_progress: OpProgress, op_target: u32)
     requires sound { IsSoundCore parts.old }
-    requires op_progress { AtPlace (parts_of parts.old) awaited (op_progress_target op_progress) }
+    requires op_progress { AtPlace (parts_of parts.old) op_target (op_progress_target op_progress) }
     ensures { BecomesBy parts.old parts.new (set_op_progress (thread_of (seen parts.old) id) op_progress) }
 {
     if let Some(found) = core_records::thread(parts, id) {
-        let (place, beside) = (&found.thread.place, found.beside);
+        let (place, state_target) = (&found.thread.place, found.state_target);
         let from = entry_set(
             parts,
             place,
-            beside,
+            state_target,
             &found.thread.op_progress,
-            found.awaited,
+            found.op_target,
         );
-        let to = entry_set(parts, place, beside, &op_progress, awaited);
-        write_point(&mut parts.threads, id, op_progress, awaited);
+        let to = entry_set(parts, place, state_target, &op_progress, op_target);
+        write_point(&mut parts.threads, id, op_progress, op_target);
         recount(&mut parts.sets, from, to);
     }
 }
 
 /// Sets the progress of the op of a thread that runs: no set counts such a thread. An id that names no thread changes nothing.
 #[inline(always)]
-pub(crate) fn put_there(parts: &mut CoreParts, id: ThreadId, op_progress: OpProgress, awaited: u32)
+pub(crate) fn put_there(
+    parts: &mut CoreParts,
+    id: ThreadId,
+    op_progress: OpProgress,
+    op_target: u32,
+)
     requires sound { IsSoundCore parts.old }
-    requires op_progress { AtPlace (parts_of parts.old) awaited (op_progress_target op_progress) }
+    requires op_progress { AtPlace (parts_of parts.old) op_target (op_progress_target op_progress) }
     ensures { BecomesBy parts.old parts.new (set_op_progress (thread_of (seen parts.old) id) op_progress) }
 {
     if let Some(found) = core_records::thread(parts, id) {
@@ -364,10 +369,10 @@ pub(crate) fn put_there(parts: &mut CoreParts, id: ThreadId, op_progress: OpProg
             Place::Running => {
                 let from = no_set(parts);
                 let to = no_set(parts);
-                write_point(&mut parts.threads, id, op_progress, awaited);
+                write_point(&mut parts.threads, id, op_progress, op_target);
                 recount(&mut parts.sets, from, to);
             }
-            _ => put_there_counted(parts, id, op_progress, awaited),
+            _ => put_there_counted(parts, id, op_progress, op_target),
         }
     }
 }
@@ -378,14 +383,14 @@ pub(crate) fn put_stand_counted(
     parts: &mut CoreParts,
     id: ThreadId,
     place: Place,
-    beside: u32,
+    state_target: u32,
     op_progress: OpProgress,
-    awaited: u32,
+    op_target: u32,
     chain: Option<usize>,
 )
     requires sound { IsSoundCore parts.old }
-    requires place { AtPlace (parts_of parts.old) beside (place_target place) }
-    requires op_progress { AtPlace (parts_of parts.old) awaited (op_progress_target op_progress) }
+    requires place { AtPlace (parts_of parts.old) state_target (place_target place) }
+    requires op_progress { AtPlace (parts_of parts.old) op_target (op_progress_target op_progress) }
     requires chain { IsChainAt parts.old id place chain }
     ensures { BecomesBy parts.old parts.new (on_thread (thread_of (seen parts.old) id) (to_stand place op_progress)) }
 {
@@ -394,12 +399,19 @@ pub(crate) fn put_stand_counted(
         let from = entry_set(
             parts,
             &found.thread.place,
-            found.beside,
+            found.state_target,
             &found.thread.op_progress,
-            found.awaited,
+            found.op_target,
         );
-        let to = entry_set(parts, &place, beside, &op_progress, awaited);
-        write_stand(&mut parts.threads, id, place, beside, op_progress, awaited);
+        let to = entry_set(parts, &place, state_target, &op_progress, op_target);
+        write_stand(
+            &mut parts.threads,
+            id,
+            place,
+            state_target,
+            op_progress,
+            op_target,
+        );
         recount(&mut parts.sets, from, to);
         refresh_key(&mut parts.places, node, chain, order_key);
     }
@@ -411,18 +423,26 @@ fn put_stand_away(
     parts: &mut CoreParts,
     id: ThreadId,
     place: Place,
-    beside: u32,
+    state_target: u32,
     op_progress: OpProgress,
-    awaited: u32,
+    op_target: u32,
     chain: Option<usize>,
 )
     requires sound { IsSoundCore parts.old }
-    requires place { AtPlace (parts_of parts.old) beside (place_target place) }
-    requires op_progress { AtPlace (parts_of parts.old) awaited (op_progress_target op_progress) }
+    requires place { AtPlace (parts_of parts.old) state_target (place_target place) }
+    requires op_progress { AtPlace (parts_of parts.old) op_target (op_progress_target op_progress) }
     requires chain { IsChainAt parts.old id place chain }
     ensures { BecomesBy parts.old parts.new (on_thread (thread_of (seen parts.old) id) (to_stand place op_progress)) }
 {
-    put_stand_counted(parts, id, place, beside, op_progress, awaited, chain);
+    put_stand_counted(
+        parts,
+        id,
+        place,
+        state_target,
+        op_progress,
+        op_target,
+        chain,
+    );
 }
 
 /// Moves the thread to another place, and into the chain of that place, and sets the progress of its op. An id that names no thread
@@ -432,14 +452,14 @@ pub(crate) fn put_stand(
     parts: &mut CoreParts,
     id: ThreadId,
     place: Place,
-    beside: u32,
+    state_target: u32,
     op_progress: OpProgress,
-    awaited: u32,
+    op_target: u32,
     chain: Option<usize>,
 )
     requires sound { IsSoundCore parts.old }
-    requires place { AtPlace (parts_of parts.old) beside (place_target place) }
-    requires op_progress { AtPlace (parts_of parts.old) awaited (op_progress_target op_progress) }
+    requires place { AtPlace (parts_of parts.old) state_target (place_target place) }
+    requires op_progress { AtPlace (parts_of parts.old) op_target (op_progress_target op_progress) }
     requires chain { IsChainAt parts.old id place chain }
     ensures { BecomesBy parts.old parts.new (on_thread (thread_of (seen parts.old) id) (to_stand place op_progress)) }
 {
@@ -447,12 +467,27 @@ pub(crate) fn put_stand(
         if stands_alone(&found.thread.place) {
             let (node, order_key) = (found.node, thread_order_key(id.rep(), found));
             let from = no_set(parts);
-            let to = entry_set(parts, &place, beside, &op_progress, awaited);
-            write_stand(&mut parts.threads, id, place, beside, op_progress, awaited);
+            let to = entry_set(parts, &place, state_target, &op_progress, op_target);
+            write_stand(
+                &mut parts.threads,
+                id,
+                place,
+                state_target,
+                op_progress,
+                op_target,
+            );
             recount(&mut parts.sets, from, to);
             file_in(&mut parts.places, node, chain, order_key);
         } else {
-            put_stand_away(parts, id, place, beside, op_progress, awaited, chain);
+            put_stand_away(
+                parts,
+                id,
+                place,
+                state_target,
+                op_progress,
+                op_target,
+                chain,
+            );
         }
     }
 }
@@ -464,15 +499,15 @@ fn put_op_counted(parts: &mut CoreParts, id: ThreadId, position: u32)
     ensures { BecomesBy parts.old parts.new (on_thread (thread_of (seen parts.old) id) (to_op position)) }
 {
     if let Some(found) = core_records::thread(parts, id) {
-        let (place, beside) = (&found.thread.place, found.beside);
+        let (place, state_target) = (&found.thread.place, found.state_target);
         let from = entry_set(
             parts,
             place,
-            beside,
+            state_target,
             &found.thread.op_progress,
-            found.awaited,
+            found.op_target,
         );
-        let to = entry_set(parts, place, beside, &OpProgress::Fresh, 0);
+        let to = entry_set(parts, place, state_target, &OpProgress::Fresh, 0);
         write_op(&mut parts.threads, id, position);
         recount(&mut parts.sets, from, to);
     }
@@ -535,13 +570,13 @@ fn put_begun_counted(parts: &mut CoreParts, id: ThreadId, words: (u64, u64, u64)
 {
     if let Some(found) = core_records::thread(parts, id) {
         let (node, order_key) = (found.node, thread_order_key(id.rep(), found));
-        let (op_progress, awaited) = (&found.thread.op_progress, found.awaited);
+        let (op_progress, op_target) = (&found.thread.op_progress, found.op_target);
         let from = entry_set(
             parts,
             &found.thread.place,
-            found.beside,
+            found.state_target,
             op_progress,
-            awaited,
+            op_target,
         );
         let to = no_set(parts);
         write_begun(&mut parts.threads, id, words);

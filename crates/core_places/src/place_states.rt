@@ -6,7 +6,7 @@ ghost use Rattle.machine_data.specs.Write.{on_thread, set_op_progress, set_place
 ghost use Rattle.core_places.specs.Moved.{to_stand};
 ghost use Rattle.machine_data.specs.declared.records.Place.TheVariants as places;
 ghost use Rattle.machine_data.specs.declared.records.Why.{Why};
-ghost use Rattle.machine_data.specs.declared.words.Mark.TheVariants as marks;
+ghost use Rattle.machine_data.specs.declared.statuses.Mark.TheVariants as marks;
 ghost use Rattle.core_records.specs.Keys.{thread_key};
 ghost use Rattle.core_records.specs.Kinds.{item_of};
 ghost use Rattle.core_records.specs.Names.{AtPlace, place_target, why_target};
@@ -84,7 +84,7 @@ pub fn delivered_set(parts: &CoreParts, thread: ThreadId) -> Option<SetId>
     ensures { option_map (λ id. set_of (seen parts.now) id) result ≡ option_map (λ x. live_set x (seen parts.now).core) (delivered_set (why_of (thread_of (seen parts.now) thread) (seen parts.now).core)) }
 {
     match core_records::thread(parts, thread) {
-        Some(found) => delivery_from_id(parts, found.beside, ready_why(found.thread.place)),
+        Some(found) => delivery_from_id(parts, found.state_target, ready_why(found.thread.place)),
         None => None,
     }
 }
@@ -96,12 +96,12 @@ fn queue(parts: &mut CoreParts, thread: ThreadId, mark: Mark, why: WhyId)
     ensures sound { IsSoundCore parts.new }
     ensures new { seen parts.new ≡ on_core (set_place (thread_of (seen parts.old) thread) (places.Ready mark (why_in (seen parts.old).tags why))) (seen parts.old) }
 {
-    let (named, beside) = why_from_id(parts, why);
+    let (named, state_target) = why_from_id(parts, why);
     put(
         parts,
         thread,
         Place::Ready { mark, why: named },
-        beside,
+        state_target,
         None,
     );
 }
@@ -114,14 +114,14 @@ fn hold_for(parts: &mut CoreParts, thread: ThreadId, why: WhyId)
     ensures new { seen parts.new ≡ on_core (set_place (thread_of (seen parts.old) thread) (places.Held (why_in (seen parts.old).tags why))) (seen parts.old) }
 {
     if let Some(found) = core_records::thread(parts, thread) {
-        let (named, beside) = why_from_id(parts, why);
+        let (named, state_target) = why_from_id(parts, why);
         let chain = held_chain_unchecked(parts, found.instance, found.barred, named);
         if is_queued_alone(&found.thread.place) {
             put_alone(
                 parts,
                 thread,
                 Place::Held { why: named },
-                beside,
+                state_target,
                 Some(chain),
             );
         } else {
@@ -129,7 +129,7 @@ fn hold_for(parts: &mut CoreParts, thread: ThreadId, why: WhyId)
                 parts,
                 thread,
                 Place::Held { why: named },
-                beside,
+                state_target,
                 Some(chain),
             );
         }
@@ -171,9 +171,9 @@ fn put_at(parts: &mut CoreParts, thread: ThreadId, place: PlaceId)
 {
     if let Some(found) = core_records::thread(parts, thread) {
         let instance = found.instance;
-        let (named, beside) = place_from_id(parts, place);
+        let (named, state_target) = place_from_id(parts, place);
         let chain = chain_at(parts, instance, found.barred, place);
-        put_counted(parts, thread, named, beside, chain);
+        put_counted(parts, thread, named, state_target, chain);
     }
 }
 
@@ -209,10 +209,10 @@ fn stand_anywhere(
 {
     if let Some(found) = core_records::thread(parts, thread) {
         let instance = found.instance;
-        let (named, beside) = place_from_id(parts, place);
-        let (point, awaited) = op_progress_from_id(parts, op_progress);
+        let (named, state_target) = place_from_id(parts, place);
+        let (point, op_target) = op_progress_from_id(parts, op_progress);
         let chain = chain_at(parts, instance, found.barred, place);
-        put_stand_counted(parts, thread, named, beside, point, awaited, chain);
+        put_stand_counted(parts, thread, named, state_target, point, op_target, chain);
     }
 }
 
@@ -225,9 +225,9 @@ fn stand_under(parts: &mut CoreParts, thread: ThreadId, callee: ThreadId, op_pro
 {
     let called = number(parts, callee);
     let chain = under_chain(parts, callee);
-    let (point, awaited) = op_progress_from_id(parts, op_progress);
+    let (point, op_target) = op_progress_from_id(parts, op_progress);
     let place = Place::Under { callee: called };
-    put_stand(parts, thread, place, callee.rep(), point, awaited, chain);
+    put_stand(parts, thread, place, callee.rep(), point, op_target, chain);
 }
 
 // The thread is at a place where it is in no chain, and at any point of its op, from now on.
@@ -236,17 +236,17 @@ fn stand_unchained(
     parts: &mut CoreParts,
     thread: ThreadId,
     place: Place,
-    beside: u32,
+    state_target: u32,
     op_progress: OpProgressId,
 )
     requires sound { IsSoundCore parts.old }
-    requires at { AtPlace (parts_of parts.old) beside (place_target place) }
+    requires at { AtPlace (parts_of parts.old) state_target (place_target place) }
     requires unchained { (i : ℕ) (b : Bool) → where_at i b place ≡ None }
     ensures sound { IsSoundCore parts.new }
     ensures new { seen parts.new ≡ on_core (on_thread (thread_of (seen parts.old) thread) (to_stand place (op_progress_in (seen parts.old).tags op_progress))) (seen parts.old) }
 {
-    let (point, awaited) = op_progress_from_id(parts, op_progress);
-    put_stand(parts, thread, place, beside, point, awaited, None);
+    let (point, op_target) = op_progress_from_id(parts, op_progress);
+    put_stand(parts, thread, place, state_target, point, op_target, None);
 }
 
 // The thread waits on the set, and is at any point of its op, from now on.
@@ -264,12 +264,12 @@ fn stand_waiting(
 {
     let number = set_number(parts, set);
     let chain = waiters_chain(parts, set);
-    let (point, awaited) = op_progress_from_id(parts, op_progress);
+    let (point, op_target) = op_progress_from_id(parts, op_progress);
     let place = Place::Waiting {
         set: number,
         by_callback,
     };
-    put_stand(parts, thread, place, set.rep(), point, awaited, chain);
+    put_stand(parts, thread, place, set.rep(), point, op_target, chain);
 }
 
 /// Moves the thread to this place, and sets the progress of its op: the two in one look-up.
@@ -281,16 +281,16 @@ pub fn stand_at(parts: &mut CoreParts, thread: ThreadId, place: PlaceId, op_prog
 {
     match place {
         PlaceId::Running => {
-            let (point, awaited) = op_progress_from_id(parts, op_progress);
-            put_stand_counted(parts, thread, Place::Running, 0, point, awaited, None);
+            let (point, op_target) = op_progress_from_id(parts, op_progress);
+            put_stand_counted(parts, thread, Place::Running, 0, point, op_target, None);
         }
         PlaceId::Ready { mark, why } => {
-            let (why, beside) = why_from_id(parts, why);
+            let (why, state_target) = why_from_id(parts, why);
             stand_unchained(
                 parts,
                 thread,
                 Place::Ready { mark, why },
-                beside,
+                state_target,
                 op_progress,
             );
         }
@@ -302,16 +302,22 @@ pub fn stand_at(parts: &mut CoreParts, thread: ThreadId, place: PlaceId, op_prog
     }
 }
 
-/// Records that the thread's entry is at this mark, for the same reason as before.
+/// Moves the thread's entry to this mark. Why it is queued stays.
 pub fn set_mark(parts: &mut CoreParts, thread: ThreadId, mark: Mark)
     requires { IsSoundCore parts.old }
     ensures sound { IsSoundCore parts.new }
     ensures new { seen parts.new ≡ on_core (λ s. stand (thread_of (seen parts.old) thread) mark (why_of (thread_of (seen parts.old) thread) s) s) (seen parts.old) }
 {
     if let Some(found) = core_records::thread(parts, thread) {
-        let beside = found.beside;
+        let state_target = found.state_target;
         let why = ready_why(found.thread.place);
-        put(parts, thread, Place::Ready { mark, why }, beside, None);
+        put(
+            parts,
+            thread,
+            Place::Ready { mark, why },
+            state_target,
+            None,
+        );
     }
 }
 
@@ -322,14 +328,20 @@ pub fn hold(parts: &mut CoreParts, thread: ThreadId)
     ensures new { seen parts.new ≡ on_core (λ s. set_place (thread_of (seen parts.old) thread) (places.Held (why_of (thread_of (seen parts.old) thread) s)) s) (seen parts.old) }
 {
     if let Some(found) = core_records::thread(parts, thread) {
-        let beside = found.beside;
+        let state_target = found.state_target;
         let why = ready_why(found.thread.place);
         let chain = held_chain_unchecked(parts, found.instance, found.barred, why);
-        put(parts, thread, Place::Held { why }, beside, Some(chain));
+        put(
+            parts,
+            thread,
+            Place::Held { why },
+            state_target,
+            Some(chain),
+        );
     }
 }
 
-/// Queues the entry of a held thread at high, for the same reason as before.
+/// Queues the entry of a held thread at high. Why it was held is why it is queued.
 #[inline(always)]
 pub fn unhold(parts: &mut CoreParts, thread: ThreadId)
     requires sound { IsSoundCore parts.old }
@@ -342,11 +354,17 @@ pub fn unhold(parts: &mut CoreParts, thread: ThreadId)
     let Some(found) = core_records::thread(parts, thread) else {
         unreachable!()
     };
-    let beside = found.beside;
+    let state_target = found.state_target;
     match found.thread.place {
         Place::Held { why } => {
             let mark = Mark::High;
-            put_counted(parts, thread, Place::Ready { mark, why }, beside, None);
+            put_counted(
+                parts,
+                thread,
+                Place::Ready { mark, why },
+                state_target,
+                None,
+            );
         }
         _ => unreachable!(),
     }

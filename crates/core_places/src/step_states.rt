@@ -1,4 +1,4 @@
-//! How far threads have come.
+//! The op progress of threads.
 ghost use Rattle.std.specs.Prelude.{◌≡◌, ◌+◌, ◌<◌, ◌^◌};
 ghost use Rattle.machine_data.specs.Read.{position_of};
 ghost use Rattle.core_places.specs.Moved.{with_registers};
@@ -24,8 +24,8 @@ pub fn set_op_progress(parts: &mut CoreParts, thread: ThreadId, op_progress: OpP
     ensures sound { IsSoundCore parts.new }
     ensures new { seen parts.new ≡ on_core (set_op_progress (thread_of (seen parts.old) thread) (op_progress_in (seen parts.old).tags op_progress)) (seen parts.old) }
 {
-    let (named, awaited) = op_progress_from_id(parts, op_progress);
-    put_there(parts, thread, named, awaited);
+    let (named, op_target) = op_progress_from_id(parts, op_progress);
+    put_there(parts, thread, named, op_target);
 }
 
 /// Moves the thread to the op at this position.
@@ -83,7 +83,7 @@ pub fn assign(parts: &mut CoreParts, thread: ThreadId, register: u8, value: u64)
     put_answer(parts, thread, register, value, at + 1);
 }
 
-// The primitives that an activation is given: code, handle and result.
+// The values that an activation is given: code, handle and result.
 #[inline(always)]
 fn words_of(given: Given) -> (u64, u64, u64)
     ensures code { result.0 ≡ given_code given }

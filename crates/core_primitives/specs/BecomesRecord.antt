@@ -18,11 +18,11 @@ pub record BecomesWith (AreKept : Tags → Tags → Type 0) (c : Core) (s t : St
 abbrev pub BecomesRecord : Core → StateView → StateView → Type 0
 BecomesRecord = BecomesWith Keeps
 
--- The same, and a group more is tracked.
+-- The core is this, the same thread runs, each id names what it named, and a group more is tracked.
 abbrev pub BecomesGrouped : Core → StateView → StateView → Type 0
 BecomesGrouped c s = BecomesWith (KeepsWith (s.core.made.groups + 1)) c s
 
--- The same as the first, but for what is lost.
+-- The core is this, the same thread runs, each id but those of what is lost names what it named, and the same groups are tracked.
 abbrev pub BecomesBut : Lost → Core → StateView → StateView → Type 0
 BecomesBut lost = BecomesWith (KeepsBut lost)
 
@@ -34,7 +34,7 @@ MakesTo AreKept IsNamed c s (Err _) t = t ≡ s
 abbrev pub MakesRecord : {A E : Type 0} → (A → StateView → Type 0) → Core → StateView → Result A E → StateView → Type 0
 MakesRecord = MakesTo Keeps
 
--- the same, with a group more
+-- a record is made as above, and a group more is tracked
 abbrev pub MakesGrouped : {A E : Type 0} → (A → StateView → Type 0) → Core → StateView → Result A E → StateView → Type 0
 MakesGrouped IsNamed c s = MakesTo (KeepsWith (s.core.made.groups + 1)) IsNamed c s
 

@@ -5,7 +5,7 @@ use Rattle.machine_data.specs.Write.{on_thread, set_do_not_enter, set_place, set
 use Rattle.machine_data.specs.declared.records.OpProgress.TheVariants as op_progress
 use Rattle.machine_data.specs.declared.records.Place.TheVariants as place
 use Rattle.machine_data.specs.declared.records.Script.TheVariants as script
-use Rattle.machine_data.specs.declared.words.Given.{Given}
+use Rattle.machine_data.specs.declared.statuses.Given.{Given}
 use Rattle.machine_rules.specs.Data.{moved_to}
 use Rattle.machine_rules.specs.Sets.{set_given}
 

@@ -8,3 +8,5 @@ pub mod Context
 pub mod Held
 pub mod Barred
 pub mod Polls
+pub mod Changes
+pub mod Records

@@ -1,5 +1,5 @@
 -- What a record names, where it is still there; 0, under which nothing is there, where it is gone.
-use Rattle.std.specs.Prelude.{Option, None, Some, ℕ, if◌then◌else◌, is_some}
+use Rattle.std.specs.Prelude.{Option, None, Some, ℕ, if◌then◌else◌, is_some, option_map}
 use Rattle.machine_data.specs.declared.records.Caller.{Caller}
 use Rattle.machine_data.specs.declared.records.Caller.TheVariants as caller
 use Rattle.machine_data.specs.declared.records.Delivery.TheVariants as delivery
@@ -15,6 +15,8 @@ use Rattle.machine_data.specs.declared.records.WorkCaller.{WorkCaller}
 use Rattle.machine_data.specs.declared.records.WorkCaller.TheVariants as work_caller
 use Rattle.machine_data.specs.Core.{Core}
 use Rattle.machine_data.specs.Maps.{Records, get}
+use Rattle.machine_data.specs.Moves.{why_of}
+use Rattle.machine_data.specs.Read.{caller_of, join_of, op_progress_of, set_at, subtask_at, thread_at, work_caller_of}
 
 abbrev pub kept_in : {X : Type 0} → Records X → ℕ → ℕ
 kept_in m n = if is_some (get m n) then n else 0
@@ -54,3 +56,30 @@ live_work_caller (work_caller.Sync n) s = work_caller.Sync (live_thread n s)
 abbrev pub delivered_set : Why → Option ℕ
 delivered_set (why.Delivery (delivery.Set x)) = Some x
 delivered_set _ = None
+
+-- what the record of a call, of a subtask, of a thread, of a work names
+abbrev pub live_caller_of : ℕ → Core → Caller
+live_caller_of k s = live_caller (caller_of k s) s
+
+abbrev pub live_join_of : Subtask → Core → Join
+live_join_of sub s = live_join (join_of sub s) s
+
+abbrev pub live_op_progress_of : ℕ → Core → OpProgress
+live_op_progress_of n s = live_op_progress (op_progress_of n s) s
+
+abbrev pub live_work_caller_of : ℕ → Core → WorkCaller
+live_work_caller_of i s = live_work_caller (work_caller_of i s) s
+
+-- what a handle of an instance names
+abbrev pub live_subtask_at : (instance handle : ℕ) → Core → Option Subtask
+live_subtask_at i h s = option_map (λ sub. live_subtask sub s) (subtask_at i h s)
+
+abbrev pub live_set_at : (instance handle : ℕ) → Core → Option ℕ
+live_set_at i h s = option_map (λ x. live_set x s) (set_at i h s)
+
+abbrev pub live_thread_at : (instance handle : ℕ) → Core → Option ℕ
+live_thread_at i h s = option_map (λ n. live_thread n s) (thread_at i h s)
+
+-- the set that the queued delivery of a thread is for
+abbrev pub live_delivered_set : ℕ → Core → Option ℕ
+live_delivered_set n s = option_map (λ x. live_set x s) (delivered_set (why_of n s))

@@ -1,5 +1,5 @@
 -- What contracts see of a state: the machine's core, what each id names, and the thread that runs.
-use Rattle.std.specs.Prelude.{◌≡◌, ◌≢◌, ◌<◌, ℕ, ◌++◌, ◌==◌, ◌∷◌, [], if◌then◌else◌, List, Option, Some, None, slice_get}
+use Rattle.std.specs.Prelude.{◌≡◌, ◌≢◌, ◌<◌, ℕ, ◌++◌, ◌==◌, ◌∷◌, [], if◌then◌else◌, List, Option, Some, None, option_map, slice_get}
 use Rattle.task_table.specs.declared.id.TableId.{TableId}
 use Rattle.task_wait.specs.declared.keys.GuestTaskKey.{GuestTaskKey}
 use Rattle.task_wait.specs.declared.keys.HostTaskKey.{HostTaskKey}
@@ -57,6 +57,13 @@ set_of s id = set_number s.tags id
 abbrev pub work_of : StateView → TableId HostTaskKey → ℕ
 work_of s id = work_number s.tags id
 
+-- the number of what the id names, if there is an id
+abbrev pub thread_if_any : StateView → Option (TableId ThreadKey) → Option ℕ
+thread_if_any s one = option_map (λ id. thread_of s id) one
+
+abbrev pub set_if_any : StateView → Option (TableId SetKey) → Option ℕ
+set_if_any s one = option_map (λ id. set_of s id) one
+
 -- the core alone is changed
 abbrev pub with_core : Core → StateView → StateView
 with_core c s = record { core = c; tags = s.tags; current = s.current }
@@ -80,7 +87,7 @@ pub record KeepsTo (tracked : List ℕ) (old new : Tags) : Type 0 where
 abbrev pub Keeps : Tags → Tags → Type 0
 Keeps old new = KeepsTo old.tracked old new
 
--- the same, and one more
+-- the groups that were tracked, and one more
 abbrev pub KeepsWith : ℕ → Tags → Tags → Type 0
 KeepsWith g old new = KeepsTo (old.tracked ++ g ∷ []) old new
 

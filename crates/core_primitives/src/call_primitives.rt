@@ -1,17 +1,15 @@
 ghost use Rattle.std.specs.Prelude.{◌≡◌, ◌+◌, ◌<◌, ◌≤◌, ◌^◌, IsSome, false, length, true};
 ghost use Rattle.std.specs.Option.{option_map_or};
 ghost use Rattle.machine_data.specs.Maps.{get};
-ghost use Rattle.machine_data.specs.Moves.{group_settled, is_deletable, is_finished};
-ghost use Rattle.machine_data.specs.Read.{at_handle_limit, call_group, callee_of, caller_of, cancel_was_delivered, end_of, fits, goal_of, has_thread, kind_of, task_event_of, result_of, thread_group, was_started};
-ghost use Rattle.machine_data.specs.Write.{add_group, remove_call, set_cancel_delivered, set_end, set_exited, set_task_event, set_result, set_started, set_starting_published, set_uninteresting};
+ghost use Rattle.machine_data.specs.Moves.{is_deletable, is_finished};
+ghost use Rattle.machine_data.specs.Read.{at_handle_limit, callee_of, cancel_was_delivered, end_of, fits, goal_of, has_thread, kind_of, task_event_of, result_of, was_started};
+ghost use Rattle.machine_data.specs.Write.{set_cancel_delivered, set_end, set_exited, set_task_event, set_result, set_started, set_starting_published, set_uninteresting};
 ghost use Rattle.machine_data.specs.declared.records.Caller.TheVariants as callers;
-ghost use Rattle.machine_data.specs.declared.records.Goal.TheVariants as goals;
-ghost use Rattle.machine_rules.specs.Calls.{call_made, next_thread, with_thread_handle};
 ghost use Rattle.machine_rules.specs.Takes.{starting_is_published};
-ghost use Rattle.core_primitives.specs.Live.{live_caller, live_thread};
+ghost use Rattle.core_primitives.specs.Live.{live_thread, live_caller_of};
 ghost use Rattle.core_primitives.specs.Names.{caller_in};
-ghost use Rattle.core_primitives.specs.BecomesRecord.{BecomesBut, MakesRecord, MakesGrouped, names_call};
-ghost use Rattle.core_primitives.specs.StateView.{call_of, lost_call, on_core, thread_of};
+ghost use Rattle.core_primitives.specs.StateView.{call_of, on_core, thread_of};
+ghost use Rattle.core_primitives.specs.Records.{MakesCall, MakesGroupedCall, call_by, direct_call_by, grouped_call, LosesCallBy, call_deleted};
 
 use crate::names::{CallId, CallerId, ThreadId};
 use crate::view::View;
@@ -47,7 +45,7 @@ pub trait CallPrimitives: View {
 
     /// Returns who made the call: main, or a thread, whose id names nothing if it is gone.
     fn caller(&self, call: CallId) -> CallerId
-        ensures { caller_in (Self.view self.now).tags result ≡ live_caller (caller_of (call_of (Self.view self.now) call) (Self.view self.now).core) (Self.view self.now).core };
+        ensures { caller_in (Self.view self.now).tags result ≡ live_caller_of (call_of (Self.view self.now) call) (Self.view self.now).core };
 
     /// Returns how the call has ended, if it has.
     fn end_of(&self, call: CallId) -> Option<CallEnd>
@@ -65,7 +63,7 @@ pub trait CallPrimitives: View {
     fn task_event(&self, call: CallId) -> Option<TaskEvent>
         ensures { result ≡ task_event_of (call_of (Self.view self.now) call) (Self.view self.now).core };
 
-    /// Returns whether a cancel request has come to the task.
+    /// Returns whether the task was asked to cancel.
     fn cancel_was_delivered(&self, call: CallId) -> bool
         ensures { result ≡ cancel_was_delivered (call_of (Self.view self.now) call) (Self.view self.now).core };
 
@@ -147,7 +145,7 @@ pub trait CallPrimitives: View {
         requires words { length words.now ≤ 16 }
         requires few { (Self.view self.old).core.made.threads + 1 < 2 ^ 64 }
         requires room { fits 3 (Self.view self.old).core ≡ true }
-        ensures { MakesRecord (names_call (next_thread (Self.view self.old).core)) (call_made (callers.Thread (thread_of (Self.view self.old) thread)) callee kind goal (thread_group (thread_of (Self.view self.old) thread) (Self.view self.old).core) words.now (Self.view self.old).core) (Self.view self.old) result (Self.view self.new) };
+        ensures { MakesCall (call_by (thread_of (Self.view self.old) thread) callee kind goal words.now) (Self.view self.old) result (Self.view self.new) };
 
     /// Makes a direct call by a thread, and gives the call's first thread its handle. If it is out of memory, all is as before.
     fn make_direct_call(
@@ -163,7 +161,7 @@ pub trait CallPrimitives: View {
         requires few { (Self.view self.old).core.made.threads + 1 < 2 ^ 64 }
         requires room { fits 3 (Self.view self.old).core ≡ true }
         requires limit { at_handle_limit (Self.view self.old).core ≡ false }
-        ensures { MakesRecord (names_call (next_thread (Self.view self.old).core)) (with_thread_handle callee.instance (next_thread (Self.view self.old).core) (call_made (callers.Thread (thread_of (Self.view self.old) thread)) callee kind goals.Direct (thread_group (thread_of (Self.view self.old) thread) (Self.view self.old).core) words.now (Self.view self.old).core)) (Self.view self.old) result (Self.view self.new) };
+        ensures { MakesCall (direct_call_by (thread_of (Self.view self.old) thread) callee kind words.now) (Self.view self.old) result (Self.view self.new) };
 
     /// Makes a group, a call without a calling thread in it, and the call's first thread. Where its result is for main there is
     /// room for it. If it is out of memory, all is as before.
@@ -179,11 +177,11 @@ pub trait CallPrimitives: View {
         requires few { (Self.view self.old).core.made.threads + 1 < 2 ^ 64 }
         requires groups { (Self.view self.old).core.made.groups + 1 < 2 ^ 64 }
         requires room { fits 4 (Self.view self.old).core ≡ true }
-        ensures { MakesGrouped (names_call (next_thread (Self.view self.old).core)) (call_made callers.Main callee kind goal ((Self.view self.old).core.made.groups + 1) words.now (add_group (Self.view self.old).core)) (Self.view self.old) result (Self.view self.new) };
+        ensures { MakesGroupedCall (grouped_call callers.Main callee kind goal words.now) (Self.view self.old) result (Self.view self.new) };
 
     /// Deletes a call, and finishes its group if nothing of the group is left.
     fn delete_call(&mut self, call: CallId)
         requires live { 0 < call_of (Self.view self.old) call }
         requires last { has_thread (call_of (Self.view self.old) call) (Self.view self.old).core ≡ false }
-        ensures { BecomesBut (lost_call (call_of (Self.view self.old) call)) (group_settled (call_group (call_of (Self.view self.old) call) (Self.view self.old).core) (remove_call (call_of (Self.view self.old) call) (Self.view self.old).core)) (Self.view self.old) (Self.view self.new) };
+        ensures { LosesCallBy call_deleted call (Self.view self.old) (Self.view self.new) };
 }

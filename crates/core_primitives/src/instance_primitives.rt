@@ -1,16 +1,16 @@
 ghost use Rattle.std.specs.Prelude.{◌≡◌, ◌<◌, ◌^◌, IfOk, IfSome, IsSome, OnErr, OnOk, false, option_map};
-ghost use Rattle.machine_data.specs.Read.{at_handle_limit, backpressure_of, instance_of, may_not_enter, may_not_suspend, new_handle, new_thread_handle, set_at, subtask_at, thread_at, word_of};
-ghost use Rattle.machine_data.specs.Write.{free_handle, set_backpressure, set_do_not_enter, set_do_not_suspend, set_word};
-ghost use Rattle.machine_rules.specs.Calls.{with_thread_handle};
-ghost use Rattle.core_primitives.specs.Live.{live_set, live_subtask, live_thread};
+ghost use Rattle.machine_data.specs.Read.{at_handle_limit, backpressure_of, may_not_enter, may_not_suspend, new_handle, new_thread_handle, subtask_at, memory_cell_of};
+ghost use Rattle.machine_data.specs.Write.{free_handle, set_backpressure, set_do_not_enter, set_do_not_suspend, set_memory_cell};
 ghost use Rattle.core_primitives.specs.Names.{subtask_in};
-ghost use Rattle.core_primitives.specs.StateView.{on_core, set_of, thread_of};
+ghost use Rattle.core_primitives.specs.StateView.{on_core, thread_of, thread_if_any, set_if_any};
+ghost use Rattle.core_primitives.specs.Live.{live_subtask_at, live_set_at, live_thread_at};
+ghost use Rattle.core_primitives.specs.Changes.{handle_for, with_handle_for};
 
 use crate::names::{SetId, SubtaskId, ThreadId};
 use crate::view::View;
 use machine_data::NoMemory;
 
-/// Instances: their flags, counters and words, and what their handles name.
+/// Instances: their flags, counters and memory cells, and what their handles name.
 pub trait InstancePrimitives: View {
     /// Returns the instance's count of backpressure, 0 to 65535; 0 if there is no such instance.
     fn backpressure(&self, instance: u32) -> u16
@@ -25,8 +25,8 @@ pub trait InstancePrimitives: View {
         ensures { result ≡ may_not_suspend instance (Self.view self.now).core };
 
     /// Returns one of the instance's memory cells, 0 to 15; 0 if there is none.
-    fn word(&self, instance: u32, word: u8) -> u64
-        ensures { result ≡ word_of instance word (Self.view self.now).core };
+    fn memory_cell(&self, instance: u32, cell: u8) -> u64
+        ensures { result ≡ memory_cell_of instance cell (Self.view self.now).core };
 
     /// Sets the instance's count of backpressure.
     fn set_backpressure(&mut self, instance: u32, count: u16)
@@ -41,8 +41,8 @@ pub trait InstancePrimitives: View {
         ensures { Self.view self.new ≡ on_core (set_do_not_suspend instance flag) (Self.view self.old) };
 
     /// Writes one of the instance's memory cells, 0 to 15.
-    fn set_word(&mut self, instance: u32, word: u8, value: u64)
-        ensures { Self.view self.new ≡ on_core (set_word instance word value) (Self.view self.old) };
+    fn set_memory_cell(&mut self, instance: u32, cell: u8, value: u64)
+        ensures { Self.view self.new ≡ on_core (set_memory_cell instance cell value) (Self.view self.old) };
 
     /// Returns whether a handle may not be given, in any instance.
     fn at_handle_limit(&self) -> bool
@@ -50,17 +50,17 @@ pub trait InstancePrimitives: View {
 
     /// Returns the subtask that a handle names.
     fn subtask_at(&self, instance: u32, handle: u64) -> Option<SubtaskId>
-        ensures is { option_map (subtask_in (Self.view self.now).tags) result ≡ option_map (λ sub. live_subtask sub (Self.view self.now).core) (subtask_at instance handle (Self.view self.now).core) }
+        ensures is { option_map (subtask_in (Self.view self.now).tags) result ≡ live_subtask_at instance handle (Self.view self.now).core }
         ensures small { IfSome result (λ id. handle < 2 ^ 32) };
 
     /// Returns the set that a handle names.
     fn set_at(&self, instance: u32, handle: u64) -> Option<SetId>
-        ensures is { option_map (λ id. set_of (Self.view self.now) id) result ≡ option_map (λ x. live_set x (Self.view self.now).core) (set_at instance handle (Self.view self.now).core) }
+        ensures is { set_if_any (Self.view self.now) result ≡ live_set_at instance handle (Self.view self.now).core }
         ensures small { IfSome result (λ id. handle < 2 ^ 32) };
 
     /// Returns the thread that a thread handle names.
     fn thread_at(&self, instance: u32, handle: u64) -> Option<ThreadId>
-        ensures { option_map (λ id. thread_of (Self.view self.now) id) result ≡ option_map (λ n. live_thread n (Self.view self.now).core) (thread_at instance handle (Self.view self.now).core) };
+        ensures { thread_if_any (Self.view self.now) result ≡ live_thread_at instance handle (Self.view self.now).core };
 
     /// Returns the handle that the instance gives next.
     fn new_handle(&self, instance: u32) -> u32
@@ -74,8 +74,8 @@ pub trait InstancePrimitives: View {
     fn name_thread(&mut self, thread: ThreadId) -> Result<u32, NoMemory>
         requires live { 0 < thread_of (Self.view self.old) thread }
         requires limit { at_handle_limit (Self.view self.old).core ≡ false }
-        ensures handle { IfOk result (λ h. h ≡ new_thread_handle (instance_of (thread_of (Self.view self.old) thread) (Self.view self.old).core) (Self.view self.old).core) }
-        ensures new { OnOk result (Self.view self.new ≡ on_core (with_thread_handle (instance_of (thread_of (Self.view self.old) thread) (Self.view self.old).core) (thread_of (Self.view self.old) thread)) (Self.view self.old)) }
+        ensures handle { IfOk result (λ h. h ≡ handle_for thread (Self.view self.old)) }
+        ensures new { OnOk result (Self.view self.new ≡ with_handle_for thread (Self.view self.old)) }
         ensures err { OnErr result (Self.view self.new ≡ Self.view self.old) };
 
     /// Takes a handle back.

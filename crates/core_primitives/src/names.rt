@@ -48,7 +48,7 @@ pub enum PlaceId {
     Suspended,
 }
 
-/// How far the op at a thread's position has come.
+/// Op progress: how far the op at a thread's position has come.
 #[derive(Clone, Copy)]
 pub enum OpProgressId {
     Fresh,

@@ -1,17 +1,16 @@
-ghost use Rattle.std.specs.Prelude.{◌≡◌, ◌++◌, ◌<◌, ◌∷◌, [], IfNone, IfSome, IsPermutation, List, false, not, option_map, true, ℕ};
+ghost use Rattle.std.specs.Prelude.{◌≡◌, ◌<◌, IfNone, IfSome, false, not, true};
 ghost use Rattle.machine_data.specs.Maps.{size};
-ghost use Rattle.machine_data.specs.Moves.{released, stand, why_of};
-ghost use Rattle.machine_data.specs.Read.{admitted_held, blocked_on, callers_of, has_waiter, is_nil, is_waiter, place_of, under_of};
-ghost use Rattle.machine_data.specs.Write.{set_callers, set_op_progress, set_place};
-ghost use Rattle.machine_data.specs.declared.records.OpProgress.TheVariants as op_progress_of_thread;
+ghost use Rattle.machine_data.specs.Moves.{why_of};
+ghost use Rattle.machine_data.specs.Read.{admitted_held, blocked_on, has_waiter, is_nil, is_waiter, place_of, under_of};
+ghost use Rattle.machine_data.specs.Write.{set_place};
 ghost use Rattle.machine_data.specs.declared.records.Place.TheVariants as place_of_thread;
-ghost use Rattle.machine_data.specs.declared.records.Subtask.TheVariants as subtasks;
 ghost use Rattle.machine_rules.specs.Places.{Placed};
 ghost use Rattle.machine_rules.specs.Works.{first_number};
 ghost use Rattle.core_primitives.specs.Apart.{IsBehindNobody, later_of, newest_of, older_of};
-ghost use Rattle.core_primitives.specs.Live.{delivered_set, live_set};
-ghost use Rattle.core_primitives.specs.Names.{op_progress_in, number_in, place_in, subtask_in};
-ghost use Rattle.core_primitives.specs.StateView.{call_of, on_core, set_of, thread_of};
+ghost use Rattle.core_primitives.specs.Live.{live_delivered_set};
+ghost use Rattle.core_primitives.specs.Names.{number_in, subtask_in};
+ghost use Rattle.core_primitives.specs.StateView.{call_of, on_core, set_of, thread_of, thread_if_any, set_if_any};
+ghost use Rattle.core_primitives.specs.Changes.{ReleasesHeld, with_place, standing_at, standing_under, with_mark, with_held, with_caller, with_callers, callers_at};
 
 use crate::names::{CallId, OpProgressId, PlaceId, SetId, SubtaskId, ThreadId};
 use crate::view::View;
@@ -29,15 +28,15 @@ pub trait PlacePrimitives: View {
 
     /// Returns the set that the thread's queued delivery is for.
     fn delivered_set(&self, thread: ThreadId) -> Option<SetId>
-        ensures { option_map (λ id. set_of (Self.view self.now) id) result ≡ option_map (λ x. live_set x (Self.view self.now).core) (delivered_set (why_of (thread_of (Self.view self.now) thread) (Self.view self.now).core)) };
+        ensures { set_if_any (Self.view self.now) result ≡ live_delivered_set (thread_of (Self.view self.now) thread) (Self.view self.now).core };
 
     /// Moves the thread to this place; its entry at a mark, if the place has one, is queued by another call.
     fn set_place(&mut self, thread: ThreadId, place: PlaceId)
-        ensures { Self.view self.new ≡ on_core (set_place (thread_of (Self.view self.old) thread) (place_in (Self.view self.old).tags place)) (Self.view self.old) };
+        ensures { Self.view self.new ≡ with_place thread place (Self.view self.old) };
 
     /// Moves the thread to this place, and sets the progress of its op.
     fn stand_at(&mut self, thread: ThreadId, place: PlaceId, op_progress: OpProgressId)
-        ensures { Self.view self.new ≡ on_core (λ s. set_op_progress (thread_of (Self.view self.old) thread) (op_progress_in (Self.view self.old).tags op_progress) (set_place (thread_of (Self.view self.old) thread) (place_in (Self.view self.old).tags place) s)) (Self.view self.old) };
+        ensures { Self.view self.new ≡ standing_at thread place op_progress (Self.view self.old) };
 
     /// Lets a thread that is there run: seldom one that was anywhere but at New.
     fn run_first(&mut self, thread: ThreadId)
@@ -48,15 +47,15 @@ pub trait PlacePrimitives: View {
     fn stand_under(&mut self, thread: ThreadId, callee: ThreadId, call: CallId)
         requires callee { 0 < thread_of (Self.view self.old) callee }
         requires call { 0 < call_of (Self.view self.old) call }
-        ensures { Self.view self.new ≡ on_core (λ s. set_op_progress (thread_of (Self.view self.old) thread) (op_progress_of_thread.Calls (subtasks.Guest (call_of (Self.view self.old) call))) (set_place (thread_of (Self.view self.old) thread) (place_of_thread.Under (thread_of (Self.view self.old) callee)) s)) (Self.view self.old) };
+        ensures { Self.view self.new ≡ standing_under thread callee call (Self.view self.old) };
 
-    /// Records that the thread's entry is at this mark, for the same reason as before.
+    /// Moves the thread's entry to this mark. Why it is queued stays.
     fn set_mark(&mut self, thread: ThreadId, mark: Mark)
-        ensures { Self.view self.new ≡ on_core (λ s. stand (thread_of (Self.view self.old) thread) mark (why_of (thread_of (Self.view self.old) thread) s) s) (Self.view self.old) };
+        ensures { Self.view self.new ≡ with_mark thread mark (Self.view self.old) };
 
     /// Holds the thread with its entry, which was taken.
     fn hold(&mut self, thread: ThreadId)
-        ensures { Self.view self.new ≡ on_core (λ s. set_place (thread_of (Self.view self.old) thread) (place_of_thread.Held (why_of (thread_of (Self.view self.old) thread) s)) s) (Self.view self.old) };
+        ensures { Self.view self.new ≡ with_held thread (Self.view self.old) };
 
     /// Returns how many threads there are.
     fn threads(&self) -> u64
@@ -65,13 +64,13 @@ pub trait PlacePrimitives: View {
     /// Returns the thread that waits under this one for its direct callee.
     fn under(&self, thread: ThreadId) -> Option<ThreadId>
         requires { 0 < thread_of (Self.view self.now) thread }
-        ensures is { option_map (λ id. thread_of (Self.view self.now) id) result ≡ under_of (thread_of (Self.view self.now) thread) (Self.view self.now).core }
+        ensures is { thread_if_any (Self.view self.now) result ≡ under_of (thread_of (Self.view self.now) thread) (Self.view self.now).core }
         ensures live { IfSome result (λ id. 0 < thread_of (Self.view self.now) id) };
 
     /// Returns the thread that is blocked on a subtask.
     fn blocked_on(&self, subtask: SubtaskId) -> Option<ThreadId>
         requires { 0 < number_in (Self.view self.now).tags subtask }
-        ensures is { option_map (λ id. thread_of (Self.view self.now) id) result ≡ blocked_on (subtask_in (Self.view self.now).tags subtask) (Self.view self.now).core }
+        ensures is { thread_if_any (Self.view self.now) result ≡ blocked_on (subtask_in (Self.view self.now).tags subtask) (Self.view self.now).core }
         ensures live { IfSome result (λ id. 0 < thread_of (Self.view self.now) id) };
 
     /// Returns the first waiter of a set, in the order of the set's chain.
@@ -83,28 +82,28 @@ pub trait PlacePrimitives: View {
 
     /// Returns whether some thread is behind this one.
     fn has_callers(&self, thread: ThreadId) -> bool
-        ensures { result ≡ not (is_nil (callers_of (thread_of (Self.view self.now) thread) (Self.view self.now).core)) };
+        ensures { result ≡ not (is_nil (callers_at (Self.view self.now) thread)) };
 
     /// Puts a thread last among the callers of another one.
     fn add_caller(&mut self, thread: ThreadId, other: ThreadId)
         requires live { 0 < thread_of (Self.view self.old) thread }
         requires other { 0 < thread_of (Self.view self.old) other }
         requires apart { IsBehindNobody (thread_of (Self.view self.old) other) (Self.view self.old).core }
-        ensures { Self.view self.new ≡ on_core (set_callers (thread_of (Self.view self.old) thread) (callers_of (thread_of (Self.view self.old) thread) (Self.view self.old).core ++ thread_of (Self.view self.old) other ∷ [])) (Self.view self.old) };
+        ensures { Self.view self.new ≡ with_caller thread other (Self.view self.old) };
 
     /// Takes the oldest caller of a thread.
     fn pop_caller(&mut self, thread: ThreadId) -> Option<ThreadId>
         requires { 0 < thread_of (Self.view self.old) thread }
-        ensures is { option_map (λ id. thread_of (Self.view self.old) id) result ≡ first_number (callers_of (thread_of (Self.view self.old) thread) (Self.view self.old).core) }
+        ensures is { thread_if_any (Self.view self.old) result ≡ first_number (callers_at (Self.view self.old) thread) }
         ensures live { IfSome result (λ id. 0 < thread_of (Self.view self.old) id) }
-        ensures new { Self.view self.new ≡ on_core (set_callers (thread_of (Self.view self.old) thread) (later_of (callers_of (thread_of (Self.view self.old) thread) (Self.view self.old).core))) (Self.view self.old) };
+        ensures new { Self.view self.new ≡ with_callers thread (later_of (callers_at (Self.view self.old) thread)) (Self.view self.old) };
 
     /// Takes the newest caller of a thread.
     fn pop_newest_caller(&mut self, thread: ThreadId) -> Option<ThreadId>
         requires { 0 < thread_of (Self.view self.old) thread }
-        ensures is { option_map (λ id. thread_of (Self.view self.old) id) result ≡ newest_of (callers_of (thread_of (Self.view self.old) thread) (Self.view self.old).core) }
+        ensures is { thread_if_any (Self.view self.old) result ≡ newest_of (callers_at (Self.view self.old) thread) }
         ensures live { IfSome result (λ id. 0 < thread_of (Self.view self.old) id) }
-        ensures new { Self.view self.new ≡ on_core (set_callers (thread_of (Self.view self.old) thread) (older_of (callers_of (thread_of (Self.view self.old) thread) (Self.view self.old).core))) (Self.view self.old) };
+        ensures new { Self.view self.new ≡ with_callers thread (older_of (callers_at (Self.view self.old) thread)) (Self.view self.old) };
 
     /// Returns whether a held thread of the instance is admitted.
     fn has_admitted(&self, instance: u32) -> bool
@@ -113,5 +112,5 @@ pub trait PlacePrimitives: View {
     /// Puts the held threads of the instance that are admitted at high, in an order of the code's own.
     fn release(&mut self, instance: u32)
         requires { Placed (Self.view self.old).core }
-        ensures { (order : List ℕ) × (IsPermutation (admitted_held instance (Self.view self.old).core) order × (Self.view self.new ≡ on_core (released order) (Self.view self.old))) };
+        ensures { ReleasesHeld instance (Self.view self.old) (Self.view self.new) };
 }

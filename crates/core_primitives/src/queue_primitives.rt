@@ -6,7 +6,7 @@ ghost use Rattle.machine_data.specs.declared.records.Entry.TheVariants as entrie
 ghost use Rattle.machine_rules.specs.Takes.{popped};
 ghost use Rattle.core_primitives.specs.Apart.{IsUnqueued, work_entries};
 ghost use Rattle.core_primitives.specs.Names.{entry_in};
-ghost use Rattle.core_primitives.specs.StateView.{on_core, thread_of, work_of};
+ghost use Rattle.core_primitives.specs.StateView.{on_core, thread_of, work_of, thread_if_any};
 
 use crate::names::{EntryId, ThreadId, WorkId};
 use crate::view::View;
@@ -16,12 +16,12 @@ use machine_data::Mark;
 pub trait QueuePrimitives: View {
     /// Returns the thread at switch.
     fn switch(&self) -> Option<ThreadId>
-        ensures is { option_map (λ id. thread_of (Self.view self.now) id) result ≡ (Self.view self.now).core.queues.switch }
+        ensures is { thread_if_any (Self.view self.now) result ≡ (Self.view self.now).core.queues.switch }
         ensures live { IfSome result (λ id. 0 < thread_of (Self.view self.now) id) };
 
     /// Returns the thread of the first entry of an instance, at high, else at low.
     fn first_entry(&self, instance: u32) -> Option<ThreadId>
-        ensures is { option_map (λ id. thread_of (Self.view self.now) id) result ≡ first_entry instance (Self.view self.now).core }
+        ensures is { thread_if_any (Self.view self.now) result ≡ first_entry instance (Self.view self.now).core }
         ensures live { IfSome result (λ id. 0 < thread_of (Self.view self.now) id) };
 
     /// Returns the entry that is taken next, with its mark.
@@ -41,7 +41,7 @@ pub trait QueuePrimitives: View {
     /// Gives this thread the entry at switch, or leaves switch empty.
     fn set_switch(&mut self, thread: Option<ThreadId>)
         requires { IfSome thread (λ id. 0 < thread_of (Self.view self.old) id) }
-        ensures { Self.view self.new ≡ on_core (set_switch (option_map (λ id. thread_of (Self.view self.old) id) thread)) (Self.view self.old) };
+        ensures { Self.view self.new ≡ on_core (set_switch (thread_if_any (Self.view self.old) thread)) (Self.view self.old) };
 
     /// Puts the thread's entry at the end of high.
     fn push_high(&mut self, thread: ThreadId)

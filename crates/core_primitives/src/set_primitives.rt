@@ -1,11 +1,10 @@
 ghost use Rattle.std.specs.Prelude.{◌≡◌, ◌+◌, ◌<◌, ◌^◌, IfNone, IfSome, IsSome, false, is_some, true};
 ghost use Rattle.machine_data.specs.Maps.{get};
-ghost use Rattle.machine_data.specs.Read.{at_handle_limit, fits, has_member, has_ready_member, has_waiters, is_ready_member, set_at};
-ghost use Rattle.machine_data.specs.Write.{add_set, free_handle, give_handle, remove_set};
+ghost use Rattle.machine_data.specs.Read.{at_handle_limit, fits, has_member, has_ready_member, has_waiters, set_at};
 ghost use Rattle.machine_data.specs.declared.records.Named.TheVariants as names;
-ghost use Rattle.core_primitives.specs.Names.{subtask_in};
-ghost use Rattle.core_primitives.specs.BecomesRecord.{BecomesBut, MakesRecord, names_set};
-ghost use Rattle.core_primitives.specs.StateView.{lost_set, set_of};
+ghost use Rattle.core_primitives.specs.StateView.{set_of};
+ghost use Rattle.core_primitives.specs.Changes.{IsReadyMember};
+ghost use Rattle.core_primitives.specs.Records.{MakesSet, with_named_set, LosesSetBy, set_closed};
 
 use crate::names::{SetId, SubtaskId};
 use crate::view::View;
@@ -32,7 +31,7 @@ pub trait SetPrimitives: View {
     fn first_ready(&self, set: SetId) -> Option<SubtaskId>
         requires { 0 < set_of (Self.view self.now) set }
         ensures none { IfNone result (has_ready_member (set_of (Self.view self.now) set) (Self.view self.now).core ≡ false) }
-        ensures some { IfSome result (λ member. is_ready_member (set_of (Self.view self.now) set) (subtask_in (Self.view self.now).tags member) (Self.view self.now).core ≡ true) };
+        ensures some { IfSome result (λ member. IsReadyMember set member (Self.view self.now)) };
 
     /// Makes a set of an instance, and its handle there. If it is out of memory, all is as before.
     fn open_set(&mut self, instance: u32) -> Result<SetId, NoMemory>
@@ -40,7 +39,7 @@ pub trait SetPrimitives: View {
         requires few { (Self.view self.old).core.made.sets + 1 < 2 ^ 64 }
         requires room { fits 1 (Self.view self.old).core ≡ true }
         requires limit { at_handle_limit (Self.view self.old).core ≡ false }
-        ensures { MakesRecord (names_set ((Self.view self.old).core.made.sets + 1)) (give_handle instance (names.Set ((Self.view self.old).core.made.sets + 1)) (add_set (record { instance = instance }) (Self.view self.old).core)) (Self.view self.old) result (Self.view self.new) };
+        ensures { MakesSet (with_named_set instance (record { instance = instance })) (Self.view self.old) result (Self.view self.new) };
 
     /// Removes a set without members and waiters, and frees its handle in the instance.
     fn close_set(&mut self, instance: u32, handle: u32, set: SetId)
@@ -48,5 +47,5 @@ pub trait SetPrimitives: View {
         requires names { IsSome (set_at instance handle (Self.view self.old).core) }
         requires members { has_member (set_of (Self.view self.old) set) (Self.view self.old).core ≡ false }
         requires waiters { has_waiters (set_of (Self.view self.old) set) (Self.view self.old).core ≡ false }
-        ensures { BecomesBut (lost_set (set_of (Self.view self.old) set)) (remove_set (set_of (Self.view self.old) set) (free_handle instance handle (Self.view self.old).core)) (Self.view self.old) (Self.view self.new) };
+        ensures { LosesSetBy (set_closed instance handle) set (Self.view self.old) (Self.view self.new) };
 }

@@ -10,7 +10,7 @@ ghost use Rattle.core_primitives.specs.StateView.{on_core, work_of};
 use crate::names::WorkId;
 use crate::view::View;
 
-/// Words that no step of the machine needs, and calls of a host do.
+/// Primitives that no step of the machine needs, and calls of a host do.
 pub trait StatePrimitives: View {
     /// Returns whether there is such an instance.
     fn has_instance(&self, instance: u32) -> bool

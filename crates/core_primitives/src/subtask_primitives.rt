@@ -1,11 +1,12 @@
 ghost use Rattle.std.specs.Prelude.{◌≡◌, ◌<◌, ◌^◌, IfOk, OnErr, OnOk, false, is_some, true};
 ghost use Rattle.machine_data.specs.Maps.{get};
-ghost use Rattle.machine_data.specs.Read.{at_handle_limit, event_of, join_of, new_handle, subtask_ended, subtask_handle};
-ghost use Rattle.machine_data.specs.Write.{set_event, set_join, set_subtask_handle};
+ghost use Rattle.machine_data.specs.Read.{at_handle_limit, event_of, new_handle, subtask_ended, subtask_handle};
+ghost use Rattle.machine_data.specs.Write.{set_event, set_subtask_handle};
 ghost use Rattle.machine_rules.specs.Calls.{with_handle};
-ghost use Rattle.core_primitives.specs.Live.{live_join};
 ghost use Rattle.core_primitives.specs.Names.{join_in, subtask_in};
 ghost use Rattle.core_primitives.specs.StateView.{on_core};
+ghost use Rattle.core_primitives.specs.Live.{live_join_of};
+ghost use Rattle.core_primitives.specs.Changes.{with_join};
 
 use crate::names::{JoinId, SubtaskId};
 use crate::view::View;
@@ -19,7 +20,7 @@ pub trait SubtaskPrimitives: View {
 
     /// Returns the set that the subtask is joined to, or the thread in whose own set it is.
     fn join(&self, subtask: SubtaskId) -> JoinId
-        ensures { join_in (Self.view self.now).tags result ≡ live_join (join_of (subtask_in (Self.view self.now).tags subtask) (Self.view self.now).core) (Self.view self.now).core };
+        ensures { join_in (Self.view self.now).tags result ≡ live_join_of (subtask_in (Self.view self.now).tags subtask) (Self.view self.now).core };
 
     /// Returns the handle that names the subtask, if it has one.
     fn subtask_handle(&self, subtask: SubtaskId) -> Option<u32>
@@ -35,7 +36,7 @@ pub trait SubtaskPrimitives: View {
 
     /// Joins the subtask to this set, to the own set of a thread, or to none.
     fn set_join(&mut self, subtask: SubtaskId, join: JoinId)
-        ensures { Self.view self.new ≡ on_core (set_join (subtask_in (Self.view self.old).tags subtask) (join_in (Self.view self.old).tags join)) (Self.view self.old) };
+        ensures { Self.view self.new ≡ with_join subtask join (Self.view self.old) };
 
     /// Sets the handle that names the subtask, or removes it.
     fn set_subtask_handle(&mut self, subtask: SubtaskId, handle: Option<u32>)

@@ -1,21 +1,18 @@
-ghost use Rattle.std.specs.Prelude.{◌≡◌, ◌+◌, ◌<◌, ◌≤◌, ◌^◌, None, Some, false, is_some, length, true};
+ghost use Rattle.std.specs.Prelude.{◌≡◌, ◌+◌, ◌<◌, ◌≤◌, ◌^◌, Some, false, is_some, length, true};
 ghost use Rattle.machine_data.specs.Maps.{get};
-ghost use Rattle.machine_data.specs.Moves.{freed_thread_handle};
-ghost use Rattle.machine_data.specs.Read.{at_handle_limit, call_instance, callee_of, fits, op_progress_of, instance_of, is_explicit, is_last_thread, position_of, register_of, registers_of, saved_callee_of, saved_own_of, task_of, thread_handle_of};
-ghost use Rattle.machine_data.specs.Write.{add_thread, remove_thread, set_op_progress, set_register, set_saved_callee, set_saved_own};
-ghost use Rattle.machine_data.specs.declared.records.Script.TheVariants as scripts;
+ghost use Rattle.machine_data.specs.Read.{at_handle_limit, call_instance, callee_of, fits, instance_of, is_explicit, is_last_thread, position_of, register_of, registers_of, saved_callee_of, saved_own_of, task_of, thread_handle_of};
+ghost use Rattle.machine_data.specs.Write.{remove_thread, set_register, set_saved_callee, set_saved_own};
 ghost use Rattle.machine_data.specs.declared.records.Thread.{Thread};
-ghost use Rattle.machine_rules.specs.Calls.{new_thread, next_thread, with_thread_handle};
 ghost use Rattle.machine_rules.specs.Data.{advanced, assigned, moved_to};
-ghost use Rattle.machine_rules.specs.Scripts.{registers_for};
 ghost use Rattle.core_primitives.specs.Groups.{tracked_group};
 ghost use Rattle.core_primitives.specs.Apart.{IsApart};
 ghost use Rattle.core_primitives.specs.Barred.{is_barred};
 ghost use Rattle.core_primitives.specs.Context.{activating, with_context};
-ghost use Rattle.core_primitives.specs.Live.{live_op_progress};
 ghost use Rattle.core_primitives.specs.Names.{op_progress_in};
-ghost use Rattle.core_primitives.specs.BecomesRecord.{BecomesBut, MakesRecord, names_thread};
-ghost use Rattle.core_primitives.specs.StateView.{call_of, lost_thread, on_core, thread_of};
+ghost use Rattle.core_primitives.specs.StateView.{call_of, on_core, thread_of};
+ghost use Rattle.core_primitives.specs.Live.{live_op_progress_of};
+ghost use Rattle.core_primitives.specs.Changes.{with_op_progress};
+ghost use Rattle.core_primitives.specs.Records.{MakesThread, with_member, LosesThreadBy, thread_retired};
 
 use crate::names::{CallId, OpProgressId, ThreadAt, ThreadId};
 use crate::view::View;
@@ -83,7 +80,7 @@ pub trait ThreadPrimitives: View {
 
     /// Returns the progress of the thread's op; what that names is no id of anything if it is gone.
     fn op_progress(&self, thread: ThreadId) -> OpProgressId
-        ensures { op_progress_in (Self.view self.now).tags result ≡ live_op_progress (op_progress_of (thread_of (Self.view self.now) thread) (Self.view self.now).core) (Self.view self.now).core };
+        ensures { op_progress_in (Self.view self.now).tags result ≡ live_op_progress_of (thread_of (Self.view self.now) thread) (Self.view self.now).core };
 
     /// Returns whether the thread isn't the first one of its call.
     fn is_explicit(&self, thread: ThreadId) -> bool
@@ -121,7 +118,7 @@ pub trait ThreadPrimitives: View {
 
     /// Sets the progress of the thread's op.
     fn set_op_progress(&mut self, thread: ThreadId, op_progress: OpProgressId)
-        ensures { Self.view self.new ≡ on_core (set_op_progress (thread_of (Self.view self.old) thread) (op_progress_in (Self.view self.old).tags op_progress)) (Self.view self.old) };
+        ensures { Self.view self.new ≡ with_op_progress thread op_progress (Self.view self.old) };
 
     /// Saves the flag of the thread's own instance, or removes what was saved.
     fn set_saved_own(&mut self, thread: ThreadId, flag: Option<bool>)
@@ -154,7 +151,7 @@ pub trait ThreadPrimitives: View {
     fn activate(&mut self, thread: ThreadId, instance: u32, given: Given)
         ensures { Self.view self.new ≡ on_core (activating (thread_of (Self.view self.old) thread) instance given) (Self.view self.old) };
 
-    /// Makes an explicit thread of a call with these words, and gives it its handle. If it is out of memory, all is as before.
+    /// Makes an explicit thread of a call with these values, and gives it its handle. If it is out of memory, all is as before.
     fn make_thread(&mut self, task: CallId, slot: u8, words: &[u64]) -> Result<ThreadId, NoMemory>
         requires words { length words.now ≤ 16 }
         requires task { 0 < call_of (Self.view self.old) task }
@@ -162,17 +159,17 @@ pub trait ThreadPrimitives: View {
         requires few { (Self.view self.old).core.made.threads + 1 < 2 ^ 64 }
         requires room { fits 2 (Self.view self.old).core ≡ true }
         requires limit { at_handle_limit (Self.view self.old).core ≡ false }
-        ensures { MakesRecord (names_thread (next_thread (Self.view self.old).core)) (with_thread_handle (call_instance (call_of (Self.view self.old) task) (Self.view self.old).core) (next_thread (Self.view self.old).core) (add_thread (new_thread (call_of (Self.view self.old) task) true (scripts.Slot slot) (registers_for words.now) None) (Self.view self.old).core)) (Self.view self.old) result (Self.view self.new) };
+        ensures { MakesThread (with_member (call_of (Self.view self.old) task) slot words.now) (Self.view self.old) result (Self.view self.new) };
 
     /// Removes a thread, and frees its handle.
     fn retire_thread(&mut self, thread: ThreadId)
         requires live { 0 < thread_of (Self.view self.old) thread }
         requires apart { IsApart (thread_of (Self.view self.old) thread) (Self.view self.old).core }
-        ensures { BecomesBut (lost_thread (thread_of (Self.view self.old) thread)) (remove_thread (thread_of (Self.view self.old) thread) (freed_thread_handle (instance_of (thread_of (Self.view self.old) thread) (Self.view self.old).core) (thread_handle_of (thread_of (Self.view self.old) thread) (Self.view self.old).core) (Self.view self.old).core)) (Self.view self.old) (Self.view self.new) };
+        ensures { LosesThreadBy thread_retired thread (Self.view self.old) (Self.view self.new) };
 
     /// Removes a thread whatever its place is; no thread is behind it any more.
     fn remove_thread(&mut self, thread: ThreadId)
         requires live { 0 < thread_of (Self.view self.old) thread }
         requires apart { IsApart (thread_of (Self.view self.old) thread) (Self.view self.old).core }
-        ensures { BecomesBut (lost_thread (thread_of (Self.view self.old) thread)) (remove_thread (thread_of (Self.view self.old) thread) (Self.view self.old).core) (Self.view self.old) (Self.view self.new) };
+        ensures { LosesThreadBy remove_thread thread (Self.view self.old) (Self.view self.new) };
 }

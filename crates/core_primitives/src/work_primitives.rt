@@ -1,18 +1,18 @@
-ghost use Rattle.std.specs.Prelude.{◌≡◌, ◌+◌, ◌<◌, ◌^◌, None, OnOk, Some, false, is_some, option_map, true};
-ghost use Rattle.machine_data.specs.Read.{at_handle_limit, course_of, fits, instance_of, is_stage_live, new_handle, phase_of, stage_of, thread_group, was_cancelled, work_caller_of};
+ghost use Rattle.std.specs.Prelude.{◌≡◌, ◌+◌, ◌<◌, ◌^◌, None, OnOk, false, is_some, option_map, true};
+ghost use Rattle.machine_data.specs.Read.{at_handle_limit, course_of, fits, instance_of, is_stage_live, new_handle, phase_of, stage_of, was_cancelled};
 ghost use Rattle.machine_data.specs.Write.{count_work, set_cancelled, set_course, set_phase, set_stage};
 ghost use Rattle.machine_data.specs.declared.component.HostDef.{HostDef as Left};
-ghost use Rattle.machine_data.specs.declared.records.Subtask.TheVariants as subtasks;
 ghost use Rattle.machine_data.specs.declared.records.WorkCaller.TheVariants as work_callers;
-ghost use Rattle.machine_rules.specs.Calls.{next_work, with_handle, work_deleted, work_queued};
-ghost use Rattle.machine_rules.specs.Works.{has_live_work, has_moving_work, next_polled, poll_of, poll_pends};
+ghost use Rattle.machine_rules.specs.Calls.{work_deleted, work_queued};
+ghost use Rattle.machine_rules.specs.Works.{has_live_work, has_moving_work, next_polled, poll_of};
 ghost use Rattle.core_primitives.specs.Groups.{tracked_work_group};
 ghost use Rattle.core_primitives.specs.Apart.{work_entries};
-ghost use Rattle.core_primitives.specs.Live.{live_work_caller};
 ghost use Rattle.core_primitives.specs.Names.{work_caller_in};
-ghost use Rattle.core_primitives.specs.BecomesRecord.{BecomesBut, MakesRecord, names_work};
 ghost use Rattle.core_primitives.specs.Polls.{PendsWith};
-ghost use Rattle.core_primitives.specs.StateView.{lost_work, on_core, thread_of, work_of};
+ghost use Rattle.core_primitives.specs.StateView.{on_core, thread_of, work_of};
+ghost use Rattle.core_primitives.specs.Live.{live_work_caller_of};
+ghost use Rattle.core_primitives.specs.Changes.{CountsPoll};
+ghost use Rattle.core_primitives.specs.Records.{MakesWork, sync_work, async_work, LosesWorkBy};
 
 use crate::names::{ThreadId, WorkCallerId, WorkId};
 use crate::view::View;
@@ -34,7 +34,7 @@ pub trait WorkPrimitives: View {
 
     /// Returns who has made the work: a spawn, or a thread, whose id names nothing if it is gone.
     fn work_caller(&self, work: WorkId) -> WorkCallerId
-        ensures { work_caller_in (Self.view self.now).tags result ≡ live_work_caller (work_caller_of (work_of (Self.view self.now) work) (Self.view self.now).core) (Self.view self.now).core };
+        ensures { work_caller_in (Self.view self.now).tags result ≡ live_work_caller_of (work_of (Self.view self.now) work) (Self.view self.now).core };
 
     /// Returns the number of the work's group, if it is a call, as long as that group is tracked.
     fn work_group(&self, work: WorkId) -> Option<u64>
@@ -73,7 +73,7 @@ pub trait WorkPrimitives: View {
     fn count_poll(&mut self, work: WorkId) -> bool
         requires live { is_stage_live (stage_of (work_of (Self.view self.old) work) (Self.view self.old).core) ≡ true }
         requires pends { (left : Left) × PendsWith left (poll_of (work_of (Self.view self.old) work) (Self.view self.old).core) }
-        ensures new { (left : Left) → PendsWith left (poll_of (work_of (Self.view self.old) work) (Self.view self.old).core) → Self.view self.new ≡ on_core (poll_pends (work_of (Self.view self.old) work) left) (Self.view self.old) }
+        ensures new { CountsPoll work (Self.view self.old) (Self.view self.new) }
         ensures more { result ≡ is_some (next_polled (work_of (Self.view self.old) work) (Self.view self.new).core) };
 
     /// Records that the work was cancelled by its caller.
@@ -88,14 +88,14 @@ pub trait WorkPrimitives: View {
     /// Makes a spawned work, and its push. If it is out of memory, all is as before.
     fn queue_spawn(&mut self, host: HostDef) -> Result<WorkId, NoMemory>
         requires { (Self.view self.old).core.made.works + 1 < 2 ^ 64 }
-        ensures { MakesRecord (names_work (next_work (Self.view self.old).core)) (work_queued work_callers.Spawn host None (Self.view self.old).core) (Self.view self.old) result (Self.view self.new) };
+        ensures { MakesWork (work_queued work_callers.Spawn host None) (Self.view self.old) result (Self.view self.new) };
 
     /// Makes the work of a thread's `call_sync`, in the thread's group, and its push. If it is out of memory, all is as before.
     fn queue_sync_call(&mut self, thread: ThreadId, host: HostDef) -> Result<WorkId, NoMemory>
         requires live { 0 < thread_of (Self.view self.old) thread }
         requires few { (Self.view self.old).core.made.works + 1 < 2 ^ 64 }
         requires room { fits 1 (Self.view self.old).core ≡ true }
-        ensures { MakesRecord (names_work (next_work (Self.view self.old).core)) (work_queued (work_callers.Sync (thread_of (Self.view self.old) thread)) host (Some (thread_group (thread_of (Self.view self.old) thread) (Self.view self.old).core)) (Self.view self.old).core) (Self.view self.old) result (Self.view self.new) };
+        ensures { MakesWork (sync_work (thread_of (Self.view self.old) thread) host) (Self.view self.old) result (Self.view self.new) };
 
     /// Makes the work of a thread's `call`, in the thread's group, with its push, and gives it a handle in the thread's instance.
     /// If it is out of memory, all is as before.
@@ -109,12 +109,12 @@ pub trait WorkPrimitives: View {
         requires few { (Self.view self.old).core.made.works + 1 < 2 ^ 64 }
         requires room { fits 1 (Self.view self.old).core ≡ true }
         requires limit { at_handle_limit (Self.view self.old).core ≡ false }
-        ensures new { MakesRecord (names_work (next_work (Self.view self.old).core)) (with_handle (instance_of (thread_of (Self.view self.old) thread) (Self.view self.old).core) (subtasks.Host (next_work (Self.view self.old).core)) (work_queued (work_callers.Async (thread_of (Self.view self.old) thread) register) host (Some (thread_group (thread_of (Self.view self.old) thread) (Self.view self.old).core)) (Self.view self.old).core)) (Self.view self.old) result (Self.view self.new) }
+        ensures new { MakesWork (async_work (thread_of (Self.view self.old) thread) register host) (Self.view self.old) result (Self.view self.new) }
         ensures small { OnOk result (new_handle (instance_of (thread_of (Self.view self.old) thread) (Self.view self.old).core) (Self.view self.old).core < 2 ^ 28) };
 
     /// Deletes a work, and finishes its group if nothing of the group is left.
     fn delete_work(&mut self, work: WorkId)
         requires live { 0 < work_of (Self.view self.old) work }
         requires unqueued { work_entries (work_of (Self.view self.old) work) (Self.view self.old).core.queues.high ≡ 0 }
-        ensures { BecomesBut (lost_work (work_of (Self.view self.old) work)) (work_deleted (work_of (Self.view self.old) work) (Self.view self.old).core) (Self.view self.old) (Self.view self.new) };
+        ensures { LosesWorkBy work_deleted work (Self.view self.old) (Self.view self.new) };
 }

@@ -62,7 +62,7 @@ row_with Low xs list Low = xs
 abbrev pub left : CoreImage → Queued → Row → List Queued
 left p q r = less_by (leaves q) (row p r)
 
--- The parts with these chains of marks and shelves are whole, and have these entries at the marks.
+-- The parts with these chains of marks and instances' queues are whole, and have these entries at the marks.
 pub record RowsAre (p : CoreImage) (marks instance_queues : List (Spot Queued)) (list : Row → List Queued) : Type 0 where
   pub whole : IsWhole (record p { marks = marks; instance_queues = instance_queues })
   pub rows : (r : Row) → row (record p { marks = marks; instance_queues = instance_queues }) r ≡ list r

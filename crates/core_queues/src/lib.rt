@@ -1,4 +1,4 @@
-//! Words on the marks of a core and on the callers of threads.
+//! Primitives on the marks of a core and on the callers of threads.
 //!
 //! Each is one equation of what contracts see, as the traits of `core_primitives` say it. An entry has its nodes from the start, so no
 //! primitive takes memory, and none goes through a list.

@@ -2,7 +2,7 @@
 ghost use Rattle.std.specs.Prelude.{◌≡◌};
 ghost use Rattle.table_links.specs.Links.{IsLinks};
 ghost use Rattle.machine_data.specs.Moves.{unqueued};
-ghost use Rattle.machine_data.specs.declared.words.Mark.TheVariants as marks;
+ghost use Rattle.machine_data.specs.declared.statuses.Mark.TheVariants as marks;
 ghost use Rattle.core_records.specs.Rows.{IsKeyed};
 ghost use Rattle.core_records.specs.Seen.{IsSoundCore, parts_of, seen};
 ghost use Rattle.core_records.specs.Sound.{bare};

@@ -1,8 +1,8 @@
--- The words of std, of the machine, of the crates below and of the records that the proofs of the core cite, in one place.
+-- The names of std, of the machine, of the crates below and of the records that the proofs of the core cite, in one place.
 pub use Rattle.std.specs.declared.{cmp.Ordering.Ordering}
 pub use Rattle.task_handles.specs.declared.{counter.HandleCounter.HandleCounter, kinds.HandleError.HandleError, kinds.HandleKind.HandleKind, kinds.HeldItem.HeldItem, kinds.Rep.Rep, kinds.WaitableKind.WaitableKind}
 pub use Rattle.table_links.specs.declared.{links.Node.Node}
-pub use Rattle.machine_data.specs.declared.{component.Callee.Callee, component.ExportKind.ExportKind, records.Call.Call, records.Caller.Caller, records.Delivery.Delivery, records.Entry.Entry, records.Goal.Goal, records.OpProgress.OpProgress, records.Instance.Instance, records.Join.Join, records.MadeCounts.MadeCounts, records.Named.Named, records.Place.Place, records.Script.Script, records.Set.Set, records.Stage.Stage, records.Subtask.Subtask, records.Thread.Thread, records.Why.Why, records.Work.Work, words.Mark.Mark, words.Status.Status}
+pub use Rattle.machine_data.specs.declared.{component.Callee.Callee, component.ExportKind.ExportKind, records.Call.Call, records.Caller.Caller, records.Delivery.Delivery, records.Entry.Entry, records.Goal.Goal, records.OpProgress.OpProgress, records.Instance.Instance, records.Join.Join, records.MadeCounts.MadeCounts, records.Named.Named, records.Place.Place, records.Script.Script, records.Set.Set, records.Stage.Stage, records.Subtask.Subtask, records.Thread.Thread, records.Why.Why, records.Work.Work, statuses.Mark.Mark, statuses.Status.Status}
 pub use Rattle.task_table.specs.declared.{error.ResourceTableError.ResourceTableError, id.TableId.TableId}
 pub use Rattle.task_wait.specs.declared.{keys.GroupKey.GroupKey, keys.GuestTaskKey.GuestTaskKey, keys.HostTaskKey.HostTaskKey, keys.SetKey.SetKey, keys.ThreadKey.ThreadKey}
 pub use Rattle.core_primitives.specs.declared.{names.SubtaskId.SubtaskId}
@@ -58,7 +58,7 @@ unfoldable pub use Rattle.machine_data.specs.Moves.{first_entry, group_settled, 
 pub use Rattle.machine_data.specs.Read.{admits, as_set, as_subtask, call_group, call_instance, callers_of, entry_thread, first_at, first_in, first_of, goal_of, held_why, instance_of, is_aborted, is_blocked_on, is_delivery_for, is_entry_in, is_entry_of, is_held_admitted, is_host_call, is_in_set, is_inside_wait, is_live, is_member, is_never, is_nil, is_ready_member, is_resumption, is_stage_live, is_sync, is_under, is_waiter, is_waiting_on, join_of, keeps_set, live_in, may_not_suspend, named_by, next_handle, no_callee, or_first, or_high, place_of, position_of, same_subtask, set_at, stage_of, subtask_at, subtasks, task_of, thread_at, thread_handle_of}
 unfoldable pub use Rattle.machine_data.specs.Read.{admitted_held, at_handle_limit, blocked_on, fits, has_member, has_ready_member, has_thread, has_waiter, has_waiters, is_last_thread, live_count, new_handle, new_thread_handle, next_entry, table_use, under_of}
 pub use Rattle.machine_data.specs.Write.{giving, less_one, taking, with_works_made}
-unfoldable pub use Rattle.machine_data.specs.Write.{add_call, add_group, add_set, add_thread, add_work, count_work, free_handle, free_thread_handle, give_handle, give_result, give_thread_handle, on_call, on_instance, on_thread, on_work, push_high, push_high_first, push_low, remove_call, remove_group, remove_set, remove_thread, remove_work, set_backpressure, set_callers, set_cancel_delivered, set_cancelled, set_course, set_do_not_enter, set_do_not_suspend, set_end, set_event, set_exited, set_high, set_op_progress, set_join, set_low, set_task_event, set_phase, set_place, set_position, set_register, set_result, set_saved_callee, set_saved_own, set_script, set_stage, set_started, set_starting_published, set_subtask_handle, set_switch, set_thread_handle, set_trapped, set_uninteresting, set_word, take_result}
+unfoldable pub use Rattle.machine_data.specs.Write.{add_call, add_group, add_set, add_thread, add_work, count_work, free_handle, free_thread_handle, give_handle, give_result, give_thread_handle, on_call, on_instance, on_thread, on_work, push_high, push_high_first, push_low, remove_call, remove_group, remove_set, remove_thread, remove_work, set_backpressure, set_callers, set_cancel_delivered, set_cancelled, set_course, set_do_not_enter, set_do_not_suspend, set_end, set_event, set_exited, set_high, set_op_progress, set_join, set_low, set_task_event, set_phase, set_place, set_position, set_register, set_result, set_saved_callee, set_saved_own, set_script, set_stage, set_started, set_starting_published, set_subtask_handle, set_switch, set_thread_handle, set_trapped, set_uninteresting, set_memory_cell, take_result}
 pub use Rattle.core_records.specs.Image.{callers_in, chained, core_of, given_results, HasRoom, image, tracked_in, CoreImage, tag_of, tags_in, trimmed, with_first, with_given}
 pub use Rattle.core_records.specs.Instances.{by_place, handle_table, is_sorted-mapped, named_as, named_of}
 unfoldable pub use Rattle.core_records.specs.Instances.{by_place_from, records_by}

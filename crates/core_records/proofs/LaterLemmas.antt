@@ -38,22 +38,22 @@ same_made m = record { threads = omega arith; works = omega arith; sets = omega 
 
 -- With another number of finished groups, other kept numbers, other results and another capacity too: names, indexes and rows stay.
 module _ (p : CoreImage) (n : MadeCounts) (later : IsLater p.made n) (finished : ℕ) (kept : CachedCounts) (results : List (ℕ × ResultRoom)) (capacity : ℕ) where
-  abbrev pub beside : CoreImage
-  beside = record p { made = n; finished = finished; kept = kept; results = results; capacity = capacity }
+  abbrev pub state_target : CoreImage
+  state_target = record p { made = n; finished = finished; kept = kept; results = results; capacity = capacity }
 
-  at_later : (rep : ℕ) (t : Target) → AtPlace p rep t → AtPlace beside rep t
+  at_later : (rep : ℕ) (t : Target) → AtPlace p rep t → AtPlace state_target rep t
   at_later = named_later (kinds p) n later
 
-  home_later : (g : GuestThread) → HasHome p g → HasHome beside g
-  home_later g home = record { call = home.call; there = home.there; instance = home.instance; barred = home.barred; within = home.within; place = at_later g.beside _ home.place; op_progress = at_later g.awaited _ home.op_progress }
+  home_later : (g : GuestThread) → HasHome p g → HasHome state_target g
+  home_later g home = record { call = home.call; there = home.there; instance = home.instance; barred = home.barred; within = home.within; place = at_later g.state_target _ home.place; op_progress = at_later g.op_target _ home.op_progress }
 
-  call_later : (g : GuestTask) → IsCallNamed p g → IsCallNamed beside g
+  call_later : (g : GuestTask) → IsCallNamed p g → IsCallNamed state_target g
   call_later g named = record { caller = at_later g.maker _ named.caller; first = at_later g.first (ThreadOf g.number) named.first; join = at_later g.joined _ named.join; group = named.group; positive = named.positive }
 
-  work_later : (w : WorkRecord) → IsWorkNamed p w → IsWorkNamed beside w
+  work_later : (w : WorkRecord) → IsWorkNamed p w → IsWorkNamed state_target w
   work_later w named = record { caller = at_later w.maker _ named.caller; join = at_later w.joined _ named.join; group = named.group }
 
-  pub beside_whole : IsWhole p → AreKept (core_of beside) kept → ((k : ℕ) (c : Call) → get (core_of p).calls k ≡ Some c → c.goal ≡ Goal.Main → HasRoom k results) → finished ≤ n.groups → capacity ≤ 4294967295 → IsWhole beside
+  pub beside_whole : IsWhole p → AreKept (core_of state_target) kept → ((k : ℕ) (c : Call) → get (core_of p).calls k ≡ Some c → c.goal ≡ Goal.Main → HasRoom k results) → finished ≤ n.groups → capacity ≤ 4294967295 → IsWhole state_target
   beside_whole whole counts rooms within few = record {
     named = record {
       threads = λ rep q at. home_later q.entry.item (whole.named.threads rep q at);

@@ -119,8 +119,8 @@ pub record HasHome (p : CoreImage) (g : GuestThread) : Type 0 where
   pub instance : call_instance g.thread.call (core_of p) ≡ g.instance
   pub barred : bars_start g.thread.explicit (kind_of g.thread.call (core_of p)) ≡ g.barred
   pub within : IsSome (slice_get p.instances g.instance)
-  pub place : AtPlace p g.beside (place_target g.thread.place)
-  pub op_progress : AtPlace p g.awaited (op_progress_target g.thread.op_progress)
+  pub place : AtPlace p g.state_target (place_target g.thread.place)
+  pub op_progress : AtPlace p g.op_target (op_progress_target g.thread.op_progress)
 
 -- The handle that a thread has, if it has one, names it.
 abbrev pub OwnsHandle : CoreImage → GuestThread → Type 0

@@ -14,7 +14,7 @@ use Rattle.machine_data.specs.declared.records.Place.TheVariants as place
 use Rattle.machine_data.specs.declared.records.Subtask.{Subtask}
 use Rattle.machine_data.specs.declared.records.Subtask.TheVariants as subtask
 use Rattle.machine_data.specs.declared.records.Why.{Why}
-use Rattle.machine_data.specs.declared.words.Status.{Status}
+use Rattle.machine_data.specs.declared.statuses.Status.{Status}
 use Rattle.core_records.specs.Image.{CoreImage}
 use Rattle.core_records.specs.Keys.{blocked_key, ready_calls_key, ready_works_key, under_key, waiters_key, work_blocked_key}
 use Rattle.core_records.specs.declared.call_records.GuestTask.{GuestTask}

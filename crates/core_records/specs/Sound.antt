@@ -16,7 +16,7 @@ use Rattle.machine_data.specs.declared.records.Goal.TheVariants as goal
 use Rattle.machine_data.specs.declared.records.Script.TheVariants as script
 use Rattle.machine_data.specs.declared.records.Thread.{Thread}
 use Rattle.machine_data.specs.declared.records.Work.{Work}
-use Rattle.machine_data.specs.declared.words.Phase.TheVariants as phase
+use Rattle.machine_data.specs.declared.statuses.Phase.TheVariants as phase
 use Rattle.core_records.specs.Groups.{AreEnded}
 use Rattle.core_records.specs.Image.{HasRoom, CoreImage, core_of}
 use Rattle.core_records.specs.CachedCounts.{AreKept, IsCallKept, IsGroupKept, IsSetKept}

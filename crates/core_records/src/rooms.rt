@@ -1,8 +1,8 @@
-ghost use Rattle.core_records.specs.Rooms.{count_given, given_in, wanted, weight};
+ghost use Rattle.core_records.specs.Rooms.{MakesRoom, count_given, given_in, wanted, weight};
 ghost use Rattle.std.specs.BTreeMap.{is_at};
 ghost use Rattle.std.specs.Map.{lookup};
 ghost use Rattle.std.specs.Ordering.{nat_cmp};
-ghost use Rattle.std.specs.Prelude.{◌≡◌, [], Bool, IsSome, None, OnErr, OnOk, Some, false, if◌then◌else◌, true, ℕ};
+ghost use Rattle.std.specs.Prelude.{◌≡◌, [], Bool, IsSome, None, OnErr, OnOk, false, if◌then◌else◌, true, ℕ};
 
 use machine_data::NoMemory;
 use std::alloc::Global;
@@ -107,7 +107,7 @@ impl ResultRooms {
 
     /// Makes room for a call that is there; a result that is in its room stays. If it is out of memory, all is as before.
     pub fn make(&mut self, call: u64) -> Result<(), NoMemory>
-        ensures made { OnOk result ((q : ℕ) → lookup (is_at (nat_cmp q)) self.new ≡ (if is_at (nat_cmp call) q then Some (record { given = given_in (lookup (is_at (nat_cmp call)) self.old); lives = true }) else lookup (is_at (nat_cmp q)) self.old)) }
+        ensures made { OnOk result (MakesRoom call self.old self.new) }
         ensures err { OnErr result (self.new ≡ self.old) }
     {
         let given = given_unchecked(&self.rooms, self.given, call);

@@ -17,9 +17,9 @@ pub struct GuestThread {
     pub task_entry: u32,
     pub entry: u32,
     /// The place of what `thread.place` names, if it names anything.
-    pub beside: u32,
+    pub state_target: u32,
     /// The place of what `thread.op_progress` names, if it names anything.
-    pub awaited: u32,
+    pub op_target: u32,
     /// The place in the resource table of its sync-call set.
     pub set_entry: u32,
     /// Backpressure keeps its start out: it isn't explicit, and its export isn't sync.

@@ -84,8 +84,8 @@ module _ (p : CoreImage) (whole : IsWhole p) (made : ℕ) (sound : SoundTable ca
       instance = ap (λ o. (option_map_or (λ (c : Call). c.callee) o no_callee).instance) (get_other h.thread.call other) ∙ home.instance;
       barred = ap (λ (o : Option Call). not (h.thread.explicit || is_sync (option_map_or (λ (d : Call). d.kind) o ExportKind.Callback))) (get_other h.thread.call other) ∙ home.barred;
       within = home.within;
-      place = named_left (kinds p) (kinds less) left h.beside _ home.place;
-      op_progress = named_left (kinds p) (kinds less) left h.awaited _ home.op_progress;
+      place = named_left (kinds p) (kinds less) left h.state_target _ home.place;
+      op_progress = named_left (kinds p) (kinds less) left h.op_target _ home.op_progress;
     }
 
     blocked_is : place_chain p (BlockedOn (Subtask.Guest g.number)) ≡ Some g.blocked

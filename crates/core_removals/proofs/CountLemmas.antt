@@ -9,13 +9,13 @@ use Rattle.machine_data.specs.Read.{is_aborted, is_live, is_never}
 use Rattle.std.proofs.Common.{subst}
 use Rattle.machine_data.specs.declared.component.HostDef.{HostDef}
 use Rattle.machine_data.specs.declared.component.HostDef.TheVariants as host_def
-use Rattle.machine_data.specs.declared.words.HostPoll.{HostPoll}
-use Rattle.machine_data.specs.declared.words.HostPoll.TheVariants as host_poll
+use Rattle.machine_data.specs.declared.statuses.HostPoll.{HostPoll}
+use Rattle.machine_data.specs.declared.statuses.HostPoll.TheVariants as host_poll
 use Rattle.core_primitives.specs.Polls.{PendsWith}
 use Rattle.machine_data.specs.declared.records.Course.{Course}
 use Rattle.machine_data.specs.declared.records.Course.TheVariants as courses
-use Rattle.machine_data.specs.declared.words.Phase.{Phase}
-use Rattle.machine_data.specs.declared.words.Phase.TheVariants as phases
+use Rattle.machine_data.specs.declared.statuses.Phase.{Phase}
+use Rattle.machine_data.specs.declared.statuses.Phase.TheVariants as phases
 use Rattle.core_records.proofs.ReadLemmas.{work_read, work_unread}
 use Rattle.core_records.proofs.WriteLemmas.{moved_sound, moved_writes}
 use Rattle.core_records.specs.Kinds.{entry_of}

@@ -70,8 +70,8 @@ module _ (p : CoreImage) (whole : IsWhole p) (made : ℕ) (sound : SoundTable th
       instance = instance_same h.thread.call ∙ home.instance;
       barred = ap (λ (m : Records Call). not (h.thread.explicit || is_sync (option_map_or (λ (d : Call). d.kind) (get m h.thread.call) ExportKind.Callback))) calls_same ∙ home.barred;
       within = home.within;
-      place = named_left (kinds p) (kinds less) left h.beside _ home.place;
-      op_progress = named_left (kinds p) (kinds less) left h.awaited _ home.op_progress;
+      place = named_left (kinds p) (kinds less) left h.state_target _ home.place;
+      op_progress = named_left (kinds p) (kinds less) left h.op_target _ home.op_progress;
     }
 
     call_left : (x y : GuestTask) → unthreaded x ≡ unthreaded y → IsCallNamed p x → IsCallNamed less y

@@ -63,7 +63,7 @@ module _ (p : CoreImage) (whole : IsWhole p) (made : ℕ) (sound : SoundTable wo
     group_left r n at = number_alike uncalled groups p.groups alike (λ (x : TaskGroup). x.number) (λ x. refl) (λ (x : TaskGroup). x.calls) (λ (k : ℕ). 0) (λ x. refl) r ∙ at
 
     home_left : (h : GuestThread) → HasHome p h → HasHome less h
-    home_left h home = record { call = home.call; there = home.there; instance = home.instance; barred = home.barred; within = home.within; place = named_left (kinds p) (kinds less) left h.beside _ home.place; op_progress = named_left (kinds p) (kinds less) left h.awaited _ home.op_progress }
+    home_left h home = record { call = home.call; there = home.there; instance = home.instance; barred = home.barred; within = home.within; place = named_left (kinds p) (kinds less) left h.state_target _ home.place; op_progress = named_left (kinds p) (kinds less) left h.op_target _ home.op_progress }
 
     call_left : (x : GuestTask) → IsCallNamed p x → IsCallNamed less x
     call_left x named = record { caller = named_left (kinds p) (kinds less) left x.maker _ named.caller; first = named_left (kinds p) (kinds less) left x.first (ThreadOf x.number) named.first; join = named_left (kinds p) (kinds less) left x.joined _ named.join; group = group_left x.group x.call.group named.group; positive = named.positive }

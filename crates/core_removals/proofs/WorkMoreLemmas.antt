@@ -62,7 +62,7 @@ module _ (p : CoreImage) (whole : IsWhole p) (sound : SoundTable work_key p.work
   group_more r n at = number_alike uncalled groups p.groups alike (λ (x : TaskGroup). x.number) (λ x. refl) (λ (x : TaskGroup). x.calls) (λ (k : ℕ). 0) (λ x. refl) r ∙ at
 
   home_more : (h : GuestThread) → HasHome p h → HasHome more h
-  home_more h home = record { call = home.call; there = home.there; instance = home.instance; barred = home.barred; within = home.within; place = at_more h.beside _ home.place; op_progress = at_more h.awaited _ home.op_progress }
+  home_more h home = record { call = home.call; there = home.there; instance = home.instance; barred = home.barred; within = home.within; place = at_more h.state_target _ home.place; op_progress = at_more h.op_target _ home.op_progress }
 
   call_more : (x : GuestTask) → IsCallNamed p x → IsCallNamed more x
   call_more x named = record { caller = at_more x.maker _ named.caller; first = at_more x.first (ThreadOf x.number) named.first; join = at_more x.joined _ named.join; group = group_more x.group x.call.group named.group; positive = named.positive }

@@ -39,7 +39,7 @@ pub record StandsLive (node number : ℕ) (a : CoreParts) : Type 0 where
   pub link : link_of a.polled node ≡ Some (chain, record { number = number; place = place })
 
 module _ {P : Type 0} where
-  -- A walk has come to the next entry: what holds of the entries that are left.
+  -- A walk is at the next entry: what holds of the entries that are left.
   pub record Walk (Good : List (ℕ × P) → Type 0) (list : List (ℕ × P)) (next : Option (ℕ × P)) : Type 0 where
     pub front : List (ℕ × P)
     pub back : List (ℕ × P)

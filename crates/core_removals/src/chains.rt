@@ -31,12 +31,13 @@ pub(crate) fn held_thread(parts: &CoreParts, node: Node) -> ThreadId
     }
 }
 
-/// The law that each node of a chain has its order key there. It does nothing.
+/// States that each node of a chain has its order key there. It does nothing.
 #[inline(always)]
 pub(crate) fn nodes_have_order_keys(parts: &CoreParts, chain: usize)
     requires { IsSome (list_of parts.now.places chain) }
     ensures linked { AreLinked parts.now.places chain (entries parts.now.places chain) }
     ensures links { IsLinks parts.now.places }
 {
+    // read so that the proof knows the invariant of `places`
     let _first = parts.places.first(chain);
 }

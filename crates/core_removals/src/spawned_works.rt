@@ -41,7 +41,7 @@ fn counted(used: u64, more: bool) -> u64
     if more { used + 1 } else { used }
 }
 
-/// Returns the record of a host work, with its nodes and its chain.
+/// Makes the record of a host work, with its nodes and its chain.
 pub(crate) fn push_work(
     parts: &mut CoreParts,
     work: WorkRecord,

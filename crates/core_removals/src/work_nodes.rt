@@ -22,7 +22,7 @@ pub struct WorkNodes {
     pub blocked: usize,
 }
 
-/// Returns the nodes and the chain that a host work is to have, with the chains of high and of the live works. If it is out of
+/// Makes the nodes and the chain that a host work is to have, with the chains of high and of the live works. If it is out of
 /// memory, all is as before.
 pub(crate) fn new_work_nodes(parts: &mut CoreParts) -> Result<WorkNodes, NoMemory>
     requires { IsSoundCore parts.old }

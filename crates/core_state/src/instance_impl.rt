@@ -15,8 +15,8 @@ impl InstancePrimitives for TaskCore {
         core_fields::may_not_suspend(&self.parts, instance)
     }
 
-    fn word(&self, instance: u32, word: u8) -> u64 {
-        core_fields::word(&self.parts, instance, word)
+    fn memory_cell(&self, instance: u32, cell: u8) -> u64 {
+        core_fields::memory_cell(&self.parts, instance, cell)
     }
 
     fn set_backpressure(&mut self, instance: u32, count: u16) {
@@ -31,8 +31,8 @@ impl InstancePrimitives for TaskCore {
         core_fields::set_do_not_suspend(&mut self.parts, instance, flag);
     }
 
-    fn set_word(&mut self, instance: u32, word: u8, value: u64) {
-        core_fields::set_word(&mut self.parts, instance, word, value);
+    fn set_memory_cell(&mut self, instance: u32, cell: u8, value: u64) {
+        core_fields::set_memory_cell(&mut self.parts, instance, cell, value);
     }
 
     fn at_handle_limit(&self) -> bool {

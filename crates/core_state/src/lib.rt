@@ -1,5 +1,5 @@
 //! The core of a store: threads, calls, host works, sets and instances, as what contracts see of
-//! them, with every word of `core_primitives`.
+//! them, with every primitive of `core_primitives`.
 #![tactic(auto)]
 
 mod borrows;

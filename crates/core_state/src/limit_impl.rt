@@ -10,7 +10,7 @@ use crate::task_core::TaskCore;
 use machine_data::NoMemory;
 
 impl TaskCore {
-    /// Makes an instance and answers its number, from 0: its counters and words are 0, its flags are clear, and it has no handles.
+    /// Makes an instance and answers its number, from 0: its counters and memory cells are 0, its flags are clear, and it has no handles.
     /// If it is out of memory, the core is as before.
     pub fn add_instance(&mut self) -> Result<u32, NoMemory>
         requires { size self.old.core.instances < 4294967295 }

@@ -5,7 +5,7 @@ ghost use Rattle.host_embedding.specs.Says.{HasRelayed, relay_says};
 ghost use Rattle.ops_state.specs.declared.error.TaskError.TheVariants as task_error;
 ghost use Rattle.std.specs.Prelude.{◌≡◌, ◌<◌, IfErr, IfOk};
 ghost use Rattle.task_loop.specs.HasRun.{MayStep};
-ghost use Rattle.task_loop.specs.Standing.{standing};
+ghost use Rattle.task_loop.specs.Constants.{constants};
 ghost use Rattle.core_primitives.specs.StateView.{StateView};
 
 use crate::parts::{DOUBLE, NEXT};
@@ -54,7 +54,7 @@ fn start(
     requires takes { TakesOne component.now func }
     requires few { relay.old.started < 2 }
     ensures same { access.new.store.ghost_name ≡ access.old.store.ghost_name }
-    ensures stands { standing access.new.store.now ≡ standing access.old.store.now }
+    ensures stands { constants access.new.store.now ≡ constants access.old.store.now }
     ensures step { IfOk result (λ step. HasRelayed component.now step relay.old access.old.store.now relay.new access.new.store.now) }
     ensures err { IfErr result (λ e. e ≡ task_error.NoMemory) }
 {
@@ -89,7 +89,7 @@ fn finish(
 ) -> MainStep
     requires may { MayStep relay_says ⟦<ScriptedHost as HostWork>⟧.course component.now relay.old access.old.store.now }
     ensures same { access.new.store.ghost_name ≡ access.old.store.ghost_name }
-    ensures stands { standing access.new.store.now ≡ standing access.old.store.now }
+    ensures stands { constants access.new.store.now ≡ constants access.old.store.now }
     ensures step { HasRelayed component.now result relay.old access.old.store.now relay.new access.new.store.now }
 {
     // only the contract speaks of `component`

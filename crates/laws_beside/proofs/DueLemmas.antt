@@ -11,7 +11,7 @@ use Rattle.machine_data.specs.declared.label.LoopLabel.TheVariants as loop_label
 use Rattle.machine_data.specs.declared.scenario.MainOpDef.{MainOpDef}
 use Rattle.machine_data.specs.declared.records.Entry.{Entry}
 use Rattle.machine_data.specs.declared.records.Turn.{Turn}
-use Rattle.machine_data.specs.declared.words.Mark.{Mark}
+use Rattle.machine_data.specs.declared.statuses.Mark.{Mark}
 use Rattle.machine_data.specs.declared.records.Turn.TheVariants as turn
 use Rattle.machine_rules.specs.MainOps.{op_at}
 use Rattle.machine_rules.specs.Stalled.{Setting, is_idle, is_stalled, is_unended_take, may_deadlock, works_rest}

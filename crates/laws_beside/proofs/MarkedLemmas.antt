@@ -24,8 +24,8 @@ use Rattle.machine_data.specs.declared.records.Turn.TheVariants as turn
 use Rattle.machine_data.specs.declared.records.Work.{Work}
 use Rattle.machine_data.specs.declared.records.WorkCaller.{WorkCaller}
 use Rattle.machine_data.specs.declared.scenario.MainOpDef.{MainOpDef}
-use Rattle.machine_data.specs.declared.words.Phase.{Phase}
-use Rattle.machine_data.specs.declared.words.Phase.TheVariants as phase
+use Rattle.machine_data.specs.declared.statuses.Phase.{Phase}
+use Rattle.machine_data.specs.declared.statuses.Phase.TheVariants as phase
 use Rattle.machine_rules.specs.Cancels.{aborted_phase}
 use Rattle.machine_rules.specs.MainOps.{Abort, Answer, Await, Finish, MainAct, Quiet, Ready, Spawn, SpawnOpen, Start, act_of, finish_act, finish_result, has_interesting, is_complete, is_ready_for_call, is_spawn, line_of, main_aborted, main_rule, op_at, start_act, unless_pending}
 use Rattle.machine_rules.specs.Stalled.{Setting, is_pending, main_pends, pends_at}

@@ -26,7 +26,7 @@ use Rattle.machine_data.specs.declared.records.Turn.TheVariants as turn
 use Rattle.machine_data.specs.declared.scenario.MainOpDef.{MainOpDef}
 use Rattle.machine_data.specs.declared.scenario.MainOpDef.TheVariants as main_op
 use Rattle.machine_data.specs.declared.trap.Trap.{Trap}
-use Rattle.machine_data.specs.declared.words.Mark.{Mark}
+use Rattle.machine_data.specs.declared.statuses.Mark.{Mark}
 use Rattle.machine_rules.specs.MainOps.{act_of, finish_act, finish_result, is_complete, is_ready_for_call, line_of, main_rule, op_at, spawned_at, start_act, start_refusal, started_at, unless_pending}
 use Rattle.machine_rules.specs.Scripts.{values_in}
 use Rattle.machine_rules.specs.Stalled.{Setting, is_unended_take, may_deadlock}

@@ -32,7 +32,7 @@ OutcomesAreWide =
     (x : Setting) (r : Round) (t : State) (ls : List Label) (steps : ℕ) (o : Outcome) → is_past r ≡ true →
     IsOutcome x t ls steps o → IsWideOutcome x (wide t r) ls steps o
 
--- the same, where nothing that can go on is a deadlock
+-- this setting, where the run waits if nothing can go on, and is no deadlock
 abbrev pub waiting : Setting → Setting
 waiting x = record x { idle = idle_line.Wait }
 

@@ -18,7 +18,7 @@ pub fn runs_are_wide()
     ensures { RunsAreWide }
 {}
 
-/// And it results in the same.
+/// And it results in the same outcome.
 #[tactic(auto, using(crate::proofs::WideLemmas::outcomes_are_wide))]
 pub fn outcomes_are_wide()
     ensures { OutcomesAreWide }

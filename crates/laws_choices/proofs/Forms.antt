@@ -1,4 +1,4 @@
--- The forms of rows, and what each chooses among.
+-- The forms of rules, and what each chooses among.
 use Rattle.laws_choices.proofs.ListLemmas.{has_not_nil, member_has, no_members, one_is_none}
 use Rattle.laws_choices.specs.Chooses.{Chooses, IsLawful, IsUnordered, MayCome, ReleasesOnce, ShowsChoice, no_choice}
 use Rattle.laws_choices.specs.Offer.{Chosen, FitsOffer, Offer, is_one_of, shown}
@@ -15,14 +15,14 @@ use Rattle.machine_data.specs.Read.{has_ready_member, instance_of, is_nil, is_re
 use Rattle.machine_data.specs.declared.records.Subtask.{Subtask}
 use Rattle.machine_data.specs.declared.trap.Trap.{Trap}
 use Rattle.machine_data.specs.declared.trap.Trap.TheVariants as trap
-use Rattle.machine_data.specs.declared.words.TaskEvent.{TaskEvent}
+use Rattle.machine_data.specs.declared.statuses.TaskEvent.{TaskEvent}
 use Rattle.machine_rules.specs.Progress.{Asks, Fails, Continues, Never, Ordered, Progress, Stops, Traps, may, or_never, or_trap, trap_if}
 use Rattle.machine_rules.specs.Sets.{chosen}
 
 abbrev pub choosing : Option ℕ → Option ℕ → Choice
 choosing w m = record { woken = w; member = m }
 
--- as `Chooses`, of a row that is given a waiter and a member
+-- as `Chooses`, of a rule that is given a waiter and a member
 pub record Picks (o : Offer) (row : Option ℕ → Option ℕ → Progress) : Type 0 where
   pub only : (c : Chosen) → MayCome c (row c.waiter c.member) → FitsOffer c o
   pub each : (v k : Option ℕ) (c : Chosen) → IsLawful (row v k) → FitsOffer c o → MayCome c (row c.waiter c.member)
@@ -247,7 +247,7 @@ module _ (o : Offer) (of : OfWaiters o) where
 
 -- ---- A member
 
--- the row takes the member that the handle names, and wakes none
+-- the rule takes the member that the handle names, and wakes none
 pub record TakesMember (row : Option ℕ → Option ℕ → Progress) : Type 0 where
   pub shows : (h : ℕ) → ShowsChoice (choosing None (Some h)) (row None (Some h))
   pub only : (c : Chosen) (h : ℕ) → c.member ≡ Some h → MayCome c (row c.waiter c.member) → (c.waiter ≡ None) × (c.release ≡ [])

@@ -17,7 +17,7 @@ use Rattle.machine_rules.proofs.Machine.{Choice, Given, IfSome, Label, List, Non
 use Rattle.machine_data.specs.Moves.{given_own}
 use Rattle.machine_rules.specs.Texts.{answer_text, event_text, given_text, label_text, op_text, set_text, take_text, taken_text, task_text, wakes}
 
--- ---- Words
+-- ---- Tokens
 
 spaced : (front ds : List ℕ) → has (front ++ 32 ∷ ds) 32 ≡ true
 spaced [] ds = grind (arith, nat_tests)
@@ -40,7 +40,7 @@ abbrev rest_of : List ℕ → List ℕ
 rest_of [] = []
 rest_of (n ∷ ns) = ns
 
--- the last word is told by its spacelessness
+-- the last token is told by its spacelessness
 one_split : (f g ds es : List ℕ) → has ds 32 ≡ false → has es 32 ≡ false → f ++ 32 ∷ ds ≡ g ++ 32 ∷ es → (f ≡ g) × (ds ≡ es)
 one_split [] [] ds es one two e = (refl, ap rest_of e)
 one_split [] (b ∷ g) ds es one two e = absurd (let tail : ds ≡ g ++ 32 ∷ es = ap rest_of e in let in_it = spaced g es in grind (arith, one, tail, in_it))

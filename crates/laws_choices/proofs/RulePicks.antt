@@ -1,4 +1,4 @@
--- What the rows of ops choose among.
+-- What the rules of ops choose among.
 use Rattle.laws_choices.proofs.Forms.{OfWaiters, Picks, TakesMember, chooses, choosing, found, given, none_fits, released, shows_none, silent, trapped, woken, woken_released}
 use Rattle.laws_choices.proofs.ListLemmas.{one_is_none, wake_fits}
 use Rattle.laws_choices.proofs.ReturnChecks.{same_check}
@@ -13,7 +13,7 @@ use Rattle.machine_rules.proofs.Machine.{HasOpen, Bool, Choice, Component, Core,
 use Rattle.machine_rules.specs.Sets.{scripted_poll_rule, scripted_set_rule, scripted_wait_rule}
 use Rattle.machine_rules.specs.Task.{dec_from, held_by_counter, scripted_ret_rule, scripted_task_cancel_rule, scripted_task_rule}
 
--- ---- Whom a row may wake is offered
+-- ---- Whom a rule may wake is offered
 
 pub nobody : (w : Option ℕ) → is_none w ≡ is_one_of [] w
 nobody None = refl

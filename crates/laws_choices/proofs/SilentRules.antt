@@ -36,8 +36,8 @@ use Rattle.machine_data.specs.declared.records.Subtask.TheVariants as subtask
 use Rattle.machine_data.specs.declared.records.Subtask.{Subtask}
 use Rattle.machine_data.specs.declared.trap.Trap.TheVariants as trap
 use Rattle.machine_data.specs.declared.trap.Trap.{Trap}
-use Rattle.machine_data.specs.declared.words.Status.TheVariants as status
-use Rattle.machine_data.specs.declared.words.Status.{Status}
+use Rattle.machine_data.specs.declared.statuses.Status.TheVariants as status
+use Rattle.machine_data.specs.declared.statuses.Status.{Status}
 use Rattle.machine_rules.specs.Calls.{AtOnce, Failing, FirstPoll, Later, call_begins, call_host_polled, call_resumes, scripted_call_rule, call_status, call_sync_begins, call_sync_host_polled, scripted_call_sync_host_rule, scripted_call_sync_rule, call_sync_status, enter_rule, first_polled, polled_first, status_found}
 use Rattle.machine_rules.specs.Cancels.{AlreadyEnded, Async, CallbackWaits, CallbackYields, CancelCase, Mode, OtherwiseRuns, StartNotRun, Sync, after_cancel, cancel_aborts_host, cancel_asks, cancel_by_end, cancel_case, cancel_ended_rule, cancel_found, cancel_guest, cancel_label, cancel_resumed, scripted_cancel_rule, cancel_subtask, cancel_unended_rule, drop_found, scripted_subtask_rule}
 use Rattle.machine_rules.specs.Data.{data_rule, skip_rule}
@@ -61,7 +61,7 @@ cancel_shows_none : (mode : Mode) (n v : ℕ) → choice_of (cancel_label mode n
 cancel_shows_none Async n v = refl
 cancel_shows_none Sync n v = refl
 
--- ---- Registers and words
+-- ---- Registers and memory cells
 
 skip_silent : (c : Component) (n k : ℕ) (s : Core) (b : Bool) → IsSilent (skip_rule c n k s b)
 skip_silent c n k s true = refl

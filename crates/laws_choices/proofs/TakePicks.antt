@@ -1,4 +1,4 @@
--- What the rows of takings choose among.
+-- What the rules of takings choose among.
 use Rattle.laws_choices.proofs.Forms.{IsSilent, OfWaiters, Picks, chooses, choosing, given, silent, trapped, woken}
 use Rattle.laws_choices.proofs.RulePicks.{member_woken, nobody, of_joined, of_tells, own_wakes, own_woken, publish_fits, tell_fits}
 use Rattle.laws_choices.specs.Chooses.{TakingsChoose}

@@ -36,7 +36,7 @@ HasCome x steps cs ls t left (Wrong k) =
     ((left ≡ c ∷ rest) × (IsOpenAt x steps ls t × ((k + length rest ≡ length cs) × (FitsOffer c (offer x t) → ⊥)))))
 HasCome x steps cs ls t left (Short n) = (left ≡ []) × (IsOpenAt x steps ls t × (length ls ≡ n))
 
--- From s a run under the choices, of at most so many steps, comes to this.
+-- From s a run under the choices, of at most so many steps, results in this.
 pub record ComesTo (x : Setting) (s : State) (steps : ℕ) (cs : List Chosen) (a : Answer) : Type 0 where
   pub labels : List Label
   pub last : State
@@ -45,7 +45,7 @@ pub record ComesTo (x : Setting) (s : State) (steps : ℕ) (cs : List Chosen) (a
   pub within : length labels ≤ steps
   pub has_come : HasCome x steps cs labels last left a
 
--- where no host of the component is open, it comes to one thing alone
+-- where no host of the component is open, it results in one thing alone
 unfoldable pub AnswersAreOne : Type 0
 AnswersAreOne = (x : Setting) (s : State) → (HasOpen x.component → ⊥) → InOrder x.component s → IsScripted s.main → (steps : ℕ) (cs : List Chosen) (a b : Answer) →
     ComesTo x s steps cs a → ComesTo x s steps cs b → a ≡ b

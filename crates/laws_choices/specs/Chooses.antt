@@ -1,4 +1,4 @@
--- What rows choose among, in both directions: what their labels can show, and what is offered.
+-- What rules choose among, in both directions: what their labels can show, and what is offered.
 use Rattle.laws_choices.specs.Offer.{Chosen, FitsOffer, Offer, shown}
 use Rattle.laws_choices.specs.Offers.{op_offer, take_offer}
 use Rattle.std.specs.Prelude.{IsPermutation, List, None, [], ℕ, ◌≡◌}
@@ -8,7 +8,7 @@ use Rattle.machine_data.specs.Labels.{Choice, choice_of}
 use Rattle.machine_data.specs.declared.component.Component.{Component}
 use Rattle.machine_data.specs.declared.op.Op.{Op}
 use Rattle.machine_data.specs.declared.records.Entry.{Entry}
-use Rattle.machine_data.specs.declared.words.Mark.{Mark}
+use Rattle.machine_data.specs.declared.statuses.Mark.{Mark}
 use Rattle.machine_rules.specs.Progress.{Asks, Fails, Continues, Never, Ordered, Progress, Stops, Traps}
 use Rattle.machine_rules.specs.Scripts.{HasOpen}
 use Rattle.machine_rules.specs.Step.{scripted_op_rule}
@@ -50,18 +50,18 @@ ReleasesOnce (Ordered ns next) = (order : List ℕ) → IsUnordered (next order)
 ReleasesOnce (Asks next) = ⊥
 ReleasesOnce _ = Unit {0}
 
--- The row chooses among what is offered. What a lawful label shows fits the offer; where some label is lawful, each choice that fits is
+-- The rule chooses among what is offered. What a lawful label shows fits the offer; where some label is lawful, each choice that fits is
 -- shown by a lawful one.
 pub record Chooses (o : Offer) (row : Choice → Progress) : Type 0 where
   pub only : (c : Chosen) → MayCome c (row (shown c)) → FitsOffer c o
   pub each : (b : Choice) (c : Chosen) → IsLawful (row b) → FitsOffer c o → MayCome c (row (shown c))
   pub once : (b : Choice) → ReleasesOnce (row b)
 
--- the rows of all ops do, where threads wait on sets of their own instances and no host is open: what an open one answers is no choice that
+-- the rules of all ops do, where threads wait on sets of their own instances and no host is open: what an open one answers is no choice that
 -- a list could make
 unfoldable pub RulesChoose : Type 0
 RulesChoose = (c : Component) (n : ℕ) (s : Core) (o : Op) → (HasOpen c → ⊥) → WaitsAtHome s → Chooses (op_offer n s o) (λ ch. scripted_op_rule c n s ch o)
 
--- so do the rows of takings, in every core
+-- so do the rules of takings, in every core
 unfoldable pub TakingsChoose : Type 0
 TakingsChoose = (m : Mark) (e : Entry) (s : Core) → Chooses (take_offer s e) (λ ch. take_rule m ch s e)

@@ -9,27 +9,27 @@ use Rattle.machine_rules.specs.Stalled.{Setting}
 use Rattle.machine_rules.specs.Step.{Step}
 use Rattle.machine_rules.specs.Texts.{label_text}
 
--- the text's last word is this number
+-- the text's last token is this number
 abbrev pub EndsIn : List ℕ → ℕ → Type 0
 EndsIn text n = (front : List ℕ) × (text ≡ front ++ 32 ∷ decimal n)
 
--- its last two words are these numbers
+-- its last two tokens are these numbers
 abbrev pub EndsInTwo : List ℕ → ℕ → ℕ → Type 0
 EndsInTwo text m n = (front : List ℕ) × (text ≡ (front ++ 32 ∷ decimal m) ++ 32 ∷ decimal n)
 
--- the waiter that a label shows is the last word of its line
+-- the waiter that a label shows is the last token of its line
 unfoldable pub LineShowsWaiter : Type 0
 LineShowsWaiter = (l : Label) (w : ℕ) → woken_of l ≡ Some w → EndsIn (label_text l) w
 
--- the member that a label shows is the last word but one, and a number of 64 bits follows
+-- the member that a label shows is the last token but one, and a number of 64 bits follows
 unfoldable pub LineShowsMember : Type 0
 LineShowsMember = (l : Label) (h : ℕ) → member_of l ≡ Some h → (v : ℕ) × ((v < 2 ^ 64) × EndsInTwo (label_text l) h v)
 
--- numbers of 64 bits that are a text's last word are one
+-- numbers of 64 bits that are a text's last token are one
 unfoldable pub LastReadBack : Type 0
 LastReadBack = (text : List ℕ) (m n : ℕ) → m < 2 ^ 64 → n < 2 ^ 64 → EndsIn text m → EndsIn text n → m ≡ n
 
--- so are those that are its last word but one
+-- so are those that are its last token but one
 unfoldable pub NextReadBack : Type 0
 NextReadBack = (text : List ℕ) (m n v w : ℕ) → m < 2 ^ 64 → n < 2 ^ 64 → v < 2 ^ 64 → w < 2 ^ 64 →
     EndsInTwo text m v → EndsInTwo text n w → m ≡ n

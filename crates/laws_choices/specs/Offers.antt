@@ -1,4 +1,4 @@
--- The offer of each row that chooses, and of a state. What a row finds before it chooses is tested in the row's order.
+-- The offer of each rule that chooses, and of a state. What a rule finds before it chooses is tested in the rule's order.
 use Rattle.laws_choices.specs.Offer.{Offer}
 use Rattle.std.specs.Option.{option_map_or}
 use Rattle.std.specs.Prelude.{Bool, List, None, Option, Some, [], filter, false, if◌then◌else◌, is_some, nat_lt, not, suc, true, zero, ℕ, ◌%◌, ◌*◌, ◌+◌, ◌/◌}
@@ -30,7 +30,7 @@ use Rattle.machine_data.specs.declared.records.Turn.TheVariants as turn
 use Rattle.machine_data.specs.declared.records.Turn.{Turn}
 use Rattle.machine_data.specs.declared.records.Why.TheVariants as why
 use Rattle.machine_data.specs.declared.records.Why.{Why}
-use Rattle.machine_data.specs.declared.words.Status.{Status}
+use Rattle.machine_data.specs.declared.statuses.Status.{Status}
 use Rattle.machine_rules.specs.Ends.{held_by_flag, is_told, leaves_no_result, passes_after_return, passes_after_stop}
 use Rattle.machine_rules.specs.Scripts.{op_of, value_of}
 use Rattle.machine_rules.specs.Sets.{finds_nothing}
@@ -43,7 +43,7 @@ use Rattle.machine_rules.specs.Task.{held_by_counter}
 abbrev pub nothing : Offer
 nothing = record { waiters = []; members = []; held = [] }
 
--- nothing, where the row traps before it chooses
+-- nothing, where the rule traps before it chooses
 abbrev pub unless : Bool → Offer → Offer
 unless true o = nothing
 unless false o = o
@@ -90,7 +90,7 @@ releases ns o = record { waiters = o.waiters; members = o.members; held = ns }
 abbrev pub gives : Bool → ℕ → ℕ → Core → Offer
 gives by_callback n x s = if is_some (picked_task_event_of by_callback (task_of n s) s) then nothing else takes_of n x s
 
--- the same of a woken thread, whose wake is handed on where it is given the task event while a member is ready
+-- what a woken thread is given of the set, whose wake is handed on where it is given the task event while a member is ready
 abbrev pub gives_woken : Bool → ℕ → ℕ → Core → Offer
 gives_woken by_callback n x s =
     if is_some (picked_task_event_of by_callback (task_of n s) s) then (if has_ready_member x s then wakes x s else nothing) else takes_of n x s

@@ -11,7 +11,7 @@ use Rattle.machine_data.specs.declared.label.Label.{Label}
 use Rattle.machine_data.specs.declared.records.Entry.{Entry}
 use Rattle.machine_data.specs.declared.records.Turn.TheVariants as turn
 use Rattle.machine_data.specs.declared.records.Turn.{Turn}
-use Rattle.machine_data.specs.declared.words.Mark.{Mark}
+use Rattle.machine_data.specs.declared.statuses.Mark.{Mark}
 use Rattle.machine_rules.specs.Progress.{Asks, Ordered, Progress}
 use Rattle.machine_rules.specs.Scripts.{HasOpen}
 use Rattle.machine_rules.specs.Stalled.{Setting}

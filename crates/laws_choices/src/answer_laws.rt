@@ -1,6 +1,6 @@
 ghost use Rattle.laws_choices.specs.ChoiceAnswers.{AnswersAreOne, RunIsReported};
 
-/// The run under a list of choices comes to one thing alone: it has an outcome, or a choice doesn't fit at its step, or no choice
+/// The run under a list of choices results in one thing alone: it has an outcome, or a choice doesn't fit at its step, or no choice
 /// is left at an open step.
 #[tactic(auto, using(crate::proofs::AnswerLemmas::answers_are_one))]
 pub fn chosen_run_comes_to_one()

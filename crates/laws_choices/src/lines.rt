@@ -1,6 +1,6 @@
 ghost use Rattle.laws_choices.specs.Lines.{LastReadBack, LineShowsMember, LineShowsWaiter, LineTellsChoice, NextReadBack};
 
-/// The choice that a label shows is written at the end of its line: the waiter is the last word, the member's handle the last but
+/// The choice that a label shows is written at the end of its line: the waiter is the last token, the member's handle the last but
 /// one.
 #[tactic(auto, using(crate::proofs::LineLemmas::line_shows_waiter, crate::proofs::LineLemmas::line_shows_member))]
 pub fn lines_show_choices()

@@ -6,24 +6,24 @@ use Rattle.machine_data.specs.declared.trap.Trap.TheVariants as trap
 use Rattle.laws_examples.proofs.PlayLemmas.{example}
 use Rattle.laws_examples.specs.Limits.{full_table_refuses_a_start_and_the_run_goes_on, full_table_refuses_a_start_and_the_run_goes_on_labels, handle_limit_one_suffices_for_one_thread, handle_limit_one_suffices_for_one_thread_labels, handle_limit_zero_traps_the_first_start, handle_limit_zero_traps_the_first_start_labels, small_table_refuses_the_only_start, small_table_refuses_the_only_start_labels, full_table_traps_a_pending_host_call, full_table_traps_a_pending_host_call_labels}
 use Rattle.laws_examples.specs.Play.{Example}
-use Rattle.laws_examples.specs.Words.{the_words}
+use Rattle.laws_examples.specs.Definitions.{the_definitions}
 
 pub full_table_refuses_a_start_and_the_run_goes_on_shown : Example full_table_refuses_a_start_and_the_run_goes_on 1000 full_table_refuses_a_start_and_the_run_goes_on_labels (outcome.Done 1)
-unfolding the_words
+unfolding the_definitions
 full_table_refuses_a_start_and_the_run_goes_on_shown = example full_table_refuses_a_start_and_the_run_goes_on [] 1000 full_table_refuses_a_start_and_the_run_goes_on_labels (outcome.Done 1) refl refl
 
 pub handle_limit_one_suffices_for_one_thread_shown : Example handle_limit_one_suffices_for_one_thread 1000 handle_limit_one_suffices_for_one_thread_labels (outcome.Done 7)
-unfolding the_words
+unfolding the_definitions
 handle_limit_one_suffices_for_one_thread_shown = example handle_limit_one_suffices_for_one_thread [] 1000 handle_limit_one_suffices_for_one_thread_labels (outcome.Done 7) refl refl
 
 pub handle_limit_zero_traps_the_first_start_shown : Example handle_limit_zero_traps_the_first_start 1000 handle_limit_zero_traps_the_first_start_labels (outcome.Trap trap.HandleLimit)
-unfolding the_words
+unfolding the_definitions
 handle_limit_zero_traps_the_first_start_shown = example handle_limit_zero_traps_the_first_start [] 1000 handle_limit_zero_traps_the_first_start_labels (outcome.Trap trap.HandleLimit) refl refl
 
 pub small_table_refuses_the_only_start_shown : Example small_table_refuses_the_only_start 1000 small_table_refuses_the_only_start_labels (outcome.Done 0)
-unfolding the_words
+unfolding the_definitions
 small_table_refuses_the_only_start_shown = example small_table_refuses_the_only_start [] 1000 small_table_refuses_the_only_start_labels (outcome.Done 0) refl refl
 
 pub full_table_traps_a_pending_host_call_shown : Example full_table_traps_a_pending_host_call 300 full_table_traps_a_pending_host_call_labels (outcome.Trap trap.TableFull)
-unfolding the_words
+unfolding the_definitions
 full_table_traps_a_pending_host_call_shown = example full_table_traps_a_pending_host_call [] 300 full_table_traps_a_pending_host_call_labels (outcome.Trap trap.TableFull) refl refl

@@ -5,7 +5,7 @@ use Rattle.std.specs.Prelude.{List, [], false, if◌then◌else◌, count_by, Bo
 use Rattle.machine_data.specs.declared.records.Subtask.TheVariants as subtask
 use Rattle.machine_rules.specs.History.{Moment}
 use Rattle.machine_rules.specs.Once.{EndsOnce, hands_out_written, writes_end}
-use Rattle.laws_examples.specs.Words.{the_words}
+use Rattle.laws_examples.specs.Definitions.{the_definitions}
 use Rattle.laws_examples.specs.Wrong.{cancelled_after_return, cancelling_late, returned_twice, returning_twice, steps_of}
 
 abbrev counted : (Moment → Bool) → List Moment → ℕ
@@ -16,7 +16,7 @@ counted_is : (p : Moment → Bool) (ms : List Moment) → counted p ms ≡ count
 counted_is p ms = is_count_by (counted p) p refl (λ m ms. refl) ms
 
 two_writes : counted (writes_end returning_twice.component (subtask.Guest 2)) returned_twice ≡ 2
-unfolding the_words steps_of
+unfolding the_definitions steps_of
 two_writes = refl
 
 not_twice : (n : ℕ) → n ≡ 2 → n ≤ 1 → ⊥
@@ -28,7 +28,7 @@ return_over_return once =
     not_twice (count_by p returned_twice) (subst (λ (n : ℕ). n ≡ 2) (counted_is p returned_twice) two_writes) (once.written_once (subtask.Guest 2))
 
 other_end : hands_out_written cancelling_late.component [] [] cancelled_after_return ≡ false
-unfolding the_words steps_of
+unfolding the_definitions steps_of
 other_end = refl
 
 pub cancel_over_return : EndsOnce cancelling_late.component cancelled_after_return → ⊥

@@ -23,7 +23,7 @@ use Rattle.machine_data.specs.declared.op.ThreadOp.TheVariants as thread_op
 use Rattle.machine_data.specs.declared.scenario.IdleLine.TheVariants as idle_line
 use Rattle.machine_data.specs.declared.scenario.MainOpDef.TheVariants as main_op
 use Rattle.machine_data.specs.declared.trap.Trap.TheVariants as trap
-use Rattle.machine_data.specs.declared.words.Mark.TheVariants as mark
+use Rattle.machine_data.specs.declared.statuses.Mark.TheVariants as mark
 
 -- a: s, w, x
 abbrev pub exit_of_a_stackful_export_with_nothing_to_promote_traps : ScenarioDef

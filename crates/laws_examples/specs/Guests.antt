@@ -12,7 +12,7 @@ use Rattle.machine_data.specs.declared.label.Label.TheVariants as label
 use Rattle.machine_data.specs.declared.label.LoopLabel.TheVariants as loop_label
 use Rattle.machine_data.specs.declared.label.MainLabel.TheVariants as main_label
 use Rattle.machine_data.specs.declared.scenario.MainOpDef.TheVariants as main_op
-use Rattle.machine_data.specs.declared.words.Mark.TheVariants as mark
+use Rattle.machine_data.specs.declared.statuses.Mark.TheVariants as mark
 use Rattle.machine_data.specs.declared.op.Op.TheVariants as op
 use Rattle.machine_data.specs.declared.op.Operand.TheVariants as operand
 use Rattle.machine_data.specs.declared.label.SetLabel.TheVariants as set_label

@@ -4,21 +4,21 @@ use Rattle.machine_data.specs.declared.label.Label.{Label}
 use Rattle.machine_data.specs.declared.scenario.ScenarioDef.{ScenarioDef}
 use Rattle.machine_data.specs.declared.label.CallLabel.TheVariants as call_label
 use Rattle.machine_data.specs.declared.op.CallOp.TheVariants as call_op
-use Rattle.machine_data.specs.declared.words.Given.TheVariants as given
+use Rattle.machine_data.specs.declared.statuses.Given.TheVariants as given
 use Rattle.machine_data.specs.declared.scenario.IdleLine.TheVariants as idle_line
 use Rattle.machine_data.specs.declared.component.ExportKind.TheVariants as kind
 use Rattle.machine_data.specs.declared.label.Label.TheVariants as label
 use Rattle.machine_data.specs.declared.label.LoopLabel.TheVariants as loop_label
 use Rattle.machine_data.specs.declared.label.MainLabel.TheVariants as main_label
 use Rattle.machine_data.specs.declared.scenario.MainOpDef.TheVariants as main_op
-use Rattle.machine_data.specs.declared.words.Mark.TheVariants as mark
+use Rattle.machine_data.specs.declared.statuses.Mark.TheVariants as mark
 use Rattle.machine_data.specs.declared.op.Op.TheVariants as op
 use Rattle.machine_data.specs.declared.op.Operand.TheVariants as operand
-use Rattle.machine_data.specs.declared.words.Phase.TheVariants as phase
+use Rattle.machine_data.specs.declared.statuses.Phase.TheVariants as phase
 use Rattle.machine_data.specs.declared.label.SetLabel.TheVariants as set_label
 use Rattle.machine_data.specs.declared.op.SetOp.TheVariants as set_op
 use Rattle.machine_data.specs.declared.component.Slot.TheVariants as slot
-use Rattle.machine_data.specs.declared.words.Status.TheVariants as status
+use Rattle.machine_data.specs.declared.statuses.Status.TheVariants as status
 use Rattle.machine_data.specs.declared.label.TakeLabel.TheVariants as take
 use Rattle.machine_data.specs.declared.label.TaskLabel.TheVariants as task_label
 use Rattle.machine_data.specs.declared.op.TaskOp.TheVariants as task_op

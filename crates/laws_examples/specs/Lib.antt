@@ -1,5 +1,5 @@
 pub mod Play
-pub mod Words
+pub mod Definitions
 pub mod Hosts
 pub mod Guests
 pub mod Calls

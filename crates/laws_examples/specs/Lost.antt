@@ -1,4 +1,4 @@
--- What two wrong machines come to that lose a wake: the steps of the right one, and a last one that it would not make.
+-- What two wrong machines result in that lose a wake: the steps of the right one, and a last one that it would not make.
 use Rattle.std.specs.Prelude.{List, false, take, ℕ}
 use Rattle.machine_data.specs.Core.{Core}
 use Rattle.machine_data.specs.Moves.{PickedTaskEvent, stopped}
@@ -7,9 +7,9 @@ use Rattle.machine_data.specs.declared.label.Label.{Label}
 use Rattle.machine_data.specs.declared.scenario.ScenarioDef.{ScenarioDef}
 use Rattle.machine_data.specs.declared.records.OpProgress.TheVariants as op_progress
 use Rattle.machine_data.specs.declared.records.Place.TheVariants as place
-use Rattle.machine_data.specs.declared.words.Given.TheVariants as given
-use Rattle.machine_data.specs.declared.words.Mark.TheVariants as mark
-use Rattle.machine_data.specs.declared.words.TaskEvent.TheVariants as own
+use Rattle.machine_data.specs.declared.statuses.Given.TheVariants as given
+use Rattle.machine_data.specs.declared.statuses.Mark.TheVariants as mark
+use Rattle.machine_data.specs.declared.statuses.TaskEvent.TheVariants as own
 use Rattle.machine_rules.specs.Takes.{activated, popped}
 use Rattle.laws_examples.specs.Guests.{outer_caller_is_resumed_while_a_direct_callee_blocks, outer_caller_is_resumed_while_a_direct_callee_blocks_labels}
 use Rattle.laws_examples.specs.Wakes.{cancelled_delivery_hands_its_wake_to_the_next_waiter, cancelled_delivery_hands_its_wake_to_the_next_waiter_labels}

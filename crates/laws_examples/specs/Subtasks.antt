@@ -23,9 +23,9 @@ use Rattle.machine_data.specs.declared.op.ThreadOp.TheVariants as thread_op
 use Rattle.machine_data.specs.declared.scenario.IdleLine.TheVariants as idle_line
 use Rattle.machine_data.specs.declared.scenario.MainOpDef.TheVariants as main_op
 use Rattle.machine_data.specs.declared.trap.Trap.TheVariants as trap
-use Rattle.machine_data.specs.declared.words.Given.TheVariants as given
-use Rattle.machine_data.specs.declared.words.Mark.TheVariants as mark
-use Rattle.machine_data.specs.declared.words.Status.TheVariants as status
+use Rattle.machine_data.specs.declared.statuses.Given.TheVariants as given
+use Rattle.machine_data.specs.declared.statuses.Mark.TheVariants as mark
+use Rattle.machine_data.specs.declared.statuses.Status.TheVariants as status
 use Rattle.machine_data.specs.declared.component.HostDef.TheVariants as host_def
 
 -- a: s, f, y; b: c, d

@@ -4,18 +4,18 @@ use Rattle.machine_data.specs.declared.label.Label.{Label}
 use Rattle.machine_data.specs.declared.scenario.ScenarioDef.{ScenarioDef}
 use Rattle.machine_data.specs.declared.label.CallLabel.TheVariants as call_label
 use Rattle.machine_data.specs.declared.op.CallOp.TheVariants as call_op
-use Rattle.machine_data.specs.declared.words.Given.TheVariants as given
+use Rattle.machine_data.specs.declared.statuses.Given.TheVariants as given
 use Rattle.machine_data.specs.declared.scenario.IdleLine.TheVariants as idle_line
 use Rattle.machine_data.specs.declared.component.ExportKind.TheVariants as kind
 use Rattle.machine_data.specs.declared.label.Label.TheVariants as label
 use Rattle.machine_data.specs.declared.label.LoopLabel.TheVariants as loop_label
 use Rattle.machine_data.specs.declared.label.MainLabel.TheVariants as main_label
 use Rattle.machine_data.specs.declared.scenario.MainOpDef.TheVariants as main_op
-use Rattle.machine_data.specs.declared.words.Mark.TheVariants as mark
+use Rattle.machine_data.specs.declared.statuses.Mark.TheVariants as mark
 use Rattle.machine_data.specs.declared.op.Op.TheVariants as op
 use Rattle.machine_data.specs.declared.op.Operand.TheVariants as operand
 use Rattle.machine_data.specs.declared.component.Slot.TheVariants as slot
-use Rattle.machine_data.specs.declared.words.Status.TheVariants as status
+use Rattle.machine_data.specs.declared.statuses.Status.TheVariants as status
 use Rattle.machine_data.specs.declared.label.TakeLabel.TheVariants as take
 use Rattle.machine_data.specs.declared.label.TaskLabel.TheVariants as task_label
 use Rattle.machine_data.specs.declared.op.TaskOp.TheVariants as task_op
@@ -71,7 +71,7 @@ returned_labels =
     label.Main (main_label.Start 1 1) ∷ label.Loop loop_label.MainPends ∷ label.Take (take.Thread mark.High 1) ∷ label.Call (call_label.Calls 1 2) ∷ label.Loop loop_label.MainPends
     ∷ label.Take (take.Thread mark.Switch 2) ∷ label.Task (task_label.Ret 2 1) ∷ []
 
--- the row of `ret` without its first trap
+-- the rule of `ret` without its first trap
 abbrev pub returned_over : State → Moment
 returned_over s = record { before = s; label = label.Task (task_label.Ret 2 2); after = goes_to s (ret_done 2 2 None s.core) (turn.Run 2) }
 
@@ -105,7 +105,7 @@ cancelling_labels =
     ∷ label.Thread (thread_label.Pauses 1) ∷ label.Loop loop_label.MainPends ∷ label.Take (take.Event mark.Low given.Nothing 2) ∷ label.Task (task_label.Ret 2 5) ∷ label.Task (task_label.Exit 2)
     ∷ label.Loop loop_label.MainPends ∷ label.Take (take.Thread mark.Low 1) ∷ label.Thread (thread_label.Yield 1) ∷ []
 
--- the row of `cancel` with another end in the place of the one that was not handed out
+-- the rule of `cancel` with another end in the place of the one that was not handed out
 abbrev pub cancelled_over : State → Moment
 cancelled_over s = record { before = s; label = label.Call (call_label.Cancel 4 1); after = goes_to s (cancel_takes_end 1 2 (subtask.Guest 2) status.ReturnCancelled s.core) (turn.Run 1) }
 

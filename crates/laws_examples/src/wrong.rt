@@ -1,4 +1,4 @@
-//! What machines with one row wrong show and result in, which the statements on runs and on states refuse.
+//! What machines with one rule wrong show and result in, which the statements on runs and on states refuse.
 
 ghost use Rattle.laws_examples.specs.Lost.{forgotten_caller, swallowed_wake};
 ghost use Rattle.laws_examples.specs.Wrong.{cancelled_after_return, cancelling_late, returned_twice, returning_twice};

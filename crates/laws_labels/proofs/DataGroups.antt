@@ -1,6 +1,6 @@
 -- An op on registers and memory cells leaves the groups, and of which group each thread is.
 use Rattle.laws_labels.specs.Own.{is_data}
-use Rattle.machine_rules.proofs.Machine.{advanced, ap, arith, assigned, Bool, Call, call_group, change, Component, Core, data_rule, DataOp, false, get, get-change, Continues, Instance, instance_of, moved_to, nat_tests, None, on_instance, on_thread, Option, option_map, option_map_or, position_of, Progress, Records, refl, Set, set_op_progress, set_position, set_register, set_word, skip_rule, skipped, Some, stored, sym, task_of, Thread, thread_group, true, value_of, ℕ, ◌+◌, ◌==◌, ◌∙◌, ◌≡◌}
+use Rattle.machine_rules.proofs.Machine.{advanced, ap, arith, assigned, Bool, Call, call_group, change, Component, Core, data_rule, DataOp, false, get, get-change, Continues, Instance, instance_of, moved_to, nat_tests, None, on_instance, on_thread, Option, option_map, option_map_or, position_of, Progress, Records, refl, Set, set_op_progress, set_position, set_register, set_memory_cell, skip_rule, skipped, Some, stored, sym, task_of, Thread, thread_group, true, value_of, ℕ, ◌+◌, ◌==◌, ◌∙◌, ◌≡◌}
 
 -- From s to t the groups, the groups of calls and the calls of threads are as before.
 pub record Mild (s t : Core) : Type 0 where
@@ -54,7 +54,7 @@ unfolding assigned
 assigned_mild n r v s = mild_then (mild_register n r v s) (advanced_mild n (set_register n r v s))
 
 stored_mild : (n w v : ℕ) (s : Core) → Mild s (stored n w v s)
-unfolding stored set_word
+unfolding stored set_memory_cell
 stored_mild n w v s = mild_then (mild_instance (instance_of n s) _ s) (advanced_mild n _)
 
 skipped_mild : (c : Component) (n k : ℕ) (s : Core) → Mild s (skipped c n k s)

@@ -40,9 +40,9 @@ use Rattle.machine_data.specs.declared.records.Join.TheVariants as join
 use Rattle.machine_data.specs.declared.records.Subtask.TheVariants as subtask
 use Rattle.machine_data.specs.declared.records.Subtask.{Subtask}
 use Rattle.machine_data.specs.declared.trap.Trap.TheVariants as trap
-use Rattle.machine_data.specs.declared.words.Given.{Given}
-use Rattle.machine_data.specs.declared.words.Status.TheVariants as status
-use Rattle.machine_data.specs.declared.words.Status.{Status}
+use Rattle.machine_data.specs.declared.statuses.Given.{Given}
+use Rattle.machine_data.specs.declared.statuses.Status.TheVariants as status
+use Rattle.machine_data.specs.declared.statuses.Status.{Status}
 use Rattle.machine_data.specs.declared.component.HostDef.{HostDef}
 use Rattle.machine_data.specs.declared.component.HostDef.TheVariants as host_def
 use Rattle.machine_rules.specs.Calls.{AtOnce, Failing, FirstPoll, Later, call_begins, call_host_by, call_resumes, call_rule, call_status_by, call_sync_begins, call_sync_host_by, call_sync_host_rule, call_sync_rule, call_sync_status_by, enter_rule, first_polled, heard_first, polled_first, status_found}
@@ -93,7 +93,7 @@ own_subtask_cancel : (mode : Mode) (n v : ℕ) → is_done (cancel_label mode n 
 own_subtask_cancel Async n v = refl
 own_subtask_cancel Sync n v = refl
 
--- ---- Registers and words
+-- ---- Registers and memory cells
 
 skip_own : (c : Component) (n k : ℕ) (s : Core) (b : Bool) → Shows IsOwn (skip_rule c n k s b)
 skip_own c n k s true = refl

@@ -1,4 +1,4 @@
--- What the parts of rows show.
+-- What the parts of rules show.
 use Rattle.laws_labels.specs.Own.{Shows, is_rule_trap}
 use Rattle.std.specs.Prelude.{Bool, None, Option, Some, false, true, ◌≡◌}
 use Rattle.machine_data.specs.declared.label.Label.{Label}

@@ -16,10 +16,10 @@ use Rattle.machine_data.specs.declared.records.Place.TheVariants as place
 use Rattle.machine_data.specs.declared.records.Why.{Why}
 use Rattle.machine_data.specs.declared.records.Why.TheVariants as why
 use Rattle.machine_data.specs.declared.records.Subtask.TheVariants as subtask
-use Rattle.machine_data.specs.declared.words.Given.{Given}
+use Rattle.machine_data.specs.declared.statuses.Given.{Given}
 use Rattle.machine_data.specs.declared.label.Label.{Label}
 use Rattle.machine_data.specs.declared.label.Label.TheVariants as label
-use Rattle.machine_data.specs.declared.words.Mark.{Mark}
+use Rattle.machine_data.specs.declared.statuses.Mark.{Mark}
 use Rattle.machine_rules.specs.Ends.{may_tell}
 use Rattle.machine_rules.specs.Sets.{chosen, handed_out}
 use Rattle.machine_rules.specs.Takes.{delivered, delivery_rule, scripted_host_rule, may_tell_starting, set_delivered, start_admitted, start_rule, take_rule, thread_taken, thread_taken_for}

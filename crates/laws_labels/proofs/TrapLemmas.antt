@@ -21,7 +21,7 @@ use Rattle.machine_data.specs.declared.records.Entry.{Entry}
 use Rattle.machine_data.specs.declared.records.Turn.{Turn}
 use Rattle.machine_data.specs.declared.records.Turn.TheVariants as turn
 use Rattle.machine_data.specs.declared.trap.Trap.TheVariants as trap
-use Rattle.machine_data.specs.declared.words.Mark.{Mark}
+use Rattle.machine_data.specs.declared.statuses.Mark.{Mark}
 use Rattle.machine_rules.specs.Outcome.{outcome_of_label}
 use Rattle.machine_rules.specs.Stalled.{Setting, is_unended_take, may_deadlock, some_may_not_suspend}
 use Rattle.machine_rules.specs.Step.{DeadlockStep, EmptyFor, FuturesStep, Polled, RestStep, Step, TakeStep, TurnStep, entry_number}

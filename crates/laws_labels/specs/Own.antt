@@ -14,9 +14,9 @@ use Rattle.machine_data.specs.declared.records.Turn.{Turn}
 use Rattle.machine_data.specs.declared.records.Turn.TheVariants as turn
 use Rattle.machine_data.specs.declared.trap.Trap.{Trap}
 use Rattle.machine_data.specs.declared.trap.Trap.TheVariants as trap
-use Rattle.machine_data.specs.declared.words.Mark.{Mark}
+use Rattle.machine_data.specs.declared.statuses.Mark.{Mark}
 use Rattle.machine_rules.specs.Outcome.{outcome_of_label}
-use Rattle.machine_data.specs.declared.words.HostPoll.{HostPoll}
+use Rattle.machine_data.specs.declared.statuses.HostPoll.{HostPoll}
 use Rattle.machine_rules.specs.Progress.{Asks, Fails, Continues, Never, Ordered, Progress, Stops, Traps}
 use Rattle.machine_rules.specs.Stalled.{Setting}
 use Rattle.machine_rules.specs.Step.{Step}
@@ -72,7 +72,7 @@ is_of_main (label.Main l) = true
 is_of_main (label.Loop loop_label.MainPends) = true
 is_of_main _ = false
 
--- The traps that a row can come to: 1 to 14, 16 to 18, 25. The others are those of a deadlock, of borrows that are left, of refused
+-- The traps in which a rule can end: 1 to 14, 16 to 18, 25. The others are those of a deadlock, of borrows that are left, of refused
 -- starts and runs, of the hook, and of a store that can't be lent.
 abbrev pub is_rule_trap : Trap → Bool
 is_rule_trap trap.AsyncDeadlock = false
@@ -84,7 +84,7 @@ is_rule_trap trap.StoreTaken = false
 is_rule_trap trap.StoreAbsent = false
 is_rule_trap _ = true
 
--- What it shows, where it goes on or stops, is such a label; and where it traps, it comes to such a trap.
+-- What it shows, where it goes on or stops, is such a label; and if it traps, it is such a trap.
 abbrev pub Shows : (Label → Type 0) → Progress → Type 0
 Shows P (Continues l new m) = P l
 Shows P (Stops l new) = P l

@@ -22,12 +22,12 @@ use Rattle.machine_data.specs.declared.records.Place.{Place}
 use Rattle.machine_data.specs.declared.records.Subtask.{Subtask}
 use Rattle.machine_data.specs.declared.records.Turn.{Turn}
 use Rattle.machine_data.specs.declared.records.Why.{Why}
-use Rattle.machine_data.specs.declared.words.Mark.{Mark}
+use Rattle.machine_data.specs.declared.statuses.Mark.{Mark}
 use Rattle.machine_rules.proofs.PlacingLemmas.{placing_shifted, shifted_far}
 use Rattle.machine_rules.proofs.StandLemmas.{by_number, entries-append}
 use Rattle.machine_rules.specs.Places.{HasPlace, Placed, entries, is_at_high, is_at_low, is_at_switch, is_at_wait, is_behind_of, is_for_start, is_fresh, is_inside, is_there, one_if, says, switch_entries, times}
 use Rattle.machine_rules.specs.Works.{is_ended_work}
-use Rattle.machine_rules.specs.Words.{Put, placed_as, put_at}
+use Rattle.machine_rules.specs.Primitives.{Put, placed_as, put_at}
 
 stands_end : (test : Entry → Bool) (es : List Entry) (e : Entry) → test e ≡ false → stands test (es ++ e ∷ []) ≡ stands test es
 stands_end test [] e none = grind (arith, none)

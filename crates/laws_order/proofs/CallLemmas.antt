@@ -86,7 +86,7 @@ sync_far o e xs callee sync f h = absurd (grind (arith, callee, sync))
 
 module _ (c : Component) (e : Callee) (words : List ℕ) (n m : ℕ) (l : Label) (new s : Core) (plain : is_async_lifted (export_kind c e) ≡ false) (fresh : op_progress_of n s ≡ OpProgress.Fresh)
     (row : enter_rule n e (export_kind c e) words s ≡ Continues l new m) (h : InOrderForAnyMain c (Turn.Run n) s) where
-  -- the sync call with these words
+  -- the sync call with these values
   abbrev call : Op
   call = op.Call (call_op.CallSync 0 e (numbers words))
 

@@ -1,5 +1,5 @@
 -- The cells of host works stay, but for those that main aborts.
-use Rattle.laws_states.proofs.Words.{add_call, add_group, add_set, add_thread, add_work, AddGroup, after_primitive, Allowed, along, ap, arith, base_at, call_made, Core, count_work, EndWork, FinishWork, free_handle, free_thread_handle, get, get-change, get-insert, get-remove, give_handle, give_result, give_thread_handle, inl, inr, Label, LaterBy, le_refl, le_trans, made_works_word, nat_tests, on_call, on_instance, on_thread, on_work, Option, Pend, poll_pends, push_high, refl, remove_call, remove_group, remove_set, remove_thread, remove_work, Scene, scene_as, set_backpressure, set_cancel_delivered, set_cancelled, set_course, set_do_not_enter, set_do_not_suspend, set_end, set_event, set_exited, set_op_progress, set_join, set_task_event, set_phase, set_position, set_register, set_result, set_saved_callee, set_saved_own, set_script, set_stage, set_started, set_starting_published, set_subtask_handle, set_thread_handle, set_trapped, set_uninteresting, set_word, Setting, State, step_walks, subst, Subtask, take_result, true, Turn, with_handle, with_thread_handle, Primitive, Work, work_queued, WorkCaller, ℕ, ◌∙◌, ◌≡◌, ◌≤◌, ◌⊎◌}
+use Rattle.laws_states.proofs.Primitives.{add_call, add_group, add_set, add_thread, add_work, AddGroup, after_primitive, Allowed, along, ap, arith, base_at, call_made, Core, count_work, EndWork, FinishWork, free_handle, free_thread_handle, get, get-change, get-insert, get-remove, give_handle, give_result, give_thread_handle, inl, inr, Label, LaterBy, le_refl, le_trans, made_works_primitive, nat_tests, on_call, on_instance, on_thread, on_work, Option, Pend, poll_pends, push_high, refl, remove_call, remove_group, remove_set, remove_thread, remove_work, Scene, scene_as, set_backpressure, set_cancel_delivered, set_cancelled, set_course, set_do_not_enter, set_do_not_suspend, set_end, set_event, set_exited, set_op_progress, set_join, set_task_event, set_phase, set_position, set_register, set_result, set_saved_callee, set_saved_own, set_script, set_stage, set_started, set_starting_published, set_subtask_handle, set_thread_handle, set_trapped, set_uninteresting, set_memory_cell, Setting, State, step_walks, subst, Subtask, take_result, true, Turn, with_handle, with_thread_handle, Primitive, Work, work_queued, WorkCaller, ℕ, ◌∙◌, ◌≡◌, ◌≤◌, ◌⊎◌}
 use Rattle.std.proofs.Common.{cond, sym}
 use Rattle.std.specs.Prelude.{Bool, None, Some, false, ◌==◌}
 use Rattle.std.proofs.lemmas.Bool.{eqb-true}
@@ -9,16 +9,16 @@ use Rattle.laws_states.specs.Order.{WorksKnown}
 use Rattle.machine_data.specs.Core.{Main, MainPlace, Scripted, Unscripted}
 use Rattle.laws_states.proofs.CallsSteps.{base_out}
 use Rattle.machine_data.specs.Read.{instance_of, subtask_at, work_caller_of}
-use Rattle.machine_data.specs.declared.words.Phase.{Phase}
-use Rattle.machine_data.specs.declared.words.Phase.TheVariants as phases
+use Rattle.machine_data.specs.declared.statuses.Phase.{Phase}
+use Rattle.machine_data.specs.declared.statuses.Phase.TheVariants as phases
 use Rattle.machine_rules.specs.Allowed.{AbortsOwn, MayAbort, ProgramAborts, ScriptAborts, is_async_work}
 use Rattle.machine_rules.specs.MainOps.{spawned_at}
-use Rattle.machine_rules.specs.Words.{SetPhase}
+use Rattle.machine_rules.specs.Primitives.{SetPhase}
 use Rattle.machine_data.specs.Labels.{choice_of}
 use Rattle.machine_data.specs.Read.{next_entry}
 use Rattle.machine_data.specs.declared.op.Op.{Op}
 use Rattle.machine_data.specs.declared.records.Entry.{Entry}
-use Rattle.machine_data.specs.declared.words.Mark.{Mark}
+use Rattle.machine_data.specs.declared.statuses.Mark.{Mark}
 use Rattle.machine_rules.specs.Progress.{Asks, Fails, Continues, Never, Ordered, Progress, Stops, Traps}
 use Rattle.machine_rules.specs.Stalled.{is_unended_take, may_deadlock}
 use Rattle.machine_rules.specs.Step.{DeadlockStep, EmptyFor, Progresses, RestStep, Step, TakeStep, TurnStep, did, entry_number}
@@ -27,7 +27,7 @@ use Rattle.machine_rules.specs.Takes.{popped, take_rule}
 use Rattle.machine_rules.specs.Turns.{at_turn}
 use Rattle.machine_rules.specs.Works.{has_moving_work}
 use Rattle.std.specs.Prelude.{[], true}
-use Rattle.laws_states.proofs.Words.{Records}
+use Rattle.laws_states.proofs.Primitives.{Records}
 
 -- a call's cell is running, whatever its phase
 told_async : (f : WorkCaller) (p : Phase) → is_async_work f ≡ true → phase_told f p ≡ phases.Running
@@ -71,9 +71,9 @@ of_call p (Some v) (Some w) is q = record {
 }
 
 module _ (a : Scene) (quiet : (n : ℕ) → a.turn ≡ Turn.Futures n → ⊥) (b : Core) (calls : (j : ℕ) → MayAbort a j → (is_async_work (work_caller_of j b) ≡ true) ⊎ (j ≡ 0)) (none : get b.works 0 ≡ None) where
-  phase_word : (j : ℕ) (p : Phase) (s : Core) → MayAbort a j → (i : ℕ) → LaterBy SameCell (get b.works i) (get s.works i) → LaterBy SameCell (get b.works i) (get (set_phase j p s).works i)
+  phase_primitive : (j : ℕ) (p : Phase) (s : Core) → MayAbort a j → (i : ℕ) → LaterBy SameCell (get b.works i) (get s.works i) → LaterBy SameCell (get b.works i) (get (set_phase j p s).works i)
   unfolding set_phase on_work
-  phase_word j p s may i q = by (i == j) refl (calls j may)
+  phase_primitive j p s may i q = by (i == j) refl (calls j may)
     where
       set : Option Work → Option Work
       set o = option_map (λ (w : Work). record w { phase = p }) o
@@ -92,20 +92,20 @@ module _ (a : Scene) (quiet : (n : ℕ) → a.turn ≡ Turn.Futures n → ⊥) (
           nobody None (Some w) is q = q
           nobody (Some v) r is q = absurd (cc)
 
-  cell_word : (w : Primitive) (s : Core) → Allowed a w s → (i : ℕ) → i ≤ s.made.works → LaterBy SameCell (get b.works i) (get s.works i) →
+  cell_primitive : (w : Primitive) (s : Core) → Allowed a w s → (i : ℕ) → i ≤ s.made.works → LaterBy SameCell (get b.works i) (get s.works i) →
       LaterBy SameCell (get b.works i) (get (after_primitive w s).works i)
-  unfolding add_call add_group add_set add_thread add_work call_made count_work free_handle free_thread_handle give_handle give_result give_thread_handle on_call on_instance on_thread on_work poll_pends push_high remove_call remove_group remove_set remove_thread remove_work set_backpressure set_cancel_delivered set_cancelled set_course set_do_not_enter set_do_not_suspend set_end set_event set_exited set_op_progress set_join set_task_event set_phase set_position set_register set_result set_saved_callee set_saved_own set_script set_stage set_started set_starting_published set_subtask_handle set_thread_handle set_trapped set_uninteresting set_word take_result with_handle with_thread_handle work_queued
-  cell_word AddGroup s ok i below q = q
-  cell_word (Pend j host) s ok i below q = absurd (quiet ok.0.0 ok.0.1.0)
-  cell_word (EndWork j c) s ok i below q = absurd (quiet ok.0.0.0 ok.0.0.1.0)
-  cell_word (FinishWork j c) s ok i below q = absurd (quiet ok.0.0.0 ok.0.0.1.0)
-  cell_word (SetPhase j p) s ok i below q = phase_word j p s ok.0 i q
-  cell_word w s ok i below q = first_of (assumption, grind (arith, nat_tests, get-change, get-insert, get-remove))
+  unfolding add_call add_group add_set add_thread add_work call_made count_work free_handle free_thread_handle give_handle give_result give_thread_handle on_call on_instance on_thread on_work poll_pends push_high remove_call remove_group remove_set remove_thread remove_work set_backpressure set_cancel_delivered set_cancelled set_course set_do_not_enter set_do_not_suspend set_end set_event set_exited set_op_progress set_join set_task_event set_phase set_position set_register set_result set_saved_callee set_saved_own set_script set_stage set_started set_starting_published set_subtask_handle set_thread_handle set_trapped set_uninteresting set_memory_cell take_result with_handle with_thread_handle work_queued
+  cell_primitive AddGroup s ok i below q = q
+  cell_primitive (Pend j host) s ok i below q = absurd (quiet ok.0.0 ok.0.1.0)
+  cell_primitive (EndWork j c) s ok i below q = absurd (quiet ok.0.0.0 ok.0.0.1.0)
+  cell_primitive (FinishWork j c) s ok i below q = absurd (quiet ok.0.0.0 ok.0.0.1.0)
+  cell_primitive (SetPhase j p) s ok i below q = phase_primitive j p s ok.0 i q
+  cell_primitive w s ok i below q = first_of (assumption, grind (arith, nat_tests, get-change, get-insert, get-remove))
 
-  stays_word : (w : Primitive) (s : Core) → Allowed a w s → Stays b s → Stays b (after_primitive w s)
-  stays_word w s ok q = record {
-    more = le_trans q.more (made_works_word a w s);
-    same = λ i below. cell_word w s ok i (le_trans below q.more) (q.same i below);
+  stays_primitive : (w : Primitive) (s : Core) → Allowed a w s → Stays b s → Stays b (after_primitive w s)
+  stays_primitive w s ok q = record {
+    more = le_trans q.more (made_works_primitive a w s);
+    same = λ i below. cell_primitive w s ok i (le_trans below q.more) (q.same i below);
   }
 
 scripted_same : (p q : MainPlace) → ◌≡◌ {A = Main} (Scripted p) (Scripted q) → p ≡ q
@@ -129,7 +129,7 @@ may_abort ops x s l next nothing calls j (ProgramAborts main spawn) = absurd (no
 pub cells_stay_walked : CellsStayWalked
 unfolding CellsStayWalked
 cells_stay_walked ops x s l t w quiet nothing none calls i below =
-    (along (Stays s.core) (λ v u ok q. stays_word (scene_as ops x s l w.next) quiet s.core (may_abort ops x s l w.next nothing calls) none v u ok q) (stays_same s.core) w.walk).same i below
+    (along (Stays s.core) (λ v u ok q. stays_primitive (scene_as ops x s l w.next) quiet s.core (may_abort ops x s l w.next nothing calls) none v u ok q) (stays_same s.core) w.walk).same i below
 
 pub cells_stay : CellsStay
 unfolding CellsStay CellsStayWalked

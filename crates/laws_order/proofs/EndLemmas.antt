@@ -13,11 +13,11 @@ use Rattle.machine_rules.proofs.WalkTask.{Leads, direct_exit_to_leads, seen}
 use Rattle.machine_rules.specs.Chains.{NoPrimitive, Then}
 use Rattle.machine_rules.specs.Scripts.{ops_of}
 use Rattle.machine_rules.specs.Ends.{direct_exit_rule, direct_exit_to, direct_exits, exit_restores}
-use Rattle.machine_rules.specs.Words.{SetRegister}
+use Rattle.machine_rules.specs.Primitives.{SetRegister}
 
 -- ---- The exit of a direct call
 
--- the core that a row goes on with
+-- the core that a rule goes on with
 abbrev new_in : Core → Progress → Core
 new_in s (Continues l t m) = t
 new_in s _ = s

@@ -24,7 +24,7 @@ use Rattle.machine_data.specs.declared.records.Place.{Place}
 use Rattle.machine_data.specs.declared.records.Subtask.{Subtask}
 use Rattle.machine_data.specs.declared.records.Turn.{Turn}
 use Rattle.machine_data.specs.declared.records.Why.{Why}
-use Rattle.machine_data.specs.declared.words.Mark.{Mark}
+use Rattle.machine_data.specs.declared.statuses.Mark.{Mark}
 use Rattle.machine_rules.proofs.PlacingLemmas.{placed, placing_shifted}
 use Rattle.machine_rules.proofs.PromotionLemmas.{first_has_entry}
 use Rattle.machine_rules.proofs.StandLemmas.{by_number}
@@ -32,7 +32,7 @@ use Rattle.machine_rules.specs.Allowed.{Cancels, HasEntry, MayPut, Releases, Res
 use Rattle.machine_rules.specs.Chains.{NoPrimitive}
 use Rattle.machine_rules.specs.Places.{HasPlace, Placed, entries, is_at_high, is_at_low, says}
 use Rattle.machine_rules.specs.Takes.{popped, rest_of}
-use Rattle.machine_rules.specs.Words.{Promote, Put, Stop}
+use Rattle.machine_rules.specs.Primitives.{Promote, Put, Stop}
 use Rattle.laws_order.proofs.{GroundLemmas.order_stands, StopLemmas.stop_keeps}
 use Rattle.laws_order.specs.Stands.{OrderStands, StopKeeps}
 

@@ -30,16 +30,16 @@ use Rattle.machine_data.specs.declared.records.Turn.{Turn}
 use Rattle.machine_data.specs.declared.records.Why.{Why}
 use Rattle.machine_data.specs.declared.records.Work.{Work}
 use Rattle.machine_data.specs.declared.records.WorkCaller.{WorkCaller}
-use Rattle.machine_data.specs.declared.words.Mark.{Mark}
-use Rattle.machine_data.specs.declared.words.TaskEvent.{TaskEvent}
-use Rattle.machine_data.specs.declared.words.Status.{Status}
+use Rattle.machine_data.specs.declared.statuses.Mark.{Mark}
+use Rattle.machine_data.specs.declared.statuses.TaskEvent.{TaskEvent}
+use Rattle.machine_data.specs.declared.statuses.Status.{Status}
 use Rattle.machine_rules.proofs.PlacingLemmas.{placing_shifted}
 use Rattle.machine_rules.proofs.StandLemmas.{by_number}
 use Rattle.machine_rules.proofs.WalkMoves.{Chosen, blocked_at, chosen_in_of, chosen_of}
 use Rattle.machine_rules.specs.Allowed.{Unblocks, Wakes, is_async_work, is_done_host, wake_why}
 use Rattle.machine_rules.specs.Sets.{joins, may_wake_new, wakes_joined}
 use Rattle.machine_rules.specs.Takes.{host_status}
-use Rattle.machine_rules.specs.Words.{Put, placed_as, status_of_end}
+use Rattle.machine_rules.specs.Primitives.{Put, placed_as, status_of_end}
 use Rattle.laws_order.proofs.{GroundLemmas.order_stands, MoveLemmas.give_keeps, MoveLemmas.join_keeps, MoveLemmas.publish_keeps, MoveLemmas.take_keeps}
 use Rattle.laws_order.specs.Stands.{GiveKeeps, JoinKeeps, NoWakeLost, OrderStands, PublishKeeps, TakeKeeps}
 
@@ -136,7 +136,7 @@ unfolding TakeInOrder
 take_in_order sub s named c p h going = with_hand c p (λ (u : Core). set_event sub None u) h s (event_back sub None h s)
     (take_plain c p going sub (put_back h s) (ap (λ (q : Option ℕ). is_some q) (handle_with sub h s) ∙ named))
 
--- ---- A gift
+-- ---- A picked event
 
 -- a member of a set has a handle
 member_named : (c : Component) (p : Turn) (s : Core) → InOrderForAnyMain c p s → (sub : Subtask) (x : ℕ) → is_member x sub s ≡ true → is_some (subtask_handle sub s) ≡ true

@@ -1,7 +1,7 @@
 -- A state in order has what the facts of wakes rest on.
 use Rattle.machine_data.specs.declared.op.Op.{Op}
 use Rattle.laws_places.proofs.BlockedLemmas.{inside_of}
-use Rattle.laws_states.proofs.Words.{subtask_handle}
+use Rattle.laws_states.proofs.Primitives.{subtask_handle}
 use Rattle.laws_places.proofs.Laws.{ap, arith, Bool, cancelled_by, cancelled_call, Component, Core, get, op_progress_of, OpProgress, inl, InOrderFor, inr, is_some, nat_tests, None, Option, Place, place_of, refl, Some, State, Subtask, true, ℕ, ⊎_elim, ◌≡◌, ◌⊎◌}
 use Rattle.laws_order.specs.Stands.{CallersBehind, OneBlocked, OrderStands, OrderStandsAs, SwitchReady}
 use Rattle.machine_data.specs.declared.records.Call.{Call}

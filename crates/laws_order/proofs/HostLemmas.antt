@@ -4,7 +4,7 @@ use Rattle.machine_data.specs.declared.component.HostDef.{HostDef}
 use Rattle.machine_data.specs.declared.component.HostDef.TheVariants as host_def
 use Rattle.machine_rules.specs.Calls.{AtOnce, Failing, FirstPoll, Later, call_host_by, call_sync_host_by, first_polled, heard_first, polled_first}
 use Rattle.laws_order.proofs.GivenLemmas.{given_done, host_keeps}
-use Rattle.laws_order.specs.Given.{GivenDone, HostCallsDone, HostCallsKeep, HostDone, HostKeeps, HostLosesNone, host_op, host_rule, is_asked}
+use Rattle.laws_order.specs.Given.{GivenDone, HostCallsDone, HostCallsKeep, HostDone, HostKeeps, HostLosesNone, host_op, host_rule, is_host_op}
 use Rattle.std.proofs.Common.{ap, arith, refl, sym, ◌∙◌}
 use Rattle.std.proofs.lemmas.Bool.Decides.{nat_tests}
 use Rattle.std.specs.Prelude.{Bool, List, None, Option, Some, false, is_some, nat_le, not, suc, true, zero, ℕ, ◌==◌, ◌≡◌}
@@ -37,8 +37,8 @@ use Rattle.machine_data.specs.declared.records.Subtask.{Subtask}
 use Rattle.machine_data.specs.declared.records.Subtask.TheVariants as subtask
 use Rattle.machine_data.specs.declared.records.Turn.TheVariants as turn
 use Rattle.machine_data.specs.declared.trap.Trap.{Trap}
-use Rattle.machine_data.specs.declared.words.HostPoll.{HostPoll}
-use Rattle.machine_data.specs.declared.words.Status.{Status}
+use Rattle.machine_data.specs.declared.statuses.HostPoll.{HostPoll}
+use Rattle.machine_data.specs.declared.statuses.Status.{Status}
 use Rattle.machine_rules.specs.Cancels.{AlreadyEnded, Async, CallbackWaits, CallbackYields, CancelCase, Mode, OtherwiseRuns, StartNotRun, Sync, after_cancel_by, cancel_aborts_host, cancel_asks, cancel_by, cancel_case, cancel_ended_by, cancel_found_by, cancel_guest_by, cancel_resumed, cancel_rule, cancel_subtask_by, cancel_unended_by, drop_by}
 use Rattle.machine_rules.specs.Ends.{may_tell}
 use Rattle.machine_rules.specs.Finish.{SomeHost}
@@ -102,7 +102,7 @@ module _ (n : ℕ) (s : Core) where
   lowers (suc zero) = λ order. (refl, fresh n _)
   lowers (suc (suc b)) = (refl, fresh n _)
 
-  tasks : (ch : Choice) (o : TaskOp) → is_asked (op.Task o) ≡ true → DoneFor n (task_rule SomeHost n s ch o)
+  tasks : (ch : Choice) (o : TaskOp) → is_host_op (op.Task o) ≡ true → DoneFor n (task_rule SomeHost n s ch o)
   tasks ch (task_op.Ret x) e =
       if_traps n (has_ended (task_of n s) s) _ _ (if_traps n (not (is_async_lifted (kind_of (task_of n s) s))) _ _ (if_lawful n (may_tell (task_of n s) ch.woken s) _ (refl, fresh n _)))
   tasks ch (task_op.RetBad x) e = if_traps n (has_ended (task_of n s) s) _ _ tt
@@ -235,7 +235,7 @@ drops n h s sub = if_traps n (is_watched (join_of sub s)) _ _ (if_traps n (not (
 
 -- ---- All of them
 
-rules : (c : Component) (n : ℕ) (s : Core) (ch : Choice) (o : Op) → is_asked o ≡ true → DoneFor n (op_rule SomeHost c n s ch o)
+rules : (c : Component) (n : ℕ) (s : Core) (ch : Choice) (o : Op) → is_host_op o ≡ true → DoneFor n (op_rule SomeHost c n s ch o)
 rules c n s ch (op.Task o) e = tasks n s ch o e
 rules c n s ch (op.Set o) e = sets n s ch o
 rules c n s ch (op.Thread o) e = threads n s c o
@@ -244,10 +244,10 @@ rules c n s ch (op.Call (call_op.CancelSync r x)) e = cancels Sync n (value_of n
 rules c n s ch (op.Call (call_op.Drop x)) e = if_found n (subtask_at (instance_of n s) (value_of n s x) s) _ (drop_by SomeHost n (value_of n s x) s) (drops n (value_of n s x) s)
 rules c n s ch o e = absurd (cc)
 
-unending : (o : Op) → is_asked o ≡ true → ends_activation o ≡ false
+unending : (o : Op) → is_host_op o ≡ true → ends_activation o ≡ false
 unending o on = grind arith
 
-not_data : (o : Op) → is_asked o ≡ true → is_data_op o ≡ false
+not_data : (o : Op) → is_host_op o ≡ true → is_data_op o ≡ false
 not_data o on = grind arith
 
 pub host_done : HostDone

@@ -10,8 +10,8 @@ use Rattle.machine_data.specs.Read.{or_high}
 use Rattle.machine_data.specs.Write.{with_high, with_low}
 use Rattle.machine_data.specs.declared.records.Entry.{Entry}
 use Rattle.machine_data.specs.declared.records.Entry.TheVariants as entry
-use Rattle.machine_data.specs.declared.words.Mark.{Mark}
-use Rattle.machine_data.specs.declared.words.Mark.TheVariants as mark
+use Rattle.machine_data.specs.declared.statuses.Mark.{Mark}
+use Rattle.machine_data.specs.declared.statuses.Mark.TheVariants as mark
 use Rattle.machine_rules.proofs.Machine.{nat_tests}
 use Rattle.machine_rules.specs.Takes.{rest_of}
 use Rattle.laws_order.specs.Moves.{Comes, Lawful, May, Move, Promotes, Spares, SparesMove, SparesSwitch, Takes, Withdraws, after, at, come_to, moved, one_at, same_mark, taken_from, unlined}

@@ -26,7 +26,7 @@ use Rattle.machine_data.specs.declared.records.Script.{Script}
 use Rattle.machine_data.specs.declared.records.Subtask.{Subtask}
 use Rattle.machine_data.specs.declared.records.Thread.{Thread}
 use Rattle.machine_data.specs.declared.records.Why.{Why}
-use Rattle.machine_data.specs.declared.words.Status.{Status}
+use Rattle.machine_data.specs.declared.statuses.Status.{Status}
 use Rattle.laws_places.proofs.BlockedLemmas.{blocked_stay, ended_as}
 use Rattle.laws_places.proofs.CallersSteps.{SamePlaces}
 use Rattle.laws_places.proofs.CallersTrips.{is_held_on}

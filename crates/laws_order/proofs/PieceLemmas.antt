@@ -1,4 +1,4 @@
--- Pieces of rows, after which the running thread goes on, keep order.
+-- Pieces of rules, after which the running thread goes on, keep order.
 use Rattle.machine_rules.proofs.LawLemmas.{walk_steady}
 use Rattle.laws_order.proofs.WalkedLemmas.{walked_in_order}
 use Rattle.laws_order.specs.Pieces.{KeepsOrder, InOrderForAnyMain, PromoteKeeps, ResumeKeeps, SameInstances, WalkedInOrder, state_in}
@@ -42,7 +42,7 @@ walk_instances {s = s} c = record {
   handles = λ i. along (λ u. is_some (get u.handles i) ≡ is_some (get s.handles i)) (λ w u ok same. table_stays w u i ∙ same) refl c;
 }
 
--- what a row of the running thread leads to is in order
+-- what a rule of the running thread leads to is in order
 pub lead_keeps : (c : Component) (n : ℕ) (l : Label) (p : Turn) (s t : Core) →
     ((m : Main) → Trip (seen (ops_of c s) (setting_for c) m (Turn.Run n) s n l p) s t × LastPrimitives (seen (ops_of c s) (setting_for c) m (Turn.Run n) s n l p) t) →
     p ≡ settled_turn t p → WakesCounted t → KeepsOrder c (Turn.Run n) s p t

@@ -20,17 +20,17 @@ use Rattle.machine_data.specs.declared.records.OpProgress.{OpProgress}
 use Rattle.machine_data.specs.declared.records.Place.{Place}
 use Rattle.machine_data.specs.declared.records.Turn.{Turn}
 use Rattle.machine_data.specs.declared.records.Why.{Why}
-use Rattle.machine_data.specs.declared.words.Mark.{Mark}
+use Rattle.machine_data.specs.declared.statuses.Mark.{Mark}
 use Rattle.machine_rules.proofs.ChainLemmas.{keeps_stays, shift_keeps, stay_walk, weaken}
 use Rattle.machine_rules.proofs.LawLemmas.{walk_steady}
-use Rattle.machine_rules.proofs.MuteLemmas.{mute_words, none_said}
+use Rattle.machine_rules.proofs.MuteLemmas.{mute_primitives, none_said}
 use Rattle.machine_rules.proofs.PlacingLemmas.{placed, placing_shifted}
 use Rattle.machine_rules.proofs.StandLemmas.{by_number}
 use Rattle.machine_rules.specs.Allowed.{Cancels, MayPut, Releases, Resumes, Starts, Unblocks, Wakes}
 use Rattle.machine_rules.specs.Cancels.{is_callback_wait}
 use Rattle.machine_rules.specs.Chains.{LastPrimitives, NoPrimitive, Remains, Shifts, Stay}
 use Rattle.machine_rules.specs.Scenes.{Scene, scene_of}
-use Rattle.machine_rules.specs.Words.{Put, put_at}
+use Rattle.machine_rules.specs.Primitives.{Put, put_at}
 
 -- ---- Beside no thread that runs
 
@@ -44,7 +44,7 @@ quiet_ends c m s t = record {
   runs = λ n to. absurd (cc);
   outcome = λ o out. none_said refl out;
   gone = λ n none exit. none_said refl none;
-  says = mute_words (quiet c m s) t refl refl;
+  says = mute_primitives (quiet c m s) t refl refl;
   shut = λ i begun. none_said refl begun;
 }
 

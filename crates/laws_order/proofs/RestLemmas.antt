@@ -15,8 +15,8 @@ use Rattle.machine_data.specs.Read.{phase_of, course_of, is_aborted, is_live, is
 use Rattle.machine_data.specs.Write.{on_work, set_course}
 use Rattle.machine_data.specs.declared.component.HostDef.{HostDef}
 use Rattle.machine_data.specs.declared.component.HostDef.TheVariants as host_def
-use Rattle.machine_data.specs.declared.words.HostPoll.{HostPoll}
-use Rattle.machine_data.specs.declared.words.HostPoll.TheVariants as host_poll
+use Rattle.machine_data.specs.declared.statuses.HostPoll.{HostPoll}
+use Rattle.machine_data.specs.declared.statuses.HostPoll.TheVariants as host_poll
 use Rattle.machine_data.specs.declared.label.Label.{Label}
 use Rattle.machine_data.specs.declared.label.Label.TheVariants as label
 use Rattle.machine_data.specs.declared.label.LoopLabel.TheVariants as loop_label
@@ -27,9 +27,9 @@ use Rattle.machine_data.specs.declared.records.Turn.{Turn}
 use Rattle.machine_data.specs.declared.records.Turn.TheVariants as turn
 use Rattle.machine_data.specs.declared.records.Work.{Work}
 use Rattle.machine_data.specs.declared.scenario.MainOpDef.{MainOpDef}
-use Rattle.machine_data.specs.declared.words.Mark.{Mark}
-use Rattle.machine_data.specs.declared.words.Phase.{Phase}
-use Rattle.machine_data.specs.declared.words.Phase.TheVariants as phase
+use Rattle.machine_data.specs.declared.statuses.Mark.{Mark}
+use Rattle.machine_data.specs.declared.statuses.Phase.{Phase}
+use Rattle.machine_data.specs.declared.statuses.Phase.TheVariants as phase
 use Rattle.machine_rules.proofs.StandLemmas.{is_eq_of}
 use Rattle.machine_rules.specs.MainOps.{Answers, Does, MainProgress, Pends, act_of, line_of, main_rule, op_at}
 use Rattle.machine_rules.specs.Progress.{Asks, Fails, Continues, Never, Ordered, Progress, Stops, Traps}

@@ -13,14 +13,14 @@ use Rattle.laws_places.proofs.CountedSteps.{counted_stay}
 use Rattle.laws_places.proofs.Laws.{Call, Component, Core, ExportKind, GoBehind, OpProgress, Mark, None, Op, Option, Place, Put, Records, Scene, Some, Subtask, Thread, Turn, Unscripted, WakesCounted, Why, ap, arith, at_place, behind_one, by_number, false, foot_from, foot_of, get, get-change, goal_of, op_progress_of, inl, inr, is_at, is_at_switch, is_direct, is_explicit, is_some, kind_of, member_same, nat_tests, on_instance, on_thread, op_of, option_map_or, place_of, placing_shifted, put_switch, refl, script_of, set_callers, set_do_not_suspend, set_op_progress, set_place, set_saved_callee, set_switch, shifted_calls, shifted_far, shifted_works, size, subst, suc, sym, task_of, true, under_of, under_place, zero, ℕ, ◌==◌, ◌∙◌, ◌≡◌}
 use Rattle.machine_rules.proofs.ChainLemmas.{Keep}
 use Rattle.machine_rules.proofs.PlacingLemmas.{placed, shifted_explicit}
-use Rattle.machine_rules.proofs.WalkMoves.{keep_still, lands_at, word}
+use Rattle.machine_rules.proofs.WalkMoves.{keep_still, lands_at, primitive}
 use Rattle.machine_rules.proofs.WalkTask.{seen, stops_here}
 use Rattle.machine_rules.specs.Allowed.{Starts}
 use Rattle.machine_rules.specs.Calls.{call_clears_flag}
 use Rattle.machine_rules.specs.Chains.{NoPrimitive}
 use Rattle.machine_rules.specs.OpParts.{callee_of_op}
 use Rattle.machine_rules.specs.Scripts.{ops_of}
-use Rattle.machine_rules.specs.Words.{SetDoNotSuspend, SetSavedCallee}
+use Rattle.machine_rules.specs.Primitives.{SetDoNotSuspend, SetSavedCallee}
 
 -- ---- Nobody is under it
 
@@ -143,9 +143,9 @@ module _ (c : Component) (n m : ℕ) (s : Core) (ready : IsPrepared n m s) (h : 
 
   clears_walks : {a : Scene} {b : Core} (y : ExportKind) {t : Core} → Keep a b t → Keep a b (call_clears_flag n j y t)
   clears_walks ExportKind.Sync k = k
-  clears_walks ExportKind.Blocking {t = t} k = word (SetDoNotSuspend j false) tt (word (SetSavedCallee n (Some (may_not_suspend j t))) tt k)
-  clears_walks ExportKind.Stackful {t = t} k = word (SetDoNotSuspend j false) tt (word (SetSavedCallee n (Some (may_not_suspend j t))) tt k)
-  clears_walks ExportKind.Callback {t = t} k = word (SetDoNotSuspend j false) tt (word (SetSavedCallee n (Some (may_not_suspend j t))) tt k)
+  clears_walks ExportKind.Blocking {t = t} k = primitive (SetDoNotSuspend j false) tt (primitive (SetSavedCallee n (Some (may_not_suspend j t))) tt k)
+  clears_walks ExportKind.Stackful {t = t} k = primitive (SetDoNotSuspend j false) tt (primitive (SetSavedCallee n (Some (may_not_suspend j t))) tt k)
+  clears_walks ExportKind.Callback {t = t} k = primitive (SetDoNotSuspend j false) tt (primitive (SetSavedCallee n (Some (may_not_suspend j t))) tt k)
 
   parks : KeepsOrder c (Turn.Run n) s Turn.Main parked
   parks = lead_keeps c n (silent n) Turn.Main s parked

@@ -38,7 +38,7 @@ use Rattle.machine_rules.specs.Allowed.{is_async_work, subtask_under_way, watche
 use Rattle.machine_rules.specs.OpParts.{can_come, is_sync_call}
 use Rattle.machine_rules.specs.Places.{is_at_high, is_at_low, is_at_switch, is_behind_of, is_fresh, one_if, says}
 use Rattle.machine_rules.specs.Scripts.{export_kind, op_at_place, op_of, script_in}
-use Rattle.machine_rules.specs.Words.{placed_as}
+use Rattle.machine_rules.specs.Primitives.{placed_as}
 
 -- ---- The same core
 

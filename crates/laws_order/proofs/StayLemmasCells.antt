@@ -1,6 +1,6 @@
 -- What a turn of a thread, or of a take, leaves of host works.
 use Rattle.laws_states.proofs.CallsSteps.{codes_at}
-use Rattle.laws_states.proofs.Words.{add_call, add_group, add_set, add_thread, add_work, AddGroup, after_primitive, Allowed, along, arith, by_number, call_made, Core, count_work, free_handle, free_thread_handle, get, get-change, get-insert, get-remove, give_handle, give_result, give_thread_handle, op_progress_of, OpProgress, inl, inr, Label, LaterBy, MayQueue, MayRemoveWork, nat_tests, on_call, on_instance, on_thread, on_work, Option, poll_pends, push_high, QueueWork, refl, remove_call, remove_group, remove_set, remove_thread, remove_work, RemoveWork, Scene, scene_as, set_backpressure, set_cancel_delivered, set_cancelled, set_course, set_do_not_enter, set_do_not_suspend, set_end, set_event, set_exited, set_op_progress, set_join, set_task_event, set_phase, set_position, set_register, set_result, set_saved_callee, set_saved_own, set_script, set_stage, set_started, set_starting_published, set_subtask_handle, set_thread_handle, set_trapped, set_uninteresting, set_word, Setting, State, step_walks, Subtask, take_result, true, Turn, with_handle, with_thread_handle, Primitive, Work, work_queued, WorkCaller, ℕ, ⊎_elim, ◌≡◌, ◌⊎◌, subst, sym, ◌≤◌, ◌∙◌}
+use Rattle.laws_states.proofs.Primitives.{add_call, add_group, add_set, add_thread, add_work, AddGroup, after_primitive, Allowed, along, arith, by_number, call_made, Core, count_work, free_handle, free_thread_handle, get, get-change, get-insert, get-remove, give_handle, give_result, give_thread_handle, op_progress_of, OpProgress, inl, inr, Label, LaterBy, MayQueue, MayRemoveWork, nat_tests, on_call, on_instance, on_thread, on_work, Option, poll_pends, push_high, QueueWork, refl, remove_call, remove_group, remove_set, remove_thread, remove_work, RemoveWork, Scene, scene_as, set_backpressure, set_cancel_delivered, set_cancelled, set_course, set_do_not_enter, set_do_not_suspend, set_end, set_event, set_exited, set_op_progress, set_join, set_task_event, set_phase, set_position, set_register, set_result, set_saved_callee, set_saved_own, set_script, set_stage, set_started, set_starting_published, set_subtask_handle, set_thread_handle, set_trapped, set_uninteresting, set_memory_cell, Setting, State, step_walks, Subtask, take_result, true, Turn, with_handle, with_thread_handle, Primitive, Work, work_queued, WorkCaller, ℕ, ⊎_elim, ◌≡◌, ◌⊎◌, subst, sym, ◌≤◌, ◌∙◌}
 use Rattle.std.specs.Prelude.{Bool, None, Some, false, is_some}
 use Rattle.laws_order.proofs.CellLemmas.{cells_stay_inside, cells_stay_walked}
 use Rattle.laws_order.specs.Cells.{CellsStayInside, CellsStayWalked, RunsWorks, IsInside, Runs, SameCell, StaysWork, Takes, WorksStayRunning, WorksStayTaken, WorksStayWalked, is_spawned}
@@ -28,13 +28,13 @@ removed_ended : (a : Scene) → Finds a → (i : ℕ) (s : Core) → MayRemoveWo
 removed_ended a finds i s (n, (is, (same, inl (far, done)))) = finds n i is far
 removed_ended a finds i s (n, (is, (same, inr ended))) = ended.0
 
-gone_word : (a : Scene) → Finds a → (i : ℕ) (w : Primitive) (s : Core) → Allowed a w s → get (after_primitive w s).works i ≡ None →
+gone_primitive : (a : Scene) → Finds a → (i : ℕ) (w : Primitive) (s : Core) → Allowed a w s → get (after_primitive w s).works i ≡ None →
     (get s.works i ≡ None) ⊎ (is_stage_ended (stage_of i a.base) ≡ true)
-unfolding add_call add_group add_set add_thread add_work count_work free_handle free_thread_handle give_handle give_result give_thread_handle on_call on_instance on_thread on_work push_high remove_call remove_group remove_set remove_thread remove_work set_backpressure set_cancel_delivered set_cancelled set_course set_do_not_enter set_do_not_suspend set_end set_event set_exited set_op_progress set_join set_task_event set_phase set_position set_register set_result set_saved_callee set_saved_own set_script set_stage set_started set_starting_published set_subtask_handle set_thread_handle set_trapped set_uninteresting set_word take_result call_made with_handle with_thread_handle work_queued poll_pends
-gone_word a finds i AddGroup s ok none = inl none
-gone_word a finds i (RemoveWork j) s ok none = by_number i j _ (λ is. inr (removed_ended a finds i s (rw is ok)))
+unfolding add_call add_group add_set add_thread add_work count_work free_handle free_thread_handle give_handle give_result give_thread_handle on_call on_instance on_thread on_work push_high remove_call remove_group remove_set remove_thread remove_work set_backpressure set_cancel_delivered set_cancelled set_course set_do_not_enter set_do_not_suspend set_end set_event set_exited set_op_progress set_join set_task_event set_phase set_position set_register set_result set_saved_callee set_saved_own set_script set_stage set_started set_starting_published set_subtask_handle set_thread_handle set_trapped set_uninteresting set_memory_cell take_result call_made with_handle with_thread_handle work_queued poll_pends
+gone_primitive a finds i AddGroup s ok none = inl none
+gone_primitive a finds i (RemoveWork j) s ok none = by_number i j _ (λ is. inr (removed_ended a finds i s (rw is ok)))
     (λ other. inl (grind (arith, nat_tests, get-remove, other, none)))
-gone_word a finds i w s ok none = inl (first_of (assumption, grind (arith, nat_tests, get-change, get-insert)))
+gone_primitive a finds i w s ok none = inl (first_of (assumption, grind (arith, nat_tests, get-change, get-insert)))
 
 -- ---- A work that is new is a guest's call
 
@@ -51,12 +51,12 @@ spawned_at : Option Work → Bool
 spawned_at None = false
 spawned_at (Some w) = is_spawned w.caller
 
-spawned_word : (a : Scene) → (a.turn ≡ Turn.Main → ⊥) → (i : ℕ) (w : Primitive) (s : Core) → Allowed a w s → spawned_at (get s.works i) ≡ false →
+spawned_primitive : (a : Scene) → (a.turn ≡ Turn.Main → ⊥) → (i : ℕ) (w : Primitive) (s : Core) → Allowed a w s → spawned_at (get s.works i) ≡ false →
     spawned_at (get (after_primitive w s).works i) ≡ false
-unfolding spawned_at add_call add_group add_set add_thread add_work count_work free_handle free_thread_handle give_handle give_result give_thread_handle on_call on_instance on_thread on_work push_high remove_call remove_group remove_set remove_thread remove_work set_backpressure set_cancel_delivered set_cancelled set_course set_do_not_enter set_do_not_suspend set_end set_event set_exited set_op_progress set_join set_task_event set_phase set_position set_register set_result set_saved_callee set_saved_own set_script set_stage set_started set_starting_published set_subtask_handle set_thread_handle set_trapped set_uninteresting set_word take_result call_made with_handle with_thread_handle work_queued poll_pends
-spawned_word a inside i AddGroup s ok was = was
-spawned_word a inside i (QueueWork f host group) s ok was = let call = queued_call a f group inside ok.1.0 in grind (arith, nat_tests, get-insert, call, was)
-spawned_word a inside i w s ok was = first_of (assumption, grind (arith, nat_tests, get-change, get-insert, get-remove))
+unfolding spawned_at add_call add_group add_set add_thread add_work count_work free_handle free_thread_handle give_handle give_result give_thread_handle on_call on_instance on_thread on_work push_high remove_call remove_group remove_set remove_thread remove_work set_backpressure set_cancel_delivered set_cancelled set_course set_do_not_enter set_do_not_suspend set_end set_event set_exited set_op_progress set_join set_task_event set_phase set_position set_register set_result set_saved_callee set_saved_own set_script set_stage set_started set_starting_published set_subtask_handle set_thread_handle set_trapped set_uninteresting set_memory_cell take_result call_made with_handle with_thread_handle work_queued poll_pends
+spawned_primitive a inside i AddGroup s ok was = was
+spawned_primitive a inside i (QueueWork f host group) s ok was = let call = queued_call a f group inside ok.1.0 in grind (arith, nat_tests, get-insert, call, was)
+spawned_primitive a inside i w s ok was = first_of (assumption, grind (arith, nat_tests, get-change, get-insert, get-remove))
 
 -- ---- A step
 
@@ -78,14 +78,14 @@ module _ (ops : ℕ → Op) (x : Setting) (s : State) (l : Label) (t : State) (w
       let a = scene_as ops x s l w.next in
       ⊎_elim inl (λ ended. inr (base_out (λ (b : Core). is_stage_ended (stage_of i b) ≡ true) s.turn s.core ended))
       (along (λ (u : Core). get u.works i ≡ None → (get s.core.works i ≡ None) ⊎ (is_stage_ended (stage_of i a.base) ≡ true))
-      (λ v u ok q e. ⊎_elim q inr (gone_word a finds i v u ok e)) inl w.walk now)
+      (λ v u ok q e. ⊎_elim q inr (gone_primitive a finds i v u ok e)) inl w.walk now)
 
   new : get s.core.works i ≡ None → spawned_at (get t.core.works i) ≡ false
   unfolding spawned_at
   new absent =
       let a = scene_as ops x s l w.next in
       along (λ (u : Core). spawned_at (get u.works i) ≡ false)
-      (λ v u ok q. spawned_word a (not_main s.turn where_in) i v u ok q) (grind (arith, absent)) w.walk
+      (λ v u ok q. spawned_primitive a (not_main s.turn where_in) i v u ok q) (grind (arith, absent)) w.walk
 
   late_end : (v : Work) → get s.core.works i ≡ Some v → is_stage_ended (stage_of i s.core) ≡ true → has_end v.course ≡ true
   late_end v at ended = let late = (told i v at).late in grind (arith, at, ended, late)

@@ -6,7 +6,7 @@ use Rattle.machine_data.specs.Core.{Core, Queues, State}
 use Rattle.machine_data.specs.Labels.{choice_of, host_label}
 use Rattle.machine_data.specs.Moves.{behind, behind_one, displaced, has_entry, is_callback_waiter, less, less_switch, may_publish, newest, older, passed_on, promoted, published, put_high, put_low, put_switch, resumed_all, stand, stopped, unblocked, unqueued, wake, wake_joined, waken_by}
 use Rattle.machine_data.specs.Read.{blocked_on, callers_of, course_of, course_value, foot_of, join_of, next_entry, work_caller_of}
-use Rattle.machine_data.specs.Write.{add_call, add_group, add_set, add_thread, add_work, count_work, free_handle, free_thread_handle, give_handle, give_result, give_thread_handle, on_call, on_instance, on_thread, on_work, push_high, push_high_first, push_low, remove_call, remove_group, remove_set, remove_thread, remove_work, set_backpressure, set_callers, set_cancel_delivered, set_cancelled, set_course, set_do_not_enter, set_do_not_suspend, set_end, set_event, set_exited, set_high, set_op_progress, set_join, set_low, set_task_event, set_phase, set_place, set_position, set_register, set_result, set_saved_callee, set_saved_own, set_script, set_stage, set_started, set_starting_published, set_subtask_handle, set_switch, set_thread_handle, set_trapped, set_uninteresting, set_word, take_result, with_high, with_low, with_switch}
+use Rattle.machine_data.specs.Write.{add_call, add_group, add_set, add_thread, add_work, count_work, free_handle, free_thread_handle, give_handle, give_result, give_thread_handle, on_call, on_instance, on_thread, on_work, push_high, push_high_first, push_low, remove_call, remove_group, remove_set, remove_thread, remove_work, set_backpressure, set_callers, set_cancel_delivered, set_cancelled, set_course, set_do_not_enter, set_do_not_suspend, set_end, set_event, set_exited, set_high, set_op_progress, set_join, set_low, set_task_event, set_phase, set_place, set_position, set_register, set_result, set_saved_callee, set_saved_own, set_script, set_stage, set_started, set_starting_published, set_subtask_handle, set_switch, set_thread_handle, set_trapped, set_uninteresting, set_memory_cell, take_result, with_high, with_low, with_switch}
 use Rattle.machine_data.specs.declared.label.Label.{Label}
 use Rattle.machine_data.specs.declared.records.Entry.{Entry}
 use Rattle.machine_data.specs.declared.records.Entry.TheVariants as entry
@@ -18,13 +18,13 @@ use Rattle.machine_data.specs.declared.records.Subtask.{Subtask}
 use Rattle.machine_data.specs.declared.records.Subtask.TheVariants as subtask
 use Rattle.machine_data.specs.declared.records.WorkCaller.{WorkCaller}
 use Rattle.machine_data.specs.declared.records.WorkCaller.TheVariants as caller
-use Rattle.machine_data.specs.declared.words.Status.{Status}
+use Rattle.machine_data.specs.declared.statuses.Status.{Status}
 use Rattle.machine_data.specs.declared.records.Turn.{Turn}
 use Rattle.machine_data.specs.declared.records.Turn.TheVariants as turn
 use Rattle.machine_data.specs.declared.records.Why.{Why}
 use Rattle.machine_data.specs.declared.records.Why.TheVariants as why
-use Rattle.machine_data.specs.declared.words.Mark.{Mark}
-use Rattle.machine_data.specs.declared.words.Mark.TheVariants as mark
+use Rattle.machine_data.specs.declared.statuses.Mark.{Mark}
+use Rattle.machine_data.specs.declared.statuses.Mark.TheVariants as mark
 use Rattle.machine_rules.proofs.ChainLemmas.{along}
 use Rattle.machine_rules.proofs.WalkSteps.{step_walks}
 use Rattle.machine_rules.specs.Calls.{call_made, with_handle, with_thread_handle, work_queued}
@@ -37,7 +37,7 @@ use Rattle.machine_rules.specs.Scripts.{op_of, ops_of, script_of}
 use Rattle.machine_rules.specs.SubtaskEnds.{SubtaskEnd, written_as, written_by}
 use Rattle.machine_rules.specs.Takes.{host_done, host_result, scripted_host_rule, host_status, popped, pushed}
 use Rattle.machine_rules.specs.Turns.{at_turn, goes_to}
-use Rattle.machine_rules.specs.Words.{AddGroup, FinishWork, RemoveCall, RemoveGroup, SetTrapped, SetUninteresting, Places, Placing, Pop, Promote, Put, QueueWork, RemoveThread, Stop, TakeHost, TakePush, Withdraw, Primitive, after_placing, after_primitive}
+use Rattle.machine_rules.specs.Primitives.{AddGroup, FinishWork, RemoveCall, RemoveGroup, SetTrapped, SetUninteresting, Places, Placing, Pop, Promote, Put, QueueWork, RemoveThread, Stop, TakeHost, TakePush, Withdraw, Primitive, after_placing, after_primitive}
 use Rattle.machine_rules.specs.Works.{has_moving_work, poll_pends}
 use Rattle.laws_order.proofs.LineLemmas.{after_more, lawful_more}
 use Rattle.laws_order.specs.Moves.{AllOther, Comes, IsOther, Lawful, May, Move, MovesBy, Promotes, StepsMoveEntries, Takes, Withdraws, after, moved, one_at, taking, taking_by, taking_next, unlined}
@@ -51,11 +51,11 @@ settling_same (RemoveCall k) s ok = refl
 settling_same (RemoveGroup g) s ok = refl
 settling_same _ s ok = absurd ok
 
-falling_same : (a : Scene) (w : Primitive) (s : Core) → IsUnwind a w s → (after_primitive w s).queues ≡ s.queues
+unwinding_same : (a : Scene) (w : Primitive) (s : Core) → IsUnwind a w s → (after_primitive w s).queues ≡ s.queues
 unfolding remove_thread set_trapped
-falling_same a (RemoveThread n) s ok = refl
-falling_same a SetTrapped s ok = refl
-falling_same a _ s ok = absurd ok
+unwinding_same a (RemoveThread n) s ok = refl
+unwinding_same a SetTrapped s ok = refl
+unwinding_same a _ s ok = absurd ok
 
 module _ (x : Setting) (first : State) (l : Label) where
   -- from the one to the other by other moves than takings
@@ -88,7 +88,7 @@ module _ (x : Setting) (first : State) (l : Label) where
     leads = d.leads ∙ (ap (after d.moves) c.leads ∙ sym (after_more c.moves d.moves q));
   }
 
-  -- ---- Words that move threads
+  -- ---- Primitives that move threads
 
   put_high_moves : (n : ℕ) (w : Why) (s : Core) → Others s.queues (put_high n w s).queues
   unfolding put_high push_high set_place on_thread
@@ -175,7 +175,7 @@ module _ (x : Setting) (first : State) (l : Label) where
       result_same (caller.Async n q) (Some v) u = refl
       result_same c v u = refl
 
--- ---- Words, where the turn takes no entry of a work
+-- ---- Primitives, where the turn takes no entry of a work
 
 -- what the label says of ends is the same, wherever the taken entry is
 says_there : (x : Setting) (first : State) (l : Label) (o : Option SubtaskEnd) → written_as (ops_of x.component first.core) (base_at first.turn first.core) l (base_at first.turn first.core) ≡ o →
@@ -204,26 +204,26 @@ module _ (x : Setting) (first : State) (l : Label) (next : Turn) (apart : TakesW
   placing_moves (Stop f) s ok = stopped_moves x first l f s
   placing_moves p s ok = none x first l s.queues
 
-  word_moves : (w : Primitive) (s : Core) → Stays a w s → Moving s.queues (after_primitive w s).queues
-  unfolding add_call add_group add_set add_thread add_work count_work free_handle free_thread_handle give_handle give_result give_thread_handle on_call on_instance on_thread on_work push_high remove_call remove_group remove_set remove_thread remove_work set_backpressure set_cancel_delivered set_cancelled set_course set_do_not_enter set_do_not_suspend set_end set_event set_exited set_op_progress set_join set_task_event set_phase set_position set_register set_result set_saved_callee set_saved_own set_script set_stage set_started set_starting_published set_subtask_handle set_thread_handle set_trapped set_uninteresting set_word take_result call_made with_handle with_thread_handle work_queued poll_pends set_switch
-  word_moves (Places p) s (inl ok) = placing_moves p s (inl ok)
-  word_moves (Places p) s (inr ok) = placing_moves p s (inr (inl ok))
-  word_moves (Withdraw k) s ok = once x first l (Withdraws k) (says_there x first l _ ok.1.0) tt (ap (with_switch (less_switch k s.queues.switch)) (unqueued_is x first l k s))
-  word_moves (QueueWork f host group) s ok = once x first l (Comes mark.High (entry.Push (s.made.works + 1))) tt tt refl
-  word_moves (FinishWork i c) s ok = once x first l (Comes mark.High (entry.Host i)) tt tt refl
-  word_moves (TakePush m i) s ok = absurd (apart ok.1)
-  word_moves (TakeHost m i) s ok = absurd (apart ok.1.1.1)
-  word_moves AddGroup s ok = none x first l s.queues
-  word_moves w s ok = none x first l s.queues
+  primitive_moves : (w : Primitive) (s : Core) → Stays a w s → Moving s.queues (after_primitive w s).queues
+  unfolding add_call add_group add_set add_thread add_work count_work free_handle free_thread_handle give_handle give_result give_thread_handle on_call on_instance on_thread on_work push_high remove_call remove_group remove_set remove_thread remove_work set_backpressure set_cancel_delivered set_cancelled set_course set_do_not_enter set_do_not_suspend set_end set_event set_exited set_op_progress set_join set_task_event set_phase set_position set_register set_result set_saved_callee set_saved_own set_script set_stage set_started set_starting_published set_subtask_handle set_thread_handle set_trapped set_uninteresting set_memory_cell take_result call_made with_handle with_thread_handle work_queued poll_pends set_switch
+  primitive_moves (Places p) s (inl ok) = placing_moves p s (inl ok)
+  primitive_moves (Places p) s (inr ok) = placing_moves p s (inr (inl ok))
+  primitive_moves (Withdraw k) s ok = once x first l (Withdraws k) (says_there x first l _ ok.1.0) tt (ap (with_switch (less_switch k s.queues.switch)) (unqueued_is x first l k s))
+  primitive_moves (QueueWork f host group) s ok = once x first l (Comes mark.High (entry.Push (s.made.works + 1))) tt tt refl
+  primitive_moves (FinishWork i c) s ok = once x first l (Comes mark.High (entry.Host i)) tt tt refl
+  primitive_moves (TakePush m i) s ok = absurd (apart ok.1)
+  primitive_moves (TakeHost m i) s ok = absurd (apart ok.1.1.1)
+  primitive_moves AddGroup s ok = none x first l s.queues
+  primitive_moves w s ok = none x first l s.queues
 
   stay_moves : {b t : Core} → Stay a b t → Moving b.queues t.queues
-  stay_moves {b = b} c = along (λ (u : Core). Moving b.queues u.queues) (λ w u ok q. more x first l q (word_moves w u ok)) (none x first l b.queues) c
+  stay_moves {b = b} c = along (λ (u : Core). Moving b.queues u.queues) (λ w u ok q. more x first l q (primitive_moves w u ok)) (none x first l b.queues) c
 
   settle_same : {b t : Core} → Settles b t → t.queues ≡ b.queues
   settle_same {b = b} c = along (λ (u : Core). u.queues ≡ b.queues) (λ w u ok q. settling_same w u ok ∙ q) refl c
 
-  fall_same : {b t : Core} → Chain (IsUnwind a) b t → t.queues ≡ b.queues
-  fall_same {b = b} c = along (λ (u : Core). u.queues ≡ b.queues) (λ w u ok q. falling_same a w u ok ∙ q) refl c
+  unwind_same : {b t : Core} → Chain (IsUnwind a) b t → t.queues ≡ b.queues
+  unwind_same {b = b} c = along (λ (u : Core). u.queues ≡ b.queues) (λ w u ok q. unwinding_same a w u ok ∙ q) refl c
 
   trip_moves : {b t : Core} → Trip a b t → Moving b.queues t.queues
   unfolding set_op_progress remove_thread on_thread set_place
@@ -232,7 +232,7 @@ module _ (x : Setting) (first : State) (l : Label) (next : Turn) (apart : TakesW
   trip_moves (LandsAt s p n h c ok fit comes halts) = more x first l (stay_moves c) (placing_moves p s (inr (inr ok)))
   trip_moves (Quits s t n c leave d halts) = more x first l (stay_moves c) (same x first l (settle_same d))
   trip_moves (GoesBack s t n m v c is runs to under back d ok) = more x first l (stay_moves c) (same x first l (settle_same d))
-  trip_moves (Collapses t over c) = same x first l (fall_same c)
+  trip_moves (Collapses t over c) = same x first l (unwind_same c)
 
 -- ---- The entry that is taken leaves its mark
 

@@ -1,6 +1,6 @@
 -- The end of a thread, and its run or suspension, keep that no wake is lost.
 use Rattle.laws_states.proofs.{WakeCounts.woken_at, WakeCounts.woken_place}
-use Rattle.laws_states.proofs.Words.{call_instance, is_deletable, remove}
+use Rattle.laws_states.proofs.Primitives.{call_instance, is_deletable, remove}
 use Rattle.machine_data.specs.Moves.{call_settled, departed, ended, exited_if, freed_thread_handle, group_settled, interest_settled, is_finished, is_group_done}
 use Rattle.machine_data.specs.Read.{call_group, thread_handle_of}
 use Rattle.laws_places.proofs.Laws.{[], admits, ap, arith, Bool, by_number, callers_of, CallersGoOn, Core, event_of, false, free_thread_handle, get, get-change, get-remove, op_progress_of, OpProgress, if◌then◌else◌, inl, inr, instance_of, is_behind_of, is_explicit, is_inside_wait, is_ready_member, is_some, is_there, is_woken_at, is_woken_for, join_of, kind_of, nat_tests, None, on_call, on_thread, Option, option_map, option_map_or, Place, place_of, refl, remove_call, remove_group, remove_thread, says, set_exited, set_place, set_uninteresting, Some, subst, Subtask, suc, sym, task_of, Thread, times, true, undelivered_end, Why, zero, ℕ, ⊎_elim, ◌==◌, ◌∙◌, ◌≡◌, ◌⊎◌}

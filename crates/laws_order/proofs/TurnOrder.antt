@@ -23,10 +23,10 @@ use Rattle.machine_data.specs.declared.records.Place.{Place}
 use Rattle.machine_data.specs.declared.records.Thread.{Thread}
 use Rattle.machine_data.specs.declared.records.Turn.{Turn}
 use Rattle.machine_data.specs.declared.records.Why.{Why}
-use Rattle.machine_data.specs.declared.words.Mark.{Mark}
+use Rattle.machine_data.specs.declared.statuses.Mark.{Mark}
 use Rattle.machine_rules.proofs.CallThreads.{last_of, last_shifted}
 use Rattle.machine_rules.proofs.ChainLemmas.{Keep}
-use Rattle.machine_rules.proofs.MuteLemmas.{mute_words, none_said}
+use Rattle.machine_rules.proofs.MuteLemmas.{mute_primitives, none_said}
 use Rattle.machine_rules.proofs.PlacingLemmas.{placing_shifted, unplaced}
 use Rattle.machine_rules.proofs.StandLemmas.{by_number}
 use Rattle.machine_rules.proofs.WalkMoves.{ended_halts, exits_trip, halted_from, stopped_on}
@@ -37,7 +37,7 @@ use Rattle.machine_rules.specs.Scenes.{Scene}
 use Rattle.machine_rules.specs.Places.{Placed, is_at_high, is_at_low, is_at_switch, is_at_wait, is_behind_of, is_fresh, is_inside, is_there, one_if, says}
 use Rattle.machine_rules.specs.Scripts.{ops_of}
 use Rattle.machine_rules.specs.Threads.{resume_why}
-use Rattle.machine_rules.specs.Words.{Stop}
+use Rattle.machine_rules.specs.Primitives.{Stop}
 use Rattle.laws_order.proofs.{GroundLemmas.order_stands, ThreadLemmas.end_keeps, ThreadLemmas.run_keeps, ThreadLemmas.suspend_keeps}
 use Rattle.laws_order.specs.Stands.{EndKeeps, MayComeToRun, NoWakeLost, OrderStands, RunKeeps, SuspendKeeps}
 
@@ -320,16 +320,16 @@ end_in_order n s lasts c may =
     (λ m.
     let leave : Leaves (end_scene c n s m) n = (refl, (refl, refl)) in
     let c0 : Keep (end_scene c n s m) s s = NoPrimitive in
-    (exits_trip n leave (ended_halts n (last_shifted n (placing_shifted (Stop (foot_of n s)) s) (last_of n s lasts)) (stopped_on (foot_of n s) refl c0) (halted_from n c0 c0)), end_words m))
+    (exits_trip n leave (ended_halts n (last_shifted n (placing_shifted (Stop (foot_of n s)) s) (last_of n s lasts)) (stopped_on (foot_of n s) refl c0) (halted_from n c0 c0)), end_primitives m))
     refl
     (subst (λ (t : Core). WakesCounted t) (sym (ends_same n s may.callers may.under)) (end_keeps n s may (order_stands c (state_in Unscripted (Turn.Run n) s) (h Unscripted) refl)).counted) h)
   where
-    end_words : (m : Main) → LastPrimitives (end_scene c n s m) (ended n (stopped (foot_of n s) s))
-    end_words m = record {
+    end_primitives : (m : Main) → LastPrimitives (end_scene c n s m) (ended n (stopped (foot_of n s) s))
+    end_primitives m = record {
       laid = λ j is take. absurd (cc);
       runs = λ j to. absurd (cc);
       outcome = λ o out. none_said refl out;
       gone = λ j is exit. absurd (cc);
-      says = mute_words (end_scene c n s m) (ended n (stopped (foot_of n s) s)) refl refl;
+      says = mute_primitives (end_scene c n s m) (ended n (stopped (foot_of n s) s)) refl refl;
       shut = λ i begun. none_said refl begun;
     }

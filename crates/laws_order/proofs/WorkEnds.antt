@@ -5,12 +5,12 @@ use Rattle.std.specs.Prelude.{is_some, option_map}
 use Rattle.std.proofs.Common.{ap, inl, inr, refl, subst, sym}
 use Rattle.laws_states.proofs.CallsSteps.{codes_at, plain, plain_scene}
 use Rattle.machine_rules.specs.Scripts.{ops_of}
-use Rattle.laws_states.proofs.EventLemmas.{host_event_word, works_hold}
+use Rattle.laws_states.proofs.EventLemmas.{host_event_primitive, works_hold}
 use Rattle.laws_states.proofs.OnceLemmas.{covers_none}
 use Rattle.laws_states.proofs.PolledWorks.{polled_is_live}
 use Rattle.laws_states.proofs.ReachLemmas.{reached_step}
 use Rattle.laws_states.proofs.SaidEnds.{hands_at, said_at, written_at}
-use Rattle.laws_states.proofs.Words.{add_call, add_group, add_set, add_thread, add_work, AddGroup, count_work, free_handle, free_thread_handle, give_handle, give_result, give_thread_handle, on_call, on_instance, on_thread, on_work, push_high, remove_call, remove_group, remove_set, remove_thread, remove_work, set_backpressure, set_cancel_delivered, set_cancelled, set_course, set_do_not_enter, set_do_not_suspend, set_end, set_event, set_exited, set_op_progress, set_join, set_task_event, set_phase, set_position, set_register, set_result, set_saved_callee, set_saved_own, set_script, set_stage, set_started, set_starting_published, set_subtask_handle, set_thread_handle, set_trapped, set_uninteresting, set_word, take_result, call_made, with_handle, with_thread_handle, work_queued, poll_pends}
+use Rattle.laws_states.proofs.Primitives.{add_call, add_group, add_set, add_thread, add_work, AddGroup, count_work, free_handle, free_thread_handle, give_handle, give_result, give_thread_handle, on_call, on_instance, on_thread, on_work, push_high, remove_call, remove_group, remove_set, remove_thread, remove_work, set_backpressure, set_cancel_delivered, set_cancelled, set_course, set_do_not_enter, set_do_not_suspend, set_end, set_event, set_exited, set_op_progress, set_join, set_task_event, set_phase, set_position, set_register, set_result, set_saved_callee, set_saved_own, set_script, set_stage, set_started, set_starting_published, set_subtask_handle, set_thread_handle, set_trapped, set_uninteresting, set_memory_cell, take_result, call_made, with_handle, with_thread_handle, work_queued, poll_pends}
 use Rattle.laws_states.proofs.Works.{Lasts, works_go, WorksGo}
 use Rattle.laws_states.proofs.WorksCame.{doing}
 use Rattle.laws_states.specs.Order.{InOrder}
@@ -25,7 +25,7 @@ use Rattle.machine_rules.specs.Chains.{Answers, EndPrimitives, HandsAtOnce, Hand
 use Rattle.machine_rules.specs.Laws.{LaterBy}
 use Rattle.machine_rules.specs.Once.{covers_end}
 use Rattle.machine_rules.specs.SubtaskEnds.{end_for, written_as, written_by}
-use Rattle.machine_rules.specs.Words.{EndWork, FinishWork}
+use Rattle.machine_rules.specs.Primitives.{EndWork, FinishWork}
 use Rattle.machine_rules.specs.Works.{has_end}
 use Rattle.machine_data.specs.declared.label.LoopLabel.{LoopLabel}
 
@@ -49,12 +49,12 @@ told_as_recorded x s r i e is = by (get s.core.works i) refl
 abbrev EndsNow : Scene → ℕ → Type 0
 EndsNow a i = a.label ≡ Label.Loop (LoopLabel.FutureEnds i)
 
-recorded_word : (a : Scene) (w : Primitive) (s : Core) → Allowed a w s → (i : ℕ) → has_recorded i (after_primitive w s) ≡ true → (has_recorded i s ≡ true) ⊎ EndsNow a i
-unfolding add_call add_group add_set add_thread add_work count_work free_handle free_thread_handle give_handle give_result give_thread_handle on_call on_instance on_thread on_work push_high remove_call remove_group remove_set remove_thread remove_work set_backpressure set_cancel_delivered set_cancelled set_course set_do_not_enter set_do_not_suspend set_end set_event set_exited set_op_progress set_join set_task_event set_phase set_position set_register set_result set_saved_callee set_saved_own set_script set_stage set_started set_starting_published set_subtask_handle set_thread_handle set_trapped set_uninteresting set_word take_result call_made with_handle with_thread_handle work_queued poll_pends
-recorded_word a AddGroup s ok i h = inl h
-recorded_word a (EndWork j c) s ok i h = by_number i j _ (λ is. inr (rw is ok.0.1.0)) (λ other. inl (grind (arith, nat_tests, get-change, other, h)))
-recorded_word a (FinishWork j c) s ok i h = by_number i j _ (λ is. inr (rw is ok.0.1.0)) (λ other. inl (grind (arith, nat_tests, get-change, other, h)))
-recorded_word a w s ok i h = inl (first_of (assumption, grind (arith, nat_tests, get-change, get-insert, get-remove)))
+recorded_primitive : (a : Scene) (w : Primitive) (s : Core) → Allowed a w s → (i : ℕ) → has_recorded i (after_primitive w s) ≡ true → (has_recorded i s ≡ true) ⊎ EndsNow a i
+unfolding add_call add_group add_set add_thread add_work count_work free_handle free_thread_handle give_handle give_result give_thread_handle on_call on_instance on_thread on_work push_high remove_call remove_group remove_set remove_thread remove_work set_backpressure set_cancel_delivered set_cancelled set_course set_do_not_enter set_do_not_suspend set_end set_event set_exited set_op_progress set_join set_task_event set_phase set_position set_register set_result set_saved_callee set_saved_own set_script set_stage set_started set_starting_published set_subtask_handle set_thread_handle set_trapped set_uninteresting set_memory_cell take_result call_made with_handle with_thread_handle work_queued poll_pends
+recorded_primitive a AddGroup s ok i h = inl h
+recorded_primitive a (EndWork j c) s ok i h = by_number i j _ (λ is. inr (rw is ok.0.1.0)) (λ other. inl (grind (arith, nat_tests, get-change, other, h)))
+recorded_primitive a (FinishWork j c) s ok i h = by_number i j _ (λ is. inr (rw is ok.0.1.0)) (λ other. inl (grind (arith, nat_tests, get-change, other, h)))
+recorded_primitive a w s ok i h = inl (first_of (assumption, grind (arith, nat_tests, get-change, get-insert, get-remove)))
 
 pub ends_are_said : WorkEndsAreSaid
 unfolding WorkEndsAreSaid
@@ -64,10 +64,10 @@ ends_are_said x s l t step i =
     record {
       written = λ now. ⊎_elim inl (λ is. inr (ap (λ (k : Label). written_as (ops_of x.component s.core) s.core k t.core) is))
           (along (λ (u : Core). has_recorded i u ≡ true → (has_recorded i s.core ≡ true) ⊎ EndsNow a i)
-          (λ v u ok q h. ⊎_elim q inr (recorded_word a v u ok i h)) inl w.walk now);
+          (λ v u ok q h. ⊎_elim q inr (recorded_primitive a v u ok i h)) inl w.walk now);
       told = λ e now. along (λ (u : Core). undelivered_end (event_of (Subtask.Host i) u) ≡ Some e →
           (undelivered_end (event_of (Subtask.Host i) s.core) ≡ Some e) ⊎ (host_taken l ≡ Some i))
-          (λ v u ok q h. ⊎_elim q inr (host_event_word a v u ok i e h)) inl w.walk now;
+          (λ v u ok q h. ⊎_elim q inr (host_event_primitive a v u ok i e h)) inl w.walk now;
     }
 
 -- ---- Of a step
@@ -86,8 +86,8 @@ module _ (x : Setting) (s : State) (l : Label) (t : State) (r : Reached x s) (st
   unfolding ReachedInOrder
   h = reached_in_order x s r
 
-  words : EndPrimitives a t.core
-  words = plain {ops = ops_of x.component s.core} x s l w.next (λ b. EndPrimitives b t.core) w.ends.says
+  primitives : EndPrimitives a t.core
+  primitives = plain {ops = ops_of x.component s.core} x s l w.next (λ b. EndPrimitives b t.core) w.ends.says
 
   go : WorksGo ⊥ a t.core
   go = plain {ops = ops_of x.component s.core} x s l w.next (λ b. WorksGo ⊥ b t.core)
@@ -158,13 +158,13 @@ pub handed_as_told : WorkEndsHandedAsTold
 unfolding WorkEndsHandedAsTold
 handed_as_told x s l t r step i e is =
     let w = step_walks x s l t step in
-    out x s l t r step i _ e refl ((words x s l t r step).hands _ e (hands_at (ops_of x.component s.core) s.main s.core (plain_scene x s l w.next).base.queues t.core l _ is))
+    out x s l t r step i _ e refl ((primitives x s l t r step).hands _ e (hands_at (ops_of x.component s.core) s.main s.core (plain_scene x s l w.next).base.queues t.core l _ is))
 
 pub written_are_new : WrittenWorkEndsAreNew
 unfolding WrittenWorkEndsAreNew
 written_are_new x s l t r step i e is =
     let w = step_walks x s l t step in
-    unended x s l t r step i _ refl ((words x s l t r step).writes _ e (written_at (ops_of x.component s.core) s.core (plain_scene x s l w.next).base.queues t.core l _ is))
+    unended x s l t r step i _ refl ((primitives x s l t r step).writes _ e (written_at (ops_of x.component s.core) s.core (plain_scene x s l w.next).base.queues t.core l _ is))
 
 pub no_end_is_covered : NoWorkEndIsCovered
 unfolding NoWorkEndIsCovered

@@ -7,8 +7,8 @@ use Rattle.machine_data.specs.Read.{was_started}
 use Rattle.machine_data.specs.declared.label.Label.{Label}
 use Rattle.machine_data.specs.declared.records.Call.{Call}
 use Rattle.machine_data.specs.declared.records.Thread.{Thread}
-use Rattle.machine_data.specs.declared.words.Status.{Status}
-use Rattle.machine_data.specs.declared.words.Status.TheVariants as status
+use Rattle.machine_data.specs.declared.statuses.Status.{Status}
+use Rattle.machine_data.specs.declared.statuses.Status.TheVariants as status
 use Rattle.machine_rules.specs.Laws.{LaterBy}
 use Rattle.machine_rules.specs.Places.{is_fresh}
 use Rattle.machine_rules.specs.Run.{Run}

@@ -82,28 +82,28 @@ HostLosesNone = (x : Setting) (o : Op) (n : ℕ) (s t : State) (l : Label) → s
     Progresses s s.core n (op_rule SomeHost x.component n s.core (choice_of l) o) l t → is_open t.turn ≡ true → NoWakeLost t.core
 
 -- it ends neither the thread nor an activation
-abbrev pub is_asked_task : TaskOp → Bool
-is_asked_task (task_op.Ret x) = true
-is_asked_task (task_op.RetBad x) = true
-is_asked_task task_op.TaskCancel = true
-is_asked_task task_op.BpInc = true
-is_asked_task task_op.BpDec = true
-is_asked_task _ = false
+abbrev pub is_host_task_op : TaskOp → Bool
+is_host_task_op (task_op.Ret x) = true
+is_host_task_op (task_op.RetBad x) = true
+is_host_task_op task_op.TaskCancel = true
+is_host_task_op task_op.BpInc = true
+is_host_task_op task_op.BpDec = true
+is_host_task_op _ = false
 
 -- an op that names neither an export nor a host, ends neither the thread nor an activation, and isn't plain
-abbrev pub is_asked : Op → Bool
-is_asked (op.Task o) = is_asked_task o
-is_asked (op.Set o) = true
-is_asked (op.Call (call_op.Cancel r x)) = true
-is_asked (op.Call (call_op.CancelSync r x)) = true
-is_asked (op.Call (call_op.Drop x)) = true
-is_asked (op.Thread o) = true
-is_asked _ = false
+abbrev pub is_host_op : Op → Bool
+is_host_op (op.Task o) = is_host_task_op o
+is_host_op (op.Set o) = true
+is_host_op (op.Call (call_op.Cancel r x)) = true
+is_host_op (op.Call (call_op.CancelSync r x)) = true
+is_host_op (op.Call (call_op.Drop x)) = true
+is_host_op (op.Thread o) = true
+is_host_op _ = false
 
--- Where one of `is_asked` (no export, no host, no end, not plain) is done the thread runs on, and the state is in order, wherever the thread
+-- Where one of `is_host_op` (no export, no host, no end, not plain) is done the thread runs on, and the state is in order, wherever the thread
 -- is in its script, also at its end.
 unfoldable pub HostDone : Type 0
-HostDone = (x : Setting) (o : Op) (n m : ℕ) (s t : State) (l : Label) → s.turn ≡ turn.Run n → is_asked o ≡ true →
+HostDone = (x : Setting) (o : Op) (n m : ℕ) (s t : State) (l : Label) → s.turn ≡ turn.Run n → is_host_op o ≡ true →
     op_progress_of n s.core ≡ op_progress.Fresh → InOrder x.component s →
     Progresses s s.core n (op_rule SomeHost x.component n s.core (choice_of l) o) l t → t.turn ≡ turn.Run m → (m ≡ n) × InOrder x.component t
 
@@ -138,7 +138,7 @@ HostCallsDone = (x : Setting) (host : HostDef) (q : Option ℕ) (n m : ℕ) (s t
 
 -- ---- As a host calls an export
 
--- The running thread calls an export directly, with any words, and the call's thread goes on: order stays in which the thread has a sync call
+-- The running thread calls an export directly, with any values, and the call's thread goes on: order stays in which the thread has a sync call
 -- of that export, wherever it is in its script.
 unfoldable pub EnterKeeps : Type 0
 EnterKeeps = (c : Component) (o : Op) (e : Callee) (words : List ℕ) (n m : ℕ) (l : Label) (new s : Core) → callee_of_op o ≡ Some e →

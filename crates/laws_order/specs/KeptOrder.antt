@@ -16,17 +16,17 @@ use Rattle.machine_data.specs.declared.records.Subtask.TheVariants as subtask
 use Rattle.machine_data.specs.declared.records.Turn.{Turn}
 use Rattle.machine_data.specs.declared.records.Turn.TheVariants as turn
 use Rattle.machine_data.specs.declared.records.Why.{Why}
-use Rattle.machine_data.specs.declared.words.Mark.{Mark}
-use Rattle.machine_data.specs.declared.words.Mark.TheVariants as mark
-use Rattle.machine_data.specs.declared.words.TaskEvent.TheVariants as own
-use Rattle.machine_data.specs.declared.words.Status.{Status}
+use Rattle.machine_data.specs.declared.statuses.Mark.{Mark}
+use Rattle.machine_data.specs.declared.statuses.Mark.TheVariants as mark
+use Rattle.machine_data.specs.declared.statuses.TaskEvent.TheVariants as own
+use Rattle.machine_data.specs.declared.statuses.Status.{Status}
 use Rattle.machine_rules.specs.Allowed.{MayPut, is_async_work, is_done_host}
 use Rattle.machine_rules.specs.Ends.{leaves_no_result}
 use Rattle.machine_rules.specs.Places.{is_for_start, is_fresh}
 use Rattle.machine_rules.specs.Sets.{joins, may_wake_new, wakes_joined}
 use Rattle.machine_rules.specs.Takes.{host_status, popped}
 use Rattle.machine_rules.specs.Threads.{resume_why}
-use Rattle.machine_rules.specs.Words.{put_at, status_of_end}
+use Rattle.machine_rules.specs.Primitives.{put_at, status_of_end}
 use Rattle.laws_order.specs.Stands.{MayLeave}
 
 -- ---- An item in hand

@@ -11,9 +11,9 @@ use Rattle.machine_data.specs.declared.records.Entry.TheVariants as entry
 use Rattle.machine_data.specs.declared.records.Subtask.TheVariants as subtask
 use Rattle.machine_data.specs.declared.records.Turn.{Turn}
 use Rattle.machine_data.specs.declared.records.Turn.TheVariants as turn
-use Rattle.machine_data.specs.declared.words.Mark.{Mark}
-use Rattle.machine_data.specs.declared.words.Mark.TheVariants as mark
-use Rattle.machine_data.specs.declared.words.Status.TheVariants as status
+use Rattle.machine_data.specs.declared.statuses.Mark.{Mark}
+use Rattle.machine_data.specs.declared.statuses.Mark.TheVariants as mark
+use Rattle.machine_data.specs.declared.statuses.Status.TheVariants as status
 use Rattle.machine_rules.specs.Run.{Run}
 use Rattle.machine_rules.specs.Scenes.{base_at}
 use Rattle.machine_rules.specs.Stalled.{Setting}

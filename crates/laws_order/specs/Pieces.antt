@@ -1,4 +1,4 @@
--- Pieces of rows keep order, whatever the op at the thread's place is.
+-- Pieces of rules keep order, whatever the op at the thread's place is.
 use Rattle.std.specs.Prelude.{is_some, List, Some, false, true, ℕ, ◌≡◌, ◌≤◌}
 use Rattle.laws_states.specs.Order.{InOrder, InOrderAs, is_open}
 use Rattle.laws_states.specs.WakeLaw.{WakesCounted}
@@ -40,7 +40,7 @@ state_in m p s = record { version = One; core = s; main = m; turn = p }
 abbrev pub InOrderForAnyMain : Component → Turn → Core → Type 0
 InOrderForAnyMain c p s = (m : Main) → InOrder c (state_in m p s)
 
--- the same, in which each thread has this op
+-- the core is in order at this turn, whatever main's part is, and each thread has this op
 abbrev pub InOrderForAnyMainAs : (ℕ → Op) → Component → Turn → Core → Type 0
 InOrderForAnyMainAs ops c p s = (m : Main) → InOrderAs ops c (state_in m p s)
 

@@ -12,8 +12,8 @@ use Rattle.machine_data.specs.declared.component.Component.{Component}
 use Rattle.machine_data.specs.declared.label.Label.{Label}
 use Rattle.machine_data.specs.declared.records.Place.TheVariants as place
 use Rattle.machine_data.specs.declared.records.Subtask.{Subtask}
-use Rattle.machine_data.specs.declared.words.Mark.{Mark}
-use Rattle.machine_data.specs.declared.words.Status.{Status}
+use Rattle.machine_data.specs.declared.statuses.Mark.{Mark}
+use Rattle.machine_data.specs.declared.statuses.Status.{Status}
 use Rattle.machine_rules.specs.Places.{is_at_switch, is_behind_of, is_there, says, times}
 use Rattle.machine_rules.specs.Sets.{joins, may_wake_new, wakes_joined}
 use Rattle.machine_rules.specs.Stalled.{Setting}
@@ -50,7 +50,7 @@ pub record NoWakeLost (s : Core) : Type 0 where
 unfoldable pub OrderStands : Type 0
 OrderStands = (c : Component) (s : State) → InOrder c s → is_open s.turn ≡ true → NoWakeLost s.core
 
--- the same, where each thread has this op
+-- nor in each such state in which each thread has this op
 unfoldable pub OrderStandsAs : Type 0
 OrderStandsAs = (ops : ℕ → Op) (c : Component) (s : State) → InOrderAs ops c s → is_open s.turn ≡ true → NoWakeLost s.core
 

@@ -9,7 +9,7 @@ pub fn starts_keep()
     ensures start { StartKeeps }
 {}
 
-/// A running thread that calls an export directly, with whatever words, keeps order in which it has a sync call of that export,
+/// A running thread that calls an export directly, with whatever values, keeps order in which it has a sync call of that export,
 /// wherever it is in its script.
 #[tactic(auto, using(crate::proofs::CallLemmas::enter_keeps))]
 pub fn enters_keep()
@@ -17,7 +17,7 @@ pub fn enters_keep()
 {}
 
 /// A call that is made, and not started yet, leaves a state in order, whoever it is made for, with
-/// whatever words, for whatever goal but that of a direct one, and whosever turn it is.
+/// whatever values, for whatever goal but that of a direct one, and whosever turn it is.
 #[tactic(auto, using(crate::proofs::NewLemmas::prepare_keeps))]
 pub fn prepares_keep()
     ensures { PrepareKeeps }

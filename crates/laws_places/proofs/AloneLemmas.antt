@@ -15,8 +15,8 @@ shift_runs a (Stop f) s ok k is = moved_runs _ _ (stopped_shifted (λ j v. Unit 
 shift_runs a x s (inl ok) k is = absurd ok
 shift_runs a x s (inr ok) k is = absurd ok
 
-word_runs : (a : Scene) (w : Primitive) (s : Core) → Stays a w s → (k : ℕ) → Runs k (after_primitive w s) → Runs k s
-word_runs a w s ok k is = go (thread_came w s (stays_allowed a w s ok) k)
+primitive_runs : (a : Scene) (w : Primitive) (s : Core) → Stays a w s → (k : ℕ) → Runs k (after_primitive w s) → Runs k s
+primitive_runs a w s ok k is = go (thread_came w s (stays_allowed a w s ok) k)
   where
     go : ThreadAfter a w s k → Runs k s
     go (IsSame r u e f c y far (inl same) z) = grind arith
@@ -27,7 +27,7 @@ word_runs a w s ok k is = go (thread_came w s (stays_allowed a w s ok) k)
     go (IsFirst u first l there y z far new e x) = let place : Place.Running ≡ Place.New = cc in absurd (grind arith)
 
 stay_runs : {a : Scene} {b t : Core} → Stay a b t → (k : ℕ) → Runs k t → Runs k b
-stay_runs {a = a} {b = b} c k is = along (λ (u : Core). Runs k u → Runs k b) (λ w s ok h is. h (word_runs a w s ok k is)) (λ e. e) c is
+stay_runs {a = a} {b = b} c k is = along (λ (u : Core). Runs k u → Runs k b) (λ w s ok h is. h (primitive_runs a w s ok k is)) (λ e. e) c is
 
 removed_runs : (k j : ℕ) (s : Core) → Runs k (remove_thread j s) → ((k == j) ≡ false) × Runs k s
 unfolding remove_thread

@@ -1,5 +1,5 @@
 -- No thread is blocked on a subtask that has an end as its event: along the primitives of a step.
-use Rattle.laws_places.proofs.Laws.{along, ap, arith, at_place, AwaitsEvent, base_at, Blocks, Bool, Call, CallsTold, cancelled_by, cancelled_call, Coming, coming_word, Component, Core, course_of, course_value, EndTells, EndPrimitives, event_of, false, get, HasCome, Holds, host_status, host_taken, op_progress_of, OpProgress, inl, InOrderFor, inr, is_async_work, is_ended_work, is_inside, is_stage_ended, is_told, IsRunner, Label, LoopLabel, MayMove, nat_tests, no_way, None, NoneBlockedOnEnd, Op, Option, option_map, option_map_or, Place, plain, plain_as, refl, Runs, said_plain, Scene, scene_as, Setting, Some, Stage, stage_of, State, Status, status_of_end, Steady, subst, Subtask, subtask_ended, subtask_handle, subtask_under_way, Suspends, sym, TellingGoes, TellsEnd, TellsLater, TellsNever, TellsNone, TellsNow, Thread, true, Turn, Unblocking, Uncovers, undelivered_end, Waits, WaitsAgain, Walk, WalkedAs, Work, work_caller_of, WorksTold, Writes, WritesAtOnce, WritesCall, WritesNever, WritesPolled, written_as, written_at, ℕ, ⊎_elim, ◌∙◌, ◌≡◌, ◌≤◌, ◌⊎◌}
+use Rattle.laws_places.proofs.Laws.{along, ap, arith, at_place, AwaitsEvent, base_at, Blocks, Bool, Call, CallsTold, cancelled_by, cancelled_call, Coming, coming_primitive, Component, Core, course_of, course_value, EndTells, EndPrimitives, event_of, false, get, HasCome, Holds, host_status, host_taken, op_progress_of, OpProgress, inl, InOrderFor, inr, is_async_work, is_ended_work, is_inside, is_stage_ended, is_told, IsRunner, Label, LoopLabel, MayMove, nat_tests, no_way, None, NoneBlockedOnEnd, Op, Option, option_map, option_map_or, Place, plain, plain_as, refl, Runs, said_plain, Scene, scene_as, Setting, Some, Stage, stage_of, State, Status, status_of_end, Steady, subst, Subtask, subtask_ended, subtask_handle, subtask_under_way, Suspends, sym, TellingGoes, TellsEnd, TellsLater, TellsNever, TellsNone, TellsNow, Thread, true, Turn, Unblocking, Uncovers, undelivered_end, Waits, WaitsAgain, Walk, WalkedAs, Work, work_caller_of, WorksTold, Writes, WritesAtOnce, WritesCall, WritesNever, WritesPolled, written_as, written_at, ℕ, ⊎_elim, ◌∙◌, ◌≡◌, ◌≤◌, ◌⊎◌}
 use Rattle.laws_places.proofs.{HostsAwaited.Asked, PlaceSteps.Withdrawable, PlaceSteps.step_by, RestLemmas.Rests, RestLemmas.rests_stay, RestLemmas.rests_walk, RestLemmas.runs_free, RestLemmas.trip_rests}
 
 -- the thread is blocked on the subtask
@@ -122,8 +122,8 @@ module _ {ops : ℕ → Op} (x : Setting) (s : State) (l : Label) (t : State) (w
     λ on m sub at. ⊎_elim (λ e. inl (sym (f.home m) ∙ e)) (λ r. inr (same_open sub r.0 u r.1.1.0 r.1.1.1 (move_opens c m sub r.0 r.1.0))) (trip_rests f d on m (Place.Blocked sub) refl at),
   )))
 
-  words : EndPrimitives a t.core
-  words = plain {ops = ops} x s l w.next (λ b. EndPrimitives b t.core) w.ends.says
+  primitives : EndPrimitives a t.core
+  primitives = plain {ops = ops} x s l w.next (λ b. EndPrimitives b t.core) w.ends.says
 
   -- who is blocked and was so before isn't the one that is freed
   freed : (n : ℕ) (sub : Subtask) → IsTold sub s.core → IsStuck sub n s.core → IsStuck sub n t.core → Unblocking a t.core sub → ⊥
@@ -135,7 +135,7 @@ module _ {ops : ℕ → Op} (x : Setting) (s : State) (l : Label) (t : State) (w
       let other = r.1.1 in absurd (grind (arith, nat_tests))
 
   guest_stuck : (n k : ℕ) (e : Status) → IsStuck (Subtask.Guest k) n s.core → IsStuck (Subtask.Guest k) n t.core → TellsEnd a k s.core → ⊥
-  guest_stuck n k e at still (y, (says, (known, ran))) = by (words.tells (Subtask.Guest k) (status_of_end y)
+  guest_stuck n k e at still (y, (says, (known, ran))) = by (primitives.tells (Subtask.Guest k) (status_of_end y)
       (written_at ops s.core (base_at s.turn s.core).queues t.core l _ (said_plain ops x s l w.next t.core k (status_of_end y) says)))
     where
       by : EndTells a t.core (Subtask.Guest k) (status_of_end y) → ⊥
@@ -170,21 +170,21 @@ module _ {ops : ℕ → Op} (x : Setting) (s : State) (l : Label) (t : State) (w
       let none = blocked.events n (Subtask.Host i) at in
       let far = inside_of (Subtask.Host i) (op_progress_of n s.core) (h.inside n (Place.Blocked (Subtask.Host i)) at) in
       let below = h.works_named.by_op n i (⊎_elim (λ f. ap subtask_under_way f) (λ f. ap subtask_under_way f) far) in
-      ⊎_elim (λ same. absurd (grind arith)) (λ taken. freed n (Subtask.Host i) (live_work n i at) at still (words.takes i taken).unblocks) (hosts i e is)
+      ⊎_elim (λ same. absurd (grind arith)) (λ taken. freed n (Subtask.Host i) (live_work n i at) at still (primitives.takes i taken).unblocks) (hosts i e is)
 
   -- the work of the runner's own sync call has ended
   ended_asked : (m i : ℕ) → IsRunner a m → op_progress_of m a.base ≡ OpProgress.Calls (Subtask.Host i) → is_stage_ended (stage_of i a.base) ≡ true
   ended_asked m i is far = (asked m i is far).1
 
   ended_here : (i : ℕ) → i ≤ s.core.made.works → is_stage_ended (stage_of i t.core) ≡ true → HasCome a ended_asked i
-  ended_here i below = (along (Coming a ended_asked i) (coming_word a ended_asked i) (record { made = below; caller = inr refl; ended = λ e. inl e })
+  ended_here i below = (along (Coming a ended_asked i) (coming_primitive a ended_asked i) (record { made = below; caller = inr refl; ended = λ e. inl e })
       (plain {ops = ops} x s l w.next (λ c. Walk c s.core t.core) w.walk)).ended
 
   -- who is blocked on a work that is polled to its end, and isn't of an async call, goes on
   polled_stuck : (n i : ℕ) → i ≤ s.core.made.works → IsStuck (Subtask.Host i) n s.core → IsStuck (Subtask.Host i) n t.core →
       l ≡ Label.Loop (LoopLabel.FutureEnds i) → is_async_work (work_caller_of i s.core) ≡ false → ⊥
   polled_stuck n i below at still shows alone =
-      ⊎_elim (λ calls. by (Subtask.Host i) refl calls (words.writes (Subtask.Host i) (host_status (course_value (course_of i t.core)))
+      ⊎_elim (λ calls. by (Subtask.Host i) refl calls (primitives.writes (Subtask.Host i) (host_status (course_value (course_of i t.core)))
       (ap (λ y. written_as ops a.base y t.core) shows)))
       (λ awaits. let async = cancels_async h n i awaits in absurd (grind arith))
       (inside_of (Subtask.Host i) (op_progress_of n s.core) (h.inside n (Place.Blocked (Subtask.Host i)) at))
@@ -204,7 +204,7 @@ module _ {ops : ℕ → Op} (x : Setting) (s : State) (l : Label) (t : State) (w
       let below = h.works_named.by_op n i (⊎_elim (λ f. ap subtask_under_way f) (λ f. ap subtask_under_way f) far) in
       let live = blocked.works n (Subtask.Host i) at in
       ⊎_elim (λ was. absurd (grind (arith, live, was)))
-      (⊎_elim (λ taken. freed n (Subtask.Host i) (live_work n i at) at still (words.takes i taken).unblocks)
+      (⊎_elim (λ taken. freed n (Subtask.Host i) (live_work n i at) at still (primitives.takes i taken).unblocks)
       (λ polled. polled_stuck n i below at still polled.0 polled.1)) (ended_here i below is)
 
   pub step_blocked : NoneBlockedOnEnd t.core

@@ -1,6 +1,6 @@
 -- Callers go on: along the primitives of a step.
-use Rattle.laws_places.proofs.Laws.{[], after_primitive, along, ap, arith, Bool, by_number, Core, false, foot_from, foot_of, get, Halted, inl, inr, is_fresh, is_some, is_there, made_threads_word, Mark, nat_tests, None, Option, option_map, option_map_or, Place, place_of, Places, placing_shifted, refl, Scene, Some, Stand, Stay, Stop, stopped, subst, suc, sym, Thread, true, Turn, under_of, under_place, Why, why_of, zero, ℕ, ⊎_elim, ◌+◌, ◌==◌, ◌∙◌, ◌≡◌, ◌≤◌, ◌⊎◌}
-use Rattle.laws_places.proofs.{PlaceLaw.Follows, PlaceLaw.covered_still, PlaceLaw.stay_word, PlaceLaw.watch, StayMoves.Born, StayMoves.Early, StayMoves.Gone, StayMoves.Kept, StayMoves.Marked, StayMoves.Moves, StayMoves.Passed, StayMoves.Resumed, StayMoves.Woken, StayMoves.behind_called, StayMoves.called_behind, StayMoves.stay_moves, StayMoves.stops, StayMoves.switch_ready, StrandFeet.Below, StrandFeet.Down, StrandFeet.Here, StrandFeet.Rising, StrandFeet.down_further, StrandFeet.foot_bottom, StrandFeet.last_under, StrandFeet.lowest}
+use Rattle.laws_places.proofs.Laws.{[], after_primitive, along, ap, arith, Bool, by_number, Core, false, foot_from, foot_of, get, Halted, inl, inr, is_fresh, is_some, is_there, made_threads_primitive, Mark, nat_tests, None, Option, option_map, option_map_or, Place, place_of, Places, placing_shifted, refl, Scene, Some, Stand, Stay, Stop, stopped, subst, suc, sym, Thread, true, Turn, under_of, under_place, Why, why_of, zero, ℕ, ⊎_elim, ◌+◌, ◌==◌, ◌∙◌, ◌≡◌, ◌≤◌, ◌⊎◌}
+use Rattle.laws_places.proofs.{PlaceLaw.Follows, PlaceLaw.covered_still, PlaceLaw.stay_primitive, PlaceLaw.watch, StayMoves.Born, StayMoves.Early, StayMoves.Gone, StayMoves.Kept, StayMoves.Marked, StayMoves.Moves, StayMoves.Passed, StayMoves.Resumed, StayMoves.Woken, StayMoves.behind_called, StayMoves.called_behind, StayMoves.stay_moves, StayMoves.stops, StayMoves.switch_ready, StrandFeet.Below, StrandFeet.Down, StrandFeet.Here, StrandFeet.Rising, StrandFeet.down_further, StrandFeet.foot_bottom, StrandFeet.last_under, StrandFeet.lowest}
 
 -- The thread comes, through those that it is behind or under, to one that is ready or runs and isn't left out.
 pub data Goes (out : ℕ → Bool) (s : Core) : ℕ → Type 0 where
@@ -262,7 +262,7 @@ module _ {a : Scene} {b : Core} (base : Begins a b) {out : ℕ → Bool} (s t : 
     new = new_next;
   }
 
--- ---- The words while the running thread stays
+-- ---- The primitives while the running thread stays
 
 module _ {a : Scene} {b : Core} {n : ℕ} {q : Option Place} (f : Follows a b n q) (base : Begins a b) where
   abbrev pub Both : (ℕ → Bool) → Core → Type 0
@@ -274,9 +274,9 @@ module _ {a : Scene} {b : Core} {n : ℕ} {q : Option Place} (f : Follows a b n 
 
   pub walk_calling : (out : ℕ → Bool) → ((j : ℕ) → (j == n) ≡ false → out j ≡ false) → {s t : Core} → Stay a s t → Both out s → Both out t
   walk_calling out ok c first = along (Both out) (λ w u may h. (
-    stay_word f w u may h.0,
+    stay_primitive f w u may h.0,
     calling_next base u (after_primitive w u) (stay_moves f u h.0 w may) (λ j g at. ok j (behind_apart u h.0 j g at))
-        (λ m is. ok m (switch_ready a h.0 m is).1) h.1 (made_threads_word a w u),
+        (λ m is. ok m (switch_ready a h.0 m is).1) h.1 (made_threads_primitive a w u),
   )) first c
 
   -- ---- A strand that stops
@@ -382,8 +382,8 @@ module _ {a : Scene} {b : Core} {n : ℕ} {q : Option Place} (f : Follows a b n 
     -- once the strand has stopped, all callers go on without the thread
     stopped_both : Both lone stop
     stopped_both =
-        let all = calling_next base h.before stop moves (λ j g e. refl) (λ m is. refl) before.1 (made_threads_word a (Places (Stop foot)) h.before) in (
-          stay_word f (Places (Stop foot)) h.before (inr to) before.0,
+        let all = calling_next base h.before stop moves (λ j g e. refl) (λ m is. refl) before.1 (made_threads_primitive a (Places (Stop foot)) h.before) in (
+          stay_primitive f (Places (Stop foot)) h.before (inr to) before.0,
           record {
             goes = λ j g at. go j g at (moves j);
             feet = all.feet;

@@ -419,16 +419,16 @@ module _ {a : Scene} {b : Core} {n : ℕ} {o : Option Place} (f : Frame a b n o)
   unfolding set_op_progress on_thread
   far_same m h s j = grind (arith, nat_tests, get-change)
 
-  word_same : (x : Placing) (s : Core) (j : ℕ) → place_of j (after_primitive (Places x) s) ≡ place_of j (after_placing x s)
-  word_same x s j = ap (λ (t : Core). place_of j t) (placing_shifted x s).only
+  primitive_same : (x : Placing) (s : Core) (j : ℕ) → place_of j (after_primitive (Places x) s) ≡ place_of j (after_placing x s)
+  primitive_same x s j = ap (λ (t : Core). place_of j t) (placing_shifted x s).only
 
   pub trip_called : {t : Core} → Trip a b t → (a.next ≡ Turn.Over → ⊥) → Called a b t
   trip_called (Remains t c still on) live = calling_called base (stay_both c).1
-  trip_called (Lands s x c ok fit halts) live = called_as (after_placing x s) _ (word_same x s) (lands_called x s ok c halts)
+  trip_called (Lands s x c ok fit halts) live = called_as (after_placing x s) _ (primitive_same x s) (lands_called x s ok c halts)
   trip_called (LandsAt s x m h c ok fit comes halts) live =
-      called_as (after_placing x s) _ (λ j. far_same m h (after_primitive (Places x) s) j ∙ word_same x s j) (lands_called x s ok c halts)
+      called_as (after_placing x s) _ (λ j. far_same m h (after_primitive (Places x) s) j ∙ primitive_same x s j) (lands_called x s ok c halts)
   trip_called (Quits s t k c leave d h) live = quits_called k s t c leave d h
   trip_called (GoesBack s t k m v c is runs to under back d ok) live =
-      called_as (set_place m Place.Running t) _ (λ j. far_same m (OpProgress.Answered v) (after_primitive (Places (Move m Place.Running)) t) j ∙ word_same (Move m Place.Running) t j)
+      called_as (set_place m Place.Running t) _ (λ j. far_same m (OpProgress.Answered v) (after_primitive (Places (Move m Place.Running)) t) j ∙ primitive_same (Move m Place.Running) t j)
       (goes_back_called k m s t c is under d)
   trip_called (Collapses t over c) live = absurd (live over)

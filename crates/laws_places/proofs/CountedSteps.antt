@@ -1,5 +1,5 @@
 -- Wakes are counted: each step keeps it.
-use Rattle.laws_places.proofs.Laws.{admits, along, and_parts, any_at, any_found, ap, arith, at_turn, AwaitsEvent, base_at, Blocks, Bool, by_number, Call, Came, came_word, Choice, choice_of, chosen, Comes, Component, Core, Delivery, delivery_rule, Doer, EndTells, EndTold, EndPrimitives, Entry, event_of, false, Frees, Gains, get, get-change, picked_event, goes_to, has_ready_member, has_waiter, Holds, host_taken, HostTold, op_progress_of, OpProgress, in_set_is, inl, InOrderFor, inr, is_callback_waiter, is_delivery_for, is_for_start, is_in_set, is_inside_wait, is_join, is_open, is_ready_member, is_some, is_wait, is_waiter, is_waiting_on, is_woken_at, is_woken_for, IsRunner, Join, join_of, join_rule, JoinsSet, keep_stay, Label, Mark, MayMove, MayPut, MayStand, member_same, nat_tests, next_entry, None, none_ready, now_joined, on_thread, Op, op_in, op_of, op_rule, Operand, Option, option_and_then, option_map, option_map_or, or_never, Place, place_of, plain, plain_as, popped, popped_is, popped_threads, Progress, Progresses, Queues, ready_same, Records, refl, runner_at, running, Runs, RunsAlone, said_plain, same_subtask, Scene, scene_as, script_of, set_place, SetOp, Setting, shift_keeps, shifted_calls, shifted_works, Shifts, shifts_shifted, Some, start_rule, StartTold, State, Status, status_of_end, StepAs, subst, Subtask, SubtaskEnd, Suspends, sym, take_label, TakeStep, task_of, TellsLater, TellsNever, TellsNone, TellsNow, Thread, thread_of_entry, thread_taken, thread_taken_for, true, Turn, Turned, Turns, TurnStepAs, Uncovers, unwrap_or, value_of, wait_goes_on, wait_goes_on_by, wait_rule, waiting_of, Waits, WaitsAgain, wake_why, WakesCounted, WakesOne, Walk, WalkedAs, WasReady, weaken, Why, woken_at, woken_place, written_as, written_at, ℕ, ⊎_elim, ◌==◌, ◌∙◌, ◌≡◌, ◌⊎◌}
+use Rattle.laws_places.proofs.Laws.{admits, along, and_parts, any_at, any_found, ap, arith, at_turn, AwaitsEvent, base_at, Blocks, Bool, by_number, Call, Came, came_primitive, Choice, choice_of, chosen, Comes, Component, Core, Delivery, delivery_rule, Doer, EndTells, EndTold, EndPrimitives, Entry, event_of, false, Frees, Gains, get, get-change, picked_event, goes_to, has_ready_member, has_waiter, Holds, host_taken, HostTold, op_progress_of, OpProgress, in_set_is, inl, InOrderFor, inr, is_callback_waiter, is_delivery_for, is_for_start, is_in_set, is_inside_wait, is_join, is_open, is_ready_member, is_some, is_wait, is_waiter, is_waiting_on, is_woken_at, is_woken_for, IsRunner, Join, join_of, join_rule, JoinsSet, keep_stay, Label, Mark, MayMove, MayPut, MayStand, member_same, nat_tests, next_entry, None, none_ready, now_joined, on_thread, Op, op_in, op_of, op_rule, Operand, Option, option_and_then, option_map, option_map_or, or_never, Place, place_of, plain, plain_as, popped, popped_is, popped_threads, Progress, Progresses, Queues, ready_same, Records, refl, runner_at, running, Runs, RunsAlone, said_plain, same_subtask, Scene, scene_as, script_of, set_place, SetOp, Setting, shift_keeps, shifted_calls, shifted_works, Shifts, shifts_shifted, Some, start_rule, StartTold, State, Status, status_of_end, StepAs, subst, Subtask, SubtaskEnd, Suspends, sym, take_label, TakeStep, task_of, TellsLater, TellsNever, TellsNone, TellsNow, Thread, thread_of_entry, thread_taken, thread_taken_for, true, Turn, Turned, Turns, TurnStepAs, Uncovers, unwrap_or, value_of, wait_goes_on, wait_goes_on_by, wait_rule, waiting_of, Waits, WaitsAgain, wake_why, WakesCounted, WakesOne, Walk, WalkedAs, WasReady, weaken, Why, woken_at, woken_place, written_as, written_at, ℕ, ⊎_elim, ◌==◌, ◌∙◌, ◌≡◌, ◌⊎◌}
 use Rattle.laws_places.proofs.{Balance.Balance, Balance.Bare, Balance.Gained, Balance.Passed, Balance.Quiet, Balance.Took, Balance.balanced, Balance.bare_le, Balance.ready_le, Balance.same_is, Balance.same_self, Balance.woken_le, Entries.next_first, Entries.popped_cleared, PlaceLaw.ReadyAt, PlaceLaw.entry_ready, PlaceLaw.yield_leaves, PlaceSteps.Withdrawable, PlaceSteps.step_by, RestLemmas.ComesTo, RestLemmas.Rests, RestLemmas.is_rest, RestLemmas.rests_stay, RestLemmas.rests_walk, RestLemmas.runs_free, RestLemmas.trip_rests, WaitsKept.wait_op, WakeRules.HandedOn, WakeRules.IsSilent, WakeRules.NobodyWaits, WakeRules.NoneReady, WakeRules.Spends, WakeRules.StartTells, WakeRules.StaysWoken, WakeRules.TookMember, WakeRules.WokeOne, WakeRules.WokeThis, WakeRules.delivery_spends, WakeRules.is_past, WakeRules.join_rule_tells, WakeRules.moved_past, WakeRules.start_tells, WakeRules.wait_spends, WakeRules.woken_is_past, WokenTrips.ReadyFor, WokenTrips.Wends, WokenTrips.is_wending, WokenTrips.trip_on}
 
 -- ---- Walks
@@ -31,7 +31,7 @@ past_came a s t m p other h (Comes r ok e there) = ap is_past e ∙ move_past a 
 past_came a s t m p other h (Turns c) = turned_past a s t m (place_of m s) p c
 
 past_walk : {a : Scene} {b t : Core} → Walk a b t → (m : ℕ) → (IsRunner a m → ⊥) → is_past (place_of m b) ≡ true → is_past (place_of m t) ≡ true
-past_walk {a = a} c m other h = along (λ (u : Core). is_past (place_of m u) ≡ true) (λ w s ok q. past_came a s _ m _ other q (came_word w s ok m)) h c
+past_walk {a = a} c m other h = along (λ (u : Core). is_past (place_of m u) ≡ true) (λ w s ok q. past_came a s _ m _ other q (came_primitive w s ok m)) h c
 
 -- where no op joins, who is in a set was so before
 joins_walk : {a : Scene} {b t : Core} → ((n : ℕ) → IsRunner a n → a.turn ≡ Turn.Run n → is_join (op_in a n) ≡ true → ⊥) → Walk a b t → (sub : Subtask) (x : ℕ) →
@@ -154,8 +154,8 @@ module _ (by_whom : Op → Doer) {ops : ℕ → Op} (x : Setting) (s : State) (l
   walk : Walk a s.core t.core
   walk = plain x s l w.next (λ c. Walk c s.core t.core) w.walk
 
-  words : EndPrimitives a t.core
-  words = plain x s l w.next (λ c. EndPrimitives c t.core) w.ends.says
+  primitives : EndPrimitives a t.core
+  primitives = plain x s l w.next (λ c. EndPrimitives c t.core) w.ends.says
 
   -- the runner is one
   one_runner : (m n : ℕ) → IsRunner a m → IsRunner a n → m ≡ n
@@ -274,9 +274,9 @@ module _ (by_whom : Op → Doer) {ops : ℕ → Op} (x : Setting) (s : State) (l
     end_evidence : NoStart → NoJoin → (sub : Subtask) → Gains a sub → is_ready_member y sub t.core ≡ true → Evidence y
     end_evidence start join sub (StartTold k n is was explicit same) on = absurd (start n is was)
     end_evidence start join sub (JoinsSet d n is runs op) on = absurd (join n is runs op)
-    end_evidence start join sub (HostTold i taken) on = frees_evidence join (Subtask.Host i) (words.takes i taken) on
+    end_evidence start join sub (HostTold i taken) on = frees_evidence join (Subtask.Host i) (primitives.takes i taken) on
     end_evidence start join sub (EndTold k z says told ran) on =
-        by (Subtask.Guest k) (status_of_end z) refl refl (words.tells (Subtask.Guest k) (status_of_end z)
+        by (Subtask.Guest k) (status_of_end z) refl refl (primitives.tells (Subtask.Guest k) (status_of_end z)
         (written_at ops s.core (base_at s.turn s.core).queues t.core l _ (said_plain ops x s l w.next t.core k (status_of_end z) says)))
       where
         by : (d : Subtask) (e : Status) → d ≡ Subtask.Guest k → e ≡ status_of_end z → EndTells a t.core d e → Evidence y

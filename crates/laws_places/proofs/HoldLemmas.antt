@@ -32,9 +32,9 @@ none_called a none main here f e group s (may.ByProgram words m takes is same) =
 none_called a none main here f e group s (may.ByThread n r callee is same) =
     none_below (op_callee (component_of a) (λ e. e.instance < 0) none.calls n a.base e (subst (λ (o : Op). callee_of_op o ≡ Some e) (here n) callee))
 
-none_word : (a : Scene) → NoCallees a.setting → IsScripted a.main → OpsHere a → (w : Primitive) (s : Core) → Allowed a w s → NoCalls s →
+none_primitive : (a : Scene) → NoCallees a.setting → IsScripted a.main → OpsHere a → (w : Primitive) (s : Core) → Allowed a w s → NoCalls s →
     NoCalls (after_primitive w s)
-none_word a none main here w s ok q k = by (call_came w s ok k)
+none_primitive a none main here w s ok q k = by (call_came w s ok k)
   where
     by : CallAfter a w s k → get (after_primitive w s).calls k ≡ None
     by (Grown c d is to goes) = some_none (sym is ∙ q k)
@@ -152,7 +152,7 @@ empty_after x none s l t empty step =
     let here = ops_plain x.component s.core a.base.queues in
     record {
       order = step_in_order x s l t empty.order step;
-      calls = along NoCalls (none_word a none empty.main here) empty.calls (plain x s l w.next (λ c. Walk c s.core t.core) w.walk);
+      calls = along NoCalls (none_primitive a none empty.main here) empty.calls (plain x s l w.next (λ c. Walk c s.core t.core) w.walk);
       main = script_stays s.main t.core t.main w.main empty.main;
     }
 

@@ -1,9 +1,9 @@
 -- A thread inside a sync call of a host waits for its work, or that is done; and host works have their entries: along the
 -- primitives of a step.
-use Rattle.laws_places.proofs.Laws.{[], after_placing, after_primitive, Allowed, along, ap, arith, behind_one, blocked_place, by_number, Collapses, Core, Departs, EndsOver, Enter, fall_allowed, false, get, GoBehind, GoesBack, HostsAwaited, op_progress_of, OpProgress, inl, InPlace, inr, is_stage_ended, IsBeside, IsFirst, IsGone, IsRunner, IsSame, Label, land_allowed, Lands, LandsAt, MadeCounts, made_works_word, Mark, MayCome, MayLand, MayRemoveWork, Move, Op, Option, option_map_or, Place, place_kept, place_of, Places, Placing, placing_shifted, push_high, push_low, Put, put_high, put_low, Quits, refl, Remains, RemoveThread, SameWorks, Scene, scene_as, set_callers, set_place, SetOpProgress, Setting, settle_stays, Settles, Some, Stage, stage_of, Stand, State, Stay, stays_allowed, subst, Subtask, sym, Thread, thread_came, ThreadAfter, Trip, true, WalkedAs, WasUnder, Primitive, Work, WorksQueued, ℕ, ⊎_elim, ◌==◌, ◌∙◌, ◌≡◌, ◌≤◌, ◌⊎◌}
-use Rattle.laws_places.proofs.{PlaceLaw.Frame, PlaceLaw.beside, PlaceLaw.exits, PlaceLaw.move_runner, PlaceLaw.runner_there, PlaceLaw.stands, PlaceLaw.stay_word, PlaceLaw.stuck_word, PlaceLaw.watch, PlaceLaw.yield_leaves, PlaceSteps.Reads, PlaceSteps.Withdrawable, PlaceSteps.step_by, WorksQueued.ended_word, WorksQueued.others_move, WorksQueued.works_word}
+use Rattle.laws_places.proofs.Laws.{[], after_placing, after_primitive, Allowed, along, ap, arith, behind_one, blocked_place, by_number, Collapses, Core, Departs, EndsOver, Enter, unwind_allowed, false, get, GoBehind, GoesBack, HostsAwaited, op_progress_of, OpProgress, inl, InPlace, inr, is_stage_ended, IsBeside, IsFirst, IsGone, IsRunner, IsSame, Label, land_allowed, Lands, LandsAt, MadeCounts, made_works_primitive, Mark, MayCome, MayLand, MayRemoveWork, Move, Op, Option, option_map_or, Place, place_kept, place_of, Places, Placing, placing_shifted, push_high, push_low, Put, put_high, put_low, Quits, refl, Remains, RemoveThread, SameWorks, Scene, scene_as, set_callers, set_place, SetOpProgress, Setting, settle_stays, Settles, Some, Stage, stage_of, Stand, State, Stay, stays_allowed, subst, Subtask, sym, Thread, thread_came, ThreadAfter, Trip, true, WalkedAs, WasUnder, Primitive, Work, WorksQueued, ℕ, ⊎_elim, ◌==◌, ◌∙◌, ◌≡◌, ◌≤◌, ◌⊎◌}
+use Rattle.laws_places.proofs.{PlaceLaw.Frame, PlaceLaw.beside, PlaceLaw.exits, PlaceLaw.move_runner, PlaceLaw.runner_there, PlaceLaw.stands, PlaceLaw.stay_primitive, PlaceLaw.stuck_primitive, PlaceLaw.watch, PlaceLaw.yield_leaves, PlaceSteps.Reads, PlaceSteps.Withdrawable, PlaceSteps.step_by, WorksQueued.ended_primitive, WorksQueued.others_move, WorksQueued.works_primitive}
 
--- a blocked thread stays, or the work is done, where the word is a change of places
+-- a blocked thread stays, or the work is done, where the primitive is a change of places
 abbrev Stuck : Primitive → Core → Type 0
 Stuck w s = (m i : ℕ) → place_of m s ≡ Some (Place.Blocked (Subtask.Host i)) → (x : Placing) → w ≡ Places x →
     (place_of m (after_primitive w s) ≡ Some (Place.Blocked (Subtask.Host i))) ⊎ (is_stage_ended (stage_of i s) ≡ true)
@@ -12,16 +12,16 @@ Stuck w s = (m i : ℕ) → place_of m s ≡ Some (Place.Blocked (Subtask.Host i
 abbrev Awaited : ℕ → ℕ → Core → Type 0
 Awaited n i s = (i ≤ s.made.works) × ((place_of n s ≡ Some (Place.Blocked (Subtask.Host i))) ⊎ (is_stage_ended (stage_of i s) ≡ true))
 
-awaited_word : (a : Scene) (w : Primitive) (s : Core) → Allowed a w s → ((i : ℕ) → MayRemoveWork a i s → is_stage_ended (stage_of i s) ≡ true) →
+awaited_primitive : (a : Scene) (w : Primitive) (s : Core) → Allowed a w s → ((i : ℕ) → MayRemoveWork a i s → is_stage_ended (stage_of i s) ≡ true) →
     WorksQueued s → Stuck w s → HostsAwaited s → HostsAwaited (after_primitive w s)
-awaited_word a w s ok ends q stuck h n i far = go (thread_came w s ok n)
+awaited_primitive a w s ok ends q stuck h n i far = go (thread_came w s ok n)
   where
     goes : (r u : Thread) → get s.threads n ≡ Some r → get (after_primitive w s).threads n ≡ Some u →
         (u.place ≡ r.place) ⊎ ((x : Placing) × (w ≡ Places x)) →
         Awaited n i s → Awaited n i (after_primitive w s)
     goes r u e f (inl same) old =
-        let l = ended_word a w s ok ends q i old.0 in let m = made_works_word a w s in let o = old.1 in grind arith
-    goes r u e f (inr x) old = let l = ended_word a w s ok ends q i old.0 in let m = made_works_word a w s in let o = old.1 in
+        let l = ended_primitive a w s ok ends q i old.0 in let m = made_works_primitive a w s in let o = old.1 in grind arith
+    goes r u e f (inr x) old = let l = ended_primitive a w s ok ends q i old.0 in let m = made_works_primitive a w s in let o = old.1 in
         let b = λ (at : place_of n s ≡ Some (Place.Blocked (Subtask.Host i))). stuck n i at x.0 x.1 in grind arith
 
     come : (r : Thread) → get s.threads n ≡ Some r → MayCome a n (OpProgress.Calls (Subtask.Host i)) s → Awaited n i s
@@ -53,12 +53,12 @@ goes_ended : (a : Scene) (i : ℕ) (s : Core) → Asked a → Working a s → Ma
 goes_ended a i s asked h ok =
     ⊎_elim (λ far. let e = asked ok.0 i ok.1.0 far.0 in h.ended i e.0 e.1) (λ e. e.1.1.0) ok.1.1.1
 
-working_word : (a : Scene) → Asked a → (w : Primitive) (s : Core) → Allowed a w s → Stuck w s → Working a s → Working a (after_primitive w s)
-working_word a asked w s ok stuck h = record {
-  works = works_word a w s ok (λ i e. goes_ended a i s asked h e) h.works;
-  awaited = awaited_word a w s ok (λ i e. goes_ended a i s asked h e) h.works stuck h.awaited;
-  made = omega (arith, h.made, made_works_word a w s);
-  ended = λ i below e. ended_word a w s ok (λ i e. goes_ended a i s asked h e) h.works i (omega (arith, below, h.made)) (h.ended i below e);
+working_primitive : (a : Scene) → Asked a → (w : Primitive) (s : Core) → Allowed a w s → Stuck w s → Working a s → Working a (after_primitive w s)
+working_primitive a asked w s ok stuck h = record {
+  works = works_primitive a w s ok (λ i e. goes_ended a i s asked h e) h.works;
+  awaited = awaited_primitive a w s ok (λ i e. goes_ended a i s asked h e) h.works stuck h.awaited;
+  made = omega (arith, h.made, made_works_primitive a w s);
+  ended = λ i below e. ended_primitive a w s ok (λ i e. goes_ended a i s asked h e) h.works i (omega (arith, below, h.made)) (h.ended i below e);
 }
 
 -- ---- Trips
@@ -94,18 +94,18 @@ module _ {a : Scene} {b : Core} {n : ℕ} {q : Option Place} (f : Frame a b n q)
   stays first c =
       (along (λ (t : Core). Stand (watch a) n q [] t × Working a t)
       (λ w s ok h. (
-        stay_word f.follows w s ok h.0,
-        working_word a asked w s (stays_allowed a w s ok) (λ m i at x e. stuck_word f.follows m (Subtask.Host i) w s ok h.0 at) h.1,
+        stay_primitive f.follows w s ok h.0,
+        working_primitive a asked w s (stays_allowed a w s ok) (λ m i at x e. stuck_primitive f.follows m (Subtask.Host i) w s ok h.0 at) h.1,
       ))
       (f.follows.start, first) c).1
 
   settles : {s t : Core} → Working a s → Settles s t → Working a t
   settles first d = along (Working a)
-      (λ w s ok h. working_word a asked w s (stays_allowed a w s (settle_stays a w s ok)) (λ m i at x e. absurd (grind arith)) h) first d
+      (λ w s ok h. working_primitive a asked w s (stays_allowed a w s (settle_stays a w s ok)) (λ m i at x e. absurd (grind arith)) h) first d
 
   landed : (s : Core) (p : Placing) → Working a b → Stay a b s → MayLand a p s → Working a (after_primitive (Places p) s)
   landed s p first c ok =
-      working_word a asked (Places p) s (land_allowed a p s ok)
+      working_primitive a asked (Places p) s (land_allowed a p s ok)
       (λ m i at x e. inl (ap (λ (t : Core). place_of m t) (placing_shifted p s).only ∙ land_blocked p s ok c m (Subtask.Host i) at))
       (stays first c)
 
@@ -114,23 +114,23 @@ module _ {a : Scene} {b : Core} {n : ℕ} {q : Option Place} (f : Frame a b n q)
   trip_works first (Lands s p c ok fit halts) = landed s p first c ok
   trip_works first (LandsAt s p m h c ok fit comes halts) =
       let t = after_primitive (Places p) s in
-      working_word a asked (SetOpProgress m h) t comes (λ j i at x e. absurd (cc)) (landed s p first c ok)
+      working_primitive a asked (SetOpProgress m h) t comes (λ j i at x e. absurd (cc)) (landed s p first c ok)
   trip_works first (Quits s t k c leave d halts) =
-      settles (working_word a asked (RemoveThread k) s (Departs leave) (λ j i at x e. absurd (cc)) (stays first c)) d
+      settles (working_primitive a asked (RemoveThread k) s (Departs leave) (λ j i at x e. absurd (cc)) (stays first c)) d
   trip_works first (GoesBack s t k m v c is runs to under returns d ok) =
       let g =
-      settles (working_word a asked (RemoveThread k) s (EndsOver m is runs to under) (λ j i at x e. absurd (cc)) (stays first c)) d in
+      settles (working_primitive a asked (RemoveThread k) s (EndsOver m is runs to under) (λ j i at x e. absurd (cc)) (stays first c)) d in
       let low : place_of m t ≡ Some (Place.Under k) = (exits f k s t is c d).1.1 m k under in
       let back = after_primitive (Places (Move m Place.Running)) t in
       let other =
       λ (j i : ℕ) (at : place_of j t ≡ Some (Place.Blocked (Subtask.Host i))). by_number j m _ (λ e. absurd (grind arith)) (λ e. e) in
-      working_word a asked (SetOpProgress m (OpProgress.Answered v)) back ((k, (is, (to, (under, returns)))), WasUnder k v under refl)
+      working_primitive a asked (SetOpProgress m (OpProgress.Answered v)) back ((k, (is, (to, (under, returns)))), WasUnder k v under refl)
       (λ j i at x e. absurd (cc))
-      (working_word a asked (Places (Move m Place.Running)) t (inr ok)
+      (working_primitive a asked (Places (Move m Place.Running)) t (inr ok)
       (λ j i at x y. inl (ap (λ (u : Core). place_of j u) (placing_shifted (Move m Place.Running) t).only ∙
       (place_kept j m Place.Running t (other j i at) ∙ at))) g)
   trip_works first (Collapses t over c) =
-      along (Working a) (λ w s ok h. working_word a asked w s (fall_allowed a w s ok) (λ m i at x e. absurd (grind arith)) h) first c
+      along (Working a) (λ w s ok h. working_primitive a asked w s (unwind_allowed a w s ok) (λ m i at x e. absurd (grind arith)) h) first c
 
 -- ---- Steps
 

@@ -1,6 +1,6 @@
 -- Who waits or is blocked is inside the op that says so, along the primitives of a step.
 use Rattle.laws_places.proofs.Laws.{[], after_placing, after_primitive, Allowed, along, ap, arith, behind_shifted, Bool, by_number, Collapses, Core, Enter, false, get, get-change, get-remove, GoBehind, GoesBack, op_progress_of, OpProgress, inl, InPlace, inr, InsideOps, is_inside, IsBeside, IsUnwind, IsFirst, IsGone, IsRunner, IsSame, Label, land_allowed, Lands, lands_alone, lands_inside, LandsAt, Mark, MayCome, MayLand, MayMove, Move, Moved, nat_tests, on_thread, Op, Option, Place, place_of, Places, Placing, placing_shifted, Pop, popped, Promote, promoted_shifted, Put, put_shifted, Quits, refl, Remains, remove_thread, RemoveThread, Scene, scene_as, set_high, set_op_progress, set_low, set_place, set_switch, set_trapped, SetOpProgress, Setting, settle_threads, Settles, SetTrapped, shifted_far, Some, Stand, State, Stay, Stays, stays_allowed, Stop, stopped_shifted, sym, Thread, thread_came, ThreadAfter, Trip, true, WalkedAs, Primitive, ℕ, ⊎_elim, ◌==◌, ◌∙◌, ◌≡◌, ◌⊎◌}
-use Rattle.laws_places.proofs.{PlaceLaw.Frame, PlaceLaw.covered_still, PlaceLaw.stay_stand, PlaceLaw.stay_word, PlaceLaw.watch, PlaceSteps.Withdrawable, PlaceSteps.step_by}
+use Rattle.laws_places.proofs.{PlaceLaw.Frame, PlaceLaw.covered_still, PlaceLaw.stay_stand, PlaceLaw.stay_primitive, PlaceLaw.watch, PlaceSteps.Withdrawable, PlaceSteps.step_by}
 
 -- a place that says nothing of the op there
 abbrev is_loose : Place → Bool
@@ -56,10 +56,10 @@ move_who a k p s ok = grind arith
 abbrev Loose : Scene → ℕ → Core → Type 0
 Loose a k s = IsRunner a k ⊎ ((m : ℕ) × (place_of k a.base ≡ Some (Place.Under m))) → (p : Place) → place_of k s ≡ Some p → is_loose p ≡ true
 
-inside_word : (a : Scene) (w : Primitive) (s : Core) → Allowed a w s → (k : ℕ) → Loose a k s →
+inside_primitive : (a : Scene) (w : Primitive) (s : Core) → Allowed a w s → (k : ℕ) → Loose a k s →
     ((x : Placing) → w ≡ Places x → (p : Place) → place_of k (after_primitive w s) ≡ Some p → (is_loose p ≡ true) ⊎ (place_of k s ≡ Some p)) →
     Inside k s → Inside k (after_primitive w s)
-inside_word a w s ok k loose moves q p at = go (thread_came w s ok k)
+inside_primitive a w s ok k loose moves q p at = go (thread_came w s ok k)
   where
     stays : (r u : Thread) → get s.threads k ≡ Some r → get (after_primitive w s).threads k ≡ Some u → place_of k s ≡ Some p →
         (u.op_progress ≡ r.op_progress) ⊎ MayCome a k u.op_progress s → is_inside p (op_progress_of k (after_primitive w s)) ≡ true
@@ -80,11 +80,11 @@ removed_inside : (k : ℕ) (s : Core) → InsideOps s → InsideOps (remove_thre
 unfolding remove_thread
 removed_inside k s q n p at = grind (arith, nat_tests, get-remove, q n p)
 
-falls_inside : (a : Scene) (w : Primitive) (s : Core) → IsUnwind a w s → InsideOps s → InsideOps (after_primitive w s)
+unwinds_inside : (a : Scene) (w : Primitive) (s : Core) → IsUnwind a w s → InsideOps s → InsideOps (after_primitive w s)
 unfolding set_trapped
-falls_inside a (RemoveThread k) s ok h = removed_inside k s h
-falls_inside a SetTrapped s ok h = same_threads s (set_trapped s) refl h
-falls_inside a _ s ok h = absurd ok
+unwinds_inside a (RemoveThread k) s ok h = removed_inside k s h
+unwinds_inside a SetTrapped s ok h = same_threads s (set_trapped s) refl h
+unwinds_inside a _ s ok h = absurd ok
 
 -- the thread runs on, and its call is answered
 goes_back : (m v : ℕ) (t : Core) → InsideOps t → InsideOps (after_primitive (SetOpProgress m (OpProgress.Answered v)) (after_primitive (Places (Move m Place.Running)) t))
@@ -107,7 +107,7 @@ module _ {a : Scene} {b : Core} {n : ℕ} {q : Option Place} (f : Frame a b n q)
   stays : {t : Core} → InsideOps b → Stay a b t → InsideOps t
   stays first c =
       (along (λ (t : Core). Stand (watch a) n q [] t × InsideOps t)
-      (λ w s ok h. (stay_word f.follows w s ok h.0, λ k. inside_word a w s (stays_allowed a w s ok) k (loose s h.0 k) (shifts w s ok k) (h.1 k)))
+      (λ w s ok h. (stay_primitive f.follows w s ok h.0, λ k. inside_primitive a w s (stays_allowed a w s ok) k (loose s h.0 k) (shifts w s ok k) (h.1 k)))
       (f.follows.start, first) c).1
 
   settled : {s t : Core} → InsideOps s → Settles s t → InsideOps t
@@ -144,12 +144,12 @@ module _ {a : Scene} {b : Core} {n : ℕ} {q : Option Place} (f : Frame a b n q)
   trip_inside : {t : Core} → InsideOps b → Trip a b t → InsideOps t
   trip_inside first (Remains t c still on) = stays first c
   trip_inside first (Lands s x c ok fit halts) = λ k.
-      inside_word a (Places x) s (land_allowed a x s ok) k (loose s (stay_stand f.follows c) k)
+      inside_primitive a (Places x) s (land_allowed a x s ok) k (loose s (stay_stand f.follows c) k)
       (λ y is p at. ⊎_elim inl (⊎_elim inr (λ moves. inl (alone_loose k p (rw moves at fit)))) (landed s x c k p at)) (stays first c k)
   trip_inside first (LandsAt s x m h c ok fit comes halts) = landed_at s x m h c (stays first c) ok fit comes.0
   trip_inside first (Quits s t k c leave d halts) = settled (removed_inside k s (stays first c)) d
   trip_inside first (GoesBack s t k m v c is runs to under back d ok) = goes_back m v t (settled (removed_inside k s (stays first c)) d)
-  trip_inside first (Collapses t over c) = along InsideOps (falls_inside a) first c
+  trip_inside first (Collapses t over c) = along InsideOps (unwinds_inside a) first c
 
 -- ---- A step
 

@@ -1,5 +1,5 @@
 -- Each step owes of the ends what it should, and so each run has each end once.
-use Rattle.laws_places.proofs.Laws.{[], abort_kept, AbortsOwn, along, Answered, ap, arith, base_at, base_is, CallsFound, codes_at, Core, Due, due_over, ends_go, ends_once, EndStep, EndsTold, first_works, fresh, get, get-empty, HasValue, op_progress_of, OpProgress, InOrder, instance_of, is_some, is_spawn, is_sync_work, Label, le_refl, Main, main_opening, MainPlace, MayAbort, MayBeAborted, named_other, of_base, opening, opening_ends_told, opening_works, OpeningInOrder, Over, ProgramAborts, refl, return_step, runner_there, SameMain, Scene, scene_of, ScriptAborts, Scripted, Setting, slice_get, Some, spawned_at, State, Status, Step, step_ends, step_walks, subst, Subtask, subtask_at, suc, sym, task_of, Thread, true, Unscripted, unwrap_or, Walked, work_caller_of, WorkCaller, works_word, WorksGo, WorksHold, zero, ℕ, ⊎_elim, ◌-◌, ◌≡◌}
+use Rattle.laws_places.proofs.Laws.{[], abort_kept, AbortsOwn, along, Answered, ap, arith, base_at, base_is, CallsFound, codes_at, Core, Due, due_over, ends_go, ends_once, EndStep, EndsTold, first_works, fresh, get, get-empty, HasValue, op_progress_of, OpProgress, InOrder, instance_of, is_some, is_spawn, is_sync_work, Label, le_refl, Main, main_opening, MainPlace, MayAbort, MayBeAborted, named_other, of_base, opening, opening_ends_told, opening_works, OpeningInOrder, Over, ProgramAborts, refl, return_step, runner_there, SameMain, Scene, scene_of, ScriptAborts, Scripted, Setting, slice_get, Some, spawned_at, State, Status, Step, step_ends, step_walks, subst, Subtask, subtask_at, suc, sym, task_of, Thread, true, Unscripted, unwrap_or, Walked, work_caller_of, WorkCaller, works_primitive, WorksGo, WorksHold, zero, ℕ, ⊎_elim, ◌-◌, ◌≡◌}
 use Rattle.laws_places.proofs.OrderLemmas.{asked, held_of, opening_in_order, step_in_order}
 use Rattle.laws_places.specs.Once.{IsUnbegun, RunsAreOnce}
 
@@ -48,7 +48,7 @@ module _ (x : Setting) (s : State) (l : Label) (t : State) (k : Known x s) (step
   -- the works, and which of them may be aborted
   works_after : WorksGo (Unit {0}) a t.core × ((i : ℕ) → MayBeAborted s.core i → MayBeAborted t.core i)
   works_after = along (λ u. WorksGo (Unit {0}) a u × ((i : ℕ) → MayBeAborted s.core i → MayBeAborted u i))
-      (λ v u ok q. (works_word (λ y. unsync) v u ok q.0, λ i h. abort_kept a v u ok i (q.1 i h)))
+      (λ v u ok q. (works_primitive (λ y. unsync) v u ok q.0, λ i h. abort_kept a v u ok i (q.1 i h)))
       (first_works x s l w.next k.works, λ i h. h) w.walk
 
   spawns_after : (p : MainPlace) (j : ℕ) → t.main ≡ Scripted p → MayBeAborted t.core (spawned_at p j)

@@ -1,5 +1,5 @@
 -- A state in order: each opening state is, and each step leads from one to one.
-use Rattle.laws_places.proofs.Laws.{[], after_primitive, AllFit, Allowed, along, ap, apart_after, arith, at_place, Awake, base_at, Bool, ByHandle, ByOp, Call, callee_of, calls_begin, calls_told_word, CallsAwaited, CallsGo, CallsHold, CallsInside, CallsNamed, CallsThere, CallsTold, can_come, cancelled_call, cancels_word, CancelsGo, CancelsWatched, Codes, codes_at, codes_plain, CodesAt, Component, Core, did, directs_word, DirectsOnTop, DirectsRun, Doer, empty, EndPrimitives, event_of, false, few_word, first_waits, fits_word, FitsAs, fresh, Gains, get, get-empty, has_waiter, HasNotRun, HasSubtask, held_word, Homed, homed_word, host_event_word, host_taken, HostsAwaited, housed_word, op_progress_of, OpProgress, inl, InOrder, InOrderAs, InOrderFor, InPlace, inr, Inside, inside_word, InsideThere, instance_of, is_awaited, is_fresh, is_open, is_ready_member, is_some, is_sync_call, is_there, IsRunner, joins_word, JoinsNamed, KnownCancels, KnownHome, Label, Layered, layered_word, le_refl, le_trans, length, List, made_works_word, MakesFew, member_same, names_go_word, NamesGo, NamesHold, next_thread, None, NoneAdmitted, Numbered, of_base, OfBase, Op, op_at_place, op_of, op_same, op_there, opening, opening_holds, opening_joins, opening_named, opening_names_known, opening_sets, opening_works_known, opening_works_named, OpeningInOrder, ops_of, option_map, option_map_or, own_script, Place, place_of, Placed, plain, plain_as, plain_scene, queued_handle, queued_watched, ready_goes_word, ReadyGoes, refl, Run, runner_there, RunnerHoused, said_plain, SameOp, Scene, scene_as, script_in, sets_named_word, SetsNamed, Setting, Some, starts_word, StartsAwaited, StartsFirst, StartsGo, StartsThere, State, Status, Steady, steady, Step, step_over, step_walks, StepAs, StepInOrder, StepsMakeFew, Strands, subst, Subtask, subtask_under_way, sym, task_of, telling_word, TellingGoes, Thread, Traced, traced_word, true, Turn, TurnStep, TurnStepAs, Unbegun, unbegun_word, undelivered_end, Waited, WaitsAtHome, WaitsPlaced, WakesCounted, Walk, Walked, walked_goes, WalkedAs, was_started, WasCall, watched_word, Primitive, word_goes, Work, works_go, works_hold, works_named_word, works_said_word, works_told, WorksKnown, WorksNamed, WorksQueued, WorksSaid, WorksTold, writes_over, written_at, ℕ, ⊎_elim, ◌∙◌, ◌∷◌, ◌≡◌, ◌≤◌, ◌⊎◌}
+use Rattle.laws_places.proofs.Laws.{[], after_primitive, AllFit, Allowed, along, ap, apart_after, arith, at_place, Awake, base_at, Bool, ByHandle, ByOp, Call, callee_of, calls_begin, calls_told_primitive, CallsAwaited, CallsGo, CallsHold, CallsInside, CallsNamed, CallsThere, CallsTold, can_come, cancelled_call, cancels_primitive, CancelsGo, CancelsWatched, Codes, codes_at, codes_plain, CodesAt, Component, Core, did, directs_primitive, DirectsOnTop, DirectsRun, Doer, empty, EndPrimitives, event_of, false, few_primitive, first_waits, fits_primitive, FitsAs, fresh, Gains, get, get-empty, has_waiter, HasNotRun, HasSubtask, held_primitive, Homed, homed_primitive, host_event_primitive, host_taken, HostsAwaited, housed_primitive, op_progress_of, OpProgress, inl, InOrder, InOrderAs, InOrderFor, InPlace, inr, Inside, inside_primitive, InsideThere, instance_of, is_awaited, is_fresh, is_open, is_ready_member, is_some, is_sync_call, is_there, IsRunner, joins_primitive, JoinsNamed, KnownCancels, KnownHome, Label, Layered, layered_primitive, le_refl, le_trans, length, List, made_works_primitive, MakesFew, member_same, names_go_primitive, NamesGo, NamesHold, next_thread, None, NoneAdmitted, Numbered, of_base, OfBase, Op, op_at_place, op_of, op_same, op_there, opening, opening_holds, opening_joins, opening_named, opening_names_known, opening_sets, opening_works_known, opening_works_named, OpeningInOrder, ops_of, option_map, option_map_or, own_script, Place, place_of, Placed, plain, plain_as, plain_scene, queued_handle, queued_watched, ready_goes_primitive, ReadyGoes, refl, Run, runner_there, RunnerHoused, said_plain, SameOp, Scene, scene_as, script_in, sets_named_primitive, SetsNamed, Setting, Some, starts_primitive, StartsAwaited, StartsFirst, StartsGo, StartsThere, State, Status, Steady, steady, Step, step_over, step_walks, StepAs, StepInOrder, StepsMakeFew, Strands, subst, Subtask, subtask_under_way, sym, task_of, telling_primitive, TellingGoes, Thread, Traced, traced_primitive, true, Turn, TurnStep, TurnStepAs, Unbegun, unbegun_primitive, undelivered_end, Waited, WaitsAtHome, WaitsPlaced, WakesCounted, Walk, Walked, walked_goes, WalkedAs, was_started, WasCall, watched_primitive, Primitive, primitive_goes, Work, works_go, works_hold, works_named_primitive, works_said_primitive, works_told, WorksKnown, WorksNamed, WorksQueued, WorksSaid, WorksTold, writes_over, written_at, ℕ, ⊎_elim, ◌∙◌, ◌∷◌, ◌≡◌, ◌≤◌, ◌⊎◌}
 use Rattle.laws_places.proofs.{AloneLemmas.step_alone, BlockedLemmas.step_blocked, CallersSteps.callers_kept, CallersSteps.feet_kept, CallersSteps.free_kept, CallsBack.back_apart, CountedSteps.step_counted, Directs.directs_on_top, HostsAwaited.Asked, HostsAwaited.step_asked, HostsAwaited.step_works, InsideLemmas.step_inside, PlaceLaw.Arrives, PlaceSteps.Withdrawable, PlaceSteps.settled_run, PlaceSteps.step_arrives, PlaceSteps.step_by, WaitsKept.AtWaits, WaitsKept.far_waits, WaitsKept.step_waits, WaitsKept.wait_op, WorksQueued.stands_of}
 use Rattle.laws_places.specs.KeptPlaces.{ReachedInOrder, ReachedInPlace, StepsKeepPlaces}
 
@@ -38,7 +38,7 @@ steps_make_few x s l t step =
     let w = step_walks x s l t step in
     let a : Scene = plain_scene x s l w.next in
     let c : Walk a s.core t.core = plain x s l w.next (λ c. Walk c s.core t.core) w.walk in
-    let q : MakesFew a.base t.core = along (MakesFew a.base) (few_word a) (grind arith) c in
+    let q : MakesFew a.base t.core = along (MakesFew a.base) (few_primitive a) (grind arith) c in
     grind arith
 
 -- ---- What the primitives of a step keep
@@ -48,7 +48,7 @@ held_of h = record { numbered = h.numbered; kinds = h.kinds; deliveries = h.deli
 
 module _ {ops : ℕ → Op} (x : Setting) (s : State) (l : Label) (t : State) {g : Bool} (h : InOrderFor g ops x.component s) (w : WalkedAs ops x s l t)
     (given : CodesAt ops x s) where
-  -- the step's scene, in which the row reads what is beside the marks as it was before the step
+  -- the step's scene, in which the rule reads what is beside the marks as it was before the step
   abbrev a : Scene
   a = plain_as ops x s l w.next
 
@@ -67,14 +67,14 @@ module _ {ops : ℕ → Op} (x : Setting) (s : State) (l : Label) (t : State) {g
         fresh = λ n m e. inl (h.strands.made n m e);
         alone = h.strands.alone;
       } in
-      let q : Layered a t.core = along (Layered a) (layered_word a (λ n is. (h.in_place.placed n).number (runner n is))) first walk in
+      let q : Layered a t.core = along (Layered a) (layered_primitive a (λ n is. (h.in_place.placed n).number (runner n is))) first walk in
       record { below = q.below; made = q.made; alone = q.alone }
 
   runner_housed : RunnerHoused a
   runner_housed n is = let there = runner n is in grind (arith, h.calls_there n (task_of n s.core))
 
   pub calls_kept : CallsThere t.core
-  calls_kept = along CallsThere (housed_word a runner_housed) h.calls_there walk
+  calls_kept = along CallsThere (housed_primitive a runner_housed) h.calls_there walk
 
   known : CallsNamed a.base
   known = record {
@@ -85,7 +85,7 @@ module _ {ops : ℕ → Op} (x : Setting) (s : State) (l : Label) (t : State) {g
   pub named_kept : CallsNamed t.core
   named_kept =
       let first : Traced a s.core = record { was = λ k q. assumption; named = h.calls_named } in
-      (along (Traced a) (λ v m ok q. traced_word a known m q v ok) first walk).named
+      (along (Traced a) (λ v m ok q. traced_primitive a known m q v ok) first walk).named
 
   -- the works that are named, and the subtasks that ops cancel
   abbrev Watching : Core → Type 0
@@ -94,14 +94,14 @@ module _ {ops : ℕ → Op} (x : Setting) (s : State) (l : Label) (t : State) {g
   watching_first : Watching s.core
   watching_first = (record { was = λ k q. assumption; named = h.calls_named }, (le_refl _, (h.works_named, h.watched)))
 
-  watching_word : (v : Primitive) (m : Core) → Allowed a v m → Watching m → Watching (after_primitive v m)
-  watching_word v m ok q = (
-    traced_word a known m q.0 v ok,
+  watching_primitive : (v : Primitive) (m : Core) → Allowed a v m → Watching m → Watching (after_primitive v m)
+  watching_primitive v m ok q = (
+    traced_primitive a known m q.0 v ok,
     (
-      le_trans q.1.0 (made_works_word a v m),
+      le_trans q.1.0 (made_works_primitive a v m),
       (
-        works_named_word a (record { by_handle = h.works_named.by_handle; by_op = h.works_named.by_op }) v m ok q.1.0 q.1.1.0,
-        watched_word a (queued_watched (base_at s.turn s.core).queues s.core h.watched) v m ok q.0.named q.1.1.0 q.1.1.1,
+        works_named_primitive a (record { by_handle = h.works_named.by_handle; by_op = h.works_named.by_op }) v m ok q.1.0 q.1.1.0,
+        watched_primitive a (queued_watched (base_at s.turn s.core).queues s.core h.watched) v m ok q.0.named q.1.1.0 q.1.1.1,
       ),
     ),
   )
@@ -161,9 +161,9 @@ module _ {ops : ℕ → Op} (x : Setting) (s : State) (l : Label) (t : State) {g
   called : DirectsRun a t.core × (NamesGo a t.core × CallsInside a t.core)
   called =
       along (λ u. DirectsRun a u × (NamesGo a u × CallsInside a u)) (λ v u ok q.
-      let names = names_go_word a names_base inside_there v u ok q.1.0 in (
-        directs_word a v u ok q.0,
-        (names, inside_word a names_base calls_base unbegun_base numbered_base least v u ok q.1.0 names q.0 q.1.1),
+      let names = names_go_primitive a names_base inside_there v u ok q.1.0 in (
+        directs_primitive a v u ok q.0,
+        (names, inside_primitive a names_base calls_base unbegun_base numbered_base least v u ok q.1.0 names q.0 q.1.1),
       )) (
         λ k d. inl d,
         (
@@ -233,10 +233,10 @@ module _ {ops : ℕ → Op} (x : Setting) (s : State) (l : Label) (t : State) {g
   last =
       let b = plain x s l w.next (λ c. CallsHold x.component c.base × CallsGo c s.core) (calls_begin x s l w.next (held_of h)) in
       (along (λ u. CallsGo a u × (AllFit a u × Unbegun a u)) (λ v m ok q. (
-        word_goes a codes b.0 v m ok q.0,
+        primitive_goes a codes b.0 v m ok q.0,
         (
-          fits_word a codes b.0 runner_housed fits_base h.in_place.runs has_call v m ok q.0 q.1.0,
-          unbegun_word a b.0 h.in_place.runs unbegun_base v m ok q.0 q.1.1,
+          fits_primitive a codes b.0 runner_housed fits_base h.in_place.runs has_call v m ok q.0 q.1.0,
+          unbegun_primitive a b.0 h.in_place.runs unbegun_base v m ok q.0 q.1.1,
         ),
       )) (b.1, (fits_first, record { came = λ k f. inl f; rest = waited_first })) walk).1
     where
@@ -258,7 +258,7 @@ module _ {ops : ℕ → Op} (x : Setting) (s : State) (l : Label) (t : State) {g
   held_kept =
       let b = plain x s l w.next (λ c. CallsHold x.component c.base × CallsGo c s.core) (calls_begin x s l w.next (held_of h)) in
       (along (λ u. CallsGo a u × (CallsThere u × NoneAdmitted u))
-      (λ v m ok q. (word_goes a codes b.0 v m ok q.0, (housed_word a runner_housed v m ok q.1.0, held_word a v m ok q.1.0 q.0.numbered q.1.1)))
+      (λ v m ok q. (primitive_goes a codes b.0 v m ok q.0, (housed_primitive a runner_housed v m ok q.1.0, held_primitive a v m ok q.1.0 q.0.numbered q.1.1)))
       (b.1, (h.calls_there, h.held)) walk).1.1
 
   -- starts, while the turns aren't over
@@ -266,8 +266,8 @@ module _ {ops : ℕ → Op} (x : Setting) (s : State) (l : Label) (t : State) {g
   starts_last first =
       let b = plain x s l w.next (λ c. CallsHold x.component c.base × CallsGo c s.core) (calls_begin x s l w.next (held_of h)) in
       (along (λ u. CallsGo a u × StartsGo a u) (λ v m ok q. (
-        word_goes a codes b.0 v m ok q.0,
-        starts_word a h.in_place.runs (λ n there. (h.in_place.placed n).number there) h.starts
+        primitive_goes a codes b.0 v m ok q.0,
+        starts_primitive a h.in_place.runs (λ n there. (h.in_place.placed n).number there) h.starts
             (λ k named. (known.by_handle _ named.1.0 k named.1.1.1).number) v m ok (λ k there. let number = q.0.numbered.calls k in grind arith) q.1,
       )) (b.1, record { was = λ k now. inl now; there = λ k now. inl (first k now) }) walk).1
 
@@ -283,20 +283,20 @@ module _ {ops : ℕ → Op} (x : Setting) (s : State) (l : Label) (t : State) {g
   works_told_kept = works_told t.core (works_go {S = ⊥} x s l t w (λ no. absurd no) (works_hold s.core (stands_of h.works) h.works_told)).holds
 
   calls_told_kept : CallsTold t.core
-  calls_told_kept = along CallsTold (calls_told_word a) h.calls_told walk
+  calls_told_kept = along CallsTold (calls_told_primitive a) h.calls_told walk
 
   telling : TellingGoes a t.core
-  telling = along (TellingGoes a) (telling_word a) (record { made = le_refl _; told = λ k below told. told; ends = λ k e below is. inl is }) walk
+  telling = along (TellingGoes a) (telling_primitive a) (record { made = le_refl _; told = λ k below told. told; ends = λ k e below is. inl is }) walk
 
   hosts_told : (i : ℕ) (e : Status) → undelivered_end (event_of (Subtask.Host i) t.core) ≡ Some e →
       (undelivered_end (event_of (Subtask.Host i) s.core) ≡ Some e) ⊎ (host_taken l ≡ Some i)
   hosts_told i e is = along (λ (u : Core). undelivered_end (event_of (Subtask.Host i) u) ≡ Some e →
       (undelivered_end (event_of (Subtask.Host i) s.core) ≡ Some e) ⊎ (host_taken l ≡ Some i))
-      (λ v u ok q now. ⊎_elim q inr (host_event_word a v u ok i e now)) inl walk is
+      (λ v u ok q now. ⊎_elim q inr (host_event_primitive a v u ok i e now)) inl walk is
 
   -- ready members: who is one was so before, or gains
   came : (y : ℕ) (sub : Subtask) → is_ready_member y sub t.core ≡ true → (is_ready_member y sub s.core ≡ true) ⊎ Gains a sub
-  came y sub on = ⊎_elim (λ e. inl (sym (member_same y s.core a.base refl refl sub) ∙ e)) inr ((along (ReadyGoes a low) (ready_goes_word a low) (
+  came y sub on = ⊎_elim (λ e. inl (sym (member_same y s.core a.base refl refl sub) ∙ e)) inr ((along (ReadyGoes a low) (ready_goes_primitive a low) (
     record { made = le_refl _; told = λ k below told. told; ends = λ k e below is. inl is },
     λ y sub on. inl (member_same y s.core a.base refl refl sub ∙ on),
   ) walk).1 y sub on)
@@ -366,10 +366,10 @@ module _ {ops : ℕ → Op} (x : Setting) (s : State) (l : Label) (t : State) {g
   -- handles of works and of what ops cancel
   handles_last : (Watching t.core × NamesGo a t.core) × (WorksSaid t.core × CancelsGo a t.core)
   handles_last = along (λ u. (Watching u × NamesGo a u) × (WorksSaid u × CancelsGo a u)) (λ v m ok q. (
-    (watching_word v m ok q.0.0, names_go_word a names_base inside_there v m ok q.0.1),
+    (watching_primitive v m ok q.0.0, names_go_primitive a names_base inside_there v m ok q.0.1),
     (
-      works_said_word a works_known_base v m ok q.1.0,
-      cancels_word a known_cancels v m ok q.0.1.hold q.1.0 q.0.0.1.1.1 q.1.1,
+      works_said_primitive a works_known_base v m ok q.1.0,
+      cancels_primitive a known_cancels v m ok q.0.1.hold q.1.0 q.0.0.1.1.1 q.1.1,
     ),
   )) (
     (watching_first, record { hold = names_first; were = λ n k far. inl far }),
@@ -397,7 +397,7 @@ module _ {ops : ℕ → Op} (x : Setting) (s : State) (l : Label) (t : State) {g
 
     sets_last : (SetsNamed t.core × JoinsNamed t.core) × Homed a t.core
     sets_last = along (λ (c : Core). (SetsNamed c × JoinsNamed c) × Homed a c)
-        (λ v m ok q. ((sets_named_word a v m ok q.0.0, joins_word a m q.0.1 q.0.0 v ok), homed_word a known_home m q.0.1 q.1 v ok))
+        (λ v m ok q. ((sets_named_primitive a v m ok q.0.0, joins_primitive a m q.0.1 q.0.0 v ok), homed_primitive a known_home m q.0.1 q.1 v ok))
         ((h.sets_named, h.joins_named), homed_first) walk
 
     pub joined_kept : SetsNamed t.core × JoinsNamed t.core

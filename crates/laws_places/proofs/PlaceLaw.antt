@@ -1,6 +1,6 @@
 -- Where each thread is along the primitives of a step: each has its place, and one that waits for its start still does, or its call
 -- has begun.
-use Rattle.laws_places.proofs.Laws.{[], add_call, add_group, add_set, add_work, Adds, adds_all, after_placing, after_primitive, all_of, along, ap, arith, at_place, Awaits, AwaitsEvent, behind_adds, blocked_place, Blocks, Bool, by_number, ByHandle, call_made, Collapses, Core, count_work, Covered, Departs, EndsOver, Enter, entries, entries-append, Entry, Unwinds, false, foot_there, free_handle, free_thread_handle, get, get-change, give_handle, give_result, give_thread_handle, given_unchecked, GoBehind, GoesBack, gone_place, has_entry, HasPlace, HasSubtask, Holds, OpProgress, idle_loose, if◌then◌else◌, inl, inr, is_at_high, is_at_low, is_at_switch, is_begun, is_busy, is_done_host, is_explicit, is_for_start, is_free, is_fresh, is_idle, is_none, is_parked, is_so, is_some, is_there, is_under, is_watched, IsUnwind, IsFoot, IsRunner, IsSettling, Lands, LandsAt, LastPrimitives, Leaves, Loose, loose_idle, MakeCall, MakeThread, Mark, MayGo, MayLand, MayMove, MayPut, MayWithdraw, MayYield, Move, nat_tests, new_thread, next_thread, no_time, nobody, None, not_main, Nothing, on_call, on_instance, on_thread, on_work, one_runner, one_time, Option, option_map_or, Place, place_kept, place_of, place_written, Placed, Places, Placing, placing_shifted, poll_pends, Promote, push_high, Put, put_high_adds, put_low_adds, put_stand, quiet_placed, quiet_stand, Quits, refl, registers_for, Remains, remove_call, remove_group, remove_set, remove_thread, remove_work, removed_all, removed_gone, removed_is, removed_loose, removed_placed, RemoveThread, Runs, says, Scene, Script, set_backpressure, set_cancel_delivered, set_cancelled, set_course, set_do_not_enter, set_do_not_suspend, set_end, set_event, set_exited, set_op_progress, set_join, set_task_event, set_phase, set_place, set_place_adds, set_place_is, set_position, set_register, set_result, set_saved_callee, set_saved_own, set_script, set_stage, set_started, set_starting_published, set_subtask_handle, set_thread_handle, set_trapped, set_uninteresting, set_word, Settles, SetTrapped, SetUninteresting, Some, Stand, stand_of, Stay, Stays, stays_put, Stop, stopped_stand, Stuck, subst, Subtask, Suspends, switch_entries, switch_there, sym, T, take_result, TakeHost, TakePush, task_of, Thread, Trip, true, Turn, Uncovers, Untouched, Waits, WaitsAgain, was_started, Watch, watching, Why, with_handle, with_thread_handle, Withdraw, withdraws, Primitive, work_queued, ℕ, ⊎_elim, ◌+◌, ◌==◌, ◌||◌, ◌∙◌, ◌≡◌, ◌≤◌, ◌⊎◌}
+use Rattle.laws_places.proofs.Laws.{[], add_call, add_group, add_set, add_work, Adds, adds_all, after_placing, after_primitive, all_of, along, ap, arith, at_place, Awaits, AwaitsEvent, behind_adds, blocked_place, Blocks, Bool, by_number, ByHandle, call_made, Collapses, Core, count_work, Covered, Departs, EndsOver, Enter, entries, entries-append, Entry, Unwinds, false, foot_there, free_handle, free_thread_handle, get, get-change, give_handle, give_result, give_thread_handle, given_unchecked, GoBehind, GoesBack, gone_place, has_entry, HasPlace, HasSubtask, Holds, OpProgress, idle_loose, if◌then◌else◌, inl, inr, is_at_high, is_at_low, is_at_switch, is_begun, is_busy, is_done_host, is_explicit, is_for_start, is_free, is_fresh, is_idle, is_none, is_parked, is_so, is_some, is_there, is_under, is_watched, IsUnwind, IsFoot, IsRunner, IsSettling, Lands, LandsAt, LastPrimitives, Leaves, Loose, loose_idle, MakeCall, MakeThread, Mark, MayGo, MayLand, MayMove, MayPut, MayWithdraw, MayYield, Move, nat_tests, new_thread, next_thread, no_time, nobody, None, not_main, Nothing, on_call, on_instance, on_thread, on_work, one_runner, one_time, Option, option_map_or, Place, place_kept, place_of, place_written, Placed, Places, Placing, placing_shifted, poll_pends, Promote, push_high, Put, put_high_adds, put_low_adds, put_stand, quiet_placed, quiet_stand, Quits, refl, registers_for, Remains, remove_call, remove_group, remove_set, remove_thread, remove_work, removed_all, removed_gone, removed_is, removed_loose, removed_placed, RemoveThread, Runs, says, Scene, Script, set_backpressure, set_cancel_delivered, set_cancelled, set_course, set_do_not_enter, set_do_not_suspend, set_end, set_event, set_exited, set_op_progress, set_join, set_task_event, set_phase, set_place, set_place_adds, set_place_is, set_position, set_register, set_result, set_saved_callee, set_saved_own, set_script, set_stage, set_started, set_starting_published, set_subtask_handle, set_thread_handle, set_trapped, set_uninteresting, set_memory_cell, Settles, SetTrapped, SetUninteresting, Some, Stand, stand_of, Stay, Stays, stays_put, Stop, stopped_stand, Stuck, subst, Subtask, Suspends, switch_entries, switch_there, sym, T, take_result, TakeHost, TakePush, task_of, Thread, Trip, true, Turn, Uncovers, Untouched, Waits, WaitsAgain, was_started, Watch, watching, Why, with_handle, with_thread_handle, Withdraw, withdraws, Primitive, work_queued, ℕ, ⊎_elim, ◌+◌, ◌==◌, ◌||◌, ◌∙◌, ◌≡◌, ◌≤◌, ◌⊎◌}
 use Rattle.laws_places.proofs.Entries.{added_stand, flipped, has_stands, next_first, popped_quiet, promoted_stand, removed_fresh, withdrawn_stand}
 use Rattle.machine_rules.proofs.StandLemmas.{Given}
 
@@ -106,33 +106,33 @@ module _ {a : Scene} {b : Core} {n : ℕ} {q : Option Place} (f : Follows a b n 
   keeps_placing p s (inl ok) puts st = absurd ok
   keeps_placing p s (inr ok) puts st = absurd ok
 
-  keeps_word : {P : ℕ → Watch} (w : Primitive) (s : Core) → Stays a w s → Puts P w s →
+  keeps_primitive : {P : ℕ → Watch} (w : Primitive) (s : Core) → Stays a w s → Puts P w s →
       ((k : ℕ) → w ≡ Withdraw k → is_fresh (place_of k s) ≡ true) →
       Stand P n q [] s → Stand P n q [] (after_primitive w s)
-  unfolding add_call add_group add_set add_work count_work free_handle free_thread_handle give_handle give_result give_thread_handle on_call on_instance on_work push_high remove_call remove_group remove_set remove_work set_backpressure set_cancel_delivered set_cancelled set_course set_do_not_enter set_do_not_suspend set_end set_event set_exited set_op_progress set_join set_task_event set_phase set_position set_register set_result set_saved_callee set_saved_own set_script set_stage set_started set_starting_published set_subtask_handle set_thread_handle set_trapped set_uninteresting set_word take_result call_made with_handle with_thread_handle work_queued poll_pends on_thread
-  keeps_word {P = P} (Places p) s ok puts fresh st =
+  unfolding add_call add_group add_set add_work count_work free_handle free_thread_handle give_handle give_result give_thread_handle on_call on_instance on_work push_high remove_call remove_group remove_set remove_work set_backpressure set_cancel_delivered set_cancelled set_course set_do_not_enter set_do_not_suspend set_end set_event set_exited set_op_progress set_join set_task_event set_phase set_position set_register set_result set_saved_callee set_saved_own set_script set_stage set_started set_starting_published set_subtask_handle set_thread_handle set_trapped set_uninteresting set_memory_cell take_result call_made with_handle with_thread_handle work_queued poll_pends on_thread
+  keeps_primitive {P = P} (Places p) s ok puts fresh st =
       subst (λ (t : Core). Stand P n q [] t) (sym (placing_shifted p s).only) (keeps_placing p s ok puts st)
-  keeps_word (MakeThread t) s ok puts fresh st =
+  keeps_primitive (MakeThread t) s ok puts fresh st =
       added_stand n q t s (grind (arith, f.apart)) (ap (λ (r : Thread). r.place) ok.1.1.1.1.1.0) st
-  keeps_word (MakeCall g e x goal group words) s ok puts fresh st =
+  keeps_primitive (MakeCall g e x goal group words) s ok puts fresh st =
       added_stand n q (new_thread (next_thread s) false Script.Start (registers_for words) None) _ (grind (arith, f.apart)) refl
       (quiet_stand n q [] s _ (grind arith) st)
-  keeps_word {P = P} (Withdraw k) s ok puts fresh st =
+  keeps_primitive {P = P} (Withdraw k) s ok puts fresh st =
       let gone = fresh k refl in
       subst (λ (t : Core). Stand P n q [] t) (sym (withdraws k s))
       (withdrawn_stand n q k s (not_here k s st (λ e. let runs = f.runs ok.0.0 ok.0.1.1.1.1.1.0 in absurd (grind arith))) gone st)
-  keeps_word (RemoveThread m) s ok puts fresh st = absurd ok
-  keeps_word (TakePush x i) s ok puts fresh st =
+  keeps_primitive (RemoveThread m) s ok puts fresh st = absurd ok
+  keeps_primitive (TakePush x i) s ok puts fresh st =
       let u = popped_quiet x (Entry.Push i) s (next_first s x (Entry.Push i) ok.0) (λ k. refl) in quiet_stand n q [] s _ (grind arith) st
-  keeps_word (TakeHost x i) s ok puts fresh st =
+  keeps_primitive (TakeHost x i) s ok puts fresh st =
       let u = popped_quiet x (Entry.Host i) s (next_first s x (Entry.Host i) ok.0) (λ k. refl) in quiet_stand n q [] s _ (grind arith) st
-  keeps_word w s ok puts fresh st = quiet_stand n q [] s _ (grind (arith, nat_tests, get-change, entries-append)) st
+  keeps_primitive w s ok puts fresh st = quiet_stand n q [] s _ (grind (arith, nat_tests, get-change, entries-append)) st
 
   pub withdraws_waits : (k : ℕ) (s : Core) → MayWithdraw a k s → waits a k ≡ true
   withdraws_waits k s may = let g = may.1.1.0 in f.withdraws g.0 k g.1.1.0 (ByHandle g.1.0 g.1.1.1) may.1.1.1.1.1.1
 
-  pub stay_word : (w : Primitive) (s : Core) → Stays a w s → Stand (watch a) n q [] s → Stand (watch a) n q [] (after_primitive w s)
-  stay_word w s ok st = keeps_word w s ok (λ x m v e g so. puts x m v (subst (λ (y : Primitive). Stays a y s) e ok) so)
+  pub stay_primitive : (w : Primitive) (s : Core) → Stays a w s → Stand (watch a) n q [] s → Stand (watch a) n q [] (after_primitive w s)
+  stay_primitive w s ok st = keeps_primitive w s ok (λ x m v e g so. puts x m v (subst (λ (y : Primitive). Stays a y s) e ok) so)
       (λ k e. waiting k (subst (λ (y : Primitive). Stays a y s) e ok)) st
     where
       puts : (x : Mark) (m : ℕ) (v : Why) → Stays a (Places (Put x m v)) s → is_so (watch a m) (place_of m s) ≡ true →
@@ -146,11 +146,11 @@ module _ {a : Scene} {b : Core} {n : ℕ} {q : Option Place} (f : Follows a b n 
       waiting k may = fresh_still a st k (withdraws_waits k s may.0)
 
   -- what is so of a thread's place stays so by a primitive that, where it puts the thread, puts it so
-  pub watched_word : (v : Watch) (m : ℕ) (w : Primitive) (s : Core) → Stays a w s → Stand (watch a) n q [] s →
+  pub watched_primitive : (v : Watch) (m : ℕ) (w : Primitive) (s : Core) → Stays a w s → Stand (watch a) n q [] s →
       ((x : Mark) (u : Why) → MayPut m u s → is_so v (Some (Place.Ready x u)) ≡ true) → is_watched v ≡ true →
       is_so v (place_of m s) ≡ true → is_so v (place_of m (after_primitive w s)) ≡ true
-  watched_word v m w s ok st puts is at =
-      let kept = (keeps_word w s ok (λ x k u e g so. put x k u (subst (λ (y : Primitive). Stays a y s) e ok) g)
+  watched_primitive v m w s ok st puts is at =
+      let kept = (keeps_primitive w s ok (λ x k u e g so. put x k u (subst (λ (y : Primitive). Stays a y s) e ok) g)
       (λ k e. fresh_still a st k (withdraws_waits k s (subst (λ (y : Primitive). Stays a y s) e ok).0)) before).kept m in
       grind (arith, nat_tests)
     where
@@ -165,19 +165,19 @@ module _ {a : Scene} {b : Core} {n : ℕ} {q : Option Place} (f : Follows a b n 
       put x k u may g = by_number k m _ (λ e. let so = puts x u (rw (← e) (stays_put a x k u s may)) in grind (arith, nat_tests)) (λ e. absurd (grind arith))
 
   -- a thread that is blocked stays so, but where its host's work is done
-  pub stuck_word : (m : ℕ) (sub : Subtask) (w : Primitive) (s : Core) → Stays a w s → Stand (watch a) n q [] s →
+  pub stuck_primitive : (m : ℕ) (sub : Subtask) (w : Primitive) (s : Core) → Stays a w s → Stand (watch a) n q [] s →
       place_of m s ≡ Some (Place.Blocked sub) → (place_of m (after_primitive w s) ≡ Some (Place.Blocked sub)) ⊎ (is_done_host sub s ≡ true)
-  stuck_word m sub w s ok st at = by_done (is_done_host sub s) refl
+  stuck_primitive m sub w s ok st at = by_done (is_done_host sub s) refl
     where
       by_done : (b : Bool) → is_done_host sub s ≡ b → (place_of m (after_primitive w s) ≡ Some (Place.Blocked sub)) ⊎ (is_done_host sub s ≡ true)
       by_done true done = inr done
       by_done false undone =
-          let still = watched_word (Stuck sub) m w s ok st (λ x u may. no_way (sym undone ∙ put_blocked m sub u s may at)) refl
+          let still = watched_primitive (Stuck sub) m w s ok st (λ x u may. no_way (sym undone ∙ put_blocked m sub u s may at)) refl
           (grind (arith, nat_tests)) in
           inl (blocked_place sub (place_of m (after_primitive w s)) still)
 
   pub stay_stand : {t : Core} → Stay a b t → Stand (watch a) n q [] t
-  stay_stand c = along (λ (t : Core). Stand (watch a) n q [] t) stay_word f.start c
+  stay_stand c = along (λ (t : Core). Stand (watch a) n q [] t) stay_primitive f.start c
 
 -- ---- Where a step comes to
 
@@ -306,7 +306,7 @@ settles_quiet {s = s} c = along (Untouched s) settle_quiet (grind arith) c
     settle_quiet w u ok q = first_of (assumption, grind arith)
 
 -- What is so while a strand falls.
-record Falling (a : Scene) (n : ℕ) (s : Core) : Type 0 where
+record Unwinding (a : Scene) (n : ℕ) (s : Core) : Type 0 where
   pub others : (k : ℕ) → (k == n) ≡ false → HasPlace k s
   pub own : Loose n s
   pub idle : (k : ℕ) → is_idle (place_of k a.base) ≡ true → is_idle (place_of k s) ≡ true
@@ -375,9 +375,9 @@ module _ {a : Scene} {b : Core} {n : ℕ} {q : Option Place} (f : Frame a b n q)
   lands (Enter k m) s ok c = enters (beside k ok.0).1 c m ok
   lands x s ok c = absurd ok
 
-  fall_word : (w : Primitive) (s : Core) → IsUnwind a w s → Falling a n s → Falling a n (after_primitive w s)
+  unwind_primitive : (w : Primitive) (s : Core) → IsUnwind a w s → Unwinding a n s → Unwinding a n (after_primitive w s)
   unfolding set_trapped
-  fall_word (RemoveThread j) s ok h = record {
+  unwind_primitive (RemoveThread j) s ok h = record {
     others = λ k e. by_number k j _ (λ g. subst (λ (i : ℕ). HasPlace i (remove_thread j s)) (sym g) (removed_gone j s (loose ok)))
         (λ g. removed_placed k j s g (h.others k e));
     own = removed_loose n j s h.own;
@@ -403,11 +403,11 @@ module _ {a : Scene} {b : Core} {n : ℕ} {q : Option Place} (f : Frame a b n q)
       loose (Unwinds over (inl is)) = loose_runner is
       loose (Unwinds over (inr u)) = by_number j n _ (λ e. subst (λ (m : ℕ). Loose m s) (sym e) h.own)
           (λ e. idle_loose j (place_of j s) s refl (h.idle j (ap is_idle u.1.0)) (h.others j e))
-  fall_word SetTrapped s ok h =
+  unwind_primitive SetTrapped s ok h =
       record { others = λ k e. let p = h.others k e in assumption; own = assumption; idle = h.idle; fresh = h.fresh; covered = h.covered }
-  fall_word _ s ok h = absurd ok
+  unwind_primitive _ s ok h = absurd ok
 
-  falling : Falling a n b
+  falling : Unwinding a n b
   falling =
       let st = f.follows.start in
       record {
@@ -481,7 +481,7 @@ module _ {a : Scene} {b : Core} {n : ℕ} {q : Option Place} (f : Frame a b n q)
       far_arrives a m (OpProgress.Answered v) _
       (subst (λ (u : Core). Arrives a u) (sym (placing_shifted (Move m Place.Running) t).only) (goes_back s t k m c is runs to under d))
   trip_arrives (Collapses t over c) w =
-      let h = along (Falling a n) fall_word falling c in
+      let h = along (Unwinding a n) unwind_primitive falling c in
       record {
         placed = λ k. by_number k n _
             (λ e. subst (λ (j : ℕ). HasPlace j t) (sym e) (loose_idle n (place_of n t) t refl (f.rests t w (h.idle n)) h.own))

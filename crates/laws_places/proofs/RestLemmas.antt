@@ -1,5 +1,5 @@
 -- Who waits or is blocked was so before, or comes to it: along the primitives of a step.
-use Rattle.laws_places.proofs.Laws.{after_placing, after_primitive, Allowed, along, ap, arith, Bool, by_number, Came, came_word, Collapses, Comes, Core, false, get, get-change, get-remove, GoesBack, OpProgress, inl, inr, IsBeside, IsFirst, IsGone, IsRunner, IsSame, land_allowed, Lands, LandsAt, MayMove, MayStand, Moved, nat_tests, on_thread, Option, option_map, Place, place_of, Places, Placing, placing_shifted, Promote, promoted_shifted, Put, put_shifted, Quits, refl, Remains, remove_thread, RemoveThread, Scene, set_op_progress, set_place, SetOpProgress, settle_threads, Settles, Shifts, Some, Stay, Stays, stays_allowed, Stop, stopped_shifted, sym, Thread, thread_came, ThreadAfter, Trip, true, Turn, Turned, Turns, Walk, Why, Primitive, ℕ, ⊎_elim, ◌∙◌, ◌≡◌, ◌⊎◌}
+use Rattle.laws_places.proofs.Laws.{after_placing, after_primitive, Allowed, along, ap, arith, Bool, by_number, Came, came_primitive, Collapses, Comes, Core, false, get, get-change, get-remove, GoesBack, OpProgress, inl, inr, IsBeside, IsFirst, IsGone, IsRunner, IsSame, land_allowed, Lands, LandsAt, MayMove, MayStand, Moved, nat_tests, on_thread, Option, option_map, Place, place_of, Places, Placing, placing_shifted, Promote, promoted_shifted, Put, put_shifted, Quits, refl, Remains, remove_thread, RemoveThread, Scene, set_op_progress, set_place, SetOpProgress, settle_threads, Settles, Shifts, Some, Stay, Stays, stays_allowed, Stop, stopped_shifted, sym, Thread, thread_came, ThreadAfter, Trip, true, Turn, Turned, Turns, Walk, Why, Primitive, ℕ, ⊎_elim, ◌∙◌, ◌≡◌, ◌⊎◌}
 use Rattle.laws_places.proofs.PlaceLaw.{beside, Frame}
 
 abbrev pub is_rest : Place → Bool
@@ -11,7 +11,7 @@ is_rest _ = false
 abbrev pub Rests : Place → ℕ → Core → Type 0
 Rests q n s = place_of n s ≡ Some q
 
--- ---- Words
+-- ---- Primitives
 
 moved_rests : (may : Why → Type 0) (o p : Option Place) (q : Place) → is_rest q ≡ true → Moved may o p → p ≡ Some q → o ≡ Some q
 moved_rests may o p (Place.Waiting x c) kind came is = grind arith
@@ -27,9 +27,9 @@ rests_came a s t n q p kind (Shifts c) is = inl (moved_rests (MayStand a s n) (p
 rests_came a s t n q p kind (Comes r ok e there) is = let same : r ≡ q = cc in inr (rw same at ok)
 rests_came a s t n q p kind (Turns c) is = absurd (turned_rests a s t n (place_of n s) p q kind c is)
 
-rests_word : (a : Scene) (w : Primitive) (s : Core) → Allowed a w s → (n : ℕ) (q : Place) → is_rest q ≡ true → Rests q n (after_primitive w s) →
+rests_primitive : (a : Scene) (w : Primitive) (s : Core) → Allowed a w s → (n : ℕ) (q : Place) → is_rest q ≡ true → Rests q n (after_primitive w s) →
     Rests q n s ⊎ MayMove a n q s
-rests_word a w s ok n q kind at = rests_came a s (after_primitive w s) n q _ kind (came_word w s ok n) at
+rests_primitive a w s ok n q kind at = rests_came a s (after_primitive w s) n q _ kind (came_primitive w s ok n) at
 
 move_runs : (a : Scene) (n : ℕ) (q : Place) (s : Core) → is_rest q ≡ true → MayMove a n q s → IsRunner a n
 move_runs a n q s kind ok = grind arith
@@ -37,7 +37,7 @@ move_runs a n q s kind ok = grind arith
 -- who doesn't run doesn't come to it
 pub rests_walk : {a : Scene} {b t : Core} → Walk a b t → (n : ℕ) (q : Place) → is_rest q ≡ true → (IsRunner a n → ⊥) → Rests q n t → Rests q n b
 rests_walk {a = a} {b = b} c n q kind other at = along (λ (u : Core). Rests q n u → Rests q n b)
-    (λ w s ok r h. r (⊎_elim (λ e. e) (λ m. absurd (other (move_runs a n q s kind m))) (rests_word a w s ok n q kind h))) (λ h. h) c at
+    (λ w s ok r h. r (⊎_elim (λ e. e) (λ m. absurd (other (move_runs a n q s kind m))) (rests_primitive a w s ok n q kind h))) (λ h. h) c at
 
 -- no thread comes to it while the running thread stays
 shift_rests : (a : Scene) (x : Placing) (s : Core) → Stays a (Places x) s → (n : ℕ) (q : Place) → is_rest q ≡ true → Rests q n (after_placing x s) → Rests q n s
@@ -47,8 +47,8 @@ shift_rests a (Stop f) s ok n q kind is = moved_rests _ _ _ q kind (stopped_shif
 shift_rests a x s (inl ok) n q kind is = absurd ok
 shift_rests a x s (inr ok) n q kind is = absurd ok
 
-stay_word_rests : (a : Scene) (w : Primitive) (s : Core) → Stays a w s → (n : ℕ) (q : Place) → is_rest q ≡ true → Rests q n (after_primitive w s) → Rests q n s
-stay_word_rests a w s ok n q kind is = go (thread_came w s (stays_allowed a w s ok) n)
+stay_primitive_rests : (a : Scene) (w : Primitive) (s : Core) → Stays a w s → (n : ℕ) (q : Place) → is_rest q ≡ true → Rests q n (after_primitive w s) → Rests q n s
+stay_primitive_rests a w s ok n q kind is = go (thread_came w s (stays_allowed a w s ok) n)
   where
     go : ThreadAfter a w s n → Rests q n s
     go (IsSame r u e f c y far (inl same) z) = grind arith
@@ -60,7 +60,7 @@ stay_word_rests a w s ok n q kind is = go (thread_came w s (stays_allowed a w s 
 
 pub rests_stay : {a : Scene} {b t : Core} → Stay a b t → (n : ℕ) (q : Place) → is_rest q ≡ true → Rests q n t → Rests q n b
 rests_stay {a = a} {b = b} c n q kind at =
-    along (λ (u : Core). Rests q n u → Rests q n b) (λ w s ok r h. r (stay_word_rests a w s ok n q kind h)) (λ h. h) c at
+    along (λ (u : Core). Rests q n u → Rests q n b) (λ w s ok r h. r (stay_primitive_rests a w s ok n q kind h)) (λ h. h) c at
 
 -- ---- Trips
 
@@ -70,7 +70,7 @@ ComesTo a n q t = (s : Core) × (MayMove a n q s × ((t.calls ≡ s.calls) × (t
 
 land_rests : (a : Scene) (x : Placing) (s : Core) (n : ℕ) (q : Place) → is_rest q ≡ true → Allowed a (Places x) s → Rests q n (after_primitive (Places x) s) →
     Rests q n s ⊎ ComesTo a n q (after_primitive (Places x) s)
-land_rests a x s n q kind ok at = ⊎_elim inl (λ m. inr (s, (m, (refl, refl)))) (rests_word a (Places x) s ok n q kind at)
+land_rests a x s n q kind ok at = ⊎_elim inl (λ m. inr (s, (m, (refl, refl)))) (rests_primitive a (Places x) s ok n q kind at)
 
 far_place : (m n : ℕ) (h : OpProgress) (q : Place) (s : Core) → Rests q n (after_primitive (SetOpProgress m h) s) → Rests q n s
 unfolding set_op_progress on_thread

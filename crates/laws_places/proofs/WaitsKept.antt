@@ -1,6 +1,6 @@
 -- Where threads are that are inside waits, along the primitives of a step.
 use Rattle.laws_places.proofs.Laws.{[], admits, after_placing, after_primitive, Allowed, along, ap, arith, AwaitsEvent, behind_one, Blocks, by_number, Collapses, Component, Core, Enter, false, FitsAs, get, get-change, get-remove, GoBehind, GoesBack, Holds, op_progress_of, OpProgress, inl, InPlace, inr, is_at_wait, is_resumption, is_wait, IsUnwind, IsRunner, Label, Lands, lands_alone, LandsAt, Leaves, Mark, MayCome, MayLand, MayMove, MayPut, MayYield, Move, moved_passes, nat_tests, None, on_thread, Op, op_came, op_in, Option, option_map, option_map_or, Pauses, Place, place_of, Places, Placing, placing_shifted, push_high, push_low, Put, put_high, put_low, Quits, read_same, refl, Remains, remove_thread, RemoveThread, Runs, Scene, scene_as, set_callers, set_op_progress, set_of_op, set_place, set_trapped, SetOpProgress, Setting, settle_threads, Settles, SetTrapped, shifted_far, Some, Stand, State, Stay, stays_allowed, Suspends, sym, Thread, Trip, true, Turn, Uncovers, Waits, WaitsAgain, WaitsPlaced, WalkedAs, Why, Primitive, ℕ, ⊎_elim, ◌==◌, ◌∙◌, ◌≡◌, ◌⊎◌}
-use Rattle.laws_places.proofs.{HostsAwaited.land_kept, PlaceLaw.Frame, PlaceLaw.move_runner, PlaceLaw.no_way, PlaceLaw.runner_there, PlaceLaw.stay_word, PlaceLaw.watch, PlaceLaw.watched_word, PlaceLaw.yield_leaves, PlaceSteps.Withdrawable, PlaceSteps.step_by}
+use Rattle.laws_places.proofs.{HostsAwaited.land_kept, PlaceLaw.Frame, PlaceLaw.move_runner, PlaceLaw.no_way, PlaceLaw.runner_there, PlaceLaw.stay_primitive, PlaceLaw.watch, PlaceLaw.watched_primitive, PlaceLaw.yield_leaves, PlaceSteps.Withdrawable, PlaceSteps.step_by}
 
 -- ---- One primitive
 
@@ -37,11 +37,11 @@ removed_waits : (k : ℕ) (s : Core) → WaitsPlaced s → WaitsPlaced (remove_t
 unfolding remove_thread
 removed_waits k s q n x far = grind (arith, nat_tests, get-remove, q n x)
 
-falls_waits : (a : Scene) (w : Primitive) (s : Core) → IsUnwind a w s → WaitsPlaced s → WaitsPlaced (after_primitive w s)
+unwinds_waits : (a : Scene) (w : Primitive) (s : Core) → IsUnwind a w s → WaitsPlaced s → WaitsPlaced (after_primitive w s)
 unfolding set_trapped
-falls_waits a (RemoveThread k) s ok h = removed_waits k s h
-falls_waits a SetTrapped s ok h = same_waits s (set_trapped s) refl h
-falls_waits a _ s ok h = absurd ok
+unwinds_waits a (RemoveThread k) s ok h = removed_waits k s h
+unwinds_waits a SetTrapped s ok h = same_waits s (set_trapped s) refl h
+unwinds_waits a _ s ok h = absurd ok
 
 -- a thread runs on, and its call is answered
 back_waits : (m v : ℕ) (t : Core) → WaitsPlaced t → WaitsPlaced (after_primitive (SetOpProgress m (OpProgress.Answered v)) (after_primitive (Places (Move m Place.Running)) t))
@@ -79,8 +79,8 @@ module _ (a : Scene) (w : Primitive) (s : Core) (ok : Allowed a w s) where
   op_far k x far = ⊎_elim (λ e. inl (far_waits (op_progress_of k s) x e)) (λ g. inr (rw (far_waits g.0 x g.1.1) at g.1.0))
       (op_came set_of_op x w s ok k refl (ap set_of_op far))
 
-  pausing_word : Pausing a s → WaitsPlaced (after_primitive w s) → Pausing a (after_primitive w s)
-  pausing_word q at = record {
+  pausing_primitive : Pausing a s → WaitsPlaced (after_primitive w s) → Pausing a (after_primitive w s)
+  pausing_primitive q at = record {
     at = at;
     wait = λ k x far. ⊎_elim (q.wait k x) (λ come. come.1.1.0) (op_far k x far);
     was = λ k x far. ⊎_elim (q.was k x) (λ come. inr come.0) (op_far k x far);
@@ -121,12 +121,12 @@ module _ {a : Scene} {b : Core} {n : ℕ} {q : Option Place} (f : Frame a b n q)
   stays first c =
       (along (λ (t : Core). Stand (watch a) n q [] t × Pausing a t)
       (λ w s ok h. (
-        stay_word f.follows w s ok h.0,
-        pausing_word a w s (stays_allowed a w s ok) h.1 (λ k x far.
+        stay_primitive f.follows w s ok h.0,
+        pausing_primitive a w s (stays_allowed a w s ok) h.1 (λ k x far.
             let at = ⊎_elim (h.1.at k x)
             (λ come. let r = f.there k come.0.0 in let one = f.one k come.0.0 in let here = h.0.here in let at = come.1.1.1 in grind arith)
             (op_far a w s (stays_allowed a w s ok) k x far) in
-            watched_word f.follows (Pauses x) k w s ok h.0 (λ z u may. put_waits k x u s may at) refl at),
+            watched_primitive f.follows (Pauses x) k w s ok h.0 (λ z u may. put_waits k x u s may at) refl at),
       ))
       (f.follows.start, first) c).1
 
@@ -178,7 +178,7 @@ module _ {a : Scene} {b : Core} {n : ℕ} {q : Option Place} (f : Frame a b n q)
   trip_waits first (LandsAt s p m h c ok fit comes halts) = landed_at p s m h ok c (stays first c) comes.0
   trip_waits first (Quits s t k c leave d halts) = settled (removed_waits k s (stays first c).at) d
   trip_waits first (GoesBack s t k m v c is runs to under back d ok) = back_waits m v t (settled (removed_waits k s (stays first c).at) d)
-  trip_waits first (Collapses t over c) = along WaitsPlaced (falls_waits a) first.at c
+  trip_waits first (Collapses t over c) = along WaitsPlaced (unwinds_waits a) first.at c
 
 -- ---- A step
 

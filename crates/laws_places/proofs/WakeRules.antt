@@ -1,6 +1,6 @@
--- What becomes of wakes in the rows that use one up, and in those of starts and joins.
+-- What becomes of wakes in the rules that use one up, and in those of starts and joins.
 use Rattle.laws_places.proofs.Laws.{activated, activated_woken, advanced, ap, arith, at_handle_limit, at_turn, Bool, Call, Choice, chosen, Component, Core, Delivery, delivery_rule, Doer, event_label, event_of, ExportKind, false, finish, foot_of, get, get-change, PickedEvent, picked_event, picked_event_none, give_thread_handle, Continues, goes_to, handed_on, handed_out, has_ready_member, held_label, host_taken, if◌then◌else◌, inl, inr, instance_of, is_callback_waiter, is_explicit, is_none, is_ready_member, is_some, is_told, is_waiter, is_waiting_on, is_woken_at, Join, join_done, join_done_by, join_label, join_of, join_others, join_rule, join_to, join_to_by, joined, joins, kind_of, Label, Mark, may, may_hand_on, may_tell, may_tell_starting, may_wake, may_wake_new, member_same, PickedMember, Moved, moved_over, moved_to, nat_tests, NoAnswer, NothingPicked, None, none_waits, on_call, on_instance, on_thread, on_work, Option, option_and_then, option_map_or, or_never, or_trap, TaskEvent, PickedTaskEvent, OwnScript, Place, place_of, placing_shifted, Progresses, published, published_wakes, push_high, put_high, received, received_by, received_woken, received_woken_by, Records, refl, running, same_subtask, set_at, set_cancel_delivered, set_delivered, set_do_not_enter, set_do_not_suspend, set_event, set_given, set_op_progress, set_join, set_task_event, set_place, set_place_is, set_position, set_register, set_saved_own, set_script, set_started, set_starting_published, set_thread_handle, shifted_calls, Some, SomeHost, start_admitted, start_begins, start_holds, start_rule, start_sets_flags, starting_is_published, starting_told, State, Status, Stop, stopped, stopped_shifted, Stops, subst, Subtask, subtask_at, suc, sym, take_holds, take_label, taken, task_of, told, told_spares, told_to, ToldSpares, ToldTo, Trap, trap_if, true, Turn, wait_goes_on, wait_goes_on_by, wait_label, wake, wake_why, waken_by, wakes_joined, wakes_one, WakesOne, Why, with_thread_handle, written_by, zero, ℕ, ⊎_elim, ◌==◌, ◌∙◌, ◌≡◌, ◌⊎◌}
-use Rattle.machine_data.specs.declared.words.Given.{Given as Handout}
+use Rattle.machine_data.specs.declared.statuses.Given.{Given as Handout}
 use Rattle.machine_data.specs.Read.{is_watched as is_in_own}
 
 -- ---- What is said of wakes

@@ -1,6 +1,6 @@
 -- Where a thread that doesn't run comes to in a step, of those that wait, are held or have an entry.
 use Rattle.laws_places.proofs.Laws.{[], after_placing, after_primitive, along, ap, arith, behind_one, Bool, by_number, Collapses, Core, Delivery, Enter, false, get, get-change, get-remove, GoBehind, GoesBack, op_progress_of, OpProgress, inl, inr, is_for_start, is_some, is_there, IsBeside, IsFirst, IsGone, IsRunner, IsSame, Lands, LandsAt, Mark, MayCome, MayLand, MayPut, Move, nat_tests, no_time, not, on_thread, Option, Place, place_kept, place_of, Places, Placing, placing_shifted, push_high, push_low, Put, put_high, put_low, Quits, refl, Remains, remove_thread, RemoveThread, Scene, set_callers, set_op_progress, set_place, SetOpProgress, settle_threads, Settles, shifted_far, Some, Stand, Stay, Stays, stays_allowed, subst, sym, thread_came, ThreadAfter, Trip, true, Turn, wake_why, Why, Primitive, ℕ, ⊎_elim, ◌==◌, ◌∙◌, ◌≡◌, ◌≤◌, ◌⊎◌}
-use Rattle.laws_places.proofs.{InsideLemmas.come_who, PlaceLaw.Frame, PlaceLaw.move_runner, PlaceLaw.runner_there, PlaceLaw.stay_word, PlaceLaw.watch, PlaceLaw.yield_leaves, StayMoves.Born, StayMoves.Gone, StayMoves.Kept, StayMoves.Marked, StayMoves.Moves, StayMoves.Passed, StayMoves.Resumed, StayMoves.Woken, StayMoves.stay_moves}
+use Rattle.laws_places.proofs.{InsideLemmas.come_who, PlaceLaw.Frame, PlaceLaw.move_runner, PlaceLaw.runner_there, PlaceLaw.stay_primitive, PlaceLaw.watch, PlaceLaw.yield_leaves, StayMoves.Born, StayMoves.Gone, StayMoves.Kept, StayMoves.Marked, StayMoves.Moves, StayMoves.Passed, StayMoves.Resumed, StayMoves.Woken, StayMoves.stay_moves}
 
 abbrev pub ReadyFor : Why → Option Place → Type 0
 ReadyFor w p = (m : Mark) × (p ≡ Some (Place.Ready m w))
@@ -18,7 +18,7 @@ Wends (Place.Held w) p = (p ≡ Some (Place.Held w)) ⊎ ReadyFor w p
 Wends (Place.Waiting x c) p = (p ≡ Some (Place.Waiting x c)) ⊎ (ReadyFor (wake_why x c) p ⊎ ReadyFor (Why.Delivery Delivery.Cancel) p)
 Wends _ p = Unit {0}
 
--- ---- Words
+-- ---- Primitives
 
 put_held : (n : ℕ) (v w : Why) (s : Core) → MayPut n v s → place_of n s ≡ Some (Place.Held w) → v ≡ w
 put_held n v w s ok at = grind arith
@@ -107,8 +107,8 @@ module _ {a : Scene} {b : Core} {n : ℕ} {o : Option Place} (f : Frame a b n o)
   abbrev On : Core → Type 0
   On s = Wends q (place_of j s) × (op_progress_of j s ≡ op_progress_of j b)
 
-  far_word : (w : Primitive) (s : Core) → Stays a w s → j ≤ s.made.threads → is_there j (after_primitive w s) ≡ true → op_progress_of j (after_primitive w s) ≡ op_progress_of j s
-  far_word w s ok low there = go (thread_came w s (stays_allowed a w s ok) j)
+  far_primitive : (w : Primitive) (s : Core) → Stays a w s → j ≤ s.made.threads → is_there j (after_primitive w s) ≡ true → op_progress_of j (after_primitive w s) ≡ op_progress_of j s
+  far_primitive w s ok low there = go (thread_came w s (stays_allowed a w s ok) j)
     where
       go : ThreadAfter a w s j → op_progress_of j (after_primitive w s) ≡ op_progress_of j s
       go (IsSame r u e f c y (inl same) m z) = grind arith
@@ -117,14 +117,14 @@ module _ {a : Scene} {b : Core} {n : ℕ} {o : Option Place} (f : Frame a b n o)
       go (IsBeside u new l same m e) = absurd (omega (arith, new, low))
       go (IsFirst u new l there y z far fresh e x) = absurd (omega (arith, new, low))
 
-  on_word : (w : Primitive) (s : Core) → Stays a w s → Stand (watch a) n o [] s × On s → Stand (watch a) n o [] (after_primitive w s) × On (after_primitive w s)
-  on_word w s ok h =
+  on_primitive : (w : Primitive) (s : Core) → Stays a w s → Stand (watch a) n o [] s × On s → Stand (watch a) n o [] (after_primitive w s) × On (after_primitive w s)
+  on_primitive w s ok h =
       let now = wends_moves q kind (stay_moves f.follows s h.0 w ok j) h.1.0 in
       let low = (h.0.placed j (no_time j n beside_own)).number (wends_there q (place_of j s) kind h.1.0) in
-      (stay_word f.follows w s ok h.0, (now, far_word w s ok low (wends_there q (place_of j (after_primitive w s)) kind now) ∙ h.1.1))
+      (stay_primitive f.follows w s ok h.0, (now, far_primitive w s ok low (wends_there q (place_of j (after_primitive w s)) kind now) ∙ h.1.1))
 
   stay_on : {s : Core} → Stay a b s → On s
-  stay_on c = (along (λ (u : Core). Stand (watch a) n o [] u × On u) on_word
+  stay_on c = (along (λ (u : Core). Stand (watch a) n o [] u × On u) on_primitive
       (f.follows.start, (subst (λ (p : Option Place). Wends q p) (sym home) (wends_first q kind), refl)) c).1
 
   -- another thread comes to a place

@@ -1,5 +1,5 @@
 -- Host works have their entries, along the primitives of a step.
-use Rattle.laws_places.proofs.Laws.{after_primitive, Allowed, arith, Bool, Core, Doing, doing_of, entries_for, get, High, inl, inr, is_stage_ended, MayAbort, MayRemoveWork, None, Option, option_map_or, refl, same_standing, SameWorks, Scene, Some, stage_of, stand_word, true, Primitive, Work, work_came, WorkCame, WorksQueued, WorksStand, ℕ, ◌∙◌, ◌≡◌, ◌≤◌}
+use Rattle.laws_places.proofs.Laws.{after_primitive, Allowed, arith, Bool, Core, Doing, doing_of, entries_for, get, High, inl, inr, is_stage_ended, MayAbort, MayRemoveWork, None, Option, option_map_or, refl, same_standing, SameWorks, Scene, Some, stage_of, stand_primitive, true, Primitive, Work, work_came, WorkCame, WorksQueued, WorksStand, ℕ, ◌∙◌, ◌≡◌, ◌≤◌}
 
 pub stands_of : {s : Core} → WorksQueued s → WorksStand (Unit {0}) s
 stands_of {s = s} q = record {
@@ -25,12 +25,12 @@ ended_in o = option_map_or (λ (v : Doing). is_stage_ended v.stage) o true
 
 module _ (a : Scene) (w : Primitive) (s : Core) (ok : Allowed a w s)
     (ends : (i : ℕ) → MayRemoveWork a i s → is_stage_ended (stage_of i s) ≡ true) (q : WorksQueued s) where
-  pub works_word : WorksQueued (after_primitive w s)
-  works_word = queued_of (stand_word a s (stands_of q) (λ i y. ends i) w ok)
+  pub works_primitive : WorksQueued (after_primitive w s)
+  works_primitive = queued_of (stand_primitive a s (stands_of q) (λ i y. ends i) w ok)
 
   -- an end stays
-  pub ended_word : (i : ℕ) → i ≤ s.made.works → is_stage_ended (stage_of i s) ≡ true → is_stage_ended (stage_of i (after_primitive w s)) ≡ true
-  ended_word i below e = let there = still (work_came a s (stands_of q) (λ i y. ends i) w ok i) (grind arith) in grind arith
+  pub ended_primitive : (i : ℕ) → i ≤ s.made.works → is_stage_ended (stage_of i s) ≡ true → is_stage_ended (stage_of i (after_primitive w s)) ≡ true
+  ended_primitive i below e = let there = still (work_came a s (stands_of q) (λ i y. ends i) w ok i) (grind arith) in grind arith
     where
       still : {h g : ℕ × ℕ} {o p : Option Doing} → WorkCame (Unit {0}) (MayAbort a i) a s (after_primitive w s).made.works i h g o p →
           ended_in o ≡ true → ended_in p ≡ true

@@ -1,5 +1,5 @@
 -- The call that an op is inside of is there: along the primitives of a step.
-use Rattle.laws_states.proofs.Words.{after_primitive, Allowed, ap, arith, Bool, Call, call_came, CallAfter, CallEnd, CallsAwaited, cancelled_call, Core, end_of, false, get, goal_of, has_ended, HasCalled, op_progress_of, OpProgress, inl, inr, is_awaited, is_deletable, is_direct, is_none, is_returned, IsNamed, IsRunner, IsStarting, MayCome, MayTakeEvent, MayTell, next_thread, None, Numbered, OnlyCalled, op_came, Option, option_map_or, Place, place_of, refl, Scene, Some, StartsFirst, Status, subst, Subtask, sym, TakesCalled, TakesCancelled, TakesNamed, Thread, true, Turn, Primitive, ℕ, ⊎_elim, ◌&&◌, ◌||◌, ◌∙◌, ◌≡◌, ◌≤◌, ◌⊎◌}
+use Rattle.laws_states.proofs.Primitives.{after_primitive, Allowed, ap, arith, Bool, Call, call_came, CallAfter, CallEnd, CallsAwaited, cancelled_call, Core, end_of, false, get, goal_of, has_ended, HasCalled, op_progress_of, OpProgress, inl, inr, is_awaited, is_deletable, is_direct, is_none, is_returned, IsNamed, IsRunner, IsStarting, MayCome, MayTakeEvent, MayTell, next_thread, None, Numbered, OnlyCalled, op_came, Option, option_map_or, Place, place_of, refl, Scene, Some, StartsFirst, Status, subst, Subtask, sym, TakesCalled, TakesCancelled, TakesNamed, Thread, true, Turn, Primitive, ℕ, ⊎_elim, ◌&&◌, ◌||◌, ◌∙◌, ◌≡◌, ◌≤◌, ◌⊎◌}
 use Rattle.laws_states.proofs.{CallEnds.EndsNow, CallEnds.Gone, CallEnds.Made, CallEnds.Same, CallEnds.Telling, CallEnds.TellingCame, CallEnds.TellsNow, CallEnds.ending, CallEnds.is_for_guest, CallEnds.telling_came, CallEnds.telling_of, NamedCalls.NamesGo, NamedCalls.NamesHold, NamedCalls.WasInside, NamedCalls.called_call, NamedCalls.calls_call, NamedCalls.unnamed_inside}
 
 -- ---- Which calls are direct
@@ -8,8 +8,8 @@ use Rattle.laws_states.proofs.{CallEnds.EndsNow, CallEnds.Gone, CallEnds.Made, C
 abbrev pub DirectsRun : Scene → Core → Type 0
 DirectsRun a s = (k : ℕ) → is_direct (goal_of k s) ≡ true → (is_direct (goal_of k a.base) ≡ true) ⊎ (a.next ≡ Turn.Run k)
 
-pub directs_word : (a : Scene) (w : Primitive) (s : Core) → Allowed a w s → DirectsRun a s → DirectsRun a (after_primitive w s)
-directs_word a w s ok q k direct = let i : CallAfter a w s k = call_came w s ok k in grind (arith, q k)
+pub directs_primitive : (a : Scene) (w : Primitive) (s : Core) → Allowed a w s → DirectsRun a s → DirectsRun a (after_primitive w s)
+directs_primitive a w s ok q k direct = let i : CallAfter a w s k = call_came w s ok k in grind (arith, q k)
 
 -- ---- On the way of a step
 
@@ -130,8 +130,8 @@ module _ (a : Scene) (base : NamesHold a.base) (calls : CallsAwaited a.base) (st
         by (inl was) = ⊎_elim (λ under. inl under) (λ aw. goes (inl was) (λ m at. whose m was at aw)) (calls.inside n k was)
         by (inr new) = goes (inr new) (λ m at. let low = base.least m k at in absurd (grind arith))
 
-    pub inside_word : CallsInside a (after_primitive w s)
-    inside_word = record {
+    pub inside_primitive : CallsInside a (after_primitive w s)
+    inside_primitive = record {
       inside = inside_after;
       cancelled = λ m k e. ⊎_elim (p.cancelled m k) (λ c. cancel_named a m k s c.0 c.1.0 c.1.1) (op_came cancelled_call k w s ok m refl e);
     }

@@ -1,6 +1,6 @@
 -- Calls along the primitives of a step, along steps and along runs.
 use Rattle.laws_states.proofs.Rules.{[], after_primitive, Allowed, along, arith, base_at, Call, CallEnd, CallsRise, CodesInCallbacks, Component, component_of, Core, DeliveredByCallback, ends_activation, ExplicitNamesNoCall, false, fresh, get, get-empty, is_async_lifted, is_callback, kind_of, Label, LastPrimitives, LaterBy, le_refl, le_trans, List, MayDeliver, MayEnd, never_fewer, Op, op_of, opening, ops_of, Option, place_of, Queues, Reached, refl, Rises, Run, runner_at, RunsRise, SameThread, Scene, scene_as, script_of, Setting, Some, State, Step, step_walks, StepsRise, subst, sym, SyncEndsLast, SyncNeverCancelled, task_of, Thread, ThreadNumbered, true, Turn, WalkedAs, Primitive, ℕ, ◌∙◌, ◌∷◌, ◌≡◌, ◌≤◌}
-use Rattle.laws_states.proofs.{Basics.some_none, Basics.too_high, CallsCame.CallAfter, CallsCame.Grown, CallsCame.NewCall, CallsCame.NoCall, CallsCame.ThreadAfter, CallsCame.call_came, CallsCame.thread_came, CallsLaw.CallsGo, CallsLaw.CallsHold, CallsLaw.Codes, CallsLaw.Goes, CallsLaw.GoneOr, CallsLaw.KindHolds, CallsLaw.base_task, CallsLaw.delivered_in, CallsLaw.goes_after, CallsLaw.goes_of, CallsLaw.goes_same, CallsLaw.kept_callback, CallsLaw.kind_kept, CallsLaw.later_after, CallsLaw.later_none, CallsLaw.later_same, CallsLaw.place_delivers, CallsLaw.ready_delivered, CallsLaw.rises_after, CallsLaw.rises_same, CameLemmas.came_word, CountLemmas.made_threads_word, SceneLemmas.base_is}
+use Rattle.laws_states.proofs.{Basics.some_none, Basics.too_high, CallsCame.CallAfter, CallsCame.Grown, CallsCame.NewCall, CallsCame.NoCall, CallsCame.ThreadAfter, CallsCame.call_came, CallsCame.thread_came, CallsLaw.CallsGo, CallsLaw.CallsHold, CallsLaw.Codes, CallsLaw.Goes, CallsLaw.GoneOr, CallsLaw.KindHolds, CallsLaw.base_task, CallsLaw.delivered_in, CallsLaw.goes_after, CallsLaw.goes_of, CallsLaw.goes_same, CallsLaw.kept_callback, CallsLaw.kind_kept, CallsLaw.later_after, CallsLaw.later_none, CallsLaw.later_same, CallsLaw.place_delivers, CallsLaw.ready_delivered, CallsLaw.rises_after, CallsLaw.rises_same, CameLemmas.came_primitive, CountLemmas.made_threads_primitive, SceneLemmas.base_is}
 
 module _ (a : Scene) (codes : Codes a) (h : CallsHold (component_of a) a.base) where
   -- ---- One primitive
@@ -21,13 +21,13 @@ module _ (a : Scene) (codes : Codes a) (h : CallsHold (component_of a) a.base) w
     thread_numbered n t at =
         let i : ThreadAfter a w s n = thread_came w s ok n in
         let j : CallAfter a w s n = call_came w s ok n in
-        let m = made_threads_word a w s in
+        let m = made_threads_primitive a w s in
         grind (arith, q.numbered.threads n, q.numbered.calls n, base_task a codes h)
 
     call_numbered : (k : ℕ) (c : Call) → get (after_primitive w s).calls k ≡ Some c → (1 ≤ k) × (k ≤ (after_primitive w s).made.threads)
     call_numbered k c at =
         let i : CallAfter a w s k = call_came w s ok k in
-        let m = made_threads_word a w s in
+        let m = made_threads_primitive a w s in
         grind (arith, q.numbered.calls k)
 
     gone_kept : (k : ℕ) → k ≤ s.made.threads → GoneOr a s k → GoneOr a (after_primitive w s) k
@@ -56,13 +56,13 @@ module _ (a : Scene) (codes : Codes a) (h : CallsHold (component_of a) a.base) w
     delivery_after n t at d =
         let i : ThreadAfter a w s n = thread_came w s ok n in
         let now : delivered_in (place_of n (after_primitive w s)) ≡ true = cc in
-        let before = place_delivers a codes h q (after_primitive w s) n (place_of n s) _ refl (came_word w s ok n) now in
+        let before = place_delivers a codes h q (after_primitive w s) n (place_of n s) _ refl (came_primitive w s ok n) now in
         let l = call_later (task_of n s) in
         grind (arith, q.numbered.threads n)
 
-  pub word_goes : (w : Primitive) (s : Core) → Allowed a w s → CallsGo a s → CallsGo a (after_primitive w s)
-  word_goes w s ok q = record {
-    counted = le_trans q.counted (made_threads_word a w s);
+  pub primitive_goes : (w : Primitive) (s : Core) → Allowed a w s → CallsGo a s → CallsGo a (after_primitive w s)
+  primitive_goes w s ok q = record {
+    counted = le_trans q.counted (made_threads_primitive a w s);
     numbered = record { threads = thread_numbered w s ok q; calls = call_numbered w s ok q };
     threads = thread_since w s ok q;
     calls = λ k below. later_after Goes goes_after _ _ _ (q.calls k below) (call_later w s ok q k (le_trans below q.counted));
@@ -77,7 +77,7 @@ module _ (a : Scene) (codes : Codes a) (h : CallsHold (component_of a) a.base) w
 
 -- ---- The beginning of a step
 
--- what holds beside the entries holds of the core that the row reads
+-- what holds beside the entries holds of the core that the rule reads
 pub of_base : (P : Core → Type 0) (u : Turn) (s : Core) → P (record s { queues = (base_at u s).queues }) → P (base_at u s)
 of_base P u s p = rw (base_is u s) p
 
@@ -85,7 +85,7 @@ of_base P u s p = rw (base_is u s) p
 pub base_out : (P : Core → Type 0) (u : Turn) (s : Core) → P (base_at u s) → P (record s { queues = (base_at u s).queues })
 base_out P u s p = subst P (base_is u s) p
 
--- the scene in which the row reads what is beside the marks as it was before the step; what is so of the step's scene is so of it
+-- the scene in which the rule reads what is beside the marks as it was before the step; what is so of the step's scene is so of it
 abbrev pub plain_as : (ℕ → Op) → Setting → State → Label → Turn → Scene
 plain_as ops x s l next = record (scene_as ops x s l next) { base = record s.core { queues = (base_at s.turn s.core).queues } }
 
@@ -111,7 +111,7 @@ codes_plain l next codes = record { all = codes.all; here = λ n is e. codes.her
 pub codes_in : {ops : ℕ → Op} {x : Setting} {s : State} (l : Label) (next : Turn) → CodesAt ops x s → Codes (scene_as ops x s l next)
 codes_in {ops = ops} {x = x} {s = s} l next codes = of_base (λ b. Codes (record (scene_as ops x s l next) { base = b })) s.turn s.core (codes_plain l next codes)
 
--- from the state s on the row reads a core with its calls and threads
+-- from the state s on the rule reads a core with its calls and threads
 begins : (c : Component) (q : Queues) (s : Core) → CallsHold c s → CallsHold c (record s { queues = q })
 begins c q s p = record {
   numbered = record { threads = λ n t e. assumption (p.numbered.threads n t e); calls = p.numbered.calls };
@@ -141,7 +141,7 @@ pub walked_goes : {ops : ℕ → Op} (x : Setting) (s : State) (l : Label) (t : 
 walked_goes {ops = ops} x s l t given p w =
     let a : Scene = scene_as ops x s l w.next in let codes = codes_in l w.next given in
     let b = calls_begin x s l w.next p in
-    let g : CallsGo a t.core = along (CallsGo a) (word_goes a codes b.0) b.1 w.walk in (
+    let g : CallsGo a t.core = along (CallsGo a) (primitive_goes a codes b.0) b.1 w.walk in (
       ended_holds a codes b.0 t.core g w.ends,
       of_base (λ c. CallsGo (record a { base = c }) t.core → CallsRise s.core t.core) s.turn s.core
           (λ h k below. risen (get s.core.calls k) (get t.core.calls k) (h.calls k below)) g,

@@ -94,7 +94,7 @@ module _ (may : ℕ → Why → Type 0) where
     unfolding stopped set_callers
     stopped_shifted f s = passed_shifted s.queues.switch (callers_of f s) (record s { callers = insert s.callers f [] })
 
--- ---- Words
+-- ---- Primitives
 
 -- Why a primitive leaves an entry of the thread.
 abbrev pub MayStand : Scene → Core → ℕ → Why → Type 0
@@ -147,8 +147,8 @@ module _ {a : Scene} where
   placed_came : (x : Placing) (w : Primitive) (s : Core) → w ≡ Places x → Allowed a w s → (k : ℕ) → PlaceAfter a w s k
   placed_came x w s is ok k = rw is (came_by x s (rw is at ok) k)
 
-  pub came_word : (w : Primitive) (s : Core) → Allowed a w s → (k : ℕ) → PlaceAfter a w s k
-  came_word w s ok k = go (thread_came w s ok k)
+  pub came_primitive : (w : Primitive) (s : Core) → Allowed a w s → (k : ℕ) → PlaceAfter a w s k
+  came_primitive w s ok k = go (thread_came w s ok k)
     where
       go : ThreadAfter a w s k → PlaceAfter a w s k
       go (IsSame r u e f c x h (inl same) z) = rw (e, f, same) (stays (Some r.place))

@@ -1,5 +1,5 @@
 -- How many records pass a test, counted by their numbers.
-use Rattle.laws_states.proofs.Words.{[], ap, arith, Bool, cond, count_by, false, found_any, get, get-remove, is_some, List, list_any, nat_cmp, nat_tests, None, Option, option_map_or, Records, refl, remove, Some, suc, sum_by-cons, sym, true, unsigned_tied, zero, ℕ, ◌+◌, ◌==◌, ◌∙◌, ◌∷◌, ◌≡◌, ◌≤◌}
+use Rattle.laws_states.proofs.Primitives.{[], ap, arith, Bool, cond, count_by, false, found_any, get, get-remove, is_some, List, list_any, nat_cmp, nat_tests, None, Option, option_map_or, Records, refl, remove, Some, suc, sum_by-cons, sym, true, unsigned_tied, zero, ℕ, ◌+◌, ◌==◌, ◌∙◌, ◌∷◌, ◌≡◌, ◌≤◌}
 use Rattle.machine_data.proofs.SumLemmas.{count_by-remove}
 use Rattle.std.specs.FinMap.Entries.{find as seek}
 

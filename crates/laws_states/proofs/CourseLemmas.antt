@@ -1,5 +1,5 @@
 -- Which steps make host works, and which change what a work is still to do.
-use Rattle.laws_states.proofs.Words.{add_call, add_group, add_set, add_thread, add_work, AddGroup, after_primitive, Allowed, along, ap, arith, base_at, call_made, CallOp, calls_host, CallsHost, Core, count_work, CoursesStay, EndWork, FinishWork, free_handle, free_thread_handle, get, get-change, get-insert, get-remove, give_handle, give_result, give_thread_handle, op_progress_of, OpProgress, inl, inr, insert, is_some, Label, LaterBy, le_refl, le_trans, MadeCounts, made_works_word, MakesWork, MayQueue, nat_tests, of_base, on_call, on_instance, on_thread, on_work, Op, op_in, Option, Pend, poll_pends, push_high, queues_work, QueueWork, Records, refl, remove_call, remove_group, remove_set, remove_thread, remove_work, SameCourse, Scene, scene_as, set_backpressure, set_cancel_delivered, set_cancelled, set_course, set_do_not_enter, set_do_not_suspend, set_end, set_event, set_exited, set_op_progress, set_join, set_task_event, set_phase, set_position, set_register, set_result, set_saved_callee, set_saved_own, set_script, set_stage, set_started, set_starting_published, set_subtask_handle, set_thread_handle, set_trapped, set_uninteresting, set_word, Setting, Spawns, State, subst, Subtask, take_result, true, Turn, with_handle, with_thread_handle, Primitive, Work, work_queued, WorkCaller, WorksAreCalled, ℕ, ⊎_elim, ◌+◌, ◌∙◌, ◌≡◌, ◌≤◌, ◌⊎◌}
+use Rattle.laws_states.proofs.Primitives.{add_call, add_group, add_set, add_thread, add_work, AddGroup, after_primitive, Allowed, along, ap, arith, base_at, call_made, CallOp, calls_host, CallsHost, Core, count_work, CoursesStay, EndWork, FinishWork, free_handle, free_thread_handle, get, get-change, get-insert, get-remove, give_handle, give_result, give_thread_handle, op_progress_of, OpProgress, inl, inr, insert, is_some, Label, LaterBy, le_refl, le_trans, MadeCounts, made_works_primitive, MakesWork, MayQueue, nat_tests, of_base, on_call, on_instance, on_thread, on_work, Op, op_in, Option, Pend, poll_pends, push_high, queues_work, QueueWork, Records, refl, remove_call, remove_group, remove_set, remove_thread, remove_work, SameCourse, Scene, scene_as, set_backpressure, set_cancel_delivered, set_cancelled, set_course, set_do_not_enter, set_do_not_suspend, set_end, set_event, set_exited, set_op_progress, set_join, set_task_event, set_phase, set_position, set_register, set_result, set_saved_callee, set_saved_own, set_script, set_stage, set_started, set_starting_published, set_subtask_handle, set_thread_handle, set_trapped, set_uninteresting, set_memory_cell, Setting, Spawns, State, subst, Subtask, take_result, true, Turn, with_handle, with_thread_handle, Primitive, Work, work_queued, WorkCaller, WorksAreCalled, ℕ, ⊎_elim, ◌+◌, ◌∙◌, ◌≡◌, ◌≤◌, ◌⊎◌}
 
 -- ---- What a work is still to do
 
@@ -12,25 +12,25 @@ stays_same : (b : Core) → Stays b b
 stays_same b = record { more = le_refl _; same = λ i below. grind arith }
 
 module _ (a : Scene) (quiet : (n : ℕ) → a.turn ≡ Turn.Futures n → ⊥) (b : Core) where
-  course_word : (w : Primitive) (s : Core) → Allowed a w s → (i : ℕ) → i ≤ s.made.works → LaterBy SameCourse (get b.works i) (get s.works i) →
+  course_primitive : (w : Primitive) (s : Core) → Allowed a w s → (i : ℕ) → i ≤ s.made.works → LaterBy SameCourse (get b.works i) (get s.works i) →
       LaterBy SameCourse (get b.works i) (get (after_primitive w s).works i)
-  unfolding add_call add_group add_set add_thread add_work call_made count_work free_handle free_thread_handle give_handle give_result give_thread_handle on_call on_instance on_thread on_work poll_pends push_high remove_call remove_group remove_set remove_thread remove_work set_backpressure set_cancel_delivered set_cancelled set_course set_do_not_enter set_do_not_suspend set_end set_event set_exited set_op_progress set_join set_task_event set_phase set_position set_register set_result set_saved_callee set_saved_own set_script set_stage set_started set_starting_published set_subtask_handle set_thread_handle set_trapped set_uninteresting set_word take_result with_handle with_thread_handle work_queued
-  course_word AddGroup s ok i below q = q
-  course_word (Pend j host) s ok i below q = absurd (quiet ok.0.0 ok.0.1.0)
-  course_word (EndWork j c) s ok i below q = absurd (quiet ok.0.0.0 ok.0.0.1.0)
-  course_word (FinishWork j c) s ok i below q = absurd (quiet ok.0.0.0 ok.0.0.1.0)
-  course_word w s ok i below q = first_of (assumption, grind (arith, nat_tests, get-change, get-insert, get-remove))
+  unfolding add_call add_group add_set add_thread add_work call_made count_work free_handle free_thread_handle give_handle give_result give_thread_handle on_call on_instance on_thread on_work poll_pends push_high remove_call remove_group remove_set remove_thread remove_work set_backpressure set_cancel_delivered set_cancelled set_course set_do_not_enter set_do_not_suspend set_end set_event set_exited set_op_progress set_join set_task_event set_phase set_position set_register set_result set_saved_callee set_saved_own set_script set_stage set_started set_starting_published set_subtask_handle set_thread_handle set_trapped set_uninteresting set_memory_cell take_result with_handle with_thread_handle work_queued
+  course_primitive AddGroup s ok i below q = q
+  course_primitive (Pend j host) s ok i below q = absurd (quiet ok.0.0 ok.0.1.0)
+  course_primitive (EndWork j c) s ok i below q = absurd (quiet ok.0.0.0 ok.0.0.1.0)
+  course_primitive (FinishWork j c) s ok i below q = absurd (quiet ok.0.0.0 ok.0.0.1.0)
+  course_primitive w s ok i below q = first_of (assumption, grind (arith, nat_tests, get-change, get-insert, get-remove))
 
-  stays_word : (w : Primitive) (s : Core) → Allowed a w s → Stays b s → Stays b (after_primitive w s)
-  stays_word w s ok q = record {
-    more = le_trans q.more (made_works_word a w s);
-    same = λ i below. course_word w s ok i (le_trans below q.more) (q.same i below);
+  stays_primitive : (w : Primitive) (s : Core) → Allowed a w s → Stays b s → Stays b (after_primitive w s)
+  stays_primitive w s ok q = record {
+    more = le_trans q.more (made_works_primitive a w s);
+    same = λ i below. course_primitive w s ok i (le_trans below q.more) (q.same i below);
   }
 
 pub courses_stay : CoursesStay
 unfolding CoursesStay
 courses_stay ops x s l t w quiet i below =
-    (along (Stays s.core) (λ v u ok q. stays_word (scene_as ops x s l w.next) quiet s.core v u ok q) (stays_same s.core) w.walk).same i below
+    (along (Stays s.core) (λ v u ok q. stays_primitive (scene_as ops x s l w.next) quiet s.core v u ok q) (stays_same s.core) w.walk).same i below
 
 -- ---- Who makes works
 
@@ -60,17 +60,17 @@ module _ (a : Scene) (b : Core) (base : a.base.made ≡ b.made) where
   next_there : (m : Records Work) (k i : ℕ) (w : Work) → is_some (get (insert m k w) i) ≡ true → (i ≡ k) ⊎ (is_some (get m i) ≡ true)
   next_there m k i w there = grind (arith, nat_tests, get-insert)
 
-  each_word : (w : Primitive) (s : Core) → Allowed a w s → ((i : ℕ) → is_some (get s.works i) ≡ true → (i ≤ b.made.works) ⊎ ((i ≡ b.made.works + 1) × Makes a)) →
+  each_primitive : (w : Primitive) (s : Core) → Allowed a w s → ((i : ℕ) → is_some (get s.works i) ≡ true → (i ≤ b.made.works) ⊎ ((i ≡ b.made.works + 1) × Makes a)) →
       (i : ℕ) → is_some (get (after_primitive w s).works i) ≡ true → (i ≤ b.made.works) ⊎ ((i ≡ b.made.works + 1) × Makes a)
-  unfolding add_call add_group add_set add_thread add_work call_made count_work free_handle free_thread_handle give_handle give_result give_thread_handle on_call on_instance on_thread on_work poll_pends push_high remove_call remove_group remove_set remove_thread remove_work set_backpressure set_cancel_delivered set_cancelled set_course set_do_not_enter set_do_not_suspend set_end set_event set_exited set_op_progress set_join set_task_event set_phase set_position set_register set_result set_saved_callee set_saved_own set_script set_stage set_started set_starting_published set_subtask_handle set_thread_handle set_trapped set_uninteresting set_word take_result with_handle with_thread_handle work_queued
-  each_word AddGroup s ok q i there = q i there
-  each_word (QueueWork f host group) s ok q i there =
+  unfolding add_call add_group add_set add_thread add_work call_made count_work free_handle free_thread_handle give_handle give_result give_thread_handle on_call on_instance on_thread on_work poll_pends push_high remove_call remove_group remove_set remove_thread remove_work set_backpressure set_cancel_delivered set_cancelled set_course set_do_not_enter set_do_not_suspend set_end set_event set_exited set_op_progress set_join set_task_event set_phase set_position set_register set_result set_saved_callee set_saved_own set_script set_stage set_started set_starting_published set_subtask_handle set_thread_handle set_trapped set_uninteresting set_memory_cell take_result with_handle with_thread_handle work_queued
+  each_primitive AddGroup s ok q i there = q i there
+  each_primitive (QueueWork f host group) s ok q i there =
       let made : s.made.works ≡ b.made.works = ap (λ (m : MadeCounts). m.works) (ok.0 ∙ base) in
       ⊎_elim (λ is. inr (is ∙ ap (λ (k : ℕ). k + 1) made, makes_of a f group ok.1.0)) (λ old. q i old) (next_there s.works (s.made.works + 1) i _ there)
-  each_word w s ok q i there = q i (first_of (assumption, grind (arith, nat_tests, get-change, get-insert, get-remove)))
+  each_primitive w s ok q i there = q i (first_of (assumption, grind (arith, nat_tests, get-change, get-insert, get-remove)))
 
-  called_word : (w : Primitive) (s : Core) → Allowed a w s → Called a b s → Called a b (after_primitive w s)
-  called_word w s ok q = record { more = le_trans q.more (made_works_word a w s); each = each_word w s ok q.each }
+  called_primitive : (w : Primitive) (s : Core) → Allowed a w s → Called a b s → Called a b (after_primitive w s)
+  called_primitive w s ok q = record { more = le_trans q.more (made_works_primitive a w s); each = each_primitive w s ok q.each }
 
 -- read of the state before the step
 module _ (ops : ℕ → Op) (x : Setting) (s : State) (l : Label) (next : Turn) where
@@ -85,4 +85,4 @@ works_are_called ops x s l t w numbered i there =
     let base : a.base.made ≡ s.core.made = of_base (λ (c : Core). c.made ≡ s.core.made) s.turn s.core refl in
     let first : Called a s.core s.core = record { more = le_refl _; each = λ j old. inl (numbered j old) } in
     ⊎_elim (λ old. inl old) (λ new. inr (new.0, said ops x s l w.next new.1))
-    ((along (Called a s.core) (λ v u ok q. called_word a s.core base v u ok q) first w.walk).each i there)
+    ((along (Called a s.core) (λ v u ok q. called_primitive a s.core base v u ok q) first w.walk).each i there)

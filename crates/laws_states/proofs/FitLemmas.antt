@@ -1,5 +1,5 @@
 -- What script each thread runs, and where in it, along the primitives of a step.
-use Rattle.laws_states.proofs.Words.{[], after_primitive, Allowed, ap, arith, AtOp, Bool, call_instance, Callee, callee_of, CallsGo, CallsHold, Came, came_word, can_come, code_callback, Codes, CodesInCallbacks, Comes, Component, component_of, Core, delivered_in, Ends, ends_activation, EndsActivation, Entered, Enters, false, FitsAs, get, has_one_on_top, OpProgress, inl, InOp, inr, is_delivered, is_delivery, is_explicit, is_some, is_sync_call, IsBeside, IsFirst, IsGone, IsMade, IsSame, Leaves, length, MayMove, MayStand, Moved, names_script, new_thread, next_thread, None, one_runner, Op, op_at_place, op_in, op_of, op_of_thread, Option, option_map, option_map_or, Place, place_of, refl, registers_for, RunnerHoused, RunsOn, Scene, Script, script_in, script_of, script_of_thread, shifted_delivers, Shifts, Some, some_none, sym, task_of, Thread, thread_came, ThreadAfter, true, Turn, turned_silent, Turns, WasReady, WasUnder, Why, Primitive, ℕ, ⊎_elim, ◌∙◌, ◌∷◌, ◌≡◌, ◌≤◌, ◌⊎◌}
+use Rattle.laws_states.proofs.Primitives.{[], after_primitive, Allowed, ap, arith, AtOp, Bool, call_instance, Callee, callee_of, CallsGo, CallsHold, Came, came_primitive, can_come, code_callback, Codes, CodesInCallbacks, Comes, Component, component_of, Core, delivered_in, Ends, ends_activation, EndsActivation, Entered, Enters, false, FitsAs, get, has_one_on_top, OpProgress, inl, InOp, inr, is_delivered, is_delivery, is_explicit, is_some, is_sync_call, IsBeside, IsFirst, IsGone, IsMade, IsSame, Leaves, length, MayMove, MayStand, Moved, names_script, new_thread, next_thread, None, one_runner, Op, op_at_place, op_in, op_of, op_of_thread, Option, option_map, option_map_or, Place, place_of, refl, registers_for, RunnerHoused, RunsOn, Scene, Script, script_in, script_of, script_of_thread, shifted_delivers, Shifts, Some, some_none, sym, task_of, Thread, thread_came, ThreadAfter, true, Turn, turned_silent, Turns, WasReady, WasUnder, Why, Primitive, ℕ, ⊎_elim, ◌∙◌, ◌∷◌, ◌≡◌, ◌≤◌, ◌⊎◌}
 
 -- what brings a delivery for the thread: there was one, its activation ends, or it was taken with one
 abbrev pub Brings : Scene → ℕ → Option Place → Type 0
@@ -209,7 +209,7 @@ module _ (a : Scene) (codes : Codes a) (h : CallsHold (component_of a) a.base) (
     }
 
     fits_after : (t : Thread) → get (after_primitive w s).threads n ≡ Some t → ThreadAfter a w s n → FitsSo a n t
-    fits_after t at (IsSame r u e f call x h m z) = let same : t ≡ u = cc in let came = came_word w s ok n in rw same (record {
+    fits_after t at (IsSame r u e f call x h m z) = let same : t ≡ u = cc in let came = came_primitive w s ok n in rw same (record {
       script = script_after w s ok go q n r e u call x z;
       call = λ y. let g = (q n r e).call in grind arith;
       first = λ d. x ∙ brings_first w s ok go q n r e (brings a s n (after_primitive w s) _ _ refl came (rw at (rw same d)));
@@ -227,5 +227,5 @@ module _ (a : Scene) (codes : Codes a) (h : CallsHold (component_of a) a.base) (
     fits_after t at (IsFirst u is l there x y far new e z) = let same : t ≡ u = cc in
         rw same (new_fits u is (grind arith) (λ d. grind arith) new far z.1)
 
-  pub fits_word : (w : Primitive) (s : Core) → Allowed a w s → CallsGo a s → AllFit a s → AllFit a (after_primitive w s)
-  fits_word w s ok go q n t at = fits_after w s ok go q n t at (thread_came w s ok n)
+  pub fits_primitive : (w : Primitive) (s : Core) → Allowed a w s → CallsGo a s → AllFit a s → AllFit a (after_primitive w s)
+  fits_primitive w s ok go q n t at = fits_after w s ok go q n t at (thread_came w s ok n)

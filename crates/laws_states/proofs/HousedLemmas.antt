@@ -6,8 +6,8 @@ use Rattle.laws_states.proofs.CallsCame.{call_came, CallAfter, thread_came, Thre
 abbrev pub RunnerHoused : Scene → Type 0
 RunnerHoused a = (n : ℕ) → IsRunner a n → is_some (get a.base.calls (task_of n a.base)) ≡ true
 
-pub housed_word : (a : Scene) → RunnerHoused a → (w : Primitive) (s : Core) → Allowed a w s → CallsThere s → CallsThere (after_primitive w s)
-housed_word a known w s ok q n k h =
+pub housed_primitive : (a : Scene) → RunnerHoused a → (w : Primitive) (s : Core) → Allowed a w s → CallsThere s → CallsThere (after_primitive w s)
+housed_primitive a known w s ok q n k h =
     let i : ThreadAfter a w s n = thread_came w s ok n in
     let j : CallAfter a w s k = call_came w s ok k in
     let left = no_thread_left k n s in

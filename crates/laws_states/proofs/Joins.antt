@@ -1,5 +1,5 @@
 -- A subtask that is joined to a set is named in the set's instance: along the primitives of a step.
-use Rattle.laws_states.proofs.Words.{[], add_call, add_group, add_set, add_thread, add_work, after_change, after_primitive, Allowed, arith, Bool, by_number, Call, call_made, change, CloseSet, Core, count_work, false, filled_with, free_handle, free_thread_handle, fresh, get, get-change, get-empty, get-insert, get-remove, give_handle, give_result, give_thread_handle, giving, giving_kept, has_member, home_in, inl, inr, instance_of, is_joined, is_member, is_some, Join, join_of, JoinNamed, JoinsNamed, List, list_any, list_any-append, map, MayJoin, NameCall, Named, named_by, NameWork, nat_cmp, nat_tests, next_dead, next_handle, no_handles, None, numbers, on_call, on_instance, on_thread, on_work, OpenSet, poll_pends, push_high, Records, refl, remove_call, remove_group, remove_set, remove_thread, remove_work, Scene, Set, set_backpressure, set_cancel_delivered, set_cancelled, set_course, set_do_not_enter, set_do_not_suspend, set_end, set_event, set_exited, set_op_progress, set_join, set_task_event, set_phase, set_position, set_register, set_result, set_saved_callee, set_saved_own, set_script, set_stage, set_started, set_starting_published, set_subtask_handle, set_thread_handle, set_trapped, set_uninteresting, set_word, SetCallJoin, SetsNamed, SetWorkJoin, Some, subst, Subtask, subtask_at, subtask_in, NameTable, TableKept, take_result, taking, taking_kept, true, UnnameCall, UnnameWork, unsigned_tied, with_handle, with_thread_handle, Primitive, Work, work_queued, ℕ, ⊎_elim, ◌∷◌, ◌≡◌, ◌≤◌, ◌⊎◌}
+use Rattle.laws_states.proofs.Primitives.{[], add_call, add_group, add_set, add_thread, add_work, after_change, after_primitive, Allowed, arith, Bool, by_number, Call, call_made, change, CloseSet, Core, count_work, false, filled_with, free_handle, free_thread_handle, fresh, get, get-change, get-empty, get-insert, get-remove, give_handle, give_result, give_thread_handle, giving, giving_kept, has_member, home_in, inl, inr, instance_of, is_joined, is_member, is_some, Join, join_of, JoinNamed, JoinsNamed, List, list_any, list_any-append, map, MayJoin, NameCall, Named, named_by, NameWork, nat_cmp, nat_tests, next_dead, next_handle, no_handles, None, numbers, on_call, on_instance, on_thread, on_work, OpenSet, poll_pends, push_high, Records, refl, remove_call, remove_group, remove_set, remove_thread, remove_work, Scene, Set, set_backpressure, set_cancel_delivered, set_cancelled, set_course, set_do_not_enter, set_do_not_suspend, set_end, set_event, set_exited, set_op_progress, set_join, set_task_event, set_phase, set_position, set_register, set_result, set_saved_callee, set_saved_own, set_script, set_stage, set_started, set_starting_published, set_subtask_handle, set_thread_handle, set_trapped, set_uninteresting, set_memory_cell, SetCallJoin, SetsNamed, SetWorkJoin, Some, subst, Subtask, subtask_at, subtask_in, NameTable, TableKept, take_result, taking, taking_kept, true, UnnameCall, UnnameWork, unsigned_tied, with_handle, with_thread_handle, Primitive, Work, work_queued, ℕ, ⊎_elim, ◌∷◌, ◌≡◌, ◌≤◌, ◌⊎◌}
 use Rattle.std.specs.FinMap.Entries.{find}
 
 -- ---- Tables
@@ -28,7 +28,7 @@ member_of (Subtask.Guest k) x s h =
 member_of (Subtask.Host i) x s h =
     let any = any_number (λ sub. is_member x sub s) (λ n. Subtask.Host n) i s.works.list in grind (arith, nat_tests, list_any-append)
 
--- ---- Joins, word by word
+-- ---- Joins, primitive by primitive
 
 -- the primitive joins the subtask to the set, and leaves handles and sets
 abbrev pub Joins : Scene → Primitive → Core → Subtask → ℕ → Type 0
@@ -36,7 +36,7 @@ Joins a w s sub x = MayJoin a sub (Join.Set x) s × (((after_primitive w s).hand
 
 pub now_joined : (a : Scene) (w : Primitive) (s : Core) → Allowed a w s → (sub : Subtask) (x : ℕ) → join_of sub (after_primitive w s) ≡ Join.Set x →
     (join_of sub s ≡ Join.Set x) ⊎ Joins a w s sub x
-unfolding on_thread add_group add_set add_work count_work free_handle free_thread_handle give_handle give_result give_thread_handle on_call on_instance on_work push_high remove_call remove_group remove_set remove_work remove_thread set_backpressure set_cancel_delivered set_cancelled set_course set_do_not_enter set_do_not_suspend set_end set_event set_exited set_op_progress set_join set_task_event set_phase set_position set_register set_result set_saved_callee set_saved_own set_script set_stage set_started set_starting_published set_subtask_handle set_thread_handle set_trapped set_uninteresting set_word take_result call_made add_call add_thread with_handle with_thread_handle work_queued poll_pends
+unfolding on_thread add_group add_set add_work count_work free_handle free_thread_handle give_handle give_result give_thread_handle on_call on_instance on_work push_high remove_call remove_group remove_set remove_work remove_thread set_backpressure set_cancel_delivered set_cancelled set_course set_do_not_enter set_do_not_suspend set_end set_event set_exited set_op_progress set_join set_task_event set_phase set_position set_register set_result set_saved_callee set_saved_own set_script set_stage set_started set_starting_published set_subtask_handle set_thread_handle set_trapped set_uninteresting set_memory_cell take_result call_made add_call add_thread with_handle with_thread_handle work_queued poll_pends
 now_joined a (SetCallJoin n j) s ok (Subtask.Guest k) x h = by_number n k _
     (λ e. let to : j ≡ Join.Set x = grind (arith, nat_tests, get-change) in inr (rw to at (rw e at ok), (refl, refl)))
     (λ e. inl (grind (arith, nat_tests, get-change, e)))
@@ -80,35 +80,35 @@ module _ (a : Scene) (s : Core) (q : JoinsNamed s) where
   unnamed_kept j g sub at unjoined =
       freed_kept j g (Named.Subtask sub) (grind arith) (λ other x to is. let same : sub ≡ other = cc in absurd (cc))
 
-  handles_word : (w : Primitive) → Allowed a w s → HandlesKept s (after_primitive w s).handles
-  unfolding on_thread add_group add_set add_work count_work free_handle free_thread_handle give_handle give_result give_thread_handle on_call on_instance on_work push_high remove_call remove_group remove_set remove_work remove_thread set_backpressure set_cancel_delivered set_cancelled set_course set_do_not_enter set_do_not_suspend set_end set_event set_exited set_op_progress set_join set_task_event set_phase set_position set_register set_result set_saved_callee set_saved_own set_script set_stage set_started set_starting_published set_subtask_handle set_thread_handle set_trapped set_uninteresting set_word take_result call_made add_call add_thread with_handle with_thread_handle work_queued poll_pends
-  handles_word (NameCall j k) ok = given_kept j _
-  handles_word (NameWork j k) ok = given_kept j _
-  handles_word (OpenSet j) ok = given_kept j _
-  handles_word (UnnameCall j g k) ok = unnamed_kept j g _ ok.1.1.1.0 ok.1.1.1.1.0
-  handles_word (UnnameWork j g k) ok = unnamed_kept j g _ ok.1.1.1.0 ok.1.1.1.1.0
-  handles_word (CloseSet j g y) ok = freed_kept j g (Named.Set y) (grind arith) (λ sub x to is. absurd (cc))
-  handles_word w ok = record { tables = q.tables; names = λ sub x i h at e. e }
+  handles_primitive : (w : Primitive) → Allowed a w s → HandlesKept s (after_primitive w s).handles
+  unfolding on_thread add_group add_set add_work count_work free_handle free_thread_handle give_handle give_result give_thread_handle on_call on_instance on_work push_high remove_call remove_group remove_set remove_work remove_thread set_backpressure set_cancel_delivered set_cancelled set_course set_do_not_enter set_do_not_suspend set_end set_event set_exited set_op_progress set_join set_task_event set_phase set_position set_register set_result set_saved_callee set_saved_own set_script set_stage set_started set_starting_published set_subtask_handle set_thread_handle set_trapped set_uninteresting set_memory_cell take_result call_made add_call add_thread with_handle with_thread_handle work_queued poll_pends
+  handles_primitive (NameCall j k) ok = given_kept j _
+  handles_primitive (NameWork j k) ok = given_kept j _
+  handles_primitive (OpenSet j) ok = given_kept j _
+  handles_primitive (UnnameCall j g k) ok = unnamed_kept j g _ ok.1.1.1.0 ok.1.1.1.1.0
+  handles_primitive (UnnameWork j g k) ok = unnamed_kept j g _ ok.1.1.1.0 ok.1.1.1.1.0
+  handles_primitive (CloseSet j g y) ok = freed_kept j g (Named.Set y) (grind arith) (λ sub x to is. absurd (cc))
+  handles_primitive w ok = record { tables = q.tables; names = λ sub x i h at e. e }
 
-  sets_word : (w : Primitive) → Allowed a w s → SetsKept s (after_primitive w s).sets (after_primitive w s).made.sets
-  unfolding on_thread add_group add_set add_work count_work free_handle free_thread_handle give_handle give_result give_thread_handle on_call on_instance on_work push_high remove_call remove_group remove_set remove_work remove_thread set_backpressure set_cancel_delivered set_cancelled set_course set_do_not_enter set_do_not_suspend set_end set_event set_exited set_op_progress set_join set_task_event set_phase set_position set_register set_result set_saved_callee set_saved_own set_script set_stage set_started set_starting_published set_subtask_handle set_thread_handle set_trapped set_uninteresting set_word take_result call_made add_call add_thread with_handle with_thread_handle work_queued poll_pends
-  sets_word (OpenSet j) ok = record {
+  sets_primitive : (w : Primitive) → Allowed a w s → SetsKept s (after_primitive w s).sets (after_primitive w s).made.sets
+  unfolding on_thread add_group add_set add_work count_work free_handle free_thread_handle give_handle give_result give_thread_handle on_call on_instance on_work push_high remove_call remove_group remove_set remove_work remove_thread set_backpressure set_cancel_delivered set_cancelled set_course set_do_not_enter set_do_not_suspend set_end set_event set_exited set_op_progress set_join set_task_event set_phase set_position set_register set_result set_saved_callee set_saved_own set_script set_stage set_started set_starting_published set_subtask_handle set_thread_handle set_trapped set_uninteresting set_memory_cell take_result call_made add_call add_thread with_handle with_thread_handle work_queued poll_pends
+  sets_primitive (OpenSet j) ok = record {
     numbers = λ x h. grind (arith, nat_tests, get-insert, q.sets x);
     homes = λ sub x i at home. grind (arith, nat_tests, get-insert, q.sets x);
   }
-  sets_word (CloseSet j g y) ok = record {
+  sets_primitive (CloseSet j g y) ok = record {
     numbers = λ x h. grind (arith, nat_tests, get-remove, q.sets x);
     homes = λ sub x i at home. let member = member_of sub x s at in grind (arith, nat_tests, get-remove);
   }
-  sets_word w ok = record { numbers = q.sets; homes = λ sub x i at home. home }
+  sets_primitive w ok = record { numbers = q.sets; homes = λ sub x i at home. home }
 
   module _ (tidy : SetsNamed s) (w : Primitive) (ok : Allowed a w s) where
     joined_kept : (sub : Subtask) (x : ℕ) → join_of sub s ≡ Join.Set x → JoinNamed sub x (after_primitive w s)
     joined_kept sub x at = let n = q.joins sub x at in record {
       instance = n.instance;
       handle = n.handle;
-      home = (sets_word w ok).homes sub x n.instance at n.home;
-      named = (handles_word w ok).names sub x n.instance n.handle at n.named;
+      home = (sets_primitive w ok).homes sub x n.instance at n.home;
+      named = (handles_primitive w ok).names sub x n.instance n.handle at n.named;
     }
 
     -- a subtask that is joined now is named beside its set
@@ -120,8 +120,8 @@ module _ (a : Scene) (s : Core) (q : JoinsNamed s) where
       named = rw handles m.1.1.1.1.0;
     }
 
-    pub joins_word : JoinsNamed (after_primitive w s)
-    joins_word = record { tables = (handles_word w ok).tables; sets = (sets_word w ok).numbers; joins = λ sub x h. ⊎_elim (joined_kept sub x) (joined_now sub x) (now_joined a w s ok sub x h) }
+    pub joins_primitive : JoinsNamed (after_primitive w s)
+    joins_primitive = record { tables = (handles_primitive w ok).tables; sets = (sets_primitive w ok).numbers; joins = λ sub x h. ⊎_elim (joined_kept sub x) (joined_now sub x) (now_joined a w s ok sub x h) }
 
 -- ---- The first state
 

@@ -1,5 +1,5 @@
 -- Which host works handles name, and that none names the work of a sync call, along the primitives of a step.
-use Rattle.laws_states.proofs.Words.{add_call, add_group, add_set, add_thread, add_work, after_primitive, Allowed, ap, arith, as_subtask, by_number, call_made, change, Core, count_work, free_handle, free_thread_handle, fresh, get, get-change, get-empty, get-insert, get-remove, give_handle, give_result, give_thread_handle, given_names, giving, handle_of_table, op_progress_of, OpProgress, inl, inr, is_async_work, is_some, le_trans, made_works_word, MayBeAborted, MayCome, MayRemoveWork, Named, NameWork, nat_tests, next_work, None, none_named, on_call, on_instance, on_thread, on_work, op_came, Option, poll_pends, push_high, QueueWork, refl, remove_call, remove_group, remove_set, remove_thread, remove_work, RemoveWork, Scene, set_backpressure, set_cancel_delivered, set_cancelled, set_course, set_do_not_enter, set_do_not_suspend, set_end, set_event, set_exited, set_op_progress, set_join, set_task_event, set_phase, set_position, set_register, set_result, set_saved_callee, set_saved_own, set_script, set_stage, set_started, set_starting_published, set_subtask_handle, set_thread_handle, set_trapped, set_uninteresting, set_word, Some, Subtask, subtask_at, subtask_handle, subtask_in, take_result, taking, Thread, too_high, true, UnnameWork, with_handle, with_thread_handle, Primitive, work_caller_of, work_queued, WorkCaller, WorksKnown, ℕ, ⊎_elim, ◌∙◌, ◌≡◌, ◌≤◌, ◌⊎◌}
+use Rattle.laws_states.proofs.Primitives.{add_call, add_group, add_set, add_thread, add_work, after_primitive, Allowed, ap, arith, as_subtask, by_number, call_made, change, Core, count_work, free_handle, free_thread_handle, fresh, get, get-change, get-empty, get-insert, get-remove, give_handle, give_result, give_thread_handle, given_names, giving, handle_of_table, op_progress_of, OpProgress, inl, inr, is_async_work, is_some, le_trans, made_works_primitive, MayBeAborted, MayCome, MayRemoveWork, Named, NameWork, nat_tests, next_work, None, none_named, on_call, on_instance, on_thread, on_work, op_came, Option, poll_pends, push_high, QueueWork, refl, remove_call, remove_group, remove_set, remove_thread, remove_work, RemoveWork, Scene, set_backpressure, set_cancel_delivered, set_cancelled, set_course, set_do_not_enter, set_do_not_suspend, set_end, set_event, set_exited, set_op_progress, set_join, set_task_event, set_phase, set_position, set_register, set_result, set_saved_callee, set_saved_own, set_script, set_stage, set_started, set_starting_published, set_subtask_handle, set_thread_handle, set_trapped, set_uninteresting, set_memory_cell, Some, Subtask, subtask_at, subtask_handle, subtask_in, take_result, taking, Thread, too_high, true, UnnameWork, with_handle, with_thread_handle, Primitive, work_caller_of, work_queued, WorkCaller, WorksKnown, ℕ, ⊎_elim, ◌∙◌, ◌≡◌, ◌≤◌, ◌⊎◌}
 use Rattle.laws_states.proofs.NamedCalls.{next_given}
 
 -- ---- Who calls a work
@@ -7,7 +7,7 @@ use Rattle.laws_states.proofs.NamedCalls.{next_given}
 -- who calls a work stays until it is removed
 pub caller_stays : (a : Scene) (w : Primitive) (s : Core) → Allowed a w s → (i : ℕ) → i ≤ s.made.works →
     (work_caller_of i (after_primitive w s) ≡ work_caller_of i s) ⊎ (MayRemoveWork a i s × (get (after_primitive w s).works i ≡ None))
-unfolding add_call add_group add_set add_thread add_work count_work free_handle free_thread_handle give_handle give_result give_thread_handle on_call on_instance on_thread on_work push_high remove_call remove_group remove_set remove_thread remove_work set_backpressure set_cancel_delivered set_cancelled set_course set_do_not_enter set_do_not_suspend set_end set_event set_exited set_op_progress set_join set_task_event set_phase set_position set_register set_result set_saved_callee set_saved_own set_script set_stage set_started set_starting_published set_subtask_handle set_thread_handle set_trapped set_uninteresting set_word take_result call_made with_handle with_thread_handle work_queued poll_pends
+unfolding add_call add_group add_set add_thread add_work count_work free_handle free_thread_handle give_handle give_result give_thread_handle on_call on_instance on_thread on_work push_high remove_call remove_group remove_set remove_thread remove_work set_backpressure set_cancel_delivered set_cancelled set_course set_do_not_enter set_do_not_suspend set_end set_event set_exited set_op_progress set_join set_task_event set_phase set_position set_register set_result set_saved_callee set_saved_own set_script set_stage set_started set_starting_published set_subtask_handle set_thread_handle set_trapped set_uninteresting set_memory_cell take_result call_made with_handle with_thread_handle work_queued poll_pends
 caller_stays a (RemoveWork j) s ok i below = by_number j i _ (λ e. inr (rw e at ok, grind (arith, nat_tests, get-remove)))
     (λ e. inl (grind (arith, nat_tests, get-remove, e)))
 caller_stays a w s ok i below = inl (grind (arith, nat_tests, get-change, get-insert))
@@ -15,12 +15,12 @@ caller_stays a w s ok i below = inl (grind (arith, nat_tests, get-change, get-in
 -- a work that is gone doesn't come back
 pub none_stays : (a : Scene) (w : Primitive) (s : Core) → Allowed a w s → (i : ℕ) → i ≤ s.made.works → get s.works i ≡ None →
     get (after_primitive w s).works i ≡ None
-unfolding add_call add_group add_set add_thread add_work count_work free_handle free_thread_handle give_handle give_result give_thread_handle on_call on_instance on_thread on_work push_high remove_call remove_group remove_set remove_thread remove_work set_backpressure set_cancel_delivered set_cancelled set_course set_do_not_enter set_do_not_suspend set_end set_event set_exited set_op_progress set_join set_task_event set_phase set_position set_register set_result set_saved_callee set_saved_own set_script set_stage set_started set_starting_published set_subtask_handle set_thread_handle set_trapped set_uninteresting set_word take_result call_made with_handle with_thread_handle work_queued poll_pends
+unfolding add_call add_group add_set add_thread add_work count_work free_handle free_thread_handle give_handle give_result give_thread_handle on_call on_instance on_thread on_work push_high remove_call remove_group remove_set remove_thread remove_work set_backpressure set_cancel_delivered set_cancelled set_course set_do_not_enter set_do_not_suspend set_end set_event set_exited set_op_progress set_join set_task_event set_phase set_position set_register set_result set_saved_callee set_saved_own set_script set_stage set_started set_starting_published set_subtask_handle set_thread_handle set_trapped set_uninteresting set_memory_cell take_result call_made with_handle with_thread_handle work_queued poll_pends
 none_stays a w s ok i below none = grind (arith, nat_tests, get-change, get-insert, get-remove, none)
 
 pub abort_kept : (a : Scene) (w : Primitive) (s : Core) → Allowed a w s → (i : ℕ) → MayBeAborted s i → MayBeAborted (after_primitive w s) i
 abort_kept a w s ok i q = record {
-  made = le_trans q.made (made_works_word a w s);
+  made = le_trans q.made (made_works_primitive a w s);
   other = ⊎_elim (λ same. rw same q.other) (λ gone. let none = gone.1 in grind arith) (caller_stays a w s ok i q.made);
 }
 
@@ -57,7 +57,7 @@ module _ (a : Scene) (base : WorksKnown a.base) (w : Primitive) (s : Core) (ok :
     where
       on : (i ≤ s.made.works) × (work_caller_of i s ≡ WorkCaller.Sync n) → (MayRemoveWork a i s → ⊥) →
           (i ≤ (after_primitive w s).made.works) × (work_caller_of i (after_primitive w s) ≡ WorkCaller.Sync n)
-      on c not = (le_trans c.0 (made_works_word a w s), ⊎_elim (λ e. e ∙ c.1) (λ gone. absurd (not gone.0)) (caller_stays a w s ok i c.0))
+      on c not = (le_trans c.0 (made_works_primitive a w s), ⊎_elim (λ e. e ∙ c.1) (λ gone. absurd (not gone.0)) (caller_stays a w s ok i c.0))
 
       go : (called_work (op_progress_of n s) ≡ Some i) ⊎ ((g : OpProgress) × (MayCome a n g s × (called_work g ≡ Some i))) →
           (i ≤ (after_primitive w s).made.works) × (work_caller_of i (after_primitive w s) ≡ WorkCaller.Sync n)
@@ -72,9 +72,9 @@ unnamed_removed a base j s q (m, (is, (same, inl (far, done)))) =
     let sync = (base.called m j far).1 in let async = λ (h : ℕ). q.async h j in grind (arith, async)
 unnamed_removed a base j s q (m, (is, (same, inr ended))) = ended.1.0
 
-pub works_said_word : (a : Scene) → WorksKnown a.base → (w : Primitive) (s : Core) → Allowed a w s → WorksSaid s → WorksSaid (after_primitive w s)
-unfolding add_call add_group add_set add_thread add_work call_made count_work free_handle free_thread_handle give_handle give_result give_thread_handle on_call on_instance on_thread on_work poll_pends push_high remove_call remove_group remove_set remove_thread remove_work set_backpressure set_cancel_delivered set_cancelled set_course set_do_not_enter set_do_not_suspend set_end set_event set_exited set_op_progress set_join set_task_event set_phase set_position set_register set_result set_saved_callee set_saved_own set_script set_stage set_started set_starting_published set_subtask_handle set_thread_handle set_trapped set_uninteresting set_word take_result with_handle with_thread_handle work_queued
-works_said_word a base (NameWork i k) s ok q = record {
+pub works_said_primitive : (a : Scene) → WorksKnown a.base → (w : Primitive) (s : Core) → Allowed a w s → WorksSaid s → WorksSaid (after_primitive w s)
+unfolding add_call add_group add_set add_thread add_work call_made count_work free_handle free_thread_handle give_handle give_result give_thread_handle on_call on_instance on_thread on_work poll_pends push_high remove_call remove_group remove_set remove_thread remove_work set_backpressure set_cancel_delivered set_cancelled set_course set_do_not_enter set_do_not_suspend set_end set_event set_exited set_op_progress set_join set_task_event set_phase set_position set_register set_result set_saved_callee set_saved_own set_script set_stage set_started set_starting_published set_subtask_handle set_thread_handle set_trapped set_uninteresting set_memory_cell take_result with_handle with_thread_handle work_queued
+works_said_primitive a base (NameWork i k) s ok q = record {
   known = record {
     there = λ l g j e. ⊎_elim (λ f. old l g j f) (λ f. grind (arith, nat_tests, get-change, f.0, f.1.1, next_given i s)) (new l g j e);
     once = λ l m g f j e h. grind (arith, q.known.once l m g f j, q.known.there l g j, q.known.there m f j, new l g j e, new m f j h);
@@ -96,7 +96,7 @@ works_said_word a base (NameWork i k) s ok q = record {
 
     old : (l g j : ℕ) → subtask_at l g s ≡ Some (Subtask.Host j) → subtask_handle (Subtask.Host j) (after_primitive (NameWork i k) s) ≡ Some g
     old l g j e = let h = q.known.there l g j e in grind (arith, nat_tests, get-change, free)
-works_said_word a base (UnnameWork i h k) s ok q = record {
+works_said_primitive a base (UnnameWork i h k) s ok q = record {
   known = record {
     there = λ l g j e. let o = other l g j e in
         grind (arith, nat_tests, get-change, q.known.there l g j o.0, q.known.there i h j, q.known.once l i g h j o.0);
@@ -110,7 +110,7 @@ works_said_word a base (UnnameWork i h k) s ok q = record {
     other : (l g j : ℕ) → subtask_in (change i (taking h) s.handles) l g ≡ Some (Subtask.Host j) →
         (subtask_at l g s ≡ Some (Subtask.Host j)) × (l ≡ i → g ≡ h → ⊥)
     other l g j e = grind (arith, nat_tests, get-change, get-remove)
-works_said_word a base (RemoveWork k) s ok q = let free = unnamed_removed a base k s q.known ok in record {
+works_said_primitive a base (RemoveWork k) s ok q = let free = unnamed_removed a base k s q.known ok in record {
   known = record {
     there = λ l g j e. grind (arith, nat_tests, get-remove, q.known.there l g j);
     once = q.known.once;
@@ -119,7 +119,7 @@ works_said_word a base (RemoveWork k) s ok q = let free = unnamed_removed a base
   };
   number = λ j e. grind (arith, nat_tests, get-remove, q.number j);
 }
-works_said_word a base (QueueWork f host group) s ok q = record {
+works_said_primitive a base (QueueWork f host group) s ok q = record {
   known = record {
     there = λ l g j e. let low = q.number j in grind (arith, nat_tests, get-insert, q.known.there l g j);
     once = q.known.once;
@@ -128,7 +128,7 @@ works_said_word a base (QueueWork f host group) s ok q = record {
   };
   number = λ j e. grind (arith, nat_tests, get-insert, q.number j);
 }
-works_said_word a base w s ok q = record {
+works_said_primitive a base w s ok q = record {
   known = record {
     there = λ l g j e. grind (arith, nat_tests, get-change, get-insert, get-remove, q.known.there l g j);
     once = λ l m g f j e d. grind (arith, nat_tests, get-change, get-insert, get-remove, q.known.once l m g f j);

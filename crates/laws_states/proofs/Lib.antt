@@ -4,7 +4,7 @@ pub mod EachLemmas
 pub mod ReachLemmas
 pub mod SetHandles
 pub mod CameLemmas
-pub mod Words
+pub mod Primitives
 pub mod StrandLemmas
 pub mod WaitLemmas
 pub mod SceneLemmas

@@ -1,5 +1,5 @@
 -- The ready members of a set are named in the set's instance.
-use Rattle.laws_states.proofs.Words.{arith, Core, is_ready_member, IsOf, Join, join_of, JoinsNamed, NamesKnown, nat_tests, Some, Subtask, subtask_at, subtask_handle, true, WorksKnown, ℕ, ◌≡◌}
+use Rattle.laws_states.proofs.Primitives.{arith, Core, is_ready_member, IsOf, Join, join_of, JoinsNamed, NamesKnown, nat_tests, Some, Subtask, subtask_at, subtask_handle, true, WorksKnown, ℕ, ◌≡◌}
 
 -- the handle that names a subtask is the one that its record says
 pub handle_is : (s : Core) → NamesKnown s → WorksKnown s → (i h : ℕ) (sub : Subtask) → subtask_at i h s ≡ Some sub → subtask_handle sub s ≡ Some h

@@ -1,6 +1,6 @@
 -- Which calls handles and ops name: along the primitives of a step each handle of a call is the one in its record, and an op is
 -- inside a call that its thread made and no handle names.
-use Rattle.laws_states.proofs.Words.{add_call, add_group, add_set, add_thread, add_work, after_primitive, Allowed, ap, arith, as_subtask, at_most_returned, Call, call_came, call_made, CallAfter, CallEnd, Caller, cancel_was_delivered, change, Core, count_work, false, free_handle, free_thread_handle, fresh, get, get-change, get-empty, get-insert, get-remove, give_handle, give_result, give_thread_handle, given_names, giving, Grown, handle_of_table, op_progress_of, OpProgress, inl, inr, instance_of, is_cancelled, is_deletable, is_some, is_uncancelled, IsCalled, IsNamed, le_trans, made_threads_word, MakeCall, MayCome, MayDeliver, MayEnd, MayNameCall, MayOwe, NameCall, Named, NamesKnown, nat_tests, new_handle, NewCall, next_thread, NoCall, None, none_named, not, on_call, on_instance, on_thread, on_work, OnlyCalled, op_came, Option, option_and_then, option_map_or, task_event_of, TaskEvent, poll_pends, push_high, refl, remove_call, remove_group, remove_set, remove_thread, remove_work, RemoveCall, Scene, set_backpressure, set_cancel_delivered, set_cancelled, set_course, set_do_not_enter, set_do_not_suspend, set_end, set_event, set_exited, set_op_progress, set_join, set_task_event, set_phase, set_position, set_register, set_result, set_saved_callee, set_saved_own, set_script, set_stage, set_started, set_starting_published, set_subtask_handle, set_thread_handle, set_trapped, set_uninteresting, set_word, Some, some_none, subst, Subtask, subtask_at, subtask_handle, subtask_in, sym, take_result, taking, Thread, too_high, true, Turn, UnnameCall, with_handle, with_thread_handle, Primitive, work_queued, ℕ, ⊎_elim, ◌∙◌, ◌≡◌, ◌≤◌, ◌⊎◌}
+use Rattle.laws_states.proofs.Primitives.{add_call, add_group, add_set, add_thread, add_work, after_primitive, Allowed, ap, arith, as_subtask, at_most_returned, Call, call_came, call_made, CallAfter, CallEnd, Caller, cancel_was_delivered, change, Core, count_work, false, free_handle, free_thread_handle, fresh, get, get-change, get-empty, get-insert, get-remove, give_handle, give_result, give_thread_handle, given_names, giving, Grown, handle_of_table, op_progress_of, OpProgress, inl, inr, instance_of, is_cancelled, is_deletable, is_some, is_uncancelled, IsCalled, IsNamed, le_trans, made_threads_primitive, MakeCall, MayCome, MayDeliver, MayEnd, MayNameCall, MayOwe, NameCall, Named, NamesKnown, nat_tests, new_handle, NewCall, next_thread, NoCall, None, none_named, not, on_call, on_instance, on_thread, on_work, OnlyCalled, op_came, Option, option_and_then, option_map_or, task_event_of, TaskEvent, poll_pends, push_high, refl, remove_call, remove_group, remove_set, remove_thread, remove_work, RemoveCall, Scene, set_backpressure, set_cancel_delivered, set_cancelled, set_course, set_do_not_enter, set_do_not_suspend, set_end, set_event, set_exited, set_op_progress, set_join, set_task_event, set_phase, set_position, set_register, set_result, set_saved_callee, set_saved_own, set_script, set_stage, set_started, set_starting_published, set_subtask_handle, set_thread_handle, set_trapped, set_uninteresting, set_memory_cell, Some, some_none, subst, Subtask, subtask_at, subtask_handle, subtask_in, sym, take_result, taking, Thread, too_high, true, Turn, UnnameCall, with_handle, with_thread_handle, Primitive, work_queued, ℕ, ⊎_elim, ◌∙◌, ◌≡◌, ◌≤◌, ◌⊎◌}
 
 -- the call that the running thread's op is inside of before the step is there
 abbrev pub InsideThere : Scene → Type 0
@@ -91,14 +91,14 @@ unfolding is_deletable
 deletable_unnamed k s h = grind arith
 
 module _ (a : Scene) (base : NamesHold a.base) (there : InsideThere a) where
-  numbers_word : (w : Primitive) (s : Core) → Allowed a w s → NamesHold s → (k : ℕ) (c : Call) → get (after_primitive w s).calls k ≡ Some c → k ≤ (after_primitive w s).made.threads
-  numbers_word w s ok q k c at = let i : CallAfter a w s k = call_came w s ok k in let m = made_threads_word a w s in grind (arith, q.number k)
+  numbers_primitive : (w : Primitive) (s : Core) → Allowed a w s → NamesHold s → (k : ℕ) (c : Call) → get (after_primitive w s).calls k ≡ Some c → k ≤ (after_primitive w s).made.threads
+  numbers_primitive w s ok q k c at = let i : CallAfter a w s k = call_came w s ok k in let m = made_threads_primitive a w s in grind (arith, q.number k)
 
   -- what an op is inside of, after a primitive that gives no call a handle
   called_stays : (w : Primitive) (s : Core) (ok : Allowed a w s) → NamesHold s → WereInside a s → ((i j : ℕ) → w ≡ NameCall i j → ⊥) → (n k : ℕ) → op_progress_of n (after_primitive w s) ≡ OpProgress.Calls (Subtask.Guest k) → (k ≤ (after_primitive w s).made.threads) × OnlyCalled n k (after_primitive w s)
   called_stays w s ok q were not n k far =
       let r = inside a w s ok q were n k far in
-      (le_trans r.1.0 (made_threads_word a w s), only_stays a base n k r.0 w s r.1.0 (λ i. not i k) r.1.1 (call_came w s ok k))
+      (le_trans r.1.0 (made_threads_primitive a w s), only_stays a base n k r.0 w s r.1.0 (λ i. not i k) r.1.1 (call_came w s ok k))
 
   -- what is known after a primitive that gives no call a handle: handles name no more than before
   known_after : (w : Primitive) (s : Core) → Allowed a w s → NamesHold s → WereInside a s → ((i j : ℕ) → w ≡ NameCall i j → ⊥) →
@@ -109,19 +109,19 @@ module _ (a : Scene) (base : NamesHold a.base) (there : InsideThere a) where
       once = λ i j h g k e f. q.known.once i j h g k (old i h k e).0 (old j g k f).0;
       called = λ n k far. (called_stays w s ok q were not n k far).1;
     };
-    number = numbers_word w s ok q;
+    number = numbers_primitive w s ok q;
     least = λ n k far. (called_stays w s ok q were not n k far).0;
   }
 
-  names_known_word : (w : Primitive) (s : Core) → Allowed a w s → NamesHold s → WereInside a s → NamesHold (after_primitive w s)
-  unfolding add_call add_group add_set add_thread add_work call_made count_work free_handle free_thread_handle give_handle give_result give_thread_handle on_call on_instance on_thread on_work poll_pends push_high remove_call remove_group remove_set remove_thread remove_work set_backpressure set_cancel_delivered set_cancelled set_course set_do_not_enter set_do_not_suspend set_end set_event set_exited set_op_progress set_join set_task_event set_phase set_position set_register set_result set_saved_callee set_saved_own set_script set_stage set_started set_starting_published set_subtask_handle set_thread_handle set_trapped set_uninteresting set_word take_result with_handle with_thread_handle work_queued
-  names_known_word (NameCall i j) s ok q were = record {
+  names_known_primitive : (w : Primitive) (s : Core) → Allowed a w s → NamesHold s → WereInside a s → NamesHold (after_primitive w s)
+  unfolding add_call add_group add_set add_thread add_work call_made count_work free_handle free_thread_handle give_handle give_result give_thread_handle on_call on_instance on_thread on_work poll_pends push_high remove_call remove_group remove_set remove_thread remove_work set_backpressure set_cancel_delivered set_cancelled set_course set_do_not_enter set_do_not_suspend set_end set_event set_exited set_op_progress set_join set_task_event set_phase set_position set_register set_result set_saved_callee set_saved_own set_script set_stage set_started set_starting_published set_subtask_handle set_thread_handle set_trapped set_uninteresting set_memory_cell take_result with_handle with_thread_handle work_queued
+  names_known_primitive (NameCall i j) s ok q were = record {
     known = record {
       there = λ l g k e. ⊎_elim (λ f. old l g k f) (λ f. grind (arith, nat_tests, get-change, is.0, is.1, f.0, f.1.1, next_given i s)) (new l g k e);
       once = λ l m g f k e h. grind (arith, q.known.once l m g f k, q.known.there l g k, q.known.there m f k, is.1, new l g k e, new m f k h);
       called = named;
     };
-    number = numbers_word (NameCall i j) s ok q;
+    number = numbers_primitive (NameCall i j) s ok q;
     least = q.least;
   }
     where
@@ -144,28 +144,28 @@ module _ (a : Scene) (base : NamesHold a.base) (there : InsideThere a) where
 
       named : (n k : ℕ) → op_progress_of n s ≡ OpProgress.Calls (Subtask.Guest k) → OnlyCalled n k (after_primitive (NameCall i j) s)
       named n k far = only_stays a base n k (were n k far) (NameCall i j) s (q.least n k far) (λ m e. mine n (grind (arith, far))) (q.known.called n k far) (call_came (NameCall i j) s ok k)
-  names_known_word (UnnameCall i h j) s ok q were = known_after (UnnameCall i h j) s ok q were (λ m n e. grind arith)
+  names_known_primitive (UnnameCall i h j) s ok q were = known_after (UnnameCall i h j) s ok q were (λ m n e. grind arith)
       (λ l g k e. let o = other l g k e in (o.0, grind (arith, nat_tests, get-change, q.known.there l g k o.0, q.known.there i h k, q.known.once l i g h k o.0)))
     where
       other : (l g k : ℕ) → subtask_in (change i (taking h) s.handles) l g ≡ Some (Subtask.Guest k) → (subtask_at l g s ≡ Some (Subtask.Guest k)) × (l ≡ i → g ≡ h → ⊥)
       other l g k e = grind (arith, nat_tests, get-change, get-remove)
-  names_known_word (MakeCall f e x g group words) s ok q were = known_after (MakeCall f e x g group words) s ok q were (λ m n e. grind arith) (λ l h k d. (d, made h k (get s.calls k) refl (q.known.there l h k d)))
+  names_known_primitive (MakeCall f e x g group words) s ok q were = known_after (MakeCall f e x g group words) s ok q were (λ m n e. grind arith) (λ l h k d. (d, made h k (get s.calls k) refl (q.known.there l h k d)))
     where
       made : (h k : ℕ) (o : Option Call) → get s.calls k ≡ o → option_and_then (λ c. c.handle) o ≡ Some h → subtask_handle (Subtask.Guest k) (after_primitive (MakeCall f e x g group words) s) ≡ Some h
       made h k None is t = absurd (grind arith)
       made h k (Some c) is t = let below = q.number k c is in grind (arith, nat_tests, get-insert)
-  names_known_word (RemoveCall j) s ok q were = known_after (RemoveCall j) s ok q were (λ m n e. grind arith)
+  names_known_primitive (RemoveCall j) s ok q were = known_after (RemoveCall j) s ok q were (λ m n e. grind arith)
       (λ l h k d. let r = q.known.there l h k d in let f = deletable_unnamed j s ok.0 in (d, grind (arith, nat_tests, get-remove)))
-  names_known_word w s ok q were = known_after w s ok q were (λ m n e. grind arith) (λ l g k e. grind (arith, nat_tests, get-change, get-insert, get-remove, q.known.there l g k))
+  names_known_primitive w s ok q were = known_after w s ok q were (λ m n e. grind arith) (λ l g k e. grind (arith, nat_tests, get-change, get-insert, get-remove, q.known.there l g k))
 
 -- Which calls handles and ops name, on the way of a step.
 pub record NamesGo (a : Scene) (s : Core) : Type 0 where
   pub hold : NamesHold s
   pub were : WereInside a s
 
-pub names_go_word : (a : Scene) → NamesHold a.base → InsideThere a → (w : Primitive) (s : Core) → Allowed a w s → NamesGo a s → NamesGo a (after_primitive w s)
-names_go_word a base there w s ok q = record {
-  hold = names_known_word a base there w s ok q.hold q.were;
+pub names_go_primitive : (a : Scene) → NamesHold a.base → InsideThere a → (w : Primitive) (s : Core) → Allowed a w s → NamesGo a s → NamesGo a (after_primitive w s)
+names_go_primitive a base there w s ok q = record {
+  hold = names_known_primitive a base there w s ok q.hold q.were;
   were = λ n k far. (inside a w s ok q.hold q.were n k far).0;
 }
 

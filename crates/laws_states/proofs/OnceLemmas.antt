@@ -1,5 +1,5 @@
 -- From facts of each step to all that is once in a run.
-use Rattle.laws_states.proofs.Words.{[], answering, answers_return, ap, arith, Bool, CallLabel, changes_end, Component, cond, Core, covers_end, direct_answered, direct_return, doing_of, end_code, end_for, EndsOnce, event_of, false, get, handed, handed_by, handed_in, hands_out_written, history, op_progress_of, OpProgress, inl, inr, is_answered, is_end_of, is_known, is_other, is_some, is_written, Label, last_return, List, Moment, nat_tests, no_way, None, not, Option, option_map_or, refl, Run, same_subtask, Setting, Some, State, Status, Step, subst, Subtask, SubtaskEnd, sum_by-cons, sym, sync_answered, true, undelivered_end, with_end, with_return, writes_end, written, ℕ, ⊎_elim, ◌&&◌, ◌+◌, ◌==◌, ◌||◌, ◌∙◌, ◌∷◌, ◌≡◌, ◌≤◌, ◌⊎◌}
+use Rattle.laws_states.proofs.Primitives.{[], answering, answers_return, ap, arith, Bool, CallLabel, changes_end, Component, cond, Core, covers_end, direct_answered, direct_return, doing_of, end_code, end_for, EndsOnce, event_of, false, get, handed, handed_by, handed_in, hands_out_written, history, op_progress_of, OpProgress, inl, inr, is_answered, is_end_of, is_known, is_other, is_some, is_written, Label, last_return, List, Moment, nat_tests, no_way, None, not, Option, option_map_or, refl, Run, same_subtask, Setting, Some, State, Status, Step, subst, Subtask, SubtaskEnd, sum_by-cons, sym, sync_answered, true, undelivered_end, with_end, with_return, writes_end, written, ℕ, ⊎_elim, ◌&&◌, ◌+◌, ◌==◌, ◌||◌, ◌∙◌, ◌∷◌, ◌≡◌, ◌≤◌, ◌⊎◌}
 use Rattle.std.specs.Prelude.{count_by}
 use Rattle.laws_states.proofs.Works.{due_in}
 

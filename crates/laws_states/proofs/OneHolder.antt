@@ -1,23 +1,23 @@
 -- At most one holding entry of an instance runs at a time: each primitive, each step, and each run.
-use Rattle.laws_states.proofs.Words.{[], add_call, add_group, add_set, add_thread, add_work, AddGroup, after_primitive, Allowed, along, arith, begun_holder, Bool, Call, call_came, call_instance, call_made, CallAfter, Callee, callee_of, callee_of_op, CalleesExist, Caller, Component, component_of, Core, count_work, false, filled, filter, free_handle, free_thread_handle, fresh, get, get-change, get-empty, get-insert, give_handle, give_result, give_thread_handle, Grown, history, holds_one, is_among, is_some, Label, LastPrimitives, less_holder, List, list_any, Main, may_not_enter, MayCall, nat_tests, NewCall, NoCall, None, not, on_call, on_instance, on_thread, on_work, Op, op_at_place, op_in, op_of, ops_plain, Option, option_map_or, plain, plain_scene, poll_pends, push_high, Queues, refl, remove_call, remove_group, remove_set, remove_thread, remove_work, returned_holder, Run, RunsHoldOne, SameMain, Scene, Script, script_in, script_of, script_of_thread, Scripted, set_backpressure, set_cancel_delivered, set_cancelled, set_course, set_do_not_enter, set_do_not_suspend, set_end, set_event, set_exited, set_op_progress, set_join, set_task_event, set_phase, set_position, set_register, set_result, set_saved_callee, set_saved_own, set_script, set_stage, set_started, set_starting_published, set_subtask_handle, set_thread_handle, set_trapped, set_uninteresting, set_word, SetDoNotEnter, Setting, slice_get, Some, State, Step, step_walks, subst, take_result, Thread, true, Unscripted, untouched, Walk, Walked, with_handle, with_holder, with_thread_handle, Primitive, work_queued, ℕ, ◌<◌, ◌==◌, ◌∙◌, ◌∷◌, ◌≡◌, ◌⊎◌}
+use Rattle.laws_states.proofs.Primitives.{[], add_call, add_group, add_set, add_thread, add_work, AddGroup, after_primitive, Allowed, along, arith, begun_holder, Bool, Call, call_came, call_instance, call_made, CallAfter, Callee, callee_of, callee_of_op, CalleesExist, Caller, Component, component_of, Core, count_work, false, filled, filter, free_handle, free_thread_handle, fresh, get, get-change, get-empty, get-insert, give_handle, give_result, give_thread_handle, Grown, history, holds_one, is_among, is_some, Label, LastPrimitives, less_holder, List, list_any, Main, may_not_enter, MayCall, nat_tests, NewCall, NoCall, None, not, on_call, on_instance, on_thread, on_work, Op, op_at_place, op_in, op_of, ops_plain, Option, option_map_or, plain, plain_scene, poll_pends, push_high, Queues, refl, remove_call, remove_group, remove_set, remove_thread, remove_work, returned_holder, Run, RunsHoldOne, SameMain, Scene, Script, script_in, script_of, script_of_thread, Scripted, set_backpressure, set_cancel_delivered, set_cancelled, set_course, set_do_not_enter, set_do_not_suspend, set_end, set_event, set_exited, set_op_progress, set_join, set_task_event, set_phase, set_position, set_register, set_result, set_saved_callee, set_saved_own, set_script, set_stage, set_started, set_starting_published, set_subtask_handle, set_thread_handle, set_trapped, set_uninteresting, set_memory_cell, SetDoNotEnter, Setting, slice_get, Some, State, Step, step_walks, subst, take_result, Thread, true, Unscripted, untouched, Walk, Walked, with_handle, with_holder, with_thread_handle, Primitive, work_queued, ℕ, ◌<◌, ◌==◌, ◌∙◌, ◌∷◌, ◌≡◌, ◌⊎◌}
 use Rattle.machine_rules.specs.Allowed as may
 
 -- ---- Instances
 
 pub instance_stays : (w : Primitive) (s : Core) (i : ℕ) → is_some (get (after_primitive w s).instances i) ≡ is_some (get s.instances i)
-unfolding add_call add_group add_set add_thread add_work count_work free_handle free_thread_handle give_handle give_result give_thread_handle on_call on_instance on_thread on_work push_high remove_call remove_group remove_set remove_thread remove_work set_backpressure set_cancel_delivered set_cancelled set_course set_do_not_enter set_do_not_suspend set_end set_event set_exited set_op_progress set_join set_task_event set_phase set_position set_register set_result set_saved_callee set_saved_own set_script set_stage set_started set_starting_published set_subtask_handle set_thread_handle set_trapped set_uninteresting set_word take_result call_made with_handle with_thread_handle work_queued poll_pends
+unfolding add_call add_group add_set add_thread add_work count_work free_handle free_thread_handle give_handle give_result give_thread_handle on_call on_instance on_thread on_work push_high remove_call remove_group remove_set remove_thread remove_work set_backpressure set_cancel_delivered set_cancelled set_course set_do_not_enter set_do_not_suspend set_end set_event set_exited set_op_progress set_join set_task_event set_phase set_position set_register set_result set_saved_callee set_saved_own set_script set_stage set_started set_starting_published set_subtask_handle set_thread_handle set_trapped set_uninteresting set_memory_cell take_result call_made with_handle with_thread_handle work_queued poll_pends
 instance_stays AddGroup s i = refl
 instance_stays w s i = first_of (search, grind (arith, nat_tests, get-change))
 
 pub table_stays : (w : Primitive) (s : Core) (i : ℕ) → is_some (get (after_primitive w s).handles i) ≡ is_some (get s.handles i)
-unfolding add_call add_group add_set add_thread add_work count_work free_handle free_thread_handle give_handle give_result give_thread_handle on_call on_instance on_thread on_work push_high remove_call remove_group remove_set remove_thread remove_work set_backpressure set_cancel_delivered set_cancelled set_course set_do_not_enter set_do_not_suspend set_end set_event set_exited set_op_progress set_join set_task_event set_phase set_position set_register set_result set_saved_callee set_saved_own set_script set_stage set_started set_starting_published set_subtask_handle set_thread_handle set_trapped set_uninteresting set_word take_result call_made with_handle with_thread_handle work_queued poll_pends
+unfolding add_call add_group add_set add_thread add_work count_work free_handle free_thread_handle give_handle give_result give_thread_handle on_call on_instance on_thread on_work push_high remove_call remove_group remove_set remove_thread remove_work set_backpressure set_cancel_delivered set_cancelled set_course set_do_not_enter set_do_not_suspend set_end set_event set_exited set_op_progress set_join set_task_event set_phase set_position set_register set_result set_saved_callee set_saved_own set_script set_stage set_started set_starting_published set_subtask_handle set_thread_handle set_trapped set_uninteresting set_memory_cell take_result call_made with_handle with_thread_handle work_queued poll_pends
 table_stays AddGroup s i = refl
 table_stays w s i = first_of (search, grind (arith, nat_tests, get-change))
 
 -- it stays shut unless a holding entry of it returns
 shut_stays : (a : Scene) (w : Primitive) (s : Core) → Allowed a w s → (i : ℕ) → (returned_holder a.base a.label ≡ Some i → ⊥) →
     may_not_enter i s ≡ true → may_not_enter i (after_primitive w s) ≡ true
-unfolding add_call add_group add_set add_thread add_work count_work free_handle free_thread_handle give_handle give_result give_thread_handle on_call on_instance on_thread on_work push_high remove_call remove_group remove_set remove_thread remove_work set_backpressure set_cancel_delivered set_cancelled set_course set_do_not_enter set_do_not_suspend set_end set_event set_exited set_op_progress set_join set_task_event set_phase set_position set_register set_result set_saved_callee set_saved_own set_script set_stage set_started set_starting_published set_subtask_handle set_thread_handle set_trapped set_uninteresting set_word take_result call_made with_handle with_thread_handle work_queued poll_pends
+unfolding add_call add_group add_set add_thread add_work count_work free_handle free_thread_handle give_handle give_result give_thread_handle on_call on_instance on_thread on_work push_high remove_call remove_group remove_set remove_thread remove_work set_backpressure set_cancel_delivered set_cancelled set_course set_do_not_enter set_do_not_suspend set_end set_event set_exited set_op_progress set_join set_task_event set_phase set_position set_register set_result set_saved_callee set_saved_own set_script set_stage set_started set_starting_published set_subtask_handle set_thread_handle set_trapped set_uninteresting set_memory_cell take_result call_made with_handle with_thread_handle work_queued poll_pends
 shut_stays a (SetDoNotEnter j true) s ok i other h = grind (arith, nat_tests, get-change)
 shut_stays a (SetDoNotEnter j false) s ok i other h = grind (arith, nat_tests, get-change)
 shut_stays a w s ok i other h = first_of (assumption, grind (arith, nat_tests, get-change))
@@ -66,8 +66,8 @@ module _ (a : Scene) (instances : ℕ) (exist : CalleesExist a.setting instances
   callee_there f e group s (may.ByProgram words m takes is same) = absurd (rw m at main)
   callee_there f e group s (may.ByThread n r callee is same) = op_callee (component_of a) (λ e. e.instance < instances) exist.callees.calls n a.base e (subst (λ (o : Op). callee_of_op o ≡ Some e) (here n) callee)
 
-  word_holds : (w : Primitive) (s : Core) → Allowed a w s → HoldersGo a s → HoldersGo a (after_primitive w s)
-  word_holds w s ok q = record {
+  primitive_holds : (w : Primitive) (s : Core) → Allowed a w s → HoldersGo a s → HoldersGo a (after_primitive w s)
+  primitive_holds w s ok q = record {
     shut = λ i other h. shut_stays a w s ok i other (q.shut i other h);
     kept = λ i h. instance_stays w s i ∙ q.kept i h;
     homes = λ k c at. home k c at (call_came w s ok k);
@@ -120,7 +120,7 @@ step_holds x instances exist s h m l t step =
     let first : HoldersGo a s.core = record { shut = λ i other e. e; kept = λ i e. e; homes = h.homes } in
     let walk : Walk a s.core t.core = plain x s l w.next (λ c. Walk c s.core t.core) w.walk in
     let ends : LastPrimitives a t.core = plain x s l w.next (λ c. LastPrimitives c t.core) w.ends in
-    let g : HoldersGo a t.core = along (HoldersGo a) (word_holds a instances exist m b (ops_plain x.component s.core q)) first walk in
+    let g : HoldersGo a t.core = along (HoldersGo a) (primitive_holds a instances exist m b (ops_plain x.component s.core q)) first walk in
     record {
       shut = λ i other e. g.shut i (rw (returned_same q s.core l) other) e;
       begins = λ i e. let r = ends.shut i (rw (begun_same q s.core l) e) in (r.0, r.1 (g.kept i (begun_there exist.some h l i e)));

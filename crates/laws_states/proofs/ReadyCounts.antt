@@ -1,5 +1,5 @@
 -- The ready members of a set and its woken threads, counted by numbers.
-use Rattle.laws_states.proofs.Words.{[], ap, arith, Bool, Call, Core, count_by, false, get, has_ready_member, is_ready_in, is_ready_member, is_woken_for, List, list_any, list_any-append, map, nat_tests, None, numbers, Option, option_map_or, ready_members, refl, same_subtask, Some, Subtask, suc, Thread, true, woken, Work, zero, ℕ, ◌+◌, ◌∷◌, ◌≡◌, ◌≤◌}
+use Rattle.laws_states.proofs.Primitives.{[], ap, arith, Bool, Call, Core, count_by, false, get, has_ready_member, is_ready_in, is_ready_member, is_woken_for, List, list_any, list_any-append, map, nat_tests, None, numbers, Option, option_map_or, ready_members, refl, same_subtask, Some, Subtask, suc, Thread, true, woken, Work, zero, ℕ, ◌+◌, ◌∷◌, ◌≡◌, ◌≤◌}
 use Rattle.laws_states.proofs.{Counts.at_number, Counts.counted_weighs, Counts.counts_one, Counts.marks, Counts.mass, Counts.one, Counts.one_counted, Joins.any_number}
 
 -- ---- Members

@@ -1,5 +1,5 @@
 -- What a label says of ends is read beside the marks.
-use Rattle.laws_states.proofs.Words.{arith, Core, end_for, handed_as, Label, LoopLabel, Main, Op, op_of, Option, plain_as, Queues, SaysEnd, script_of, Scripted, Setting, Some, State, Status, Subtask, SubtaskEnd, Turn, Unscripted, written_as, ℕ, ◌≡◌}
+use Rattle.laws_states.proofs.Primitives.{arith, Core, end_for, handed_as, Label, LoopLabel, Main, Op, op_of, Option, plain_as, Queues, SaysEnd, script_of, Scripted, Setting, Some, State, Status, Subtask, SubtaskEnd, Turn, Unscripted, written_as, ℕ, ◌≡◌}
 
 pub said_at : (c : ℕ → Op) (s : Core) (q : Queues) (t : Core) (l : Label) (o : Option SubtaskEnd) →
     written_as c (record s { queues = q }) l t ≡ o → written_as c s l t ≡ o

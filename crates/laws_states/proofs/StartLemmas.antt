@@ -1,21 +1,21 @@
 -- The first thread of a call that waits for its start is there, along the primitives of a step that doesn't end the turns.
-use Rattle.laws_states.proofs.Words.{add_call, add_group, add_set, add_thread, add_work, after_primitive, Allowed, along, arith, by_number, Call, call_came, call_made, CallAfter, CallsTold, Core, count_work, Departs, EndsOver, Unwinds, free_handle, free_thread_handle, get, get-change, get-insert, get-remove, give_handle, give_result, give_thread_handle, inl, inr, is_over, is_some, is_there, is_unbegun, IsNamed, MakeCall, MayGo, nat_tests, next_thread, None, on_call, on_instance, on_thread, on_work, Option, Place, place_of, Places, placing_shifted, poll_pends, popped_threads, push_high, refl, remove_call, remove_group, remove_set, remove_thread, remove_work, RemoveThread, SaysEnd, Scene, set_backpressure, set_cancel_delivered, set_cancelled, set_course, set_do_not_enter, set_do_not_suspend, set_end, set_event, set_exited, set_op_progress, set_join, set_task_event, set_phase, set_position, set_register, set_result, set_saved_callee, set_saved_own, set_script, set_stage, set_started, set_starting_published, set_subtask_handle, set_thread_handle, set_trapped, set_uninteresting, set_word, Some, StartsAwaited, Status, Subtask, take_result, TakeHost, TakePush, too_high, true, Turn, with_handle, with_thread_handle, Withdraw, Primitive, work_queued, Writes, WritesAtOnce, WritesCall, WritesNever, WritesPolled, ℕ, ⊎_elim, ◌≡◌, ◌≤◌, ◌⊎◌}
-use Rattle.laws_states.proofs.StepEnds.{over_word}
+use Rattle.laws_states.proofs.Primitives.{add_call, add_group, add_set, add_thread, add_work, after_primitive, Allowed, along, arith, by_number, Call, call_came, call_made, CallAfter, CallsTold, Core, count_work, Departs, EndsOver, Unwinds, free_handle, free_thread_handle, get, get-change, get-insert, get-remove, give_handle, give_result, give_thread_handle, inl, inr, is_over, is_some, is_there, is_unbegun, IsNamed, MakeCall, MayGo, nat_tests, next_thread, None, on_call, on_instance, on_thread, on_work, Option, Place, place_of, Places, placing_shifted, poll_pends, popped_threads, push_high, refl, remove_call, remove_group, remove_set, remove_thread, remove_work, RemoveThread, SaysEnd, Scene, set_backpressure, set_cancel_delivered, set_cancelled, set_course, set_do_not_enter, set_do_not_suspend, set_end, set_event, set_exited, set_op_progress, set_join, set_task_event, set_phase, set_position, set_register, set_result, set_saved_callee, set_saved_own, set_script, set_stage, set_started, set_starting_published, set_subtask_handle, set_thread_handle, set_trapped, set_uninteresting, set_memory_cell, Some, StartsAwaited, Status, Subtask, take_result, TakeHost, TakePush, too_high, true, Turn, with_handle, with_thread_handle, Withdraw, Primitive, work_queued, Writes, WritesAtOnce, WritesCall, WritesNever, WritesPolled, ℕ, ⊎_elim, ◌≡◌, ◌≤◌, ◌⊎◌}
+use Rattle.laws_states.proofs.StepEnds.{over_primitive}
 
 -- who is there stays, is gone, or is withdrawn
-there_word : (a : Scene) (w : Primitive) (s : Core) → Allowed a w s → (k : ℕ) → is_there k s ≡ true →
+there_primitive : (a : Scene) (w : Primitive) (s : Core) → Allowed a w s → (k : ℕ) → is_there k s ≡ true →
     (is_there k (after_primitive w s) ≡ true) ⊎ ((w ≡ RemoveThread k) ⊎ (w ≡ Withdraw k))
-unfolding add_call add_group add_set add_thread add_work call_made count_work free_handle free_thread_handle give_handle give_result give_thread_handle on_call on_instance on_thread on_work poll_pends push_high remove_call remove_group remove_set remove_thread remove_work set_backpressure set_cancel_delivered set_cancelled set_course set_do_not_enter set_do_not_suspend set_end set_event set_exited set_op_progress set_join set_task_event set_phase set_position set_register set_result set_saved_callee set_saved_own set_script set_stage set_started set_starting_published set_subtask_handle set_thread_handle set_trapped set_uninteresting set_word take_result with_handle with_thread_handle work_queued
-there_word a (Places p) s ok k h = inl (grind (arith, (placing_shifted p s).threads k))
-there_word a (TakePush m i) s ok k h = inl (rw (popped_threads m s) h)
-there_word a (TakeHost m i) s ok k h = inl (rw (popped_threads m s) h)
-there_word a (RemoveThread j) s ok k h =
+unfolding add_call add_group add_set add_thread add_work call_made count_work free_handle free_thread_handle give_handle give_result give_thread_handle on_call on_instance on_thread on_work poll_pends push_high remove_call remove_group remove_set remove_thread remove_work set_backpressure set_cancel_delivered set_cancelled set_course set_do_not_enter set_do_not_suspend set_end set_event set_exited set_op_progress set_join set_task_event set_phase set_position set_register set_result set_saved_callee set_saved_own set_script set_stage set_started set_starting_published set_subtask_handle set_thread_handle set_trapped set_uninteresting set_memory_cell take_result with_handle with_thread_handle work_queued
+there_primitive a (Places p) s ok k h = inl (grind (arith, (placing_shifted p s).threads k))
+there_primitive a (TakePush m i) s ok k h = inl (rw (popped_threads m s) h)
+there_primitive a (TakeHost m i) s ok k h = inl (rw (popped_threads m s) h)
+there_primitive a (RemoveThread j) s ok k h =
     by_number k j _ (λ e. inr (inl (rw e refl))) (λ other. inl (grind (arith, nat_tests, get-remove)))
-there_word a (Withdraw j) s ok k h =
+there_primitive a (Withdraw j) s ok k h =
     by_number k j _ (λ e. inr (inr (rw e refl))) (λ other. inl (grind (arith, nat_tests, get-remove)))
-there_word a w s ok k h = inl (grind (arith, nat_tests, get-change, get-insert))
+there_primitive a w s ok k h = inl (grind (arith, nat_tests, get-change, get-insert))
 
--- the call is new, or was before the word what it is after it
+-- the call is new, or was before the primitive what it is after it
 unbegun_came : (a : Scene) (w : Primitive) (s : Core) → Allowed a w s → (k : ℕ) → is_unbegun k (after_primitive w s) ≡ true →
     (is_unbegun k s ≡ true) ⊎ ((k ≡ next_thread s) × (k ≡ next_thread a.base))
 unbegun_came a w s ok k now = let i : CallAfter a w s k = call_came w s ok k in grind arith
@@ -23,7 +23,7 @@ unbegun_came a w s ok k now = let i : CallAfter a w s k = call_came w s ok k in 
 -- and a new one has its thread
 new_there : (a : Scene) (w : Primitive) (s : Core) → Allowed a w s → (k : ℕ) → k ≡ next_thread s → get s.calls k ≡ None →
     is_some (get (after_primitive w s).calls k) ≡ true → is_there k (after_primitive w s) ≡ true
-unfolding add_call add_group add_set add_thread add_work call_made count_work free_handle free_thread_handle give_handle give_result give_thread_handle on_call on_instance on_thread on_work poll_pends push_high remove_call remove_group remove_set remove_thread remove_work set_backpressure set_cancel_delivered set_cancelled set_course set_do_not_enter set_do_not_suspend set_end set_event set_exited set_op_progress set_join set_task_event set_phase set_position set_register set_result set_saved_callee set_saved_own set_script set_stage set_started set_starting_published set_subtask_handle set_thread_handle set_trapped set_uninteresting set_word take_result with_handle with_thread_handle work_queued
+unfolding add_call add_group add_set add_thread add_work call_made count_work free_handle free_thread_handle give_handle give_result give_thread_handle on_call on_instance on_thread on_work poll_pends push_high remove_call remove_group remove_set remove_thread remove_work set_backpressure set_cancel_delivered set_cancelled set_course set_do_not_enter set_do_not_suspend set_end set_event set_exited set_op_progress set_join set_task_event set_phase set_position set_register set_result set_saved_callee set_saved_own set_script set_stage set_started set_starting_published set_subtask_handle set_thread_handle set_trapped set_uninteresting set_memory_cell take_result with_handle with_thread_handle work_queued
 new_there a (MakeCall f e x g group words) s ok k is none there = grind (arith, nat_tests, get-insert)
 new_there a w s ok k is none there = absurd (grind (arith, nat_tests, get-change, get-remove))
 
@@ -54,9 +54,9 @@ module _ (a : Scene) (runs : (n : ℕ) → a.turn ≡ Turn.Run n → place_of n 
   gone k s (EndsOver m is runs to under) was = absurd (never k runs was)
   gone k s (Unwinds over who) was = over
 
-  pub starts_word : (w : Primitive) (s : Core) → Allowed a w s → ((k : ℕ) → is_some (get s.calls k) ≡ true → k ≤ s.made.threads) → StartsGo a s →
+  pub starts_primitive : (w : Primitive) (s : Core) → Allowed a w s → ((k : ℕ) → is_some (get s.calls k) ≡ true → k ≤ s.made.threads) → StartsGo a s →
       StartsGo a (after_primitive w s)
-  starts_word w s ok low q = record {
+  starts_primitive w s ok low q = record {
     was = λ k now. ⊎_elim (q.was k) (λ new. inr new.1) (unbegun_came a w s ok k now);
     there = λ k now. ⊎_elim (λ before. ⊎_elim (stays k before) inr (q.there k before))
         (λ new. inl (new_there a w s ok k new.0 (let l = low k in grind arith) (grind arith))) (unbegun_came a w s ok k now);
@@ -65,7 +65,7 @@ module _ (a : Scene) (runs : (n : ℕ) → a.turn ≡ Turn.Run n → place_of n 
       stays : (k : ℕ) → is_unbegun k s ≡ true → is_there k s ≡ true →
           (is_there k (after_primitive w s) ≡ true) ⊎ ((a.next ≡ Turn.Over) ⊎ IsWithdrawing a k)
       stays k before there = ⊎_elim inl (⊎_elim (λ e. inr (inl (gone k s (rw e at ok) (q.was k before)))) (λ e. inr (inr (withdrawn (rw e at ok)))))
-          (there_word a w s ok k there)
+          (there_primitive a w s ok k there)
         where
           withdrawn : Allowed a (Withdraw k) s → IsWithdrawing a k
           withdrawn (may, says) = (named k may.1.1.0, says.0)
@@ -76,7 +76,7 @@ module _ (a : Scene) (t : Core) (told : CallsTold a.base) where
       sub ≡ Subtask.Guest k → Writes a t sub → is_unbegun k t ≡ true → ⊥
   writes_over k below was _ is (WritesCall j u end over walk) now =
       let same : j ≡ k = cc in
-      let last = along (λ c. is_over k c ≡ true) (over_word a k below) (rw same at over) walk in absurd (grind arith)
+      let last = along (λ c. is_over k c ≡ true) (over_primitive a k below) (rw same at over) walk in absurd (grind arith)
   writes_over k below was _ is (WritesNever sub e) now =
       let ended = told k Status.StartCancelled (rw is at e) in
       ⊎_elim (λ unbegun. absurd (grind arith)) (λ new. too_high new below) was

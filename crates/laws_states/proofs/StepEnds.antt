@@ -1,5 +1,5 @@
 -- What a step owes of the end of a subtask: of a call, and of a host work.
-use Rattle.laws_states.proofs.Words.{after_primitive, Allowed, along, Answers, ap, arith, Call, call_came, CallAfter, CallEnd, calls_begin, CallsHold, codes_at, codes_plain, CodesInCallbacks, Core, course_of, course_value, covers_end, Doing, doing, doing_of, end_code, end_for, EndsByExit, EndsCall, EndsOwn, EndsSubtask, EndPrimitives, event_of, exits_unended, false, get, goal_of, HandsAtOnce, HandsOut, has_end, has_ended, host_status, op_progress_of, OpProgress, inl, inr, is_async_work, is_direct, is_over, is_some, is_stage_ended, is_sync_work, IsNamed, IsPolled, IsReadyAtOnce, IsRunner, Label, LaterBy, le_trans, Moment, nat_tests, never_fewer, None, ops_of, Option, option_and_then, option_map, plain, plain_scene, polled_is_live, refl, Rises, SaysEnd, Scene, scene_of, Setting, Some, stage_of, State, Status, status_of_end, Step, step_goes, Subtask, sym, TakesEvent, TakesResult, task_of, too_high, true, Turn, undelivered_end, Walked, Primitive, work_caller_of, Writes, WritesAtOnce, WritesCall, WritesNever, WritesPolled, WritesToo, written, ℕ, ⊎_elim, ◌∙◌, ◌≡◌, ◌≤◌, ◌⊎◌}
+use Rattle.laws_states.proofs.Primitives.{after_primitive, Allowed, along, Answers, ap, arith, Call, call_came, CallAfter, CallEnd, calls_begin, CallsHold, codes_at, codes_plain, CodesInCallbacks, Core, course_of, course_value, covers_end, Doing, doing, doing_of, end_code, end_for, EndsByExit, EndsCall, EndsOwn, EndsSubtask, EndPrimitives, event_of, exits_unended, false, get, goal_of, HandsAtOnce, HandsOut, has_end, has_ended, host_status, op_progress_of, OpProgress, inl, inr, is_async_work, is_direct, is_over, is_some, is_stage_ended, is_sync_work, IsNamed, IsPolled, IsReadyAtOnce, IsRunner, Label, LaterBy, le_trans, Moment, nat_tests, never_fewer, None, ops_of, Option, option_and_then, option_map, plain, plain_scene, polled_is_live, refl, Rises, SaysEnd, Scene, scene_of, Setting, Some, stage_of, State, Status, status_of_end, Step, step_goes, Subtask, sym, TakesEvent, TakesResult, task_of, too_high, true, Turn, undelivered_end, Walked, Primitive, work_caller_of, Writes, WritesAtOnce, WritesCall, WritesNever, WritesPolled, WritesToo, written, ℕ, ⊎_elim, ◌∙◌, ◌≡◌, ◌≤◌, ◌⊎◌}
 use Rattle.laws_states.proofs.{CallEnds.EndsGo, CallEnds.EndsTold, CallEnds.IsOfEnd, CallEnds.ends_go, CallEnds.is_withdrawn, CallEnds.recorded, CallEnds.tells_there, OnceLemmas.Due, OnceLemmas.EndStep, OnceLemmas.Keeps, OnceLemmas.Over, OnceLemmas.covers_none, OnceLemmas.is_over_code, SaidEnds.hands_at, SaidEnds.said_at, SaidEnds.said_plain, SaidEnds.written_at, Works.Lasts, Works.WorksGo, Works.WorksHold, Works.doing_or, Works.doing_there, Works.due_in, Works.number_of, Works.stage_ended}
 
 -- the calls that come to an end are there: that of the running thread, and one that a handle names
@@ -16,9 +16,9 @@ work_code : (i : ℕ) (s : Core) → is_over_code (end_code (Subtask.Host i) s) 
 work_code i s = grind (arith, nat_tests)
 
 -- on the way too, of a call that was made before the step
-pub over_word : (a : Scene) (k : ℕ) → k ≤ a.base.made.threads → (w : Primitive) (s : Core) → Allowed a w s → is_over k s ≡ true →
+pub over_primitive : (a : Scene) (k : ℕ) → k ≤ a.base.made.threads → (w : Primitive) (s : Core) → Allowed a w s → is_over k s ≡ true →
     is_over k (after_primitive w s) ≡ true
-over_word a k below w s ok over = let i : CallAfter a w s k = call_came w s ok k in grind arith
+over_primitive a k below w s ok over = let i : CallAfter a w s k = call_came w s ok k in grind arith
 
 no_withdrawal : (y : CallEnd) → status_of_end y ≡ Status.StartCancelled → is_withdrawn y ≡ false → {A : Type 0} → A
 no_withdrawal y g f = absurd (grind arith)
@@ -76,8 +76,8 @@ module _ (x : Setting) (s : State) (l : Label) (t : State) (codes : CodesInCallb
   ends : EndsGo a t.core
   ends = plain x s l w.next (λ b. EndsGo b t.core) (ends_go (codes_at x s codes) h told w).1
 
-  words : EndPrimitives a t.core
-  words = plain x s l w.next (λ b. EndPrimitives b t.core) w.ends.says
+  primitives : EndPrimitives a t.core
+  primitives = plain x s l w.next (λ b. EndPrimitives b t.core) w.ends.says
 
   pub keeps_call : (k : ℕ) → Keeps s.core t.core (Subtask.Guest k)
   keeps_call k = record {
@@ -93,7 +93,7 @@ module _ (x : Setting) (s : State) (l : Label) (t : State) (codes : CodesInCallb
   said = said_plain (ops_of x.component s.core) x s l w.next t.core
 
   writes : (sub : Subtask) (e : Status) → Written sub e → Writes a t.core sub
-  writes sub e is = words.writes sub e (written_at (ops_of x.component s.core) s.core a.base.queues t.core l _ is)
+  writes sub e is = primitives.writes sub e (written_at (ops_of x.component s.core) s.core a.base.queues t.core l _ is)
 
   abbrev event_at : ℕ → Core → Option Status
   event_at k c = undelivered_end (event_of (Subtask.Guest k) c)
@@ -181,7 +181,7 @@ module _ (x : Setting) (s : State) (l : Label) (t : State) (codes : CodesInCallb
       says _ (WritesCall k u end over walk) =
           let unended = ends_open k end in let r = there (plain {ops = ops_of x.component s.core} x s l w.next CallsFound found) k end in let below = call_number k r in (
             λ was. let o = sym (call_code k s.core) ∙ was.1 in grind arith,
-            ((keeps_call k).counted below, call_code k t.core ∙ along (λ c. is_over k c ≡ true) (over_word a k below) over walk),
+            ((keeps_call k).counted below, call_code k t.core ∙ along (λ c. is_over k c ≡ true) (over_primitive a k below) over walk),
           )
       says _ (WritesPolled j shows polled ended frees) = polled_result j polled ended
       says _ (WritesAtOnce j ready) = let none = ready_none j ready in
@@ -266,5 +266,5 @@ module _ (x : Setting) (s : State) (l : Label) (t : State) (codes : CodesInCallb
         over = over sub;
         says = λ e is. says sub (writes sub e is);
         comes = comes sub;
-        hands = λ e out. hands sub e (words.hands sub e (hands_at (ops_of x.component s.core) s.main s.core a.base.queues t.core l _ out));
+        hands = λ e out. hands sub e (primitives.hands sub e (hands_at (ops_of x.component s.core) s.main s.core a.base.queues t.core l _ out));
       }

@@ -1,5 +1,5 @@
 -- Who is under whom, along the primitives of a step.
-use Rattle.laws_states.proofs.Words.{after_primitive, Allowed, arith, Came, came_word, Comes, Core, inl, inr, is_some, is_there, IsRunner, made_threads_word, MayMove, Moved, next_thread, Option, Place, place_of, Scene, Shifts, Some, true, Turned, Turns, Why, Primitive, ℕ, ◌+◌, ◌≡◌, ◌≤◌, ◌⊎◌}
+use Rattle.laws_states.proofs.Primitives.{after_primitive, Allowed, arith, Came, came_primitive, Comes, Core, inl, inr, is_some, is_there, IsRunner, made_threads_primitive, MayMove, Moved, next_thread, Option, Place, place_of, Scene, Shifts, Some, true, Turned, Turns, Why, Primitive, ℕ, ◌+◌, ◌≡◌, ◌≤◌, ◌⊎◌}
 
 -- On the way of a step: who is under a thread that was made now is the running one.
 pub record Layered (a : Scene) (s : Core) : Type 0 where
@@ -40,14 +40,14 @@ under_came a s t k m o p (Turns c) h = inr (turned_under a s t k m o p c h)
 
 module _ (a : Scene) (given : RunnerGiven a) (w : Primitive) (s : Core) (ok : Allowed a w s) (q : Layered a s) where
   came : (n m : ℕ) → place_of n (after_primitive w s) ≡ Some (Place.Under m) → (place_of n s ≡ Some (Place.Under m)) ⊎ NowUnder a s n m
-  came n m e = under_came a s (after_primitive w s) n m (place_of n s) (place_of n (after_primitive w s)) (came_word w s ok n) e
+  came n m e = under_came a s (after_primitive w s) n m (place_of n s) (place_of n (after_primitive w s)) (came_primitive w s ok n) e
 
-  pub layered_word : Layered a (after_primitive w s)
-  layered_word = record {
-    numbered = λ n h. let c = there_came a s _ n (place_of n s) _ (came_word w s ok n) h in let b = made_threads_word a w s in
+  pub layered_primitive : Layered a (after_primitive w s)
+  layered_primitive = record {
+    numbered = λ n h. let c = there_came a s _ n (place_of n s) _ (came_primitive w s ok n) h in let b = made_threads_primitive a w s in
         grind (arith, q.numbered n);
     below = λ n m e. let c = came n m e in grind (arith, q.below n m, given n);
-    made = λ n m e. let c = came n m e in let b = made_threads_word a w s in grind (arith, q.made n m, q.numbered m);
+    made = λ n m e. let c = came n m e in let b = made_threads_primitive a w s in grind (arith, q.made n m, q.numbered m);
     fresh = λ n m e. let c = came n m e in grind (arith, q.fresh n m);
     alone = λ n k m e f. let c = came n m e in let d = came k m f in grind (arith, q.alone n k m, q.fresh n m, q.fresh k m);
   }

@@ -1,5 +1,5 @@
 -- Where the first thread of a call waits for its start: along the primitives of a step.
-use Rattle.laws_states.proofs.Words.{after_primitive, Allowed, arith, Bool, call_came, CallAfter, CallEnd, CallsGo, CallsHold, came_word, Comes, component_of, Core, end_of, Exits, false, get, GivesUp, Grown, HasNotRun, inl, inr, is_explicit, is_fresh, is_some, IsBeside, IsFirst, IsGone, IsSame, IsWithdrawn, MayEnd, MayMove, MayStand, Moved, NewCall, next_thread, NoCall, None, not, Option, option_map_or, Place, place_of, PlaceAfter, refl, ReturnsNow, Scene, Shifts, Some, StartsFirst, task_of, Thread, thread_came, ThreadAfter, true, Turn, Turns, WasReady, Why, Primitive, ℕ, ⊎_elim, ◌&&◌, ◌≡◌, ◌⊎◌}
+use Rattle.laws_states.proofs.Primitives.{after_primitive, Allowed, arith, Bool, call_came, CallAfter, CallEnd, CallsGo, CallsHold, came_primitive, Comes, component_of, Core, end_of, Exits, false, get, GivesUp, Grown, HasNotRun, inl, inr, is_explicit, is_fresh, is_some, IsBeside, IsFirst, IsGone, IsSame, IsWithdrawn, MayEnd, MayMove, MayStand, Moved, NewCall, next_thread, NoCall, None, not, Option, option_map_or, Place, place_of, PlaceAfter, refl, ReturnsNow, Scene, Shifts, Some, StartsFirst, task_of, Thread, thread_came, ThreadAfter, true, Turn, Turns, WasReady, Why, Primitive, ℕ, ⊎_elim, ◌&&◌, ◌≡◌, ◌⊎◌}
 
 abbrev is_new_start : Option Place → Bool
 is_new_start o = is_some o && is_fresh o
@@ -16,7 +16,7 @@ pub record Unbegun (a : Scene) (s : Core) : Type 0 where
   pub came : (k : ℕ) → first_waits k s ≡ true → Waited a k
   pub rest : (k : ℕ) → Waited a k → is_some (get s.threads k) ≡ true → HasNotRun s k
 
--- who waits for its start after a word did so before it, or before the step, or is new
+-- who waits for its start after a primitive did so before it, or before the step, or is new
 stands_fresh : (a : Scene) (s : Core) (k : ℕ) (o p : Option Place) → o ≡ place_of k s → is_explicit k s ≡ false → Moved (MayStand a s k) o p → is_new_start p ≡ true → is_new_start o ≡ true
 stands_fresh a s k o p is first m f = grind arith
 
@@ -41,7 +41,7 @@ module _ (a : Scene) (h : CallsHold (component_of a) a.base) (runs : (n : ℕ) �
 
   module _ (w : Primitive) (s : Core) (ok : Allowed a w s) (go : CallsGo a s) (q : Unbegun a s) where
     came_after : (k : ℕ) → first_waits k (after_primitive w s) ≡ true → Waited a k
-    came_after k waits = by (thread_came w s ok k) (came_word w s ok k)
+    came_after k waits = by (thread_came w s ok k) (came_primitive w s ok k)
       where
         ready : (r : Thread) → get s.threads k ≡ Some r → r.explicit ≡ false → WasReady a k Why.Start → Waited a k
         ready r at first was = let below = h.numbered.threads k in let since = go.threads k in inl (grind arith)
@@ -85,5 +85,5 @@ module _ (a : Scene) (h : CallsHold (component_of a) a.base) (runs : (n : ℕ) �
           alone = λ n t at of. alone n t at of (λ r was is. let low = (go.numbered.threads n r was).call in absurd (grind arith)) (thread_came w s ok n);
         }
 
-  pub unbegun_word : (w : Primitive) (s : Core) → Allowed a w s → CallsGo a s → Unbegun a s → Unbegun a (after_primitive w s)
-  unbegun_word w s ok go q = record { came = came_after w s ok go q; rest = rest_after w s ok go q }
+  pub unbegun_primitive : (w : Primitive) (s : Core) → Allowed a w s → CallsGo a s → Unbegun a s → Unbegun a (after_primitive w s)
+  unbegun_primitive w s ok go q = record { came = came_after w s ok go q; rest = rest_after w s ok go q }

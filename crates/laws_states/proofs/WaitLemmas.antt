@@ -1,5 +1,5 @@
 -- Of which instance the sets are that threads wait on, along the primitives of a step.
-use Rattle.laws_states.proofs.Words.{add_call, add_group, add_set, add_thread, add_work, after_primitive, Allowed, any_found, ap, arith, AwaitsEvent, Blocks, by_number, ByDelivery, BySetHandle, ByWait, call_made, Came, came_word, CloseSet, Comes, ComesAgain, Core, count_work, false, FindsEvent, free_handle, free_thread_handle, get, get-insert, get-remove, give_handle, give_result, give_thread_handle, has_waiters, HasSet, Holds, op_progress_of, OpProgress, IfSome, inl, inr, instance_of, is_at_wait, is_some, is_there, is_wait, IsLaid, IsOf, IsRunner, JoinsNamed, keeps_set, Mark, MayClose, MayCome, MayMove, MayPut, MayStand, MayYield, Moved, nat_tests, None, on_call, on_instance, on_thread, on_work, op_came, op_in, OpenSet, Option, option_and_then, option_map, option_map_or, Place, place_of, poll_pends, push_high, refl, remove_call, remove_group, remove_set, remove_thread, remove_work, Runs, Scene, set_backpressure, set_cancel_delivered, set_cancelled, set_course, set_do_not_enter, set_do_not_suspend, set_end, set_event, set_exited, set_op_progress, set_join, set_of_op, set_of_place, set_of_why, set_task_event, set_phase, set_position, set_register, set_result, set_saved_callee, set_saved_own, set_script, set_stage, set_started, set_starting_published, set_subtask_handle, set_thread_handle, set_trapped, set_uninteresting, set_word, SetsNamed, Shifts, Some, Suspends, take_result, Thread, true, Turn, Turned, Turns, Uncovers, Waits, WaitsAgain, WaitsAtHome, WaitsPlaced, Why, with_handle, with_thread_handle, Primitive, work_queued, Yields, ℕ, ⊎_elim, ◌≡◌, ◌≤◌, ◌⊎◌}
+use Rattle.laws_states.proofs.Primitives.{add_call, add_group, add_set, add_thread, add_work, after_primitive, Allowed, any_found, ap, arith, AwaitsEvent, Blocks, by_number, ByDelivery, BySetHandle, ByWait, call_made, Came, came_primitive, CloseSet, Comes, ComesAgain, Core, count_work, false, FindsEvent, free_handle, free_thread_handle, get, get-insert, get-remove, give_handle, give_result, give_thread_handle, has_waiters, HasSet, Holds, op_progress_of, OpProgress, IfSome, inl, inr, instance_of, is_at_wait, is_some, is_there, is_wait, IsLaid, IsOf, IsRunner, JoinsNamed, keeps_set, Mark, MayClose, MayCome, MayMove, MayPut, MayStand, MayYield, Moved, nat_tests, None, on_call, on_instance, on_thread, on_work, op_came, op_in, OpenSet, Option, option_and_then, option_map, option_map_or, Place, place_of, poll_pends, push_high, refl, remove_call, remove_group, remove_set, remove_thread, remove_work, Runs, Scene, set_backpressure, set_cancel_delivered, set_cancelled, set_course, set_do_not_enter, set_do_not_suspend, set_end, set_event, set_exited, set_op_progress, set_join, set_of_op, set_of_place, set_of_why, set_task_event, set_phase, set_position, set_register, set_result, set_saved_callee, set_saved_own, set_script, set_stage, set_started, set_starting_published, set_subtask_handle, set_thread_handle, set_trapped, set_uninteresting, set_memory_cell, SetsNamed, Shifts, Some, Suspends, take_result, Thread, true, Turn, Turned, Turns, Uncovers, Waits, WaitsAgain, WaitsAtHome, WaitsPlaced, Why, with_handle, with_thread_handle, Primitive, work_queued, Yields, ℕ, ⊎_elim, ◌≡◌, ◌≤◌, ◌⊎◌}
 
 abbrev pub set_at_place : Option Place → Option ℕ
 set_at_place o = option_and_then (λ p. set_of_place p) o
@@ -34,13 +34,13 @@ unwaited_runs x n s none far at = go (get s.threads n) refl far at
     go None is far at = absurd (cc)
     go (Some t) is far at = ap (λ (p : Place). Some p) (unkept_runs x t t.place far at (unkept x n s none t is))
 
-of_word : (i x : ℕ) (w : Primitive) (s : Core) → ((j h : ℕ) → w ≡ CloseSet j h x → ⊥) → (is_some (get s.sets x) ≡ true → x ≤ s.made.sets) →
+of_primitive : (i x : ℕ) (w : Primitive) (s : Core) → ((j h : ℕ) → w ≡ CloseSet j h x → ⊥) → (is_some (get s.sets x) ≡ true → x ≤ s.made.sets) →
     IsOf i x s → IsOf i x (after_primitive w s)
-unfolding on_thread add_group add_set add_work count_work free_handle free_thread_handle give_handle give_result give_thread_handle on_call on_instance on_work push_high remove_call remove_group remove_set remove_work remove_thread set_backpressure set_cancel_delivered set_cancelled set_course set_do_not_enter set_do_not_suspend set_end set_event set_exited set_op_progress set_join set_task_event set_phase set_position set_register set_result set_saved_callee set_saved_own set_script set_stage set_started set_starting_published set_subtask_handle set_thread_handle set_trapped set_uninteresting set_word take_result call_made add_call add_thread with_handle with_thread_handle work_queued poll_pends
-of_word i x (OpenSet j) s other low h = grind (arith, nat_tests, get-insert)
-of_word i x (CloseSet j g y) s other low h =
+unfolding on_thread add_group add_set add_work count_work free_handle free_thread_handle give_handle give_result give_thread_handle on_call on_instance on_work push_high remove_call remove_group remove_set remove_work remove_thread set_backpressure set_cancel_delivered set_cancelled set_course set_do_not_enter set_do_not_suspend set_end set_event set_exited set_op_progress set_join set_task_event set_phase set_position set_register set_result set_saved_callee set_saved_own set_script set_stage set_started set_starting_published set_subtask_handle set_thread_handle set_trapped set_uninteresting set_memory_cell take_result call_made add_call add_thread with_handle with_thread_handle work_queued poll_pends
+of_primitive i x (OpenSet j) s other low h = grind (arith, nat_tests, get-insert)
+of_primitive i x (CloseSet j g y) s other low h =
     by_number x y _ (λ e. absurd (other j g (rw e refl))) (λ apart. grind (arith, nat_tests, get-remove))
-of_word i x w s other low h = h
+of_primitive i x w s other low h = h
 
 -- ---- Threads
 
@@ -145,17 +145,17 @@ module _ (a : Scene) (known : KnownHome a) where
         let wait = known.runs n x _ was runs c.1.0 in let not = c.1.1.1 in absurd (grind arith)) (q.far n x far)
 
     home : (i x : ℕ) → ((j h : ℕ) → w ≡ CloseSet j h x → ⊥) → IsOf i x s → IsOf i x (after_primitive w s)
-    home i x other h = of_word i x w s other (joins.sets x) h
+    home i x other h = of_primitive i x w s other (joins.sets x) h
 
     brings_home : (n x : ℕ) → Brings a n x → Home n x
     brings_home n x b =
         (home _ x (laid_open b.0.1 x) (q.homes b.0.1 _ x (⊎_elim (set_home n x) (known.waits.by_place n x) b.1)), known.there n b.0.0)
 
-    pub homed_word : Homed a (after_primitive w s)
-    homed_word = record {
+    pub homed_primitive : Homed a (after_primitive w s)
+    homed_primitive = record {
       homes = λ to i x h. home i x (laid_open to x) (q.homes to i x h);
       by_place = λ n x h. ⊎_elim (λ e. let b = q.by_place n x e in (home _ x (place_open n x e) b.0, b.1)) (brings_home n x)
-          (place_set a s _ n x _ (came_word w s ok n) h);
+          (place_set a s _ n x _ (came_primitive w s ok n) h);
       by_op = λ n x h. ⊎_elim (λ e. let b = q.by_op n x e in (home _ x (op_open n x e) b.0, b.1)) (brings_home n x) (op_set a w s ok n x h);
       far = λ n x h. ⊎_elim (q.far n x) (λ b. inl b.0.1) (op_set a w s ok n x h);
     }

@@ -1,5 +1,5 @@
 -- How a set's three numbers change where one subtask or one thread does.
-use Rattle.laws_states.proofs.Words.{arith, Bool, by_number, Call, Change, Changes, Core, false, Fewer, get, op_progress_of, OpProgress, is_delivery_for, is_inside_wait, is_ready_in, is_ready_member, is_resumption, is_waiter, is_waiting_on, is_woken_for, More, nat_tests, None, Option, option_map, option_map_or, Place, place_of, ready_members, Records, refl, Same, same_subtask, Some, subst, Subtask, sym, Thread, true, waiters, woken, Work, ℕ, ◌&&◌, ◌+◌, ◌==◌, ◌||◌, ◌∙◌, ◌≡◌, ◌≤◌}
+use Rattle.laws_states.proofs.Primitives.{arith, Bool, by_number, Call, Change, Changes, Core, false, Fewer, get, op_progress_of, OpProgress, is_delivery_for, is_inside_wait, is_ready_in, is_ready_member, is_resumption, is_waiter, is_waiting_on, is_woken_for, More, nat_tests, None, Option, option_map, option_map_or, Place, place_of, ready_members, Records, refl, Same, same_subtask, Some, subst, Subtask, sym, Thread, true, waiters, woken, Work, ℕ, ◌&&◌, ◌+◌, ◌==◌, ◌||◌, ◌∙◌, ◌≡◌, ◌≤◌}
 use Rattle.laws_states.proofs.{Counts.at_number, Counts.counted, Counts.counted_weighs, Counts.marks, Counts.mass, Counts.one, ReadyCounts.call_ready, ReadyCounts.is_woken_at, ReadyCounts.work_ready}
 
 -- what a test says before and after

@@ -1,5 +1,5 @@
 -- The rows of the table of wakes.
-use Rattle.laws_states.proofs.Words.{activated, activated_woken, advanced, ap, arith, BeginsToWait, blocked_at, blocked_on, Bool, by_number, CallbackFinds, CancelTakes, Change, Changes, Core, Delivery, DeliveryHeld, displaced, event_of, EventReplaced, false, Fewer, get, get-change, PickedEvent, Given, handed_on, has_ready_member, HasDelivery, HasPlace, op_progress_of, OpProgress, if◌then◌else◌, InsideOps, instance_of, is_callback_waiter, is_in_set, is_inside, is_inside_wait, is_member, is_ready_member, is_some, is_waiter, is_waiting_on, is_woken_for, Join, join_of, joins_set, Mark, member_same, PickedMember, MemberLeaves, More, moved_to, nat_tests, NothingPicked, None, on_call, on_instance, on_thread, on_work, Option, option_map, option_map_or, TaskEvent, PickedTaskEvent, Place, place_of, Placed, published, push_high, push_high_first, put_high, put_switch, ready_members, ReadyAndWakes, ReadyUnawaited, received, Records, refl, WakeRow, RunsInWait, Same, same_subtask, Script, set_cancel_delivered, set_do_not_enter, set_event, set_given, set_op_progress, set_join, set_task_event, set_place, set_position, set_register, set_script, set_switch, Some, Status, subst, Subtask, sym, taken, task_of, Thread, true, unblocked, waiters, wake, wake_joined, waken_by, wakes_joined, Why, why_of, woken, WokenHandsOn, WokenTakes, WokenTakesOwn, WokenWaits, ℕ, ◌==◌, ◌∙◌, ◌≡◌}
+use Rattle.laws_states.proofs.Primitives.{activated, activated_woken, advanced, ap, arith, BeginsToWait, blocked_at, blocked_on, Bool, by_number, CallbackFinds, CancelTakes, Change, Changes, Core, Delivery, DeliveryHeld, displaced, event_of, EventReplaced, false, Fewer, get, get-change, PickedEvent, Given, handed_on, has_ready_member, HasDelivery, HasPlace, op_progress_of, OpProgress, if◌then◌else◌, InsideOps, instance_of, is_callback_waiter, is_in_set, is_inside, is_inside_wait, is_member, is_ready_member, is_some, is_waiter, is_waiting_on, is_woken_for, Join, join_of, joins_set, Mark, member_same, PickedMember, MemberLeaves, More, moved_to, nat_tests, NothingPicked, None, on_call, on_instance, on_thread, on_work, Option, option_map, option_map_or, TaskEvent, PickedTaskEvent, Place, place_of, Placed, published, push_high, push_high_first, put_high, put_switch, ready_members, ReadyAndWakes, ReadyUnawaited, received, Records, refl, WakeRow, RunsInWait, Same, same_subtask, Script, set_cancel_delivered, set_do_not_enter, set_event, set_given, set_op_progress, set_join, set_task_event, set_place, set_position, set_register, set_script, set_switch, Some, Status, subst, Subtask, sym, taken, task_of, Thread, true, unblocked, waiters, wake, wake_joined, waken_by, wakes_joined, Why, why_of, woken, WokenHandsOn, WokenTakes, WokenTakesOwn, WokenWaits, ℕ, ◌==◌, ◌∙◌, ◌≡◌}
 use Rattle.laws_states.proofs.{ReadyCounts.is_woken_at, ReadyLemmas.in_set_is, WakeCounts.Turns, WakeCounts.members_change, WakeCounts.threads_change, WakeCounts.turns_as, WakeCounts.waiters_change, WakeCounts.woken_at, WakeCounts.woken_place}
 
 -- ---- From step to step
@@ -41,7 +41,7 @@ member_rule x sub a s t threads ready others = record {
   waiters = waiters_as x s t threads;
 }
 
--- ---- Words
+-- ---- Primitives
 
 event_others : (x : ℕ) (d sub : Subtask) (e : Option Status) (s : Core) → same_subtask d sub ≡ false → is_ready_member x d (set_event sub e s) ≡ is_ready_member x d s
 unfolding set_event on_call on_work
@@ -293,7 +293,7 @@ taken_own_rule x k TaskEvent.Cancelled s = member_rule x (Subtask.Guest 0) Same 
     same (Subtask.Guest j) = grind (arith, nat_tests, get-change)
     same (Subtask.Host j) = refl
 
--- taking a gift leaves the threads
+-- taking a picked event leaves the threads
 taken_threads : (g : PickedEvent) (k : ℕ) (s : Core) → (taken g k s).threads ≡ s.threads
 unfolding taken set_event on_call on_work set_task_event set_cancel_delivered
 taken_threads (PickedTaskEvent TaskEvent.None) k s = refl

@@ -1,5 +1,5 @@
 -- What host works come to along the primitives of a step: their ends, and what they have to hand out.
-use Rattle.laws_states.proofs.Words.{after_primitive, Allowed, along, ap, arith, base_at, Bool, Core, course_value, Doing, doing_of, false, fresh, get, get-empty, has_end, host_status, if◌then◌else◌, inl, inr, is_aborted, is_async_work, is_finishing, is_late, is_some, is_stage_ended, is_sync_work, Label, later_after, later_same, LaterBy, le_refl, le_trans, LoopLabel, made_works_word, MayAbort, MayBeAborted, None, of_base, Op, Option, option_and_then, refl, Scene, scene_as, Setting, Some, Stage, stand_word, State, Status, true, Turn, undelivered_end, WalkedAs, Primitive, Work, work_came, WorkAfter, WorkCame, WorksStand, ℕ, ⊎_elim, ◌&&◌, ◌||◌, ◌≡◌, ◌≤◌, ◌⊎◌}
+use Rattle.laws_states.proofs.Primitives.{after_primitive, Allowed, along, ap, arith, base_at, Bool, Core, course_value, Doing, doing_of, false, fresh, get, get-empty, has_end, host_status, if◌then◌else◌, inl, inr, is_aborted, is_async_work, is_finishing, is_late, is_some, is_stage_ended, is_sync_work, Label, later_after, later_same, LaterBy, le_refl, le_trans, LoopLabel, made_works_primitive, MayAbort, MayBeAborted, None, of_base, Op, Option, option_and_then, refl, Scene, scene_as, Setting, Some, Stage, stand_primitive, State, Status, true, Turn, undelivered_end, WalkedAs, Primitive, Work, work_came, WorkAfter, WorkCame, WorksStand, ℕ, ⊎_elim, ◌&&◌, ◌||◌, ◌≡◌, ◌≤◌, ◌⊎◌}
 
 -- What holds of a work: an end where its stage says so; an event of its own end, once it has ended; and, where S says that none is
 -- aborted, a sync one ends with a value.
@@ -70,12 +70,12 @@ module _ {S M : Type 0} {a : Scene} {s : Core} {b i : ℕ} {h g : ℕ × ℕ} {o
 lasts_after : (t u v : Doing) → Lasts t u → Lasts u v → Lasts t v
 lasts_after t u v p q = grind arith
 
-pub works_word : {S : Type 0} {a : Scene} → (S → (i : ℕ) → MayAbort a i → MayBeAborted a.base i) → (w : Primitive) (s : Core) → Allowed a w s →
+pub works_primitive : {S : Type 0} {a : Scene} → (S → (i : ℕ) → MayAbort a i → MayBeAborted a.base i) → (w : Primitive) (s : Core) → Allowed a w s →
     WorksGo S a s → WorksGo S a (after_primitive w s)
-works_word {S = S} {a = a} unsync w s ok q = record {
-  counted = le_trans q.counted (made_works_word a w s);
+works_primitive {S = S} {a = a} unsync w s ok q = record {
+  counted = le_trans q.counted (made_works_primitive a w s);
   holds = record {
-    stand = stand_word a s q.holds.stand (λ i no. absurd no) w ok;
+    stand = stand_primitive a s q.holds.stand (λ i no. absurd no) w ok;
     works = λ i. holds_came (came i) (q.holds.works i) (λ y u e sync may. never i y u e sync may);
   };
   was = λ i below. later_after Lasts lasts_after _ _ _ (q.was i below) (lasts_came (came i) (q.holds.works i) (le_trans below q.counted));
@@ -110,5 +110,5 @@ first_works {S = S} {ops = ops} x s l next h = of_base (λ c. WorksGo S (record 
 
 pub works_go : {S : Type 0} {ops : ℕ → Op} (x : Setting) (s : State) (l : Label) (t : State) (w : WalkedAs ops x s l t) →
     (S → (i : ℕ) → MayAbort (scene_as ops x s l w.next) i → MayBeAborted (base_at s.turn s.core) i) → WorksHold S s.core → WorksGo S (scene_as ops x s l w.next) t.core
-works_go {S = S} {ops = ops} x s l t w unsync h = along (WorksGo S (scene_as ops x s l w.next)) (λ v u ok q. works_word unsync v u ok q)
+works_go {S = S} {ops = ops} x s l t w unsync h = along (WorksGo S (scene_as ops x s l w.next)) (λ v u ok q. works_primitive unsync v u ok q)
     (first_works x s l w.next h) w.walk

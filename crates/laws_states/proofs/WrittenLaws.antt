@@ -1,5 +1,5 @@
 -- The laws of the ends of calls and works that hold by each step alone.
-use Rattle.laws_states.proofs.Words.{Answers, arith, base_at, Bool, changes_end, end_for, EndsHandedAsTold, EndsWrittenOnce, EndPrimitives, event_of, false, get, HandsAtOnce, HandsOut, inl, inr, is_some, Label, NewEndsAreSaid, NewResultsAreSaid, NoEndIsCovered, None, ops_of, plain, plain_scene, Reached, reached_holds, reached_keeps, reached_step, refl, Setting, Some, State, Status, Step, step_walks, Subtask, TakesEvent, TakesResult, true, Turn, undelivered_end, Walked, WritesToo, written_by, WrittenEndsAreNew, ◌≡◌, ◌⊎◌}
+use Rattle.laws_states.proofs.Primitives.{Answers, arith, base_at, Bool, changes_end, end_for, EndsHandedAsTold, EndsWrittenOnce, EndPrimitives, event_of, false, get, HandsAtOnce, HandsOut, inl, inr, is_some, Label, NewEndsAreSaid, NewResultsAreSaid, NoEndIsCovered, None, ops_of, plain, plain_scene, Reached, reached_holds, reached_keeps, reached_step, refl, Setting, Some, State, Status, Step, step_walks, Subtask, TakesEvent, TakesResult, true, Turn, undelivered_end, Walked, WritesToo, written_by, WrittenEndsAreNew, ◌≡◌, ◌⊎◌}
 use Rattle.laws_states.proofs.{CallEnds.reached_ends_told, OnceLemmas.Keeps, OnceLemmas.Over, OnceLemmas.counts_once, OnceLemmas.over_changes, OnceLemmas.over_stays, SaidEnds.hands_at, SaidEnds.said_plain, StepEnds.events_come, StepEnds.guest_covers, StepEnds.host_keeps, StepEnds.keeps_call, StepEnds.results_come, StepEnds.written_new, Works.WorksHold, Works.opening_works, Works.works_go}
 
 pub new_ends_are_said : NewEndsAreSaid

@@ -14,7 +14,7 @@ use Rattle.machine_data.specs.declared.records.WorkCaller.TheVariants as work_ca
 use Rattle.std.specs.Prelude.{Bool, None, Option, Some, false, is_none, is_some, option_and_then, option_map, true, ℕ, ◌+◌, ◌≡◌, ◌≤◌, length, List, [], ◌∷◌, ◌==◌, ◌⊎◌, ◌&&◌, ◌||◌, not}
 use Rattle.laws_states.specs.Settings.{CodesInCallbacks}
 use Rattle.laws_states.specs.WakeLaw.{BehindFeet, CallersGoOn, NoneAdmitted, NoneBlockedOnEnd, WakesCounted}
-use Rattle.machine_data.specs.declared.words.Mark.TheVariants as mark
+use Rattle.machine_data.specs.declared.statuses.Mark.TheVariants as mark
 use Rattle.machine_data.specs.Core.{Core, Main, State, NameTable}
 use Rattle.machine_data.specs.Maps.{get, size}
 use Rattle.machine_data.specs.Read.{call_instance, op_progress_of, instance_of, is_async_lifted, is_callback, is_direct, is_explicit, goal_of, kind_of, place_of, task_of, set_at, subtask_at, end_of, is_guest_call, subtask_handle, join_of, is_stage_ended, stage_of, work_caller_of, event_of, has_ended, undelivered_end, course_value}
@@ -24,10 +24,10 @@ use Rattle.machine_data.specs.declared.records.Call.{Call}
 use Rattle.machine_data.specs.declared.records.CallEnd.{CallEnd}
 use Rattle.machine_data.specs.declared.records.CallEnd.TheVariants as call_end
 use Rattle.machine_data.specs.declared.records.Caller.TheVariants as caller
-use Rattle.machine_data.specs.declared.words.TaskEvent.{TaskEvent}
-use Rattle.machine_data.specs.declared.words.TaskEvent.TheVariants as own
-use Rattle.machine_data.specs.declared.words.Status.{Status}
-use Rattle.machine_data.specs.declared.words.Status.TheVariants as status
+use Rattle.machine_data.specs.declared.statuses.TaskEvent.{TaskEvent}
+use Rattle.machine_data.specs.declared.statuses.TaskEvent.TheVariants as own
+use Rattle.machine_data.specs.declared.statuses.Status.{Status}
+use Rattle.machine_data.specs.declared.statuses.Status.TheVariants as status
 use Rattle.std.specs.Option.{option_map_or}
 use Rattle.machine_data.specs.declared.records.Delivery.TheVariants as delivery
 use Rattle.machine_data.specs.declared.records.OpProgress.{OpProgress}

@@ -1,8 +1,8 @@
 -- The end of each record is written at most once, and what a call has to hand out is that end.
 use Rattle.machine_rules.specs.SubtaskEnds.{end_for, written_by, handed_by}
 use Rattle.machine_rules.specs.Step.{Step}
-use Rattle.machine_rules.specs.Words.{status_of_end}
-use Rattle.machine_data.specs.declared.words.Status.{Status}
+use Rattle.machine_rules.specs.Primitives.{status_of_end}
+use Rattle.machine_data.specs.declared.statuses.Status.{Status}
 use Rattle.machine_data.specs.declared.records.CallEnd.{CallEnd}
 use Rattle.machine_data.specs.Read.{end_of, event_of, undelivered_end, has_ended}
 use Rattle.machine_data.specs.Maps.{get}
@@ -17,7 +17,7 @@ use Rattle.machine_rules.specs.Run.{Run}
 use Rattle.machine_rules.specs.Stalled.{Setting}
 use Rattle.machine_data.specs.declared.records.CallEnd.TheVariants as call_end
 use Rattle.machine_data.specs.declared.records.Subtask.TheVariants as subtask
-use Rattle.machine_data.specs.declared.words.Status.TheVariants as status
+use Rattle.machine_data.specs.declared.statuses.Status.TheVariants as status
 
 -- the end in the record of each call and of each host work is written at most once
 unfoldable pub EndsWrittenOnce : Type 0

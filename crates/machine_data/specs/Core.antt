@@ -87,7 +87,7 @@ abbrev pub nothing_made : MadeCounts
 nothing_made = record { threads = 0; works = 0; sets = 0; groups = 0 }
 
 abbrev pub untouched : Instance
-untouched = record { backpressure = 0; do_not_enter = false; do_not_suspend = false; words = replicate 16 0 }
+untouched = record { backpressure = 0; do_not_enter = false; do_not_suspend = false; memory_cells = replicate 16 0 }
 
 -- the map that has x at each of the first n numbers
 abbrev pub filled : {X : Type 0} → X → ℕ → Records X

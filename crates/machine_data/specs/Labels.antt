@@ -1,10 +1,10 @@
 -- Labels from their parts, and what a label shows of a step's choices.
 use Rattle.std.specs.Prelude.{ℕ, Option, Some, None}
-use Rattle.machine_data.specs.declared.words.Given.{Given}
-use Rattle.machine_data.specs.declared.words.Given.TheVariants as given
-use Rattle.machine_data.specs.declared.words.Mark.{Mark}
-use Rattle.machine_data.specs.declared.words.TaskEvent.{TaskEvent}
-use Rattle.machine_data.specs.declared.words.TaskEvent.TheVariants as own
+use Rattle.machine_data.specs.declared.statuses.Given.{Given}
+use Rattle.machine_data.specs.declared.statuses.Given.TheVariants as given
+use Rattle.machine_data.specs.declared.statuses.Mark.{Mark}
+use Rattle.machine_data.specs.declared.statuses.TaskEvent.{TaskEvent}
+use Rattle.machine_data.specs.declared.statuses.TaskEvent.TheVariants as own
 use Rattle.machine_data.specs.declared.label.Label.{Label}
 use Rattle.machine_data.specs.declared.label.Label.TheVariants as label
 use Rattle.machine_data.specs.declared.label.TakeLabel.{TakeLabel}
@@ -33,13 +33,13 @@ join_label n None = label.Set (set.Join n)
 join_label n (Some w) = label.Set (set.JoinWakes n w)
 
 -- Only a thread that takes its task event hands a wake on.
-abbrev pub own_given : Given → TaskEvent
-own_given given.Cancelled = own.Cancelled
-own_given _ = own.None
+abbrev pub given_task_event : Given → TaskEvent
+given_task_event given.Cancelled = own.Cancelled
+given_task_event _ = own.None
 
 abbrev pub wait_label : ℕ → Given → Option ℕ → Label
 wait_label n g None = label.Set (set.Wait g n)
-wait_label n g (Some w) = label.Set (set.WaitWakes (own_given g) n w)
+wait_label n g (Some w) = label.Set (set.WaitWakes (given_task_event g) n w)
 
 abbrev pub take_label : Mark → ℕ → Option ℕ → Label
 take_label m n None = label.Take (take.Thread m n)
@@ -51,7 +51,7 @@ held_label m n (Some w) = label.Take (take.HeldWakes m n w)
 
 abbrev pub event_label : Mark → ℕ → Given → Option ℕ → Label
 event_label m n g None = label.Take (take.Event m g n)
-event_label m n g (Some w) = label.Take (take.EventWakes m (own_given g) n w)
+event_label m n g (Some w) = label.Take (take.EventWakes m (given_task_event g) n w)
 
 abbrev pub host_label : Mark → ℕ → Option ℕ → Label
 host_label m i None = label.Take (take.Host m i)

@@ -7,13 +7,13 @@ use Rattle.machine_data.specs.declared.component.ExportKind.{ExportKind}
 use Rattle.machine_data.specs.declared.component.ExportKind.TheVariants as kind
 use Rattle.machine_data.specs.declared.component.HostDef.{HostDef}
 use Rattle.machine_data.specs.declared.component.HostDef.TheVariants as host_def
-use Rattle.machine_data.specs.declared.words.Mark.{Mark}
-use Rattle.machine_data.specs.declared.words.Mark.TheVariants as mark
-use Rattle.machine_data.specs.declared.words.Status.{Status}
-use Rattle.machine_data.specs.declared.words.Status.TheVariants as status
-use Rattle.machine_data.specs.declared.words.TaskEvent.{TaskEvent}
-use Rattle.machine_data.specs.declared.words.Phase.{Phase}
-use Rattle.machine_data.specs.declared.words.Phase.TheVariants as phase
+use Rattle.machine_data.specs.declared.statuses.Mark.{Mark}
+use Rattle.machine_data.specs.declared.statuses.Mark.TheVariants as mark
+use Rattle.machine_data.specs.declared.statuses.Status.{Status}
+use Rattle.machine_data.specs.declared.statuses.Status.TheVariants as status
+use Rattle.machine_data.specs.declared.statuses.TaskEvent.{TaskEvent}
+use Rattle.machine_data.specs.declared.statuses.Phase.{Phase}
+use Rattle.machine_data.specs.declared.statuses.Phase.TheVariants as phase
 use Rattle.machine_data.specs.declared.records.CallEnd.{CallEnd}
 use Rattle.machine_data.specs.declared.records.Caller.{Caller}
 use Rattle.machine_data.specs.declared.records.Caller.TheVariants as caller
@@ -270,8 +270,8 @@ may_not_enter i s = option_map_or (λ r. r.do_not_enter) (get s.instances i) fal
 abbrev pub may_not_suspend : ℕ → Core → Bool
 may_not_suspend i s = option_map_or (λ r. r.do_not_suspend) (get s.instances i) false
 
-abbrev pub word_of : ℕ → ℕ → Core → ℕ
-word_of i w s = option_map_or (λ r. slice_index r.words w) (get s.instances i) 0
+abbrev pub memory_cell_of : ℕ → ℕ → Core → ℕ
+memory_cell_of i w s = option_map_or (λ r. slice_index r.memory_cells w) (get s.instances i) 0
 
 -- what a handle of this table names
 abbrev pub named_by : {X : Type 0} → Records (NameTable X) → ℕ → ℕ → Option X

@@ -1,7 +1,7 @@
 -- The numbers under which a subtask's status is handed to a guest, as the component model's public standard gives them.
 use Rattle.std.specs.Prelude.{ℕ, ◌+◌, ◌*◌, Option, None, Some}
-use Rattle.machine_data.specs.declared.words.Status.{Status}
-use Rattle.machine_data.specs.declared.words.Status.TheVariants as status
+use Rattle.machine_data.specs.declared.statuses.Status.{Status}
+use Rattle.machine_data.specs.declared.statuses.Status.TheVariants as status
 
 -- 0 to 4, in the order of the variants
 abbrev pub status_code : Status → ℕ

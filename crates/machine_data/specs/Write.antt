@@ -1,9 +1,9 @@
 -- The primitives that change a core: each one field of one record, one record made or taken away, or one handle given or taken
 -- back.
 use Rattle.std.specs.Prelude.{ℕ, ◌+◌, Bool, true, false, List, [], ◌∷◌, ◌++◌, Option, Some, filter, not, ◌==◌, slice_set}
-use Rattle.machine_data.specs.declared.words.TaskEvent.{TaskEvent}
-use Rattle.machine_data.specs.declared.words.Phase.{Phase}
-use Rattle.machine_data.specs.declared.words.Status.{Status}
+use Rattle.machine_data.specs.declared.statuses.TaskEvent.{TaskEvent}
+use Rattle.machine_data.specs.declared.statuses.Phase.{Phase}
+use Rattle.machine_data.specs.declared.statuses.Status.{Status}
 use Rattle.machine_data.specs.declared.records.Call.{Call}
 use Rattle.machine_data.specs.declared.records.CallEnd.{CallEnd}
 use Rattle.machine_data.specs.declared.records.Course.{Course}
@@ -183,8 +183,8 @@ set_do_not_enter i b = on_instance i (λ r. record r { do_not_enter = b })
 unfoldable pub set_do_not_suspend : ℕ → Bool → Core → Core
 set_do_not_suspend i b = on_instance i (λ r. record r { do_not_suspend = b })
 
-unfoldable pub set_word : ℕ → ℕ → ℕ → Core → Core
-set_word i w v = on_instance i (λ r. record r { words = slice_set r.words w v })
+unfoldable pub set_memory_cell : ℕ → ℕ → ℕ → Core → Core
+set_memory_cell i w v = on_instance i (λ r. record r { memory_cells = slice_set r.memory_cells w v })
 
 -- ---- Handles
 

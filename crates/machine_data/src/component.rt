@@ -21,7 +21,7 @@ pub struct Callee {
     pub export: u32,
 }
 
-/// What runs under one export: its kind, how many words it takes (0 to 16), the script that it
+/// What runs under one export: its kind, how many values it takes (0 to 16), the script that it
 /// starts with and, of a callback, the script that each event runs.
 #[derive(Drop)]
 pub struct ExportDef {

@@ -1,9 +1,9 @@
-//! The labels of which a trace is made: one for each row of what a step may be. Each has what its printed form shows, which is
+//! The labels of which a trace is made: one for each kind of step. Each has what its printed form shows, which is
 //! above it: threads N, M and W and works I by their numbers, starts and spawns K by their lines, from 1. Of these parts the small
 //! ones are first, so that a label has 32 bytes; the others are in the order in which they are printed.
 
+use crate::statuses::{Given, Mark, Phase, TaskEvent};
 use crate::trap::Trap;
-use crate::words::{Given, Mark, Phase, TaskEvent};
 
 /// One step of a run, by who speaks.
 #[derive(Clone, Copy)]
@@ -93,7 +93,7 @@ pub enum TakeLabel {
     HostWakes(Mark, u64, u64),
 }
 
-/// An op on registers or words is done.
+/// An op on registers or memory cells is done.
 #[derive(Clone, Copy)]
 pub enum DataLabel {
     /// `thread N set V`

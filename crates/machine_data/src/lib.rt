@@ -9,8 +9,8 @@ mod outcome;
 mod records;
 mod scenario;
 mod seq;
+mod statuses;
 mod trap;
-mod words;
 
 pub use component::{Callee, Component, ExportDef, ExportKind, HostDef, InstanceDef, Slot};
 pub use label::{
@@ -26,5 +26,5 @@ pub use records::{
 };
 pub use scenario::{IdleLine, MainOpDef, NamesDef, ScenarioDef};
 pub use seq::Seq;
+pub use statuses::{Given, HostPoll, Mark, Phase, Status, TaskEvent};
 pub use trap::Trap;
-pub use words::{Given, HostPoll, Mark, Phase, Status, TaskEvent};

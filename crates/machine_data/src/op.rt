@@ -19,7 +19,7 @@ pub enum Op {
     Thread(ThreadOp),
 }
 
-/// An op on registers and on the instance's words; `to` is the register that is written.
+/// An op on registers and on the instance's memory cells; `to` is the register that is written.
 #[derive(Clone, Copy)]
 pub enum DataOp {
     /// `set R X`
@@ -40,11 +40,11 @@ pub enum DataOp {
     /// `load R W`
     Load {
         to: u8,
-        word: u8,
+        cell: u8,
     },
     /// `store W X`
     Store {
-        word: u8,
+        cell: u8,
         value: Operand,
     },
     /// `skip_eq X Y N`

@@ -2,7 +2,7 @@
 //! sets and groups by numbers that are never given twice.
 
 use crate::component::{Callee, ExportKind, HostDef};
-use crate::words::{Mark, Phase, Status, TaskEvent};
+use crate::statuses::{Mark, Phase, Status, TaskEvent};
 
 /// What a thread may wait for, and what a handle of a subtask names.
 #[derive(Clone, Copy)]
@@ -252,7 +252,7 @@ pub struct Instance {
     pub do_not_enter: bool,
     /// While the instance may not block.
     pub do_not_suspend: bool,
-    pub words: [u64; 16],
+    pub memory_cells: [u64; 16],
 }
 
 /// How many threads, works, sets and groups were made.

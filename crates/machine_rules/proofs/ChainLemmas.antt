@@ -2,7 +2,7 @@
 use Rattle.machine_rules.proofs.Machine.{Advance, after_primitive, Allowed, Bool, Chain, Collapses, Core, Departs, EndsOver, false, GoesBack, OpProgress, if◌then◌else◌, inl, inr, IsUnwind, IsSettling, IsShift, Lands, LandsAt, Mark, MayGo, MayLand, MayPut, MayYield, Move, NoPrimitive, Place, Places, Placing, Pop, Promote, Put, Quits, refl, Remains, RemoveCall, RemoveGroup, RemoveThread, Scene, SetOpProgress, Settles, SetTrapped, SetUninteresting, Stay, Stays, Stop, Then, Trip, true, Turn, Walk, WasUnder, Why, Primitive, ℕ, ◌≡◌, ◌⊎◌}
 
 module _ {may : Primitive → Core → Type 0} where
-  -- what holds at first and is kept by each word holds at last
+  -- what holds at first and is kept by each primitive holds at last
   pub along : (R : Core → Type 0) → ((w : Primitive) (s : Core) → may w s → R s → R (after_primitive w s)) → {b : Core} → R b → {t : Core} → Chain may b t → R t
   along R kept first NoPrimitive = first
   along R kept first (Then s w c ok) = kept w s ok (along R kept first c)
@@ -15,7 +15,7 @@ module _ {may : Primitive → Core → Type 0} where
   chain_if true t u p q = p refl
   chain_if false t u p q = q refl
 
--- a chain of primitives that may be done for one reason is one of words that may be done for another
+-- a chain of primitives that may be done for one reason is one of primitives that may be done for another
 pub weaken : {may can : Primitive → Core → Type 0} → ((w : Primitive) (s : Core) → may w s → can w s) → {b t : Core} → Chain may b t → Chain can b t
 weaken f NoPrimitive = NoPrimitive
 weaken f (Then s w c ok) = Then s w (weaken f c) (f w s ok)
@@ -87,12 +87,12 @@ allowed_put a Mark.Switch n w s (inr ok) = inl ok.0
 pub settle_stays : (a : Scene) (w : Primitive) (s : Core) → IsSettling w s → Stays a w s
 settle_stays a w s ok = keeps_stays a w s (settle_keeps a w s ok)
 
-pub fall_allowed : (a : Scene) (w : Primitive) (s : Core) → IsUnwind a w s → Allowed a w s
-fall_allowed a (RemoveThread n) s ok = ok
-fall_allowed a SetTrapped s ok = tt
-fall_allowed a _ s ok = absurd ok
+pub unwind_allowed : (a : Scene) (w : Primitive) (s : Core) → IsUnwind a w s → Allowed a w s
+unwind_allowed a (RemoveThread n) s ok = ok
+unwind_allowed a SetTrapped s ok = tt
+unwind_allowed a _ s ok = absurd ok
 
--- all words of a trip
+-- all primitives of a trip
 module _ {a : Scene} {b : Core} where
   pub stay_walk : {t : Core} → Stay a b t → Walk a b t
   stay_walk c = weaken (stays_allowed a) c
@@ -107,4 +107,4 @@ module _ {a : Scene} {b : Core} where
   trip_walk (Quits s t n c leave d halts) = gone_walk n c (Departs leave) d
   trip_walk (GoesBack s t n m v c is runs to under back d ok) =
       Then (after_primitive (Places (Move m Place.Running)) t) (SetOpProgress m (OpProgress.Answered v)) (Then t (Places (Move m Place.Running)) (gone_walk n c (EndsOver m is runs to under) d) (inr ok)) ((n, (is, (to, (under, back)))), WasUnder n v under refl)
-  trip_walk (Collapses t over c) = weaken (fall_allowed a) c
+  trip_walk (Collapses t over c) = weaken (unwind_allowed a) c

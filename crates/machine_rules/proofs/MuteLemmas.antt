@@ -32,8 +32,8 @@ module _ (a : Scene) (t : Core) {k : Label} (is : a.label ≡ k) where
   pub writes_by : is_other k ≡ true → handed_as a.ops a.main a.base k t ≡ None → ((sub : Subtask) (e : Status) → written_as a.ops a.base k t ≡ Some (end_for e sub) → Writes a t sub × EndTells a t sub e) → EndPrimitives a t
   writes_by other none writes = says_by other writes (λ sub e out. none_said none out)
 
-  pub mute_words : is_mute a t k ≡ true → EndPrimitives a t
-  mute_words mute =
+  pub mute_primitives : is_mute a t k ≡ true → EndPrimitives a t
+  mute_primitives mute =
       let p = both_none (written_as a.ops a.base k t) (handed_as a.ops a.main a.base k t) (grind arith) in
       hands_by (grind arith) p.0 (λ sub e out. none_said p.1 out)
 

@@ -91,15 +91,15 @@ pub popped_shifted : (m : Mark) (s : Core) → Shifted s (popped m s)
 popped_shifted m s = placing_shifted (Pop m) s
 
 -- so it is with a chain of them
-word_shifted : {b : Core} (w : Primitive) (s : Core) → IsShift w s → Shifted b s → Shifted b (after_primitive w s)
-word_shifted {b = b} (Places p) s ok h =
+primitive_shifted : {b : Core} (w : Primitive) (s : Core) → IsShift w s → Shifted b s → Shifted b (after_primitive w s)
+primitive_shifted {b = b} (Places p) s ok h =
     subst (λ (c : Core). Shifted b c) (sym (placing_shifted p s).only) (shifted_after h (placing_shifted p s))
-word_shifted {b = b} _ s ok h = absurd ok
+primitive_shifted {b = b} _ s ok h = absurd ok
 
 pub shifts_shifted : {b t : Core} → Shifts b t → Shifted b t
-shifts_shifted {b = b} c = along (λ t. Shifted b t) word_shifted (shifted_same b) c
+shifts_shifted {b = b} c = along (λ t. Shifted b t) primitive_shifted (shifted_same b) c
 
--- the primitives that put and move, as they are in the rows
+-- the primitives that put and move, as they are in the rules
 pub placed : {may : Primitive → Core → Type 0} {b s : Core} (p : Placing) → may (Places p) s → Chain may b s → Chain may b (after_placing p s)
 placed {may = may} {b = b} {s = s} p ok c = subst (λ (t : Core). Chain may b t) (placing_shifted p s).only (Then s (Places p) c ok)
 

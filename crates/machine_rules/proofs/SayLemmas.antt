@@ -18,7 +18,7 @@ pub event_gone : (sub : Subtask) (s t : Core) → t.calls ≡ (set_event sub Non
 unfolding set_event on_call on_work
 event_gone sub s t calls works = grind (arith, nat_tests, get-change, calls, works)
 
--- a gift that hands an end out is its subtask's event, which is gone once the gift is taken
+-- a picked event that hands an end out is its subtask's event, which is gone once the picked event is taken
 pub given_out : {a : Scene} (by : Bool) (n j y : ℕ) (ch : Choice) (g : PickedEvent) (k : ℕ) (u : Core) {t : Core} → picked_event by j y (chosen n ch a.base) a.base ≡ Some g → t.calls ≡ (taken g k u).calls → t.works ≡ (taken g k u).works → (to : Subtask) (e : Status) → handed_by_event n a.base (handed_out ch a.base g) ≡ Some (end_for e to) → HandsOut a t to e
 unfolding picked_event given_for taken
 given_out by n j y ch (PickedTaskEvent event) k u is calls works to e out = absurd (grind arith)

@@ -1,6 +1,6 @@
 -- The end of a task as a chain of primitives.
 use Rattle.machine_rules.proofs.Machine.{after_primitive, ap, arith, Bool, Call, CallEnd, Caller, caller_of, cancelled, Core, EndCall, EndTells, false, get, get-change, give_result, GiveResult, Goal, goal_of, if◌then◌else◌, is_over, is_some, is_told, nat_tests, on_call, on_thread, Option, option_map_or, published, Records, refl, result_given, returned, same_map, SaysEnd, Scene, set_end, set_event, set_register, set_result, SetRegister, SetResult, Some, Status, status_of_end, subst, Subtask, sym, task_of, TellsNever, TellsNow, told, true, Walk, ℕ, ◌∙◌, ◌≡◌}
-use Rattle.machine_rules.proofs.{CallThreads.LastEnds, ChainLemmas.Keep, ChainLemmas.chain_if, FreeLemmas.published_frees, PlacingLemmas.shifted_calls, PlacingLemmas.shifted_task, PlacingLemmas.shifts_shifted, WalkMoves.ToldSpares, WalkMoves.ToldTo, WalkMoves.published_shifts, WalkMoves.shifted, WalkMoves.told_at, WalkMoves.told_shifts, WalkMoves.word}
+use Rattle.machine_rules.proofs.{CallThreads.LastEnds, ChainLemmas.Keep, ChainLemmas.chain_if, FreeLemmas.published_frees, PlacingLemmas.shifted_calls, PlacingLemmas.shifted_task, PlacingLemmas.shifts_shifted, WalkMoves.ToldSpares, WalkMoves.ToldTo, WalkMoves.published_shifts, WalkMoves.shifted, WalkMoves.told_at, WalkMoves.told_shifts, WalkMoves.primitive}
 
 given_told : (g : Goal) (f : Caller) (k v : ℕ) (e : CallEnd) (s : Core) → is_told k (result_given g f k v (set_end k e s)) ≡ is_told k s
 unfolding set_end on_call give_result set_register on_thread set_result
@@ -20,7 +20,7 @@ given_spares g f k v e w s spare told y is none n =
 abbrev pub call_ends : ℕ → CallEnd → Core → Core
 call_ends k e s = after_primitive (EndCall k e) s
 
--- where the end is told, the word sets both
+-- where the end is told, the primitive sets both
 ends_told : (k : ℕ) (e : CallEnd) (s : Core) → is_told k s ≡ true → (e ≡ CallEnd.StartCancelled → ⊥) →
     set_event (Subtask.Guest k) (Some (status_of_end e)) (set_end k e s) ≡ call_ends k e s
 unfolding set_event set_end on_call
@@ -59,9 +59,9 @@ returned_last n k v w s to is u same gone =
 
 module _ {a : Scene} {b : Core} where
   result_given_walks : (g : Goal) (f : Caller) (k v : ℕ) {s : Core} → goal_of k s ≡ g → SaysEnd a k Status.Returned → Keep a b s → Keep a b (result_given g f k v s)
-  result_given_walks Goal.Main f k v at says c = word (GiveResult k v) (says, at) c
-  result_given_walks (Goal.Register r) (Caller.Thread n) k v at says c = word (SetRegister n r v) tt c
-  result_given_walks Goal.Answer f k v at says c = word (SetResult k (Some v)) tt c
+  result_given_walks Goal.Main f k v at says c = primitive (GiveResult k v) (says, at) c
+  result_given_walks (Goal.Register r) (Caller.Thread n) k v at says c = primitive (SetRegister n r v) tt c
+  result_given_walks Goal.Answer f k v at says c = primitive (SetResult k (Some v)) tt c
   result_given_walks (Goal.Register r) Caller.Main k v at says c = c
   result_given_walks _ f k v at says c = c
 

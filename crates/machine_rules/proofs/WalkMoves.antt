@@ -1,5 +1,5 @@
 -- The moves of the machine as chains of primitives.
-use Rattle.machine_rules.proofs.Machine.{[], add_call, add_group, add_set, add_thread, add_work, Advance, after_placing, after_primitive, ap, arith, AtOp, blocked_on, Bool, ByHandle, call_group, call_made, call_settled, can_come, CanCome, checked, chosen, Core, count_work, Delivery, departed, Departs, end_of, ended, exited_if, false, first_entry, foot_of, free_handle, free_thread_handle, freed_thread_handle, FreeThreadHandle, get, get-change, get-insert, get-remove, get-remove_same, PickedEvent, give_handle, give_result, give_thread_handle, group_settled, Halted, Halts, handed_on, hands_on, has_ended, has_waiter, held_why_of, OpProgress, if◌then◌else◌, InOp, inr, instance_of, interest_settled, is_at, is_blocked_on, is_callback_waiter, is_deletable, is_done_host, is_explicit, is_finished, is_group_done, is_some, is_told, is_waiter, is_waiting_on, IsNamed, IsRunner, IsSettling, IsStarting, Join, join_of, Lands, lands_alone, lands_inside, LandsAt, le_refl, le_trans, Leaves, leaving, List, MakeThread, Mark, may_hand_on, may_not_suspend, may_publish, may_tell, may_wake, may_wake_joined, MayCome, MayDeliver, MayLand, MayPut, MayRemoveCall, PickedMember, nat_tests, NothingPicked, None, not, NoPrimitive, numbers, on_call, on_instance, on_thread, on_work, op_in, Option, option_map, option_map_or, TaskEvent, PickedTaskEvent, Place, place_of, Places, Placing, poll_pends, position_of, Promote, promoted, promoted_first, promoted_unless, published, push_high, Put, put_high, Quits, Records, refl, released, released_one, Releases, remove, remove_call, remove_group, remove_set, remove_thread, remove_work, RemoveCall, RemoveGroup, RemoveThread, Restart, Scene, set_backpressure, set_cancel_delivered, set_cancelled, set_course, set_do_not_enter, set_do_not_suspend, set_end, set_event, set_exited, set_op_progress, set_join, set_task_event, set_phase, set_position, set_register, set_result, set_saved_callee, set_saved_own, set_script, set_stage, set_started, set_starting_published, set_subtask_handle, set_thread_handle, set_trapped, set_uninteresting, set_word, SetCallEvent, SetCancelDelivered, SetExited, SetTaskEvent, Settles, SetUninteresting, Shifts, Some, Status, Stay, Stop, stopped, subst, Subtask, sym, take_result, TakeHost, taken, TakePush, TakesNamed, TakeWorkEvent, task_of, Tells, Then, Thread, thread_handle_of, told, Trip, true, Turn, unblocked, Unblocks, wake, wake_joined, wake_why, waken_by, Wakes, Walk, Why, with_handle, with_thread_handle, Primitive, work_queued, ℕ, ◌||◌, ◌∙◌, ◌∷◌, ◌≡◌, ◌≤◌}
+use Rattle.machine_rules.proofs.Machine.{[], add_call, add_group, add_set, add_thread, add_work, Advance, after_placing, after_primitive, ap, arith, AtOp, blocked_on, Bool, ByHandle, call_group, call_made, call_settled, can_come, CanCome, checked, chosen, Core, count_work, Delivery, departed, Departs, end_of, ended, exited_if, false, first_entry, foot_of, free_handle, free_thread_handle, freed_thread_handle, FreeThreadHandle, get, get-change, get-insert, get-remove, get-remove_same, PickedEvent, give_handle, give_result, give_thread_handle, group_settled, Halted, Halts, handed_on, hands_on, has_ended, has_waiter, held_why_of, OpProgress, if◌then◌else◌, InOp, inr, instance_of, interest_settled, is_at, is_blocked_on, is_callback_waiter, is_deletable, is_done_host, is_explicit, is_finished, is_group_done, is_some, is_told, is_waiter, is_waiting_on, IsNamed, IsRunner, IsSettling, IsStarting, Join, join_of, Lands, lands_alone, lands_inside, LandsAt, le_refl, le_trans, Leaves, leaving, List, MakeThread, Mark, may_hand_on, may_not_suspend, may_publish, may_tell, may_wake, may_wake_joined, MayCome, MayDeliver, MayLand, MayPut, MayRemoveCall, PickedMember, nat_tests, NothingPicked, None, not, NoPrimitive, numbers, on_call, on_instance, on_thread, on_work, op_in, Option, option_map, option_map_or, TaskEvent, PickedTaskEvent, Place, place_of, Places, Placing, poll_pends, position_of, Promote, promoted, promoted_first, promoted_unless, published, push_high, Put, put_high, Quits, Records, refl, released, released_one, Releases, remove, remove_call, remove_group, remove_set, remove_thread, remove_work, RemoveCall, RemoveGroup, RemoveThread, Restart, Scene, set_backpressure, set_cancel_delivered, set_cancelled, set_course, set_do_not_enter, set_do_not_suspend, set_end, set_event, set_exited, set_op_progress, set_join, set_task_event, set_phase, set_position, set_register, set_result, set_saved_callee, set_saved_own, set_script, set_stage, set_started, set_starting_published, set_subtask_handle, set_thread_handle, set_trapped, set_uninteresting, set_memory_cell, SetCallEvent, SetCancelDelivered, SetExited, SetTaskEvent, Settles, SetUninteresting, Shifts, Some, Status, Stay, Stop, stopped, subst, Subtask, sym, take_result, TakeHost, taken, TakePush, TakesNamed, TakeWorkEvent, task_of, Tells, Then, Thread, thread_handle_of, told, Trip, true, Turn, unblocked, Unblocks, wake, wake_joined, wake_why, waken_by, Wakes, Walk, Why, with_handle, with_thread_handle, Primitive, work_queued, ℕ, ◌||◌, ◌∙◌, ◌∷◌, ◌≡◌, ◌≤◌}
 use Rattle.machine_rules.proofs.{CallThreads.LastEnds, CallThreads.SameTasks, CallThreads.any_found, ChainLemmas.Keep, ChainLemmas.Keeps, ChainLemmas.along, ChainLemmas.chain_if, ChainLemmas.gone_walk, ChainLemmas.join, ChainLemmas.keep_stay, ChainLemmas.settle_keeps, ChainLemmas.settle_stays, ChainLemmas.shift_keeps, ChainLemmas.weaken, PlacingLemmas.Shifted, PlacingLemmas.placed, PlacingLemmas.placing_shifted, PlacingLemmas.popped_shifted, PlacingLemmas.unplaced, PromotionLemmas.first_has_entry, StandLemmas.set_place_is, StopLemmas.find_passes}
 
 -- ---- What other threads result in
@@ -115,18 +115,18 @@ spared_released (m ∷ ns) x n s h = spared_released ns x n (released_one m (hel
 
 -- ---- How far a thread comes in its script
 
--- no word but that of an op that is done brings a thread further
-kept_word : (a : Scene) (n : ℕ) (w : Primitive) (s : Core) → Keeps a w s → position_of n (after_primitive w s) ≤ position_of n s
-unfolding add_call add_group add_set add_thread add_work call_made count_work free_handle free_thread_handle give_handle give_result give_thread_handle on_call on_instance on_thread on_work poll_pends push_high remove_call remove_group remove_set remove_thread remove_work set_backpressure set_cancel_delivered set_cancelled set_course set_do_not_enter set_do_not_suspend set_end set_event set_exited set_op_progress set_join set_task_event set_phase set_position set_register set_result set_saved_callee set_saved_own set_script set_stage set_started set_starting_published set_subtask_handle set_thread_handle set_trapped set_uninteresting set_word take_result with_handle with_thread_handle work_queued
-kept_word a n (Places p) s ok = let same = (placing_shifted p s).threads n in grind (arith, same)
-kept_word a n (Advance m p) s ok = absurd ok
-kept_word a n (TakePush m i) s ok = let same = (popped_shifted m s).threads n in grind (arith, same)
-kept_word a n (TakeHost m i) s ok = let same = (popped_shifted m s).threads n in grind (arith, same)
-kept_word a n (MakeThread t) s ok = grind (arith, nat_tests, get-insert, ok.1.1.1.1.1.0)
-kept_word a n w s ok = grind (arith, nat_tests, get-change, get-insert, get-remove)
+-- no primitive but that of an op that is done brings a thread further
+kept_primitive : (a : Scene) (n : ℕ) (w : Primitive) (s : Core) → Keeps a w s → position_of n (after_primitive w s) ≤ position_of n s
+unfolding add_call add_group add_set add_thread add_work call_made count_work free_handle free_thread_handle give_handle give_result give_thread_handle on_call on_instance on_thread on_work poll_pends push_high remove_call remove_group remove_set remove_thread remove_work set_backpressure set_cancel_delivered set_cancelled set_course set_do_not_enter set_do_not_suspend set_end set_event set_exited set_op_progress set_join set_task_event set_phase set_position set_register set_result set_saved_callee set_saved_own set_script set_stage set_started set_starting_published set_subtask_handle set_thread_handle set_trapped set_uninteresting set_memory_cell take_result with_handle with_thread_handle work_queued
+kept_primitive a n (Places p) s ok = let same = (placing_shifted p s).threads n in grind (arith, same)
+kept_primitive a n (Advance m p) s ok = absurd ok
+kept_primitive a n (TakePush m i) s ok = let same = (popped_shifted m s).threads n in grind (arith, same)
+kept_primitive a n (TakeHost m i) s ok = let same = (popped_shifted m s).threads n in grind (arith, same)
+kept_primitive a n (MakeThread t) s ok = grind (arith, nat_tests, get-insert, ok.1.1.1.1.1.0)
+kept_primitive a n w s ok = grind (arith, nat_tests, get-change, get-insert, get-remove)
 
 pub keep_position : {a : Scene} {b t : Core} (n : ℕ) → Keep a b t → position_of n t ≤ position_of n b
-keep_position {a = a} {b = b} n c = along (λ u. position_of n u ≤ position_of n b) (λ w s ok low. le_trans (kept_word a n w s ok) low) (le_refl _) c
+keep_position {a = a} {b = b} n c = along (λ u. position_of n u ≤ position_of n b) (λ w s ok low. le_trans (kept_primitive a n w s ok) low) (le_refl _) c
 
 -- ---- The op at which the running thread is
 
@@ -139,21 +139,21 @@ same_at : (n : ℕ) (b s t : Core) → t.made ≡ s.made → option_map unplaced
 same_at n b s t made same q = record { made = rw made q.made; position = grind (arith, q.position) }
 
 module _ (a : Scene) (n : ℕ) (runs : place_of n a.base ≡ Some Place.Running) (below : n ≤ a.base.made.threads) where
-  still_word : (w : Primitive) (s : Core) → Keeps a w s → StillAt n a.base s → StillAt n a.base (after_primitive w s)
-  unfolding add_call add_group add_set add_thread add_work call_made count_work free_handle free_thread_handle give_handle give_result give_thread_handle on_call on_instance on_thread on_work poll_pends push_high remove_call remove_group remove_set remove_thread remove_work set_backpressure set_cancel_delivered set_cancelled set_course set_do_not_enter set_do_not_suspend set_end set_event set_exited set_op_progress set_join set_task_event set_phase set_position set_register set_result set_saved_callee set_saved_own set_script set_stage set_started set_starting_published set_subtask_handle set_thread_handle set_trapped set_uninteresting set_word take_result with_handle with_thread_handle work_queued
-  still_word (Places p) s ok q = same_at n a.base s _ refl ((placing_shifted p s).threads n) q
-  still_word (Advance m p) s ok q = absurd ok
-  still_word (Restart m) s ok q = record { made = q.made; position = grind (arith, nat_tests, get-change, q.position, ok, runs) }
-  still_word (TakePush m i) s ok q = same_at n a.base s _ refl ((popped_shifted m s).threads n) q
-  still_word (TakeHost m i) s ok q = same_at n a.base s _ refl ((popped_shifted m s).threads n) q
-  still_word w s ok q = record {
+  still_primitive : (w : Primitive) (s : Core) → Keeps a w s → StillAt n a.base s → StillAt n a.base (after_primitive w s)
+  unfolding add_call add_group add_set add_thread add_work call_made count_work free_handle free_thread_handle give_handle give_result give_thread_handle on_call on_instance on_thread on_work poll_pends push_high remove_call remove_group remove_set remove_thread remove_work set_backpressure set_cancel_delivered set_cancelled set_course set_do_not_enter set_do_not_suspend set_end set_event set_exited set_op_progress set_join set_task_event set_phase set_position set_register set_result set_saved_callee set_saved_own set_script set_stage set_started set_starting_published set_subtask_handle set_thread_handle set_trapped set_uninteresting set_memory_cell take_result with_handle with_thread_handle work_queued
+  still_primitive (Places p) s ok q = same_at n a.base s _ refl ((placing_shifted p s).threads n) q
+  still_primitive (Advance m p) s ok q = absurd ok
+  still_primitive (Restart m) s ok q = record { made = q.made; position = grind (arith, nat_tests, get-change, q.position, ok, runs) }
+  still_primitive (TakePush m i) s ok q = same_at n a.base s _ refl ((popped_shifted m s).threads n) q
+  still_primitive (TakeHost m i) s ok q = same_at n a.base s _ refl ((popped_shifted m s).threads n) q
+  still_primitive w s ok q = record {
     made = let m = q.made in omega (arith, m);
     position = let m = q.made in grind (arith, nat_tests, get-change, get-insert, get-remove, q.position, m, below);
   }
 
 -- no primitive before those of an op that is done brings the running thread further
 pub keep_at : {a : Scene} {b t : Core} (n : ℕ) → a.turn ≡ Turn.Run n → StillAt n a.base b → Keep a b t → AtOp a n t
-keep_at {a = a} n to first c = (to, λ runs below there. (along (StillAt n a.base) (still_word a n runs below) first c).position (grind arith))
+keep_at {a = a} n to first c = (to, λ runs below there. (along (StillAt n a.base) (still_primitive a n runs below) first c).position (grind arith))
 
 pub still_first : (n : ℕ) (s : Core) → StillAt n s s
 still_first n s = record { made = le_refl _; position = λ e. refl }
@@ -164,11 +164,11 @@ keep_still {a = a} n to c = keep_at n to (still_first n a.base) c
 placed_at_op : (a : Scene) (n : ℕ) (s t : Core) → Shifted s t → AtOp a n s → AtOp a n t
 placed_at_op a n s t d at = let h = d.threads n in (at.0, λ runs below there. grind (arith, at.1 runs below))
 
--- ---- Chains of all words
+-- ---- Chains of all primitives
 
 module _ {a : Scene} {b : Core} where
-  pub word : (w : Primitive) {s : Core} → Keeps a w s → Keep a b s → Keep a b (after_primitive w s)
-  word w {s = s} ok c = Then s w c ok
+  pub primitive : (w : Primitive) {s : Core} → Keeps a w s → Keep a b s → Keep a b (after_primitive w s)
+  primitive w {s = s} ok c = Then s w c ok
 
   pub shifted : {s t : Core} → Shifts s t → Keep a b s → Keep a b t
   shifted d c = join c (weaken (shift_keeps a) d)
@@ -255,7 +255,7 @@ told_shifts k e w s to = by (is_told k s) refl
 module _ {a : Scene} {b : Core} where
   pub told_walks : (k : ℕ) (e : Status) (w : Option ℕ) {s : Core} → (is_told k s ≡ true → Tells e k a.base s) → IsStarting a k s → ToldTo k w s → Keep a b s → Keep a b (told k e w s)
   told_walks k e w {s = s} tells starts to c =
-      shifted (told_shifts k e w s to) (chain_if (is_told k s) (set_event (Subtask.Guest k) (Some e) s) s (λ is. word (SetCallEvent k (Some e)) (is, (tells is, starts)) c) (λ is. c))
+      shifted (told_shifts k e w s to) (chain_if (is_told k s) (set_event (Subtask.Guest k) (Some e) s) s (λ is. primitive (SetCallEvent k (Some e)) (is, (tells is, starts)) c) (λ is. c))
 
 -- ---- Given and handed on
 
@@ -272,10 +272,10 @@ MayTake a k NothingPicked = Unit {0}
 module _ {a : Scene} {b : Core} where
   pub taken_walks : (g : PickedEvent) (k : ℕ) {s : Core} → MayTake a k g → Keep a b s → Keep a b (taken g k s)
   unfolding taken
-  taken_walks (PickedTaskEvent TaskEvent.None) k ok c = word (SetTaskEvent k None) ok.0 c
-  taken_walks (PickedTaskEvent TaskEvent.Cancelled) k ok c = word (SetCancelDelivered k) (ok.1 refl) (word (SetTaskEvent k None) ok.0 c)
-  taken_walks (PickedMember (Subtask.Guest q)) k ok c = word (SetCallEvent q None) (TakesNamed ok) c
-  taken_walks (PickedMember (Subtask.Host i)) k ok c = word (TakeWorkEvent i) (ok.0, (ok.1.1.0, ByHandle ok.1.0 ok.1.1.1)) c
+  taken_walks (PickedTaskEvent TaskEvent.None) k ok c = primitive (SetTaskEvent k None) ok.0 c
+  taken_walks (PickedTaskEvent TaskEvent.Cancelled) k ok c = primitive (SetCancelDelivered k) (ok.1 refl) (primitive (SetTaskEvent k None) ok.0 c)
+  taken_walks (PickedMember (Subtask.Guest q)) k ok c = primitive (SetCallEvent q None) (TakesNamed ok) c
+  taken_walks (PickedMember (Subtask.Host i)) k ok c = primitive (TakeWorkEvent i) (ok.0, (ok.1.1.0, ByHandle ok.1.0 ok.1.1.1)) c
   taken_walks NothingPicked k ok c = c
 
 -- ---- Settled
@@ -322,11 +322,11 @@ module _ {a : Scene} {b : Core} where
 
   freed_thread_handle_walks : (i : ℕ) (o : Option ℕ) {s : Core} → Keep a b s → Keep a b (freed_thread_handle i o s)
   freed_thread_handle_walks i None c = c
-  freed_thread_handle_walks i (Some h) c = word (FreeThreadHandle i h) tt c
+  freed_thread_handle_walks i (Some h) c = primitive (FreeThreadHandle i h) tt c
 
   exited_if_walks : (explicit : Bool) (k : ℕ) {s : Core} → Keep a b s → Keep a b (exited_if explicit k s)
   exited_if_walks true k c = c
-  exited_if_walks false k c = word (SetExited k) tt c
+  exited_if_walks false k c = primitive (SetExited k) tt c
 
   departs_walks : (n : ℕ) {s : Core} → Keep a b s → Keep a b (freed_thread_handle (instance_of n s) (thread_handle_of n s) (exited_if (is_explicit n s) (task_of n s) s))
   departs_walks n {s = s} c = freed_thread_handle_walks (instance_of n s) (thread_handle_of n s) (exited_if_walks (is_explicit n s) (task_of n s) c)

@@ -1,8 +1,8 @@
--- The rows of the ops on sets, subtasks and threads as chains of primitives.
-use Rattle.machine_rules.proofs.Walks.{[], aborted_phase, AbortsOwn, add_work, advanced, after_primitive, AlreadyEnded, and_parts, answered, answered_by, Answers, answers_by, ap, arith, assigned, Async, at_handle_limit, AtOnce, blocked_code, Bool, by_number, ByHandle, ByOp, BySetHandle, ByThread, ByWait, Call, call_begins, call_done_walks, call_ends, call_host_by, call_instance, call_let_go, call_of_op, call_pending, call_queues, call_resumes, call_rule, call_settled, call_settles, call_status, call_status_by, call_sync_begins, call_sync_host_by, call_sync_host_rule, call_sync_host_stops, call_sync_rule, call_sync_status, call_sync_status_by, call_sync_stops, call_taken, call_with_handle, CallbackWaits, CallbackYields, Callee, callee_of_op, CallEnd, Caller, caller_of, CallLabel, CallOp, calls_host, cancel_aborts_host, cancel_asks, cancel_by, cancel_by_end, cancel_case, cancel_ended_by, cancel_ended_rule, cancel_guest, cancel_guest_by, cancel_hands_of, cancel_label, cancel_promotes_yield, cancel_resumed, cancel_rule, cancel_stops, cancel_subtask, cancel_subtask_by, cancel_target, cancel_wakes_callback, cancel_writes_of, CancelCase, cancelled_of_op, Cancelling, Cancels, checked, checked_shifts, Choice, chosen, chosen_of, CloseSet, Core, count_work, CountWork, Delivery, Doer, dropped, end_for, ended, EndsSubtask, EndTells, EndPrimitives, enter_runs, event_gone, event_of, export_kind, Failing, false, finds_nothing, finish, first_polled, FirstPoll, fits, free_handle, get, get-change, get-insert_same, get-remove, PickedEvent, picked_event, give_handle, given_out, Goal, Continues, Going, group_settled, Halt, halt_rule, halted, halted_at, halted_checked, halted_promoting, halted_resuming, halting, halting_by, halts, halts_by, handed_as, handed_by_cancel, handed_by_event, handed_on, handed_on_shifts, handed_out, hands_by, HandsAtOnce, HandsOut, has_ended, has_member, has_waiters, has_yielded, HasNoEnd, HasSubtask, heard_first, host_at, host_end, host_valued, host_with_handle, HostDef, HostPoll, op_progress_of, OpProgress, if◌then◌else◌, inl, inr, instance_of, is_async_lifted, is_async_work, is_callback_yield, is_calling_host, is_cancel, is_direct, is_ended_work, is_for_main, is_join, is_joined, is_open, is_other, is_ready_to_resume, is_script, is_some, is_stage_ended, is_sync_call, is_sync_cancel, is_sync_host_call, is_thread_op, is_wait, is_waiting_on, is_watched, is_yielded, IsNamed, IsNew, IsReadyAtOnce, Join, join, join_done, join_done_by, join_label, join_of, join_to, join_to_by, joined, joins, Keep, keep_stay, keep_still, Label, lands_at, Later, Leaves, List, MadeCounts, Main, makes_set, MakeThread, Mark, may, may_hand_on, may_wake_new, MayBeOpen, MayCancel, MayJoin, MayMakeCall, MayTake, PickedMember, Mode, Move, moved_over, moved_to, mute_words, NameCall, NameThread, NameWork, nat_tests, new_handle, new_thread, new_thread_handle, new_work, next_thread, next_work, NoAnswer, NothingPicked, None, none_said, not, NoPrimitive, on_call, on_instance, on_thread, on_work, OneEvent, OneNumber, Op, op_in, OpenSet, Option, option_and_then, option_map, option_map_or, OtherwiseRuns, TaskEvent, PickedTaskEvent, OwnScript, packed, passes_check, pauses, phase_of, Place, place_of, placed, placing_shifted, polled_first, Progress, Promote, promoted, promoted_unless, promoted_walks, push_high, Put, put_back, put_low, put_switch, queues_work, QueueWork, received, received_by, received_woken, received_woken_by, Records, refl, registers_for, registers_of, remove_group, remove_thread, remove_work, result_gone, result_of, resume_why, resumed_by, Resumes, returned_of_op, said_is, saved_callee_of, says, says_by, Scene, Script, set_at, set_cancelled, set_closed, set_do_not_suspend, set_end, set_event, set_op_progress, set_join, set_opened, set_task_event, set_phase, set_position, set_register, set_result, set_rule, set_saved_callee, set_subtask_handle, set_switch, SetCancelled, SetExited, SetLabel, SetOp, SetTaskEvent, SetPhase, SetRegister, SetResult, SetSavedCallee, Setting, settled, settled_gone, SetUninteresting, Shifted, shifted, shifted_after, shifted_calls, shifted_far, shifted_made, shifted_ready, shifted_task, Shifts, shifts_shifted, Slot, slot_at, Some, SomeHost, Stage, StartNotRun, Status, status_code, status_found, Stay, stay_walk, Stops, subst, Subtask, subtask_at, subtask_ended, subtask_handle, subtask_instance, subtask_rule, subtask_under_way, suc, Suspends, suspends, Suspension, sym, Sync, sync_answered, T, taken, TakesEvent, task_of, TellsLater, TellsNone, Then, then_promote, then_promote_by, scripted_then_promote_rule, then_promote_rule, then_resume_rule, Thread, thread_added, thread_at, thread_group, thread_handle_of, thread_new_rule, thread_rule, ThreadLabel, ThreadOp, Trap, trap_if, Trip, true, Turn, undelivered_end, UnnameCall, unnamed, UnnameWork, unwrap_or, value_of, values_in, wait_begins, wait_begins_by, wait_goes_on, wait_goes_on_by, wait_label, wait_rule, wait_stops, wait_stops_checked, wake_shifts, wakes_joined, Walk, was_cancelled, was_started, Why, with_handle, Withdraw, withdrawn, word, Work, work_caller_of, work_deleted, work_queued, work_value, WorkCaller, Writes, WritesAtOnce, WritesCall, WritesNever, WritesToo, written_as, written_by_cancel, Yielding, Yields, yields, zero, ℕ, ◌+◌, ◌==◌, ◌∙◌, ◌∷◌, ◌≡◌, ◌⊎◌}
+-- The rules of the ops on sets, subtasks and threads as chains of primitives.
+use Rattle.machine_rules.proofs.Walks.{[], aborted_phase, AbortsOwn, add_work, advanced, after_primitive, AlreadyEnded, and_parts, answered, answered_by, Answers, answers_by, ap, arith, assigned, Async, at_handle_limit, AtOnce, blocked_code, Bool, by_number, ByHandle, ByOp, BySetHandle, ByThread, ByWait, Call, call_begins, call_done_walks, call_ends, call_host_by, call_instance, call_let_go, call_of_op, call_pending, call_queues, call_resumes, call_rule, call_settled, call_settles, call_status, call_status_by, call_sync_begins, call_sync_host_by, call_sync_host_rule, call_sync_host_stops, call_sync_rule, call_sync_status, call_sync_status_by, call_sync_stops, call_taken, call_with_handle, CallbackWaits, CallbackYields, Callee, callee_of_op, CallEnd, Caller, caller_of, CallLabel, CallOp, calls_host, cancel_aborts_host, cancel_asks, cancel_by, cancel_by_end, cancel_case, cancel_ended_by, cancel_ended_rule, cancel_guest, cancel_guest_by, cancel_hands_of, cancel_label, cancel_promotes_yield, cancel_resumed, cancel_rule, cancel_stops, cancel_subtask, cancel_subtask_by, cancel_target, cancel_wakes_callback, cancel_writes_of, CancelCase, cancelled_of_op, Cancelling, Cancels, checked, checked_shifts, Choice, chosen, chosen_of, CloseSet, Core, count_work, CountWork, Delivery, Doer, dropped, end_for, ended, EndsSubtask, EndTells, EndPrimitives, enter_runs, event_gone, event_of, export_kind, Failing, false, finds_nothing, finish, first_polled, FirstPoll, fits, free_handle, get, get-change, get-insert_same, get-remove, PickedEvent, picked_event, give_handle, given_out, Goal, Continues, Going, group_settled, Halt, halt_rule, halted, halted_at, halted_checked, halted_promoting, halted_resuming, halting, halting_by, halts, halts_by, handed_as, handed_by_cancel, handed_by_event, handed_on, handed_on_shifts, handed_out, hands_by, HandsAtOnce, HandsOut, has_ended, has_member, has_waiters, has_yielded, HasNoEnd, HasSubtask, heard_first, host_at, host_end, host_valued, host_with_handle, HostDef, HostPoll, op_progress_of, OpProgress, if◌then◌else◌, inl, inr, instance_of, is_async_lifted, is_async_work, is_callback_yield, is_calling_host, is_cancel, is_direct, is_ended_work, is_for_main, is_join, is_joined, is_open, is_other, is_ready_to_resume, is_script, is_some, is_stage_ended, is_sync_call, is_sync_cancel, is_sync_host_call, is_thread_op, is_wait, is_waiting_on, is_watched, is_yielded, IsNamed, IsNew, IsReadyAtOnce, Join, join, join_done, join_done_by, join_label, join_of, join_to, join_to_by, joined, joins, Keep, keep_stay, keep_still, Label, lands_at, Later, Leaves, List, MadeCounts, Main, makes_set, MakeThread, Mark, may, may_hand_on, may_wake_new, MayBeOpen, MayCancel, MayJoin, MayMakeCall, MayTake, PickedMember, Mode, Move, moved_over, moved_to, mute_primitives, NameCall, NameThread, NameWork, nat_tests, new_handle, new_thread, new_thread_handle, new_work, next_thread, next_work, NoAnswer, NothingPicked, None, none_said, not, NoPrimitive, on_call, on_instance, on_thread, on_work, OneEvent, OneNumber, Op, op_in, OpenSet, Option, option_and_then, option_map, option_map_or, OtherwiseRuns, TaskEvent, PickedTaskEvent, OwnScript, packed, passes_check, pauses, phase_of, Place, place_of, placed, placing_shifted, polled_first, Progress, Promote, promoted, promoted_unless, promoted_walks, push_high, Put, put_back, put_low, put_switch, queues_work, QueueWork, received, received_by, received_woken, received_woken_by, Records, refl, registers_for, registers_of, remove_group, remove_thread, remove_work, result_gone, result_of, resume_why, resumed_by, Resumes, returned_of_op, said_is, saved_callee_of, says, says_by, Scene, Script, set_at, set_cancelled, set_closed, set_do_not_suspend, set_end, set_event, set_op_progress, set_join, set_opened, set_task_event, set_phase, set_position, set_register, set_result, set_rule, set_saved_callee, set_subtask_handle, set_switch, SetCancelled, SetExited, SetLabel, SetOp, SetTaskEvent, SetPhase, SetRegister, SetResult, SetSavedCallee, Setting, settled, settled_gone, SetUninteresting, Shifted, shifted, shifted_after, shifted_calls, shifted_far, shifted_made, shifted_ready, shifted_task, Shifts, shifts_shifted, Slot, slot_at, Some, SomeHost, Stage, StartNotRun, Status, status_code, status_found, Stay, stay_walk, Stops, subst, Subtask, subtask_at, subtask_ended, subtask_handle, subtask_instance, subtask_rule, subtask_under_way, suc, Suspends, suspends, Suspension, sym, Sync, sync_answered, T, taken, TakesEvent, task_of, TellsLater, TellsNone, Then, then_promote, then_promote_by, scripted_then_promote_rule, then_promote_rule, then_resume_rule, Thread, thread_added, thread_at, thread_group, thread_handle_of, thread_new_rule, thread_rule, ThreadLabel, ThreadOp, Trap, trap_if, Trip, true, Turn, undelivered_end, UnnameCall, unnamed, UnnameWork, unwrap_or, value_of, values_in, wait_begins, wait_begins_by, wait_goes_on, wait_goes_on_by, wait_label, wait_rule, wait_stops, wait_stops_checked, wake_shifts, wakes_joined, Walk, was_cancelled, was_started, Why, with_handle, Withdraw, withdrawn, primitive, Work, work_caller_of, work_deleted, work_queued, work_value, WorkCaller, Writes, WritesAtOnce, WritesCall, WritesNever, WritesToo, written_as, written_by_cancel, Yielding, Yields, yields, zero, ℕ, ◌+◌, ◌==◌, ◌∙◌, ◌∷◌, ◌≡◌, ◌⊎◌}
 use Rattle.machine_rules.proofs.{WalkParts.AtOps, WalkParts.answered_calls, WalkParts.answered_first, WalkParts.answered_fresh, WalkParts.answered_settled, WalkParts.answered_works, WalkParts.call_answers_walks, WalkParts.call_queues_walks, WalkParts.call_resumes_walks, WalkParts.call_stops_walks, WalkParts.cancel_goes_behind_walks, WalkParts.cancel_stops_walks, WalkParts.checked_walks, WalkParts.enter_gives, WalkParts.enter_runs_walks, WalkParts.event_taken_walks, WalkParts.finished_calls, WalkParts.finished_fresh, WalkParts.finished_works, WalkParts.picked_event_is, WalkParts.picked_event_none, WalkParts.join_walks, WalkParts.joined_ended, WalkParts.parted_answers_walks, WalkParts.parted_takes_walks, WalkParts.put_back_walks, WalkParts.received_walks, WalkParts.rejoined, WalkParts.stopped_walks, WalkParts.wait_stops_walks, WalkParts.withdrawn_walks, WalkParts.withdraws, WalkParts.work_deleted_walks, WalkTask.CanFinish, WalkTask.Leads, WalkTask.answered_walks, WalkTask.finished_walks, WalkTask.goes_on, WalkTask.goes_on_told, WalkTask.goes_over, WalkTask.is_plain, WalkTask.is_still, WalkTask.may_leads, WalkTask.or_never_leads, WalkTask.or_trap_leads, WalkTask.over_now, WalkTask.running_scene, WalkTask.stops_here, WalkTask.trap_if_leads, WalkTask.unnot}
 
--- ---- What the rows read
+-- ---- What the rules read
 
 pub queued_caller : (f : WorkCaller) (host : HostDef) (group : Option ℕ) (t : Core) → work_caller_of (next_work t) (work_queued f host group t) ≡ f
 unfolding work_queued push_high add_work count_work
@@ -65,7 +65,7 @@ ready_at (Some (Place.Ready m w)) e = (m, (w, refl))
 ready_at None e = absurd (grind arith)
 ready_at (Some _) e = absurd (grind arith)
 
--- ---- The rows
+-- ---- The rules
 
 module _ (d : Doer) (ops : ℕ → Op) (x : Setting) (main : Main) (s : Core) (n : ℕ) (l : Label) (next : Turn) (on : CanFinish d (running_scene ops x main s n l next) s n) where
   abbrev a : Scene
@@ -122,7 +122,7 @@ module _ (d : Doer) (ops : ℕ → Op) (x : Setting) (main : Main) (s : Core) (n
     where
       -- only a wake that is handed on is shown
       says : (w : Option ℕ) → l ≡ wait_label n (handed_out ch s g) w → EndPrimitives a (received_woken_by d n y w g (handed_out ch s g) s)
-      says (Some z) is = mute_words a _ is refl
+      says (Some z) is = mute_primitives a _ is refl
       says None is = hands_by a _ is refl refl (picked_event_out y ch g (handed_on y g None s) e)
 
   wait_goes_on_leads : (y : ℕ) (ch : Choice) (g : PickedEvent) → is_wait (op_in a n) ≡ true → op_progress_of n s ≡ OpProgress.Waits y → picked_event false (task_of n s) y (chosen n ch s) s ≡ Some g → Leads a s (wait_goes_on_by d n y ch s g)
@@ -155,12 +155,12 @@ module _ (d : Doer) (ops : ℕ → Op) (x : Setting) (main : Main) (s : Core) (n
   set_rule_leads ch (SetOp.New r) is =
       trap_if_leads a s (not (fits 1 s)) Trap.TableFull _ (λ e.
       trap_if_leads a s (at_handle_limit s) Trap.HandleLimit _ (λ f.
-      go _ (finish d n (OneNumber (new_handle (instance_of n s) s)) (set_opened n s)) refl (finished_walks n refl d on (OneNumber (new_handle (instance_of n s) s)) (word (OpenSet (instance_of n s)) (refl, (n, (refl, (refl, (refl, ap makes_set is))))) NoPrimitive))))
+      go _ (finish d n (OneNumber (new_handle (instance_of n s) s)) (set_opened n s)) refl (finished_walks n refl d on (OneNumber (new_handle (instance_of n s) s)) (primitive (OpenSet (instance_of n s)) (refl, (n, (refl, (refl, (refl, ap makes_set is))))) NoPrimitive))))
   set_rule_leads ch (SetOp.Drop v) is =
       or_trap_leads a s (set_at (instance_of n s) (value_of n s v) s) Trap.BadHandle _ (λ y named.
       trap_if_leads a s (has_waiters y s) Trap.WaitableSetDropHasWaiters _ (λ unwaited.
       trap_if_leads a s (has_member y s) Trap.TableHasChildren _ (λ empty_set.
-      go _ (finish d n NoAnswer (set_closed n (value_of n s v) y s)) refl (λ to. finished_walks n refl d on NoAnswer (word (CloseSet (instance_of n s) (value_of n s v) y) (named, (unwaited, (empty_set, (n, (refl, (refl, (unwaited, (refl, (to, ap is_wait is))))))))) NoPrimitive) to))))
+      go _ (finish d n NoAnswer (set_closed n (value_of n s v) y s)) refl (λ to. finished_walks n refl d on NoAnswer (primitive (CloseSet (instance_of n s) (value_of n s v) y) (named, (unwaited, (empty_set, (n, (refl, (refl, (unwaited, (refl, (to, ap is_wait is))))))))) NoPrimitive) to))))
   set_rule_leads ch (SetOp.Wait r v) is = wait_rule_leads (value_of n s v) ch (op_progress_of n s) (ap is_wait is) refl
   set_rule_leads ch (SetOp.Poll r v) is =
       or_trap_leads a s (set_at (instance_of n s) (value_of n s v) s) Trap.BadHandle _ (λ y named.
@@ -257,7 +257,7 @@ module _ (d : Doer) (ops : ℕ → Op) (x : Setting) (main : Main) (s : Core) (n
           trap_if_leads a s (not (fits 3 s)) Trap.TableFull _ (λ f.
           trap_if_leads a s (at_handle_limit s) Trap.HandleLimit _ (λ g.
           goes_over ops x main s n l next (Label.Call (CallLabel.Enters n (next_thread s))) (next_thread s) (enter_runs n e (export_kind x.component e) words s) refl (by_number (next_thread s) n _ (λ h. inl (ap (λ (i : ℕ). Turn.Run i) (sym h))) (λ h. inr (enter_gives n e (export_kind x.component e) words s h)))
-          (λ is. mute_words a _ is refl)
+          (λ is. mute_primitives a _ is refl)
           (λ is to. (enter_runs_walks n refl sync (calls callee) e (export_kind x.component e) words refl to (makes_call e Goal.Direct callee (λ d. (at, to)) refl), λ h. no_direct h))))
 
   -- ---- Calls of a host
@@ -288,18 +288,18 @@ module _ (d : Doer) (ops : ℕ → Op) (x : Setting) (main : Main) (s : Core) (n
   call_host_leads (OwnScript r) on q h (AtOnce v) left calls =
       told (Label.Call (CallLabel.CallPolls 2 n (next_work s))) (finish (OwnScript r) n (OneNumber 2) (host_valued n q v s)) refl
       (λ is. at_once_says _ (finish (OwnScript r) n (OneNumber 2) (host_valued n q v s)) refl refl refl (refl, (refl, refl)) is)
-      (λ is. finished_walks n refl (OwnScript r) on (OneNumber 2) (word (SetRegister n q v) tt (word CountWork refl NoPrimitive)))
+      (λ is. finished_walks n refl (OwnScript r) on (OneNumber 2) (primitive (SetRegister n q v) tt (primitive CountWork refl NoPrimitive)))
   call_host_leads SomeHost on q h (AtOnce v) left calls =
       told (Label.Call (CallLabel.CallPolls 2 n (next_work s))) (finish SomeHost n (OneNumber 2) (host_valued n q v s)) refl
       (λ is. at_once_says _ (finish SomeHost n (OneNumber 2) (host_valued n q v s)) refl refl refl (refl, (refl, refl)) is)
-      (λ is. finished_walks n refl SomeHost on (OneNumber 2) (word (SetRegister n q v) tt (word CountWork refl NoPrimitive)))
+      (λ is. finished_walks n refl SomeHost on (OneNumber 2) (primitive (SetRegister n q v) tt (primitive CountWork refl NoPrimitive)))
   call_host_leads d on q h Failing left calls = tt
   call_host_leads d on q h (Later host) left calls =
       let v = packed (new_handle (instance_of n s) s) Status.Started in
       trap_if_leads a s (not (fits 1 s)) Trap.TableFull _ (λ e.
       trap_if_leads a s (at_handle_limit s) Trap.HandleLimit _ (λ f.
-      go _ (finish d n (OneNumber v) (host_with_handle n q host s)) ((call_still (new_handle (instance_of n s) s) Status.Started (finish d n (OneNumber v) (host_with_handle n q host s)) (λ h. absurd (cc))).1 (next_work s)) (finished_walks n refl d on (OneNumber v) (word (NameWork (instance_of n s) (next_work s)) ((n, (refl, (refl, inr (refl, refl)))), (ap (λ f. is_async_work f) (queued_caller (WorkCaller.Async n q) host (Some (thread_group n s)) s), queued_nameless (WorkCaller.Async n q) host (Some (thread_group n s)) s))
-      (word (QueueWork (WorkCaller.Async n q) host (Some (thread_group n s))) (refl, ((refl, (refl, (refl, calls))), λ e. inl (h, left e))) NoPrimitive)))))
+      go _ (finish d n (OneNumber v) (host_with_handle n q host s)) ((call_still (new_handle (instance_of n s) s) Status.Started (finish d n (OneNumber v) (host_with_handle n q host s)) (λ h. absurd (cc))).1 (next_work s)) (finished_walks n refl d on (OneNumber v) (primitive (NameWork (instance_of n s) (next_work s)) ((n, (refl, (refl, inr (refl, refl)))), (ap (λ f. is_async_work f) (queued_caller (WorkCaller.Async n q) host (Some (thread_group n s)) s), queued_nameless (WorkCaller.Async n q) host (Some (thread_group n s)) s))
+      (primitive (QueueWork (WorkCaller.Async n q) host (Some (thread_group n s))) (refl, ((refl, (refl, (refl, calls))), λ e. inl (h, left e))) NoPrimitive)))))
 
   host_stops_walks : (host : HostDef) → MayBeOpen a host → is_sync_host_call (op_in a n) ≡ true → queues_work (op_progress_of n s) (op_in a n) ≡ true → Leaves a n → Trip a s (call_sync_host_stops n host s)
   unfolding call_sync_host_stops work_queued push_high add_work count_work
@@ -315,18 +315,18 @@ module _ (d : Doer) (ops : ℕ → Op) (x : Setting) (main : Main) (s : Core) (n
         ap (λ (c : Core). undelivered_end (event_of (Subtask.Host (next_work s)) c)) (sym d.only) ∙ (ap (λ (k : ℕ). undelivered_end (event_of (Subtask.Host (k + 1)) queued)) (sym made) ∙ queued_open (WorkCaller.Sync n) host group t),
         ap (λ (c : Core). is_ended_work (Subtask.Host (next_work s)) c) (sym d.only) ∙ (ap (λ (k : ℕ). is_ended_work (Subtask.Host (k + 1)) queued) (sym made) ∙ queued_unended (WorkCaller.Sync n) host group t),
       ))
-      (word (QueueWork (WorkCaller.Sync n) host group) (shifted_made h, ((refl, (refl, (refl, queues))), may)) (checked_walks n refl (instance_of n s) NoPrimitive))
+      (primitive (QueueWork (WorkCaller.Sync n) host group) (shifted_made h, ((refl, (refl, (refl, queues))), may)) (checked_walks n refl (instance_of n s) NoPrimitive))
 
   call_sync_host_leads : (d : Doer) → CanFinish d a s n → (h : ℕ) (f : FirstPoll) → LeftBy (host_at x.component h) f → is_sync_host_call (op_in a n) ≡ true → queues_work (op_progress_of n s) (op_in a n) ≡ true → Leads a s (call_sync_host_by d n s f)
   unfolding assigned advanced moved_to set_op_progress set_position on_thread set_register count_work
   call_sync_host_leads (OwnScript r) on h (AtOnce v) left can queues =
       told (Label.CallSyncPolls n v (next_work s)) (finish (OwnScript r) n (OneNumber v) (count_work s)) refl
       (λ is. at_once_says _ (finish (OwnScript r) n (OneNumber v) (count_work s)) refl refl refl (refl, (refl, refl)) is)
-      (λ is. finished_walks n refl (OwnScript r) on (OneNumber v) (word CountWork refl NoPrimitive))
+      (λ is. finished_walks n refl (OwnScript r) on (OneNumber v) (primitive CountWork refl NoPrimitive))
   call_sync_host_leads SomeHost on h (AtOnce v) left can queues =
       told (Label.CallSyncPolls n v (next_work s)) (finish SomeHost n (OneNumber v) (count_work s)) refl
       (λ is. at_once_says _ (finish SomeHost n (OneNumber v) (count_work s)) refl refl refl (refl, (refl, refl)) is)
-      (λ is. finished_walks n refl SomeHost on (OneNumber v) (word CountWork refl NoPrimitive))
+      (λ is. finished_walks n refl SomeHost on (OneNumber v) (primitive CountWork refl NoPrimitive))
   call_sync_host_leads d on h Failing left can queues = tt
   call_sync_host_leads d on h (Later host) left can queues =
       trap_if_leads a s (not (fits 1 s)) Trap.TableFull _ (λ e.
@@ -416,7 +416,7 @@ module _ (d : Doer) (ops : ℕ → Op) (x : Setting) (main : Main) (s : Core) (n
 
   asks_walks : (k h : ℕ) → subtask_at (instance_of n s) h s ≡ Some (Subtask.Guest k) → (has_ended k s ≡ false) × (was_started k s ≡ true) → Keep a s (cancel_asks k s)
   unfolding cancel_asks
-  asks_walks k h named says = word (SetTaskEvent k (Some TaskEvent.Cancelled)) (inl (refl, ((n, (h, (refl, named))), (says.1, says.0)))) NoPrimitive
+  asks_walks k h named says = primitive (SetTaskEvent k (Some TaskEvent.Cancelled)) (inl (refl, ((n, (h, (refl, named))), (says.1, says.0)))) NoPrimitive
 
   withdrawn_low : (d : Doer) → CanFinish d a s n → (k : ℕ) (e : CallEnd) → CanFinish d a (call_ends k e (after_primitive (Withdraw k) s)) n
   unfolding on_call remove_thread
@@ -430,7 +430,7 @@ module _ (d : Doer) (ops : ℕ → Op) (x : Setting) (main : Main) (s : Core) (n
       let t = answered_by d n 3 (withdrawn k s) in
       let v : Core = after_primitive (Withdraw k) s in
       let u : Core = call_ends k CallEnd.StartCancelled v in
-      let rest : Walk a u t = subst (λ (w : Core). Walk a (call_ends k CallEnd.StartCancelled w) t) (sym (withdraws k s)) (stay_walk (answered_walks n refl d (subst (λ (w : Core). CanFinish d a (call_ends k CallEnd.StartCancelled w) n) (withdraws k s) (withdrawn_low d on k CallEnd.StartCancelled)) 3 (word (SetUninteresting k) tt (word (SetExited k) tt NoPrimitive)) to)) in
+      let rest : Walk a u t = subst (λ (w : Core). Walk a (call_ends k CallEnd.StartCancelled w) t) (sym (withdraws k s)) (stay_walk (answered_walks n refl d (subst (λ (w : Core). CanFinish d a (call_ends k CallEnd.StartCancelled w) n) (withdraws k s) (withdrawn_low d on k CallEnd.StartCancelled)) 3 (primitive (SetUninteresting k) tt (primitive (SetExited k) tt NoPrimitive)) to)) in
       says_by a t at (grind arith)
       (λ to f says. said_is (λ b g. Writes a t b × EndTells a t b g) (sym ((cancel_is mode 3 t).0 ∙ ap (option_map (end_for Status.StartCancelled)) target) ∙ says) (WritesCall k u (EndsSubtask named unended) (over_now k CallEnd.StartCancelled v) rest, TellsNone (Subtask.Guest k)))
       (λ to f out. said_is (HandsOut a t) (sym ((cancel_is mode 3 t).1 ∙ ap (option_map (end_for Status.StartCancelled)) target) ∙ out) (WritesToo k Status.StartCancelled (ap (λ (y : Label). written_as ops s y s) at ∙ ((cancel_is mode 3 s).0 ∙ ap (option_map (end_for Status.StartCancelled)) target)) (inr refl)))
@@ -475,7 +475,7 @@ module _ (d : Doer) (ops : ℕ → Op) (x : Setting) (main : Main) (s : Core) (n
   cancel_subtask_leads mode h (Subtask.Host i) by target named free =
       let has : HasSubtask a n (Subtask.Host i) = ByHandle h named in
       trap_if_leads a s (was_cancelled i s) Trap.SubtaskCancelAfterTerminal _ (λ e.
-      cancel_by_end_leads mode (Subtask.Host i) (cancel_aborts_host i s) (subtask_ended (Subtask.Host i) (cancel_aborts_host i s)) by target (grind (arith, nat_tests, get-change)) (grind (arith, nat_tests, get-change)) (inl (h, named)) (inl free) refl (word (SetCancelled i) (n, (refl, has)) (word (SetPhase i (aborted_phase (phase_of i s))) (AbortsOwn (n, (h, (refl, named))), refl) NoPrimitive)))
+      cancel_by_end_leads mode (Subtask.Host i) (cancel_aborts_host i s) (subtask_ended (Subtask.Host i) (cancel_aborts_host i s)) by target (grind (arith, nat_tests, get-change)) (grind (arith, nat_tests, get-change)) (inl (h, named)) (inl free) refl (primitive (SetCancelled i) (n, (refl, has)) (primitive (SetPhase i (aborted_phase (phase_of i s))) (AbortsOwn (n, (h, (refl, named))), refl) NoPrimitive)))
 
   cancel_rule_leads : (mode : Mode) (h : ℕ) (f : OpProgress) → CancelOp mode → cancel_target n s (ops n) ≡ subtask_at (instance_of n s) h s → op_progress_of n s ≡ f → Leads a s (cancel_rule d mode n h s f)
   unfolding cancel_resumed set_join on_call on_work set_saved_callee on_thread set_do_not_suspend on_instance
@@ -483,7 +483,7 @@ module _ (d : Doer) (ops : ℕ → Op) (x : Setting) (main : Main) (s : Core) (n
       let has : HasSubtask a n sub = ByOp (ap (λ y. subtask_under_way y) far) in
       let t = set_saved_callee n None (put_back (saved_callee_of n s) (subtask_instance sub s) s) in
       parted_leads mode sub t (subtask_ended sub (set_join sub Join.Nowhere t)) by (ap (cancelled_of_op ops n s) far) (grind (arith, nat_tests, get-change)) (grind (arith, nat_tests, get-change)) (inl far) (inr far) refl
-      (word (SetSavedCallee n None) tt (put_back_walks n refl (saved_callee_of n s) (subtask_instance sub s) NoPrimitive))
+      (primitive (SetSavedCallee n None) tt (put_back_walks n refl (saved_callee_of n s) (subtask_instance sub s) NoPrimitive))
   cancel_rule_leads mode h (OpProgress.AwaitsEnd sub) by target far =
       parted_ended_leads mode sub s (undelivered_end (event_of sub (set_join sub Join.Nowhere s))) (ap (cancelled_of_op ops n s) far) (grind (arith, nat_tests, get-change)) (inr far) refl NoPrimitive
   cancel_rule_leads mode h f by target far =
@@ -498,12 +498,12 @@ module _ (d : Doer) (ops : ℕ → Op) (x : Setting) (main : Main) (s : Core) (n
   dropped_walks h (Subtask.Guest k) named ended apart =
       let sub = Subtask.Guest k in
       let t = set_join sub Join.Nowhere s in
-      λ to. finished_walks n refl d on NoAnswer (settled (call_settles k _ (λ gone. grind (arith, nat_tests, get-change, ended))) (word (UnnameCall (instance_of n s) h k) (n, (refl, (refl, (named, (grind (arith, nat_tests, get-change), to))))) (join_walks n refl sub Join.Nowhere (n, (refl, (ByHandle h named, inl apart))) NoPrimitive))) to
+      λ to. finished_walks n refl d on NoAnswer (settled (call_settles k _ (λ gone. grind (arith, nat_tests, get-change, ended))) (primitive (UnnameCall (instance_of n s) h k) (n, (refl, (refl, (named, (grind (arith, nat_tests, get-change), to))))) (join_walks n refl sub Join.Nowhere (n, (refl, (ByHandle h named, inl apart))) NoPrimitive))) to
   dropped_walks h (Subtask.Host i) named ended apart =
       let sub = Subtask.Host i in
       let t = set_join sub Join.Nowhere s in
       λ to. finished_walks n refl d on NoAnswer (work_deleted_walks n refl i (n, (refl, (grind (arith, nat_tests, get-change), inr (ended, (grind (arith, nat_tests, get-change), (grind (arith, nat_tests, get-change, ended), (h, named)))))))
-      (word (UnnameWork (instance_of n s) h i) (n, (refl, (refl, (named, (grind (arith, nat_tests, get-change), to))))) (join_walks n refl sub Join.Nowhere (n, (refl, (ByHandle h named, inl apart))) NoPrimitive))) to
+      (primitive (UnnameWork (instance_of n s) h i) (n, (refl, (refl, (named, (grind (arith, nat_tests, get-change), to))))) (join_walks n refl sub Join.Nowhere (n, (refl, (ByHandle h named, inl apart))) NoPrimitive))) to
 
   pub subtask_rule_leads : (o : CallOp) → op_in a n ≡ Op.Call o → Leads a s (subtask_rule d x.component n s o)
   subtask_rule_leads (CallOp.Call r q e xs) is = call_rule_leads q e (values_in (registers_of n s) xs) (op_progress_of n s) (ap (λ p. callee_of_op p) is) refl
@@ -528,8 +528,8 @@ module _ (d : Doer) (ops : ℕ → Op) (x : Setting) (main : Main) (s : Core) (n
   thread_new_rule_leads y v (Slot.Script ops) at =
       trap_if_leads a s (not (fits 2 s)) Trap.TableFull _ (λ e.
       trap_if_leads a s (at_handle_limit s) Trap.HandleLimit _ (λ f.
-      go _ (finish d n (OneNumber (new_thread_handle (instance_of n s) s)) (thread_added n y v s)) refl (finished_walks n refl d on (OneNumber (new_thread_handle (instance_of n s) s)) (word (NameThread (instance_of n s) (next_thread s)) tt
-      (word (MakeThread (new_thread (task_of n s) true (Script.Slot y) (registers_for (v ∷ [])) None)) (n, (refl, (refl, (y, (v, (refl, (refl, (ap is_script at, refl)))))))) NoPrimitive)))))
+      go _ (finish d n (OneNumber (new_thread_handle (instance_of n s) s)) (thread_added n y v s)) refl (finished_walks n refl d on (OneNumber (new_thread_handle (instance_of n s) s)) (primitive (NameThread (instance_of n s) (next_thread s)) tt
+      (primitive (MakeThread (new_thread (task_of n s) true (Script.Slot y) (registers_for (v ∷ [])) None)) (n, (refl, (refl, (y, (v, (refl, (refl, (ap is_script at, refl)))))))) NoPrimitive)))))
 
   -- the op halts so
   abbrev HaltOp : Halt → Type 0

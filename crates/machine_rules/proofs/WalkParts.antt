@@ -1,5 +1,5 @@
--- What the rows of the ops are made of, as chains of primitives: what is read, gifts, moves, and a new call.
-use Rattle.machine_rules.proofs.Walks.{add_call, add_thread, advanced, after_placing, after_primitive, answered, answered_by, ap, ap₂, arith, assigned, AtOp, behind_one, behind_switch, Blocks, Bool, ByHandle, ByOp, call_clears_flag, call_ends, call_instance, call_made, call_queues, call_resumes, call_settled, call_stops, Callee, callee_of_op, CallEnd, Caller, can_come, cancel_goes_behind, cancel_stops, Cancelling, change-change_same, checked, checked_shifts, Choice, chosen, Core, Doer, EndCall, Enter, enter_runs, event_of, ExportKind, false, finish, foot_of, get, get-change, get-insert, get-remove_same, PickedEvent, picked_event, give_thread_handle, Given, Goal, goal_of, GoBehind, Going, group_settled, group_settles, halted_at, has_ready_member, has_same, HasCalled, HasSet, HasSubtask, op_progress_of, OpProgress, inl, inr, instance_of, is_at_wait, is_begun, is_blocked_on, is_cancel, is_deletable, is_deletable_call, is_direct, is_ended_work, is_explicit, is_group_done, is_joined, is_none, is_running, is_some, is_sync_call, is_sync_cancel, is_wait, IsNew, IsRunner, IsWithdrawn, Join, join_of, Keep, keep_still, lands_at, Leaves, less_switch, List, MadeCounts, MakeCall, Mark, may_not_suspend, MayCancel, MayCome, MayDeliver, MayJoin, MayMakeCall, MayRemoveWork, MayTake, MayWithdraw, PickedMember, Move, moved_to, NameThread, nat_tests, next_thread, NoAnswer, NothingPicked, None, NoneCame, not, NoPrimitive, on_call, on_instance, on_thread, on_work, OneEvent, OneNumber, op_in, OpAnswer, Option, option_map_or, task_event_of, TaskEvent, PickedTaskEvent, OwnScript, Place, place_of, placed, placing_shifted, Put, put_back, put_switch, received, received_by, refl, remove_call, remove_group, remove_thread, remove_work, RemoveWork, saved_callee_of, says, SaysEnd, Scene, set_do_not_suspend, set_end, set_event, set_exited, set_given, set_high, set_op_progress, set_join, set_low, set_place, set_position, set_register, set_saved_callee, set_saved_own, set_started, set_switch, set_thread_handle, set_uninteresting, SetCallEvent, SetCallJoin, SetDoNotSuspend, SetExited, SetSavedCallee, SetSavedOwn, SetStarted, settle_group_of, settled, SetUninteresting, SetWorkJoin, Shifted, shifted, shifted_after, shifted_calls, shifted_explicit, shifted_made, shifted_ready, shifts_shifted, Some, SomeHost, Starts, Status, Stop, stopped, stopped_on, subst, Subtask, subtask_ended, subtask_under_way, sym, sync_sets_flag, taken_walks, TakesCalled, TakesCancelled, TakesNamed, TakeWorkEvent, task_of, Then, Thread, thread_group, Trip, true, Turn, undelivered_end, unqueued, unwrap_or, wait_stops, Waits, watches, Why, with_thread_handle, Withdraw, withdrawn, word, work_deleted, work_group, ℕ, ◌&&◌, ◌==◌, ◌∙◌, ◌≡◌, ◌⊎◌}
+-- What the rules of the ops are made of, as chains of primitives: what is read, picked events, moves, and a new call.
+use Rattle.machine_rules.proofs.Walks.{add_call, add_thread, advanced, after_placing, after_primitive, answered, answered_by, ap, ap₂, arith, assigned, AtOp, behind_one, behind_switch, Blocks, Bool, ByHandle, ByOp, call_clears_flag, call_ends, call_instance, call_made, call_queues, call_resumes, call_settled, call_stops, Callee, callee_of_op, CallEnd, Caller, can_come, cancel_goes_behind, cancel_stops, Cancelling, change-change_same, checked, checked_shifts, Choice, chosen, Core, Doer, EndCall, Enter, enter_runs, event_of, ExportKind, false, finish, foot_of, get, get-change, get-insert, get-remove_same, PickedEvent, picked_event, give_thread_handle, Given, Goal, goal_of, GoBehind, Going, group_settled, group_settles, halted_at, has_ready_member, has_same, HasCalled, HasSet, HasSubtask, op_progress_of, OpProgress, inl, inr, instance_of, is_at_wait, is_begun, is_blocked_on, is_cancel, is_deletable, is_deletable_call, is_direct, is_ended_work, is_explicit, is_group_done, is_joined, is_none, is_running, is_some, is_sync_call, is_sync_cancel, is_wait, IsNew, IsRunner, IsWithdrawn, Join, join_of, Keep, keep_still, lands_at, Leaves, less_switch, List, MadeCounts, MakeCall, Mark, may_not_suspend, MayCancel, MayCome, MayDeliver, MayJoin, MayMakeCall, MayRemoveWork, MayTake, MayWithdraw, PickedMember, Move, moved_to, NameThread, nat_tests, next_thread, NoAnswer, NothingPicked, None, NoneCame, not, NoPrimitive, on_call, on_instance, on_thread, on_work, OneEvent, OneNumber, op_in, OpAnswer, Option, option_map_or, task_event_of, TaskEvent, PickedTaskEvent, OwnScript, Place, place_of, placed, placing_shifted, Put, put_back, put_switch, received, received_by, refl, remove_call, remove_group, remove_thread, remove_work, RemoveWork, saved_callee_of, says, SaysEnd, Scene, set_do_not_suspend, set_end, set_event, set_exited, set_given, set_high, set_op_progress, set_join, set_low, set_place, set_position, set_register, set_saved_callee, set_saved_own, set_started, set_switch, set_thread_handle, set_uninteresting, SetCallEvent, SetCallJoin, SetDoNotSuspend, SetExited, SetSavedCallee, SetSavedOwn, SetStarted, settle_group_of, settled, SetUninteresting, SetWorkJoin, Shifted, shifted, shifted_after, shifted_calls, shifted_explicit, shifted_made, shifted_ready, shifts_shifted, Some, SomeHost, Starts, Status, Stop, stopped, stopped_on, subst, Subtask, subtask_ended, subtask_under_way, sym, sync_sets_flag, taken_walks, TakesCalled, TakesCancelled, TakesNamed, TakeWorkEvent, task_of, Then, Thread, thread_group, Trip, true, Turn, undelivered_end, unqueued, unwrap_or, wait_stops, Waits, watches, Why, with_thread_handle, Withdraw, withdrawn, primitive, work_deleted, work_group, ℕ, ◌&&◌, ◌==◌, ◌∙◌, ◌≡◌, ◌⊎◌}
 use Rattle.machine_rules.proofs.WalkTask.{answered_walks, CanFinish, finished_walks, moved_passes}
 
 -- ---- What is read
@@ -53,7 +53,7 @@ answered_calls d n v s = finished_calls d n (OneNumber v) (set_saved_callee n No
 pub answered_works : (d : Doer) (n v : ℕ) (s : Core) → (answered_by d n v s).works ≡ s.works
 answered_works d n v s = finished_works d n (OneNumber v) (set_saved_callee n None s) ∙ saved_works n None s
 
--- what a gift may be: a task takes Cancelled only by callback, and a member is the chosen one
+-- what a picked event may be: a task takes Cancelled only by callback, and a member is the chosen one
 pub picked_event_is : (a : Scene) (n : ℕ) (by : Bool) (y : ℕ) (ch : Choice) (g : PickedEvent) → IsRunner a n → (by ≡ true → task_event_of (task_of n a.base) a.base ≡ Some TaskEvent.Cancelled → MayDeliver a (task_of n a.base)) → picked_event by (task_of n a.base) y (chosen n ch a.base) a.base ≡ Some g → MayTake a (task_of n a.base) g
 unfolding picked_event
 picked_event_is a n by y ch (PickedTaskEvent v) is delivers e = ((n, (is, refl)), λ c. delivers (grind arith) (grind arith))
@@ -148,24 +148,24 @@ module _ {a : Scene} {b : Core} (n : ℕ) (is : IsRunner a n) where
   wait_stops_walks at y {t = t} can leave has none c = lands_at (Move n (Place.Waiting y false)) n (OpProgress.Waits y) (grind (arith, nat_tests)) (Waits y leave has (shifted_ready (placing_shifted (Stop (foot_of n t)) t) y ∙ none) refl) (leave, (has, (can, moved_passes (is_at_wait y) (Place.Waiting y false) (grind (arith, nat_tests)) n (stopped (foot_of n t) t)))) (at _ (stopped_walks t leave c)) can (halted_at n c) (stopped_walks t leave c)
 
   pub join_walks : (sub : Subtask) (j : Join) {t : Core} → MayJoin a sub j t → Keep a b t → Keep a b (set_join sub j t)
-  join_walks (Subtask.Guest k) j ok c = word (SetCallJoin k j) ok c
-  join_walks (Subtask.Host i) j ok c = word (SetWorkJoin i j) ok c
+  join_walks (Subtask.Guest k) j ok c = primitive (SetCallJoin k j) ok c
+  join_walks (Subtask.Host i) j ok c = primitive (SetWorkJoin i j) ok c
 
   -- an op that cancels the subtask, or will
   pub event_taken_walks : (sub : Subtask) {t : Core} → MayCancel a n sub → Keep a b t → Keep a b (set_event sub None t)
-  event_taken_walks (Subtask.Guest k) (inl named) c = word (SetCallEvent k None) (TakesNamed (n, (named.0, (is, named.1)))) c
-  event_taken_walks (Subtask.Guest k) (inr far) c = word (SetCallEvent k None) (TakesCancelled n is far) c
-  event_taken_walks (Subtask.Host i) may c = word (TakeWorkEvent i) (n, (is, cancels_own a n (Subtask.Host i) may)) c
+  event_taken_walks (Subtask.Guest k) (inl named) c = primitive (SetCallEvent k None) (TakesNamed (n, (named.0, (is, named.1)))) c
+  event_taken_walks (Subtask.Guest k) (inr far) c = primitive (SetCallEvent k None) (TakesCancelled n is far) c
+  event_taken_walks (Subtask.Host i) may c = primitive (TakeWorkEvent i) (n, (is, cancels_own a n (Subtask.Host i) may)) c
 
   pub put_back_walks : (o : Option Bool) (j : ℕ) {t : Core} → Keep a b t → Keep a b (put_back o j t)
   put_back_walks None j c = c
-  put_back_walks (Some f) j c = word (SetDoNotSuspend j f) tt c
+  put_back_walks (Some f) j c = primitive (SetDoNotSuspend j f) tt c
 
   -- the call hasn't returned
   pub call_resumes_walks : (k : ℕ) {t : Core} → op_progress_of n a.base ≡ OpProgress.Calls (Subtask.Guest k) → (event_of (Subtask.Guest k) t ≡ Some Status.Returned → ⊥) → Keep a b t → Keep a b (call_resumes n k t)
   unfolding call_resumes set_do_not_suspend on_instance
   call_resumes_walks k {t = t} far other c =
-      word (SetCallEvent k None) (TakesCalled n is far (inr (λ e. other (grind (arith, e))))) (put_back_walks (saved_callee_of n t) (call_instance k t) c)
+      primitive (SetCallEvent k None) (TakesCalled n is far (inr (λ e. other (grind (arith, e))))) (put_back_walks (saved_callee_of n t) (call_instance k t) c)
 
   -- it has, and the op is done before its event is taken
   pub call_answers_walks : (d : Doer) → CanFinish d a b n → (v k : ℕ) {t : Core} → op_progress_of n a.base ≡ OpProgress.Calls (Subtask.Guest k) → Keep a b t → Going a b n (answered_by d n v (call_resumes n k t))
@@ -185,12 +185,12 @@ module _ {a : Scene} {b : Core} (n : ℕ) (is : IsRunner a n) where
       lands_at (Move n (Place.Blocked sub)) n (OpProgress.Calls sub) (grind (arith, nat_tests)) (Blocks sub leave (own u h) (inl (open_end u h).0) (open_end u h).1 refl) (come (set_place n (Place.Blocked sub) u) (shifted_after h (placing_shifted (Move n (Place.Blocked sub)) u)) (moved_passes (is_blocked_on sub) (Place.Blocked sub) (grind (arith, nat_tests)) n u)) (at u (stopped_walks t leave c)) can (halted_at n c) (stopped_walks t leave c)
 
   pub sync_sets_flag_walks : (m j : ℕ) (k : ExportKind) {t : Core} → Keep a b t → Keep a b (sync_sets_flag m j k t)
-  sync_sets_flag_walks m j ExportKind.Sync {t = t} c = word (SetDoNotSuspend j true) tt (word (SetSavedOwn m (Some (may_not_suspend j t))) tt c)
+  sync_sets_flag_walks m j ExportKind.Sync {t = t} c = primitive (SetDoNotSuspend j true) tt (primitive (SetSavedOwn m (Some (may_not_suspend j t))) tt c)
   sync_sets_flag_walks m j _ c = c
 
   call_clears_flag_walks : (j : ℕ) (k : ExportKind) {t : Core} → Keep a b t → Keep a b (call_clears_flag n j k t)
   call_clears_flag_walks j ExportKind.Sync c = c
-  call_clears_flag_walks j _ {t = t} c = word (SetDoNotSuspend j false) tt (word (SetSavedCallee n (Some (may_not_suspend j t))) tt c)
+  call_clears_flag_walks j _ {t = t} c = primitive (SetDoNotSuspend j false) tt (primitive (SetSavedCallee n (Some (may_not_suspend j t))) tt c)
 
   settle_group_of_walks : (o : Option ℕ) {t : Core} → Keep a b t → Keep a b (settle_group_of o t)
   settle_group_of_walks None c = c
@@ -198,13 +198,13 @@ module _ {a : Scene} {b : Core} (n : ℕ) (is : IsRunner a n) where
 
   pub work_deleted_walks : (i : ℕ) {t : Core} → MayRemoveWork a i t → Keep a b t → Keep a b (work_deleted i t)
   unfolding work_deleted
-  work_deleted_walks i {t = t} ok c = settle_group_of_walks (work_group i t) (word (RemoveWork i) ok c)
+  work_deleted_walks i {t = t} ok c = settle_group_of_walks (work_group i t) (primitive (RemoveWork i) ok c)
 
   pub cancel_stops_walks : AtOps a b n → (sub : Subtask) {t : Core} → join_of sub t ≡ join_of sub a.base → is_sync_cancel (op_in a n) ≡ true → Leaves a n → MayCancel a n sub → (is_joined (join_of sub a.base) ≡ false) ⊎ (op_progress_of n a.base ≡ OpProgress.Cancels sub) → subtask_ended sub t ≡ false → Keep a b t → Trip a b (cancel_stops n sub t)
   unfolding cancel_stops set_saved_callee on_thread
   cancel_stops_walks at sub {t = t} same can leave has free unended c =
       let u = set_join sub (Join.Watched n) (set_saved_callee n None t) in
-      let e = checked_walks (instance_of n t) (join_walks sub (Join.Watched n) (is, (cancels_own a n sub has, (free, grind (arith, same)))) (word (SetSavedCallee n None) tt c)) in
+      let e = checked_walks (instance_of n t) (join_walks sub (Join.Watched n) (is, (cancels_own a n sub has, (free, grind (arith, same)))) (primitive (SetSavedCallee n None) tt c)) in
       let d = stopped_walks (checked (instance_of n t) u) leave e in
       let i = instance_of n t in
       let v = stopped (foot_of n (checked i u)) (checked i u) in
@@ -244,14 +244,14 @@ module _ {a : Scene} {b : Core} (n : ℕ) (is : IsRunner a n) where
   cancel_goes_behind_walks at k {t = t} stands same can leave has free c =
       let j = call_instance k t in
       let v = set_do_not_suspend j false (set_saved_callee n (Some (may_not_suspend j t)) t) in
-      let d = join_walks (Subtask.Guest k) (Join.Watched n) (is, (cancels_own a n (Subtask.Guest k) has, (inl free, grind (arith, same)))) (word (SetDoNotSuspend j false) tt (word (SetSavedCallee n (Some (may_not_suspend j t))) tt c)) in
+      let d = join_walks (Subtask.Guest k) (Join.Watched n) (is, (cancels_own a n (Subtask.Guest k) has, (inl free, grind (arith, same)))) (primitive (SetDoNotSuspend j false) tt (primitive (SetSavedCallee n (Some (may_not_suspend j t))) tt c)) in
       behind_switch_walks t.queues.switch (OpProgress.Cancels (Subtask.Guest k)) stands refl leave (λ u moved. (leave, (has, shifted_watches n (Subtask.Guest k) moved ∙ joined_watches n (Subtask.Guest k) v))) (at _ d) can d
 
   pub withdrawn_walks : (k : ℕ) {t : Core} → MayWithdraw a k t → NoneCame a t → SaysEnd a k Status.StartCancelled → Keep a b t → Keep a b (withdrawn k t)
   unfolding withdrawn remove_thread set_end
   withdrawn_walks k {t = t} ok none says c =
       subst (λ (v : Core). Keep a b (set_uninteresting k (set_exited k (call_ends k CallEnd.StartCancelled v)))) (withdraws k t)
-      (word (SetUninteresting k) tt (word (SetExited k) tt (word (EndCall k CallEnd.StartCancelled) (IsWithdrawn ok (ap (λ (o : Option Thread). is_none o) (get-remove_same t.threads k)) refl, says) (word (Withdraw k) (ok, (says, none)) c))))
+      (primitive (SetUninteresting k) tt (primitive (SetExited k) tt (primitive (EndCall k CallEnd.StartCancelled) (IsWithdrawn ok (ap (λ (o : Option Thread). is_none o) (get-remove_same t.threads k)) refl, says) (primitive (Withdraw k) (ok, (says, none)) c))))
 
 -- ---- A new call
 
@@ -337,7 +337,7 @@ module _ {a : Scene} (n : ℕ) (is : IsRunner a n) where
       let same = cleared n e.instance k m u in
       let new : (v.made.threads ≡ m) × (is_explicit m v ≡ false) = (same.0 ∙ (ap (λ (r : MadeCounts). r.threads) (shifted_made d) ∙ h.made), same.1.0 ∙ (shifted_explicit d m ∙ h.explicit)) in
       let w = behind_one m n v in
-      let c : Keep a s v = call_clears_flag_walks n is e.instance k (placed p (inr (Starts h.place h.explicit (ap (λ (y : Goal). is_direct y) h.goal ∙ plain) refl, ((n, runs), made_behind (Caller.Thread n) e k g (thread_group n s) words s))) (word (MakeCall (Caller.Thread n) e k g (thread_group n s) words) ok NoPrimitive)) in
+      let c : Keep a s v = call_clears_flag_walks n is e.instance k (placed p (inr (Starts h.place h.explicit (ap (λ (y : Goal). is_direct y) h.goal ∙ plain) refl, ((n, runs), made_behind (Caller.Thread n) e k g (thread_group n s) words s))) (primitive (MakeCall (Caller.Thread n) e k g (thread_group n s) words) ok NoPrimitive)) in
       let called : HasCalled n m w = called_as n m t w (shifted_calls (placing_shifted (GoBehind m n) v) ∙ (same.1.1.1 ∙ shifted_calls d)) (made_called n e k g (thread_group n s) words s) in
       lands_at (GoBehind m n) n (OpProgress.Calls (Subtask.Guest m)) refl (leave, inl (cleared_switch n e.instance k u ∙ put_stands m Why.Start t, refl)) (is, inr (shifted_new a m v w refl (placing_shifted (GoBehind m n) v) new, called)) (keep_still n runs c) can tt c
 
@@ -350,7 +350,7 @@ module _ {a : Scene} (n : ℕ) (is : IsRunner a n) where
       let u = sync_sets_flag m e.instance k (set_started m (with_thread_handle e.instance m t)) in
       let new = entered n e k words (thread_group n s) s in
       let h : Born m Goal.Direct u = new.1.0 in
-      let c : Keep a s u = sync_sets_flag_walks n is m e.instance k (word (SetStarted m) (inr ((refl, new.0), to)) (word (NameThread e.instance m) tt (word (MakeCall (Caller.Thread n) e k Goal.Direct (thread_group n s) words) ok NoPrimitive))) in
+      let c : Keep a s u = sync_sets_flag_walks n is m e.instance k (primitive (SetStarted m) (inr ((refl, new.0), to)) (primitive (NameThread e.instance m) tt (primitive (MakeCall (Caller.Thread n) e k Goal.Direct (thread_group n s) words) ok NoPrimitive))) in
       lands_at (Enter n m) n (OpProgress.Calls (Subtask.Guest m)) refl (is, (to, (refl, (h.place, (ap (λ (y : Goal). is_direct y) h.goal, (runs, (new.1.1.0, (keep_still n runs c, sync)))))))) (is, inr (shifted_new a m u _ refl (placing_shifted (Enter n m) u) (h.made, h.explicit), called_as n m u (after_placing (Enter n m) u) (shifted_calls (placing_shifted (Enter n m) u)) new.1.1.1)) (keep_still n runs c) can tt c
 
 pub enter_gives : (n : ℕ) (e : Callee) (k : ExportKind) (words : List ℕ) (s : Core) → (next_thread s == n) ≡ false → option_map_or is_running (place_of (next_thread s) (enter_runs n e k words s)) true ≡ true

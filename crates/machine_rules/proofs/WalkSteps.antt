@@ -1,5 +1,5 @@
 -- Each step as a chain of primitives: host works, main, the loop and all turns.
-use Rattle.machine_rules.proofs.Walks.{[], Abort, aborted_phase, act_of, add_group, add_work, AddGroup, advanced_main, Answer, ap, arith, Asked, Asks, at_turn, Await, base_at, base_without, Began, begun_holder, blocked_at, blocked_on, Bool, ByProgram, ByScript, call_answer, call_made, Callee, Caller, CallLabel, Chain, Choice, choice_of, chosen_in_of, Collapses, Core, count_work, Course, course_for, course_of, course_value, deadlock_trap, DeadlockStep, did, Does, EmptyFor, end_for, ended, Ends, EndTells, EndPrimitives, EndWork, Entry, entry_number, export_kind, Fails, FailsNow, Unwinds, false, Finish, finish_act, finish_result, finished_call, finished_is, FinishWork, followed, Frees, FuturesStep, get, get-change, get-insert, get-remove, get-remove_same, Goal, Continues, goes_open, goes_to, handed_by_main, hands_by, HandsOut, has_end, has_interesting, has_moving_work, heard, host_at, host_done, host_label, host_result, host_status, host_taken, HostDef, HostPoll, HostRulesAreWalks, inl, inr, is_aborted, is_async_work, is_complete, is_data_op, is_direct, is_exit_op, is_free, is_mute, is_none, is_open, is_ready_for_call, is_some, is_spawn, is_stage_ended, is_unended_take, IsUnwind, IsRunner, join, join_of, Keep, keep_stay, Label, LastPrimitives, length, line_of, List, LoopLabel, Main, main_aborted, main_outcome, main_rule, main_spawned, main_started, MainAct, MainLabel, MainOpDef, MainPlace, MainProgress, MainProgresses, MainStep, MakeCall, Mark, may, may_act, may_deadlock, may_publish, MayAbort, MayCall, MayFinish, mute_words, nat_tests, Never, next_entry, next_polled, next_thread, next_work, None, none_said, not, NoPrimitive, on_thread, on_work, Op, op_at, op_of, scripted_op_rule, op_rule, open_spawned, OpenAct, OpenProgresses, ops_of, Option, option_map, option_map_or, Ordered, Outcome, outcome_of_label, OwnScript, Pend, Pends, Phase, phase_of, Place, place_of, placed, Poll, poll_ends, poll_of, poll_pends, Polled, polled_again, polled_course, polled_in, Pop, popped, popped_shifted, position_of, ProgramAborts, Progress, Progresses, published_frees, published_shifts, push_high, pushed, Put, put_high, QueueWork, Quiet, Ready, refl, Refused, Remains, remove_thread, remove_threads, RemoveThread, RestStep, result_taken, RulesAreWalks, runner_at, said_is, SameMain, Scene, script_of, ScriptAborts, Scripted, ScriptStep, set_answer, set_course, set_event, set_high, set_low, set_phase, set_place, set_stage, set_switch, set_trapped, SetPhase, SetRegister, Setting, settled_turn, SetTrapped, shifted, Shifts, size, slice_get, Some, SomeHost, spares_of, Spawn, spawned_at, SpawnOpen, SpawnsNamed, Stage, stage_of, Start, start_act, start_of, start_refusal, Started, started_at, started_end, Starts, State, Status, stay_walk, Step, StepsAreWalks, still_first, StillPends, Stops, strand_from, strand_of, unwound, subst, Subtask, suc, sym, T, take_result, take_rule, TakeHost, TakeLabel, TakePush, TakeResult, takes_by, TakesResult, TakeStep, TellsLater, Then, Thread, thread_answer, thread_of_entry, Trap, trap_label, Traps, Trip, trip_walk, true, Turn, TurnStep, unblocked_shifts, unblocked_stuck, Unblocking, under_of, unless_pending, Unscripted, unwrap_or, Walk, WalkedAs, Why, woken_of, word, work_caller_of, work_queued, WorkCaller, Writes, writes_by, WritesPolled, zero, ℕ, ⊎_elim, ◌&&◌, ◌++◌, ◌+◌, ◌-◌, ◌∙◌, ◌∷◌, ◌≡◌, ◌≤◌, ◌⊎◌}
+use Rattle.machine_rules.proofs.Walks.{[], Abort, aborted_phase, act_of, add_group, add_work, AddGroup, advanced_main, Answer, ap, arith, Asked, Asks, at_turn, Await, base_at, base_without, Began, begun_holder, blocked_at, blocked_on, Bool, ByProgram, ByScript, call_answer, call_made, Callee, Caller, CallLabel, Chain, Choice, choice_of, chosen_in_of, Collapses, Core, count_work, Course, course_for, course_of, course_value, deadlock_trap, DeadlockStep, did, Does, EmptyFor, end_for, ended, Ends, EndTells, EndPrimitives, EndWork, Entry, entry_number, export_kind, Fails, FailsNow, Unwinds, false, Finish, finish_act, finish_result, finished_call, finished_is, FinishWork, followed, Frees, FuturesStep, get, get-change, get-insert, get-remove, get-remove_same, Goal, Continues, goes_open, goes_to, handed_by_main, hands_by, HandsOut, has_end, has_interesting, has_moving_work, heard, host_at, host_done, host_label, host_result, host_status, host_taken, HostDef, HostPoll, HostRulesAreWalks, inl, inr, is_aborted, is_async_work, is_complete, is_data_op, is_direct, is_exit_op, is_free, is_mute, is_none, is_open, is_ready_for_call, is_some, is_spawn, is_stage_ended, is_unended_take, IsUnwind, IsRunner, join, join_of, Keep, keep_stay, Label, LastPrimitives, length, line_of, List, LoopLabel, Main, main_aborted, main_outcome, main_rule, main_spawned, main_started, MainAct, MainLabel, MainOpDef, MainPlace, MainProgress, MainProgresses, MainStep, MakeCall, Mark, may, may_act, may_deadlock, may_publish, MayAbort, MayCall, MayFinish, mute_primitives, nat_tests, Never, next_entry, next_polled, next_thread, next_work, None, none_said, not, NoPrimitive, on_thread, on_work, Op, op_at, op_of, scripted_op_rule, op_rule, open_spawned, OpenAct, OpenProgresses, ops_of, Option, option_map, option_map_or, Ordered, Outcome, outcome_of_label, OwnScript, Pend, Pends, Phase, phase_of, Place, place_of, placed, Poll, poll_ends, poll_of, poll_pends, Polled, polled_again, polled_course, polled_in, Pop, popped, popped_shifted, position_of, ProgramAborts, Progress, Progresses, published_frees, published_shifts, push_high, pushed, Put, put_high, QueueWork, Quiet, Ready, refl, Refused, Remains, remove_thread, remove_threads, RemoveThread, RestStep, result_taken, RulesAreWalks, runner_at, said_is, SameMain, Scene, script_of, ScriptAborts, Scripted, ScriptStep, set_answer, set_course, set_event, set_high, set_low, set_phase, set_place, set_stage, set_switch, set_trapped, SetPhase, SetRegister, Setting, settled_turn, SetTrapped, shifted, Shifts, size, slice_get, Some, SomeHost, spares_of, Spawn, spawned_at, SpawnOpen, SpawnsNamed, Stage, stage_of, Start, start_act, start_of, start_refusal, Started, started_at, started_end, Starts, State, Status, stay_walk, Step, StepsAreWalks, still_first, StillPends, Stops, strand_from, strand_of, unwound, subst, Subtask, suc, sym, T, take_result, take_rule, TakeHost, TakeLabel, TakePush, TakeResult, takes_by, TakesResult, TakeStep, TellsLater, Then, Thread, thread_answer, thread_of_entry, Trap, trap_label, Traps, Trip, trip_walk, true, Turn, TurnStep, unblocked_shifts, unblocked_stuck, Unblocking, under_of, unless_pending, Unscripted, unwrap_or, Walk, WalkedAs, Why, woken_of, primitive, work_caller_of, work_queued, WorkCaller, Writes, writes_by, WritesPolled, zero, ℕ, ⊎_elim, ◌&&◌, ◌++◌, ◌+◌, ◌-◌, ◌∙◌, ◌∷◌, ◌≡◌, ◌≤◌, ◌⊎◌}
 use Rattle.machine_rules.proofs.{WalkOps.set_rule_leads, WalkOps.subtask_rule_leads, WalkOps.thread_rule_leads, WalkParts.Born, WalkParts.call_born, WalkTakes.thread_taken_leads, WalkTask.Leads, WalkTask.data_rule_leads, WalkTask.op_stands, WalkTask.running_scene, WalkTask.seen, WalkTask.task_rule_leads, WalkTask.under_place}
 use Rattle.machine_rules.specs.MainOps.{Answers}
 
@@ -23,7 +23,7 @@ told_end i s = set_event (Subtask.Host i) (Some (host_status (course_value (cour
 
 module _ {a : Scene} {b : Core} where
   host_result_walks : (f : WorkCaller) (v : Option ℕ) {t : Core} → Keep a b t → Keep a b (host_result f v t)
-  host_result_walks (WorkCaller.Async n q) (Some v) c = word (SetRegister n q v) tt c
+  host_result_walks (WorkCaller.Async n q) (Some v) c = primitive (SetRegister n q v) tt c
   host_result_walks (WorkCaller.Async n q) None c = c
   host_result_walks _ v c = c
 
@@ -52,15 +52,15 @@ taken_is m i w j h = grind arith
 
 -- ---- A strand that falls
 
-struck_gone : (n : ℕ) (ns : List ℕ) (s : Core) → get s.threads n ≡ None → get (remove_threads ns s).threads n ≡ None
+unwound_gone : (n : ℕ) (ns : List ℕ) (s : Core) → get s.threads n ≡ None → get (remove_threads ns s).threads n ≡ None
 unfolding remove_thread
-struck_gone n [] s h = h
-struck_gone n (m ∷ ns) s h = struck_gone n ns (remove_thread m s) (grind (arith, nat_tests, get-remove))
+unwound_gone n [] s h = h
+unwound_gone n (m ∷ ns) s h = unwound_gone n ns (remove_thread m s) (grind (arith, nat_tests, get-remove))
 
 first_gone : (k n : ℕ) (s : Core) → get (remove_threads (strand_from k s n) s).threads n ≡ None
 unfolding remove_thread
 first_gone zero n s = get-remove_same s.threads n
-first_gone (suc k) n s = struck_gone n (option_map_or (strand_from k s) (under_of n s) []) (remove_thread n s) (get-remove_same s.threads n)
+first_gone (suc k) n s = unwound_gone n (option_map_or (strand_from k s) (under_of n s) []) (remove_thread n s) (get-remove_same s.threads n)
 
 abbrev Unwind : Scene → Core → Type 0
 Unwind a t = Chain (IsUnwind a) a.base t
@@ -75,9 +75,9 @@ module _ {a : Scene} (over : a.next ≡ Turn.Over) where
       below more None is d = d
       below more (Some m) is d = more m (under_place n m a.base is) d
 
-  struck_trip : (n : ℕ) → IsRunner a n → Trip a a.base (unwound n a.base)
+  unwound_trip : (n : ℕ) → IsRunner a n → Trip a a.base (unwound n a.base)
   unfolding unwound strand_of
-  struck_trip n is = let r = remove_threads (strand_from (size a.base.threads) a.base n) a.base in Collapses (set_trapped r) over (Then r SetTrapped (falls (size a.base.threads) n (inl is) NoPrimitive) tt)
+  unwound_trip n is = let r = remove_threads (strand_from (size a.base.threads) a.base n) a.base in Collapses (set_trapped r) over (Then r SetTrapped (falls (size a.base.threads) n (inl is) NoPrimitive) tt)
 
 unwound_primitives : (a : Scene) (n : ℕ) → a.runner ≡ Some n → a.next ≡ Turn.Over → begun_holder a.base a.label ≡ None → EndPrimitives a (unwound n a.base) → LastPrimitives a (unwound n a.base)
 unfolding unwound strand_of set_trapped
@@ -102,14 +102,14 @@ valueless (Some v) is = absurd (cc)
 
 -- ---- What a step owes
 
--- the step leads to a turn, and is a trip in the scene of that turn, whose words are all those of the step
+-- the step leads to a turn, and is a trip in the scene of that turn, whose primitives are all those of the step
 record WalkedBy (at : Turn → Scene) (b : Core) (was : Main) (t : State) : Type 0 where
   pub main : SameMain was t.core t.main
   pub next : Turn
   pub turn : t.turn ≡ settled_turn t.core next
   pub walk : Walk (at next) b t.core
   pub trip : Trip (at next) (start_of (at next) b) t.core
-  pub words : LastPrimitives (at next) t.core
+  pub primitives : LastPrimitives (at next) t.core
 
 same_main : (m : Main) (t : Core) → SameMain m t m
 same_main (Scripted p) t = λ k. inl (k, refl)
@@ -135,7 +135,7 @@ advanced_spawns o l p t told k = inl (k, grind arith)
 -- a thread that is taken leaves its entry first
 arrives : (at : Turn → Scene) (b : Core) (s : State) (new : Core) (m : Main) (u : Turn) (t : State) → Walk (at u) b (start_of (at u) b) → SameMain s.main new m → t ≡ at_turn s new m u → Trip (at u) (start_of (at u) b) new × LastPrimitives (at u) new → WalkedBy at b s.main t
 unfolding at_turn
-arrives at b s new m u t starts same is c = subst (λ (v : State). WalkedBy at b s.main v) (sym is) (record { main = same; next = u; turn = refl; walk = join starts (trip_walk c.0); trip = c.0; words = c.1 })
+arrives at b s new m u t starts same is c = subst (λ (v : State). WalkedBy at b s.main v) (sym is) (record { main = same; next = u; turn = refl; walk = join starts (trip_walk c.0); trip = c.0; primitives = c.1 })
 
 -- a step of no thread may come to this turn, if its label gives this outcome and this entry begins with it
 abbrev is_idle : Option Outcome → Option ℕ → Turn → Bool
@@ -209,15 +209,15 @@ module _ (x : Setting) (s : State) (l : Label) where
       let g = add_group s.core in
       let h : Born k Goal.Main (call_made Caller.Main e (export_kind x.component e) Goal.Main (s.core.made.groups + 1) words g) = call_born Caller.Main e (export_kind x.component e) Goal.Main (s.core.made.groups + 1) words g in
       placed (Put Mark.High k Why.Start) (inl (Starts h.place h.explicit (ap (λ (y : Goal). is_direct y) h.goal) refl))
-      (word (MakeCall Caller.Main e (export_kind x.component e) Goal.Main (s.core.made.groups + 1) words) (may, (refl, (refl, (λ d. absurd (subst T (sym d) tt), (refl, (refl, refl)))))) (word AddGroup refl NoPrimitive))
+      (primitive (MakeCall Caller.Main e (export_kind x.component e) Goal.Main (s.core.made.groups + 1) words) (may, (refl, (refl, (λ d. absurd (subst T (sym d) tt), (refl, (refl, refl)))))) (primitive AddGroup refl NoPrimitive))
 
   -- an op whose label tells of no end
   quietly : (k : MainLabel) (new : Core) → is_idle (main_outcome k) None Turn.Main ≡ true → is_finish k ≡ false → SpawnTold k new → Keep a s.core new → LeadsMain (Does k new)
-  quietly k new quiet other told c = (quiet, (λ is. mute_words a new is (main_mute a new k other), (c, told)))
+  quietly k new quiet other told c = (quiet, (λ is. mute_primitives a new is (main_mute a new k other), (c, told)))
 
   start_act_leads : (k : ℕ) (e : Callee) (words : List ℕ) (o : Option Trap) → MayCall a Caller.Main e (s.core.made.groups + 1) (add_group s.core) → LeadsMain (start_act x.component k e words s.core o)
   start_act_leads k e words None may = quietly (MainLabel.Start k (next_thread s.core)) (main_started x.component e words s.core) refl refl (λ i e. none_said refl e) (started_walks e words may)
-  start_act_leads k e words (Some t) may = quietly (MainLabel.StartRefused t k) (set_trapped s.core) refl refl (λ i e. none_said refl e) (word SetTrapped tt NoPrimitive)
+  start_act_leads k e words (Some t) may = quietly (MainLabel.StartRefused t k) (set_trapped s.core) refl refl (λ i e. none_said refl e) (primitive SetTrapped tt NoPrimitive)
 
   -- the K of a script's finish names what the op finishes
   abbrev Names : ℕ → Started → Type 0
@@ -242,7 +242,7 @@ module _ (x : Setting) (s : State) (l : Label) where
 
   finish_result_leads : (k n : ℕ) (o : Option ℕ) → Names k (Began n) → get s.core.results n ≡ o → LeadsMain (finish_result k n s.core o)
   finish_result_leads k n None names there = tt
-  finish_result_leads k n (Some v) names there = (refl, (finish_says k n v names there, (word (TakeResult n) tt NoPrimitive, λ i e. none_said refl e)))
+  finish_result_leads k n (Some v) names there = (refl, (finish_says k n v names there, (primitive (TakeResult n) tt NoPrimitive, λ i e. none_said refl e)))
 
   finish_act_leads : (k : ℕ) (y : Started) → Names k y → LeadsMain (finish_act k s.core y)
   finish_act_leads k (Began n) names = finish_result_leads k n (get s.core.results n) names refl
@@ -260,25 +260,25 @@ module _ (x : Setting) (s : State) (l : Label) where
       let host = host_at x.component h in
       quietly (MainLabel.Spawn k (next_work s.core)) (work_queued WorkCaller.Spawn host None s.core) refl refl
       (λ i e. grind (arith, nat_tests, get-insert, e))
-      (word (QueueWork WorkCaller.Spawn host None) (refl, ((refl, refl), λ e. inl (h, e))) NoPrimitive)
+      (primitive (QueueWork WorkCaller.Spawn host None) (refl, ((refl, refl), λ e. inl (h, e))) NoPrimitive)
   main_rule_leads k SpawnOpen may names aborts opens =
       quietly (MainLabel.Spawn k (next_work s.core)) (work_queued WorkCaller.Spawn HostDef.Open None s.core) refl refl
       (λ i e. grind (arith, nat_tests, get-insert, e))
-      (word (QueueWork WorkCaller.Spawn HostDef.Open None) (refl, ((refl, refl), λ e. inr (opens refl))) NoPrimitive)
-  main_rule_leads k (Abort i) may names aborts opens = quietly (MainLabel.Abort (phase_of i s.core) k) (set_phase i (aborted_phase (phase_of i s.core)) s.core) refl refl (λ i e. none_said refl e) (word (SetPhase i (aborted_phase (phase_of i s.core))) (aborts i refl, refl) NoPrimitive)
+      (primitive (QueueWork WorkCaller.Spawn HostDef.Open None) (refl, ((refl, refl), λ e. inr (opens refl))) NoPrimitive)
+  main_rule_leads k (Abort i) may names aborts opens = quietly (MainLabel.Abort (phase_of i s.core) k) (set_phase i (aborted_phase (phase_of i s.core)) s.core) refl refl (λ i e. none_said refl e) (primitive (SetPhase i (aborted_phase (phase_of i s.core))) (aborts i refl, refl) NoPrimitive)
   main_rule_leads k (Await i) may names aborts opens = unless_pending_leads (is_complete (phase_of i s.core)) (MainLabel.Await k) refl refl refl
   main_rule_leads k Quiet may names aborts opens = unless_pending_leads (not (has_interesting s.core)) MainLabel.Quiet refl refl refl
   main_rule_leads k (Ready i) may names aborts opens = unless_pending_leads (is_ready_for_call i s.core) MainLabel.Ready refl refl refl
   main_rule_leads k (Answer v) may names aborts opens = tt
 
   pends_here : (t : State) → l ≡ Label.Loop LoopLabel.MainPends → t ≡ goes_to s s.core (Turn.Futures 0) → WalkedBy (idle_scene Turn.Main s.core) s.core s.main t
-  pends_here t is at = idle Turn.Main s.core (Turn.Futures 0) s.main (Label.Loop LoopLabel.MainPends) s.core refl (same_main s.main s.core) is at (mute_words _ _ is refl) NoPrimitive
+  pends_here t is at = idle Turn.Main s.core (Turn.Futures 0) s.main (Label.Loop LoopLabel.MainPends) s.core refl (same_main s.main s.core) is at (mute_primitives _ _ is refl) NoPrimitive
 
   does_here : (m : Main) (k : MainLabel) (new : Core) (t : State) → SameMain s.main new m → LeadsMain (Does k new) → l ≡ Label.Main k → t ≡ at_turn s new m Turn.Main → WalkedBy (idle_scene Turn.Main s.core) s.core s.main t
   does_here m k new t same c is at = idle Turn.Main s.core Turn.Main m (Label.Main k) new c.0 same is at (c.1.0 is) c.1.1.0
 
   answers_here : (v : ℕ) (t : State) → l ≡ Label.Main (MainLabel.Answer v) → t ≡ goes_to s s.core Turn.Over → WalkedBy (idle_scene Turn.Main s.core) s.core s.main t
-  answers_here v t is at = idle Turn.Main s.core Turn.Over s.main (Label.Main (MainLabel.Answer v)) s.core refl (same_main s.main s.core) is at (mute_words _ _ is (main_mute (idle_scene Turn.Main s.core Turn.Over) s.core (MainLabel.Answer v) refl)) NoPrimitive
+  answers_here v t is at = idle Turn.Main s.core Turn.Over s.main (Label.Main (MainLabel.Answer v)) s.core refl (same_main s.main s.core) is at (mute_primitives _ _ is (main_mute (idle_scene Turn.Main s.core Turn.Over) s.core (MainLabel.Answer v) refl)) NoPrimitive
 
   main_progresses_walk : (p : MainPlace) (o : MainOpDef) (q : MainProgress) (t : State) → s.main ≡ Scripted p → LeadsMain q → MainProgresses s p o q l t → WalkedBy (idle_scene Turn.Main s.core) s.core s.main t
   main_progresses_walk p o (Does k new) t at c is = does_here (Scripted (advanced_main o k p)) k new t (subst (λ (m : Main). SameMain m new (Scripted (advanced_main o k p))) (sym at) (advanced_spawns o k p new c.1.1.1)) c is.0 is.1
@@ -313,9 +313,9 @@ module _ (x : Setting) (s : State) (l : Label) where
       may = ((n, (refl, at)), (is, (course_ended v, λ none. gone (valueless v none))))
 
       by_caller : (f : WorkCaller) → work_caller_of i s.core ≡ f → Keep (scene_at (Turn.Futures n) None (Turn.Take true)) s.core (followed f i (set_phase i Phase.Complete (set_course i (course_for v) s.core)))
-      by_caller WorkCaller.Spawn same = word (EndWork i (course_for v)) (may, ap (λ f. is_async_work f) same) NoPrimitive
-      by_caller (WorkCaller.Async m q) same = word (FinishWork i (course_for v)) (may, ap (λ f. is_async_work f) same) NoPrimitive
-      by_caller (WorkCaller.Sync m) same = shifted (sync_ended_shifts i v s.core) (word (EndWork i (course_for v)) (may, ap (λ f. is_async_work f) same) NoPrimitive)
+      by_caller WorkCaller.Spawn same = primitive (EndWork i (course_for v)) (may, ap (λ f. is_async_work f) same) NoPrimitive
+      by_caller (WorkCaller.Async m q) same = primitive (FinishWork i (course_for v)) (may, ap (λ f. is_async_work f) same) NoPrimitive
+      by_caller (WorkCaller.Sync m) same = shifted (sync_ended_shifts i v s.core) (primitive (EndWork i (course_for v)) (may, ap (λ f. is_async_work f) same) NoPrimitive)
 
   -- who is blocked on the work of a sync call goes on
   sync_unblocks : (n i m : ℕ) (v : Option ℕ) → next_polled n s.core ≡ Some i → l ≡ Label.Loop (LoopLabel.FutureEnds i) → GoneBy i v →
@@ -329,7 +329,7 @@ module _ (x : Setting) (s : State) (l : Label) where
         home = refl;
         before = t;
         after = followed (WorkCaller.Sync m) i u;
-        stays = keep_stay (word (EndWork i (course_for v)) (((n, (refl, at)), (is, (course_ended v, λ none. gone (valueless v none)))), ap (λ f. is_async_work f) called) NoPrimitive);
+        stays = keep_stay (primitive (EndWork i (course_for v)) (((n, (refl, at)), (is, (course_ended v, λ none. gone (valueless v none)))), ap (λ f. is_async_work f) called) NoPrimitive);
         shifts = sync_ended_shifts i v s.core;
         rest = NoPrimitive;
         freed = λ j h. unblocked_stuck (Subtask.Host i) u t (λ k. refl) (blocked_on (Subtask.Host i) u) refl j h;
@@ -370,13 +370,13 @@ module _ (x : Setting) (s : State) (l : Label) where
 
   polled_walks : (n i : ℕ) (p : Poll) (t : State) → next_polled n s.core ≡ Some i → EndsBy i p → Polled s i p l t → WalkedBy (scene_at (Turn.Futures n) None) s.core s.main t
   unfolding poll_ends
-  polled_walks n i (StillPends host) t at poll is = idle (Turn.Futures n) s.core (Turn.Futures i) s.main (Label.Loop (LoopLabel.FuturePends i)) (poll_pends i host s.core) refl (same_main s.main _) is.0 is.1 (mute_words _ _ is.0 refl) (word (Pend i host) ((n, (refl, at)), poll) NoPrimitive)
+  polled_walks n i (StillPends host) t at poll is = idle (Turn.Futures n) s.core (Turn.Futures i) s.main (Label.Loop (LoopLabel.FuturePends i)) (poll_pends i host s.core) refl (same_main s.main _) is.0 is.1 (mute_primitives _ _ is.0 refl) (primitive (Pend i host) ((n, (refl, at)), poll) NoPrimitive)
   polled_walks n i (Ends v) t at poll is =
       let new = poll_ends i v s.core in
       idle (Turn.Futures n) s.core (Turn.Take true) s.main (Label.Loop (LoopLabel.FutureEnds i)) new refl (same_main s.main new) is.0 is.1
       (writes_by _ _ is.0 refl refl (λ sub e says. said_is (λ d g. Writes (idle_scene (Turn.Futures n) s.core (Turn.Take true)) new d × EndTells (idle_scene (Turn.Futures n) s.core (Turn.Take true)) new d g) says (WritesPolled i is.0 (n, (refl, at)) (poll_ended i v s.core) (λ m called. sync_unblocks n i m v at is.0 poll called), TellsLater i _)))
       (followed_walks n i v at is.0 poll)
-  polled_walks n i FailsNow t at poll is = idle (Turn.Futures n) s.core Turn.Over s.main (Label.Loop (LoopLabel.FutureFails i)) (set_trapped s.core) refl (same_main s.main _) is.0 is.1 (mute_words _ _ is.0 refl) (word SetTrapped tt NoPrimitive)
+  polled_walks n i FailsNow t at poll is = idle (Turn.Futures n) s.core Turn.Over s.main (Label.Loop (LoopLabel.FutureFails i)) (set_trapped s.core) refl (same_main s.main _) is.0 is.1 (mute_primitives _ _ is.0 refl) (primitive SetTrapped tt NoPrimitive)
   polled_walks n i (Asked next) t at poll is = polled_walks n i (next is.0) t at (poll is.0) is.1
 
   futures_walk : (n : ℕ) (o : Option ℕ) (t : State) → next_polled n s.core ≡ o → FuturesStep s o l t → WalkedBy (scene_at (Turn.Futures n) None) s.core s.main t
@@ -385,7 +385,7 @@ module _ (x : Setting) (s : State) (l : Label) where
 
   -- ---- Takings
 
-  -- of a row of the thread n, which runs or was taken, by where it leads
+  -- of a rule of the thread n, which runs or was taken, by where it leads
   progresses_walk : (ops : ℕ → Op) (u : Turn) (base : Core) (n : ℕ) → ((v : Turn) → Walk (seen ops x s.main u base n l v) s.core base) → (p : Progress) (t : State) → ((v : Turn) → Leads (seen ops x s.main u base n l v) base p) → Progresses s base n p l t → WalkedBy (seen ops x s.main u base n l) s.core s.main t
   progresses_walk ops u base n starts p t leads is = by p leads is
     where
@@ -395,14 +395,14 @@ module _ (x : Setting) (s : State) (l : Label) where
       lands_so : (new : Core) (v : Turn) → t ≡ goes_to s new v → Trip (at v) base new × LastPrimitives (at v) new → WalkedBy at s.core s.main t
       lands_so new v to c = arrives at s.core s new s.main v t (starts v) (same_main s.main new) to c
 
-      falls_so : (k : Label) → begun_holder base k ≡ None → is_mute (at Turn.Over) (unwound n base) k ≡ true → l ≡ k → t ≡ goes_to s (unwound n base) Turn.Over → WalkedBy at s.core s.main t
-      falls_so k none mute shown to = lands_so (unwound n base) Turn.Over to (struck_trip refl n refl, unwound_primitives (at Turn.Over) n refl refl (ap (λ y. begun_holder base y) shown ∙ none) (mute_words _ _ shown mute))
+      unwinds_so : (k : Label) → begun_holder base k ≡ None → is_mute (at Turn.Over) (unwound n base) k ≡ true → l ≡ k → t ≡ goes_to s (unwound n base) Turn.Over → WalkedBy at s.core s.main t
+      unwinds_so k none mute shown to = lands_so (unwound n base) Turn.Over to (unwound_trip refl n refl, unwound_primitives (at Turn.Over) n refl refl (ap (λ y. begun_holder base y) shown ∙ none) (mute_primitives _ _ shown mute))
 
       by : (q : Progress) → ((v : Turn) → Leads (at v) base q) → Progresses s base n q l t → WalkedBy at s.core s.main t
       by (Continues k new m) row h = lands_so new (Turn.Run m) h.1 (row (Turn.Run m) h.0 refl)
       by (Stops k new) row h = lands_so new Turn.Main h.1 (row Turn.Main h.0 refl)
-      by (Traps trap) row h = falls_so (trap_label n trap) refl refl h.0 h.1
-      by (Fails i) row h = falls_so (Label.Call (CallLabel.Fails n i)) refl refl h.0 h.1
+      by (Traps trap) row h = unwinds_so (trap_label n trap) refl refl h.0 h.1
+      by (Fails i) row h = unwinds_so (Label.Call (CallLabel.Fails n i)) refl refl h.0 h.1
       by Never row h = absurd h
       by (Ordered ns next) row h = by (next h.0) (λ v. row v h.0 h.1.0) h.1.1
       by (Asks next) row h = by (next h.0) (λ v. row v h.0) h.1
@@ -411,19 +411,19 @@ module _ (x : Setting) (s : State) (l : Label) where
   empty_walks ended true t is = rests (is_unended_take s.turn) is
     where
       rests : (c : Bool) → RestStep s c l t → WalkedBy (scene_at (Turn.Take ended) None) s.core s.main t
-      rests true h = idle (Turn.Take ended) s.core Turn.Main s.main (Label.Loop LoopLabel.Rest) s.core refl (same_main s.main s.core) h.0 h.1 (mute_words _ _ h.0 refl) NoPrimitive
+      rests true h = idle (Turn.Take ended) s.core Turn.Main s.main (Label.Loop LoopLabel.Rest) s.core refl (same_main s.main s.core) h.0 h.1 (mute_primitives _ _ h.0 refl) NoPrimitive
       rests false h = absurd h
   empty_walks ended false t is = dies (may_deadlock x s) is
     where
       dies : (c : Bool) → DeadlockStep s c l t → WalkedBy (scene_at (Turn.Take ended) None) s.core s.main t
-      dies true h = idle (Turn.Take ended) s.core Turn.Over s.main (Label.Loop (LoopLabel.Deadlock (deadlock_trap s.core))) (set_trapped s.core) refl (same_main s.main _) h.0 h.1 (mute_words _ _ h.0 refl) (word SetTrapped tt NoPrimitive)
+      dies true h = idle (Turn.Take ended) s.core Turn.Over s.main (Label.Loop (LoopLabel.Deadlock (deadlock_trap s.core))) (set_trapped s.core) refl (same_main s.main _) h.0 h.1 (mute_primitives _ _ h.0 refl) (primitive SetTrapped tt NoPrimitive)
       dies false h = absurd h
 
   host_entry_walks : (ended : Bool) (m : Mark) (i : ℕ) (t : State) → next_entry s.core ≡ Some (m, Entry.Host i) → (b : Bool) → may_publish (Subtask.Host i) (woken_of l) (popped m s.core) ≡ b → Progresses s (popped m s.core) i (may b (Stops (host_label m i (woken_of l)) (host_done i (woken_of l) (popped m s.core)))) l t → WalkedBy (scene_at (Turn.Take ended) (Some (m, Entry.Host i))) s.core s.main t
   host_entry_walks ended m i t at true may is =
       let base = popped m s.core in
       let a = scene_at (Turn.Take ended) (Some (m, Entry.Host i)) Turn.Main in
-      let taken_first : Keep a s.core (told_end i base) = subst (λ (u : Core). Keep a s.core (told_end i u)) (popped_shifted m s.core).only (word (TakeHost m i) (at, (woken_of l, (is.0, ((ended, refl), refl)))) NoPrimitive) in
+      let taken_first : Keep a s.core (told_end i base) = subst (λ (u : Core). Keep a s.core (told_end i u)) (popped_shifted m s.core).only (primitive (TakeHost m i) (at, (woken_of l, (is.0, ((ended, refl), refl)))) NoPrimitive) in
       idle (Turn.Take ended) base Turn.Main s.main (host_label m i (woken_of l)) (host_done i (woken_of l) base) (grind arith) (same_main s.main _) is.0 is.1
       (takes_by a _ is.0 (grind arith) (λ j at. rw (taken_is m i (woken_of l) j at) (host_frees {b = s.core} i (woken_of l) base (popped_same m s.core) may taken_first))) (host_done_walks i (woken_of l) base may taken_first)
   host_entry_walks ended m i t at false may is = absurd is
@@ -436,7 +436,7 @@ module _ (x : Setting) (s : State) (l : Label) where
       (λ u. thread_taken_leads (ops_of x.component s.core) x s.main ended base n l u m (choice_of l) (place_of n base) refl) is
   entry_walks ended m (Entry.Push i) t at is =
       idle (Turn.Take ended) (popped m s.core) Turn.Main s.main (Label.Take (TakeLabel.Push m i)) (pushed i (popped m s.core)) refl (same_main s.main _) is.0 is.1
-      (mute_words _ _ is.0 refl) (subst (λ (t : Core). Keep (scene_at (Turn.Take ended) (Some (m, Entry.Push i)) Turn.Main) s.core (set_stage i Stage.Live t)) (popped_shifted m s.core).only (word (TakePush m i) (at, ((ended, refl), refl)) NoPrimitive))
+      (mute_primitives _ _ is.0 refl) (subst (λ (t : Core). Keep (scene_at (Turn.Take ended) (Some (m, Entry.Push i)) Turn.Main) s.core (set_stage i Stage.Live t)) (popped_shifted m s.core).only (primitive (TakePush m i) (at, ((ended, refl), refl)) NoPrimitive))
   entry_walks ended m (Entry.Host i) t at is = host_entry_walks ended m i t at (may_publish (Subtask.Host i) (woken_of l) (popped m s.core)) refl is
 
   take_step_walks : (ended : Bool) (o : Option (Mark × Entry)) (t : State) → next_entry s.core ≡ o → TakeStep x s o l t → WalkedBy (scene_at (Turn.Take ended) o) s.core s.main t
@@ -477,7 +477,7 @@ turn_step_walks x s Turn.Over l t is = absurd is
 -- each step is a chain of primitives
 pub step_walks : StepsAreWalks
 unfolding Step
-step_walks x s l t is = let c = turn_step_walks x s s.turn l t is in record { next = c.next; turn = c.turn; main = c.main; walk = c.walk; trip = c.trip; ends = c.words }
+step_walks x s l t is = let c = turn_step_walks x s s.turn l t is in record { next = c.next; turn = c.turn; main = c.main; walk = c.walk; trip = c.trip; ends = c.primitives }
 
 -- walked at this turn, where each thread has this op
 abbrev WalkedAt : (ℕ → Op) → Setting → State → Label → State → Turn → Type 0
@@ -488,7 +488,7 @@ leads_walk : (ops : ℕ → Op) (x : Setting) (s : State) (n : ℕ) (l : Label) 
 leads_walk ops x s n l p t at leads is =
     let runs : WalkedAt ops x s l t (Turn.Run n) = progresses_walk x s l ops (Turn.Run n) s.core n (λ u. NoPrimitive) p t leads is in
     let c = subst (WalkedAt ops x s l t) (sym at) runs in
-    record { next = c.next; turn = c.turn; main = c.main; walk = c.walk; trip = c.trip; ends = c.words }
+    record { next = c.next; turn = c.turn; main = c.main; walk = c.walk; trip = c.trip; ends = c.primitives }
 
 -- the rule at any op that the running thread is said to have is a chain of primitives
 pub rules_walk : RulesAreWalks

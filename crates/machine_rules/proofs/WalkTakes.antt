@@ -1,5 +1,5 @@
 -- The takings of entries as chains of primitives.
-use Rattle.machine_rules.proofs.Walks.{activated, activated_woken, admits, and_parts, ap, arith, at_handle_limit, begun_holder, Bool, chain_if, Choice, chosen, cond, Core, delivered, Delivery, delivery_rule, end_for, end_of, EndPrimitives, event_label, ExportKind, false, foot_of, get, get-change, PickedEvent, picked_event, give_thread_handle, Given, given_for, given_out, Continues, Halted, halted_at, Halts, handed_by_event, handed_on, handed_on_shifts, handed_out, hands_by, HandsOut, held_label, holder_at_start, Holds, if◌then◌else◌, inl, inr, instance_of, is_begun, is_exit, is_explicit, is_free, is_holding, is_mute, is_none, is_running, is_some, is_start, is_told, IsLaid, Keep, kind_of, Label, lands, lands_alone, LastPrimitives, leaving, Main, Mark, may, may_hand_on, may_not_enter, may_tell, may_tell_starting, MayDeliver, MayMove, MayTake, PickedMember, Move, moved_to, mute_words, NameThread, nat_tests, NothingPicked, None, none_said, not, NoPrimitive, on_call, on_instance, on_thread, Op, Option, option_map_or, outcome_of_label, own_delivered, task_event_of, picked_task_event_of, picked_task_event_only, own_or_nothing, TaskEvent, PickedTaskEvent, Place, place_of, placing_shifted, refl, Restart, running, Runs, Scene, Script, set_delivered, set_do_not_enter, set_do_not_suspend, set_event, set_given, set_op_progress, set_place, set_position, set_register, set_saved_own, set_script, set_started, set_starting_published, set_thread_handle, SetDoNotEnter, SetStarted, SetStartingPublished, Setting, shifted, shifted_admits, shifted_calls, shifted_instance, shifted_ready, shifted_task, shifts_shifted, Some, start_admitted, start_begins, start_holds, start_rule, start_sets_flags, starting_is_published, starting_told, Status, Stop, stopped, stopped_on, Stops, subst, Subtask, sym, T, take_holds, take_label, TakeLabel, taken, taken_walks, taking, task_of, thread_taken, told, told_shifts, told_to, told_walks, ToldTo, Trap, true, Turn, unwrap_or, wait_again, WaitsAgain, was_started, WasReady, Why, with_thread_handle, word, ℕ, ◌&&◌, ◌∙◌, ◌≡◌}
+use Rattle.machine_rules.proofs.Walks.{activated, activated_woken, admits, and_parts, ap, arith, at_handle_limit, begun_holder, Bool, chain_if, Choice, chosen, cond, Core, delivered, Delivery, delivery_rule, end_for, end_of, EndPrimitives, event_label, ExportKind, false, foot_of, get, get-change, PickedEvent, picked_event, give_thread_handle, Given, given_for, given_out, Continues, Halted, halted_at, Halts, handed_by_event, handed_on, handed_on_shifts, handed_out, hands_by, HandsOut, held_label, holder_at_start, Holds, if◌then◌else◌, inl, inr, instance_of, is_begun, is_exit, is_explicit, is_free, is_holding, is_mute, is_none, is_running, is_some, is_start, is_told, IsLaid, Keep, kind_of, Label, lands, lands_alone, LastPrimitives, leaving, Main, Mark, may, may_hand_on, may_not_enter, may_tell, may_tell_starting, MayDeliver, MayMove, MayTake, PickedMember, Move, moved_to, mute_primitives, NameThread, nat_tests, NothingPicked, None, none_said, not, NoPrimitive, on_call, on_instance, on_thread, Op, Option, option_map_or, outcome_of_label, own_delivered, task_event_of, picked_task_event_of, picked_task_event_only, own_or_nothing, TaskEvent, PickedTaskEvent, Place, place_of, placing_shifted, refl, Restart, running, Runs, Scene, Script, set_delivered, set_do_not_enter, set_do_not_suspend, set_event, set_given, set_op_progress, set_place, set_position, set_register, set_saved_own, set_script, set_started, set_starting_published, set_thread_handle, SetDoNotEnter, SetStarted, SetStartingPublished, Setting, shifted, shifted_admits, shifted_calls, shifted_instance, shifted_ready, shifted_task, shifts_shifted, Some, start_admitted, start_begins, start_holds, start_rule, start_sets_flags, starting_is_published, starting_told, Status, Stop, stopped, stopped_on, Stops, subst, Subtask, sym, T, take_holds, take_label, TakeLabel, taken, taken_walks, taking, task_of, thread_taken, told, told_shifts, told_to, told_walks, ToldTo, Trap, true, Turn, unwrap_or, wait_again, WaitsAgain, was_started, WasReady, Why, with_thread_handle, primitive, ℕ, ◌&&◌, ◌∙◌, ◌≡◌}
 use Rattle.machine_rules.proofs.{WalkParts.picked_event_is, WalkParts.picked_event_none, WalkParts.sync_sets_flag_walks, WalkTask.Leads, WalkTask.may_leads, WalkTask.moved_passes, WalkTask.not_main, WalkTask.one_runner, WalkTask.or_never_leads, WalkTask.seen, WalkTask.set_given_walks, WalkTask.trap_if_leads}
 
 -- ---- What is read
@@ -83,7 +83,7 @@ module _ (ops : ℕ → Op) (x : Setting) (main : Main) (ended : Bool) (s : Core
   runs_taken k t begun taking says shuts c is to = (lands (Move n Place.Running) refl (Runs refl to begun refl) tt (c to), taken_ends k Place.Running t is taking refl (λ m at. (one_runner m n (sym at ∙ to), refl)) says shuts)
 
   lays_taken : (k : Label) (p : Place) (t : Core) → is_taking k ≡ true → is_mute taking_scene (set_place n p t) k ≡ true → is_free p ≡ true → lands_alone (Move n p) ≡ true → ((i : ℕ) → begun_holder s k ≡ Some i → ⊥) → leaving (Move n p) ≡ Some n → (IsLaid taking_scene n → MayMove taking_scene n p t) → (next ≡ Turn.Main → Keep taking_scene s t × Halted taking_scene s n t) → Leads taking_scene s (Stops k (set_place n p t))
-  lays_taken k p t taking mute free fit none leaves may c is to = (lands (Move n p) fit (may (refl, to)) (subst (λ (o : Option ℕ). Halts taking_scene s o t) (sym leaves) (c to).1) (c to).0, taken_ends k p t is taking free (λ m at. not_main m (sym to ∙ at)) (λ at. mute_words taking_scene _ at mute) (λ i begun. absurd (none i begun)))
+  lays_taken k p t taking mute free fit none leaves may c is to = (lands (Move n p) fit (may (refl, to)) (subst (λ (o : Option ℕ). Halts taking_scene s o t) (sym leaves) (c to).1) (c to).0, taken_ends k p t is taking free (λ m at. not_main m (sym to ∙ at)) (λ at. mute_primitives taking_scene _ at mute) (λ i begun. absurd (none i begun)))
 
   holds_leads : (k : Label) (w : Why) (t : Core) → is_taking k ≡ true → is_mute taking_scene (take_holds n w t) k ≡ true → begun_holder s k ≡ None → WasReady taking_scene n w → admits n t w ≡ false → Keep taking_scene s t → Leads taking_scene s (Stops k (take_holds n w t))
   unfolding take_holds
@@ -113,31 +113,31 @@ module _ (ops : ℕ → Op) (x : Setting) (main : Main) (ended : Bool) (s : Core
   starts_walks runs w ready implicit may =
       let k = task_of n s in
       told_walks k Status.Started w (begun_keeps n s).1.1 (n, (refl, (ready, (implicit, (refl, (begun_keeps n s).1.0))))) (begun_to n w s (told_to k w s may))
-      (word (SetStarted k) (inl (n, (refl, (ready, (implicit, (refl, runs)))))) (word (NameThread (instance_of n s) n) tt NoPrimitive))
+      (primitive (SetStarted k) (inl (n, (refl, (ready, (implicit, (refl, runs)))))) (primitive (NameThread (instance_of n s) n) tt NoPrimitive))
 
   barred_leads : (m : Mark) (w : Option ℕ) → WasReady taking_scene n Why.Start → is_explicit n s ≡ false → admits n s Why.Start ≡ true → may_tell (task_of n s) w s ≡ true → (q : ExportKind) → kind_of (task_of n s) s ≡ q → is_holding q ≡ true → Leads taking_scene s (Continues (take_label m n w) (set_place n Place.Running (set_do_not_enter (instance_of n (told_start w)) true (told_start w))) n)
   unfolding set_place on_thread set_do_not_enter on_instance
   barred_leads m w ready implicit admitted may q at holding =
       let home = told_instance (task_of n s) Status.Started w n (begun_at n s) (begun_to n w s (told_to (task_of n s) w s may)) ∙ (begun_keeps n s).0 in
       let open_at : may_not_enter (instance_of n s) s ≡ false = grind (arith, implicit, at, holding, admitted) in
-      runs_taken (take_label m n w) (set_do_not_enter (instance_of n (told_start w)) true (told_start w)) (λ i r. start_begun w may) (take_is taking_scene s m n w).0 (λ at. mute_words taking_scene _ at (take_is taking_scene _ m n w).1.1) (λ i begun.
+      runs_taken (take_label m n w) (set_do_not_enter (instance_of n (told_start w)) true (told_start w)) (λ i r. start_begun w may) (take_is taking_scene s m n w).0 (λ at. mute_primitives taking_scene _ at (take_is taking_scene _ m n w).1.1) (λ i begun.
       let same : instance_of n s ≡ i = (holder_is m w i begun).1.1.1 in (
         subst (λ (j : ℕ). may_not_enter j s ≡ false) same open_at,
         subst (λ (j : ℕ). is_some (get (set_place n Place.Running (set_do_not_enter (instance_of n (told_start w)) true (told_start w))).instances j) ≡ true → may_not_enter j (set_place n Place.Running (set_do_not_enter (instance_of n (told_start w)) true (told_start w))) ≡ true) (home ∙ same) (shut_here (instance_of n (told_start w)) (told_start w)),
       ))
-      (λ to. word (SetDoNotEnter (instance_of n (told_start w)) true) (ap (λ (j : ℕ). may_not_enter j s) home ∙ open_at, tt) (starts_walks to w ready implicit may))
+      (λ to. primitive (SetDoNotEnter (instance_of n (told_start w)) true) (ap (λ (j : ℕ). may_not_enter j s) home ∙ open_at, tt) (starts_walks to w ready implicit may))
 
   begins_leads : (m : Mark) (w : Option ℕ) → WasReady taking_scene n Why.Start → is_explicit n s ≡ false → admits n s Why.Start ≡ true → may_tell (task_of n s) w s ≡ true → (q : ExportKind) → kind_of (task_of n s) s ≡ q → Leads taking_scene s (Continues (take_label m n w) (set_place n Place.Running (start_sets_flags n q (told_start w))) n)
   unfolding set_do_not_suspend on_instance set_saved_own on_thread
-  begins_leads m w ready implicit admitted may ExportKind.Sync at = runs_taken (take_label m n w) _ (λ i r. start_begun w may) (take_is taking_scene s m n w).0 (λ at. mute_words taking_scene _ at (take_is taking_scene _ m n w).1.1) (λ i begun. none_holds m w ExportKind.Sync at refl i begun) (λ to. sync_sets_flag_walks n refl n (instance_of n (told_start w)) ExportKind.Sync (starts_walks to w ready implicit may))
-  begins_leads m w ready implicit admitted may ExportKind.Stackful at = runs_taken (take_label m n w) _ (λ i r. start_begun w may) (take_is taking_scene s m n w).0 (λ at. mute_words taking_scene _ at (take_is taking_scene _ m n w).1.1) (λ i begun. none_holds m w ExportKind.Stackful at refl i begun) (λ to. starts_walks to w ready implicit may)
+  begins_leads m w ready implicit admitted may ExportKind.Sync at = runs_taken (take_label m n w) _ (λ i r. start_begun w may) (take_is taking_scene s m n w).0 (λ at. mute_primitives taking_scene _ at (take_is taking_scene _ m n w).1.1) (λ i begun. none_holds m w ExportKind.Sync at refl i begun) (λ to. sync_sets_flag_walks n refl n (instance_of n (told_start w)) ExportKind.Sync (starts_walks to w ready implicit may))
+  begins_leads m w ready implicit admitted may ExportKind.Stackful at = runs_taken (take_label m n w) _ (λ i r. start_begun w may) (take_is taking_scene s m n w).0 (λ at. mute_primitives taking_scene _ at (take_is taking_scene _ m n w).1.1) (λ i begun. none_holds m w ExportKind.Stackful at refl i begun) (λ to. starts_walks to w ready implicit may)
   begins_leads m w ready implicit admitted may ExportKind.Blocking at = barred_leads m w ready implicit admitted may ExportKind.Blocking at refl
   begins_leads m w ready implicit admitted may ExportKind.Callback at = barred_leads m w ready implicit admitted may ExportKind.Callback at refl
 
   -- a thread that was started runs on
   resumes_leads : (m : Mark) → (is_explicit n s ≡ false → WasReady taking_scene n Why.Start → is_begun (task_of n s) s ≡ true) → ((i : ℕ) → begun_holder s (take_label m n None) ≡ Some i → ⊥) → Leads taking_scene s (Continues (take_label m n None) (running n s) n)
   unfolding running
-  resumes_leads m begun none = runs_taken (take_label m n None) s begun refl (λ at. mute_words taking_scene _ at refl) (λ i begun. absurd (none i begun)) (λ to. NoPrimitive)
+  resumes_leads m begun none = runs_taken (take_label m n None) s begun refl (λ at. mute_primitives taking_scene _ at refl) (λ i begun. absurd (none i begun)) (λ to. NoPrimitive)
 
   start_admitted_leads : (m : Mark) (w : Option ℕ) (c : Bool) → is_explicit n s ≡ c → WasReady taking_scene n Why.Start → admits n s Why.Start ≡ true → Leads taking_scene s (start_admitted m n w s c)
   unfolding start_begins begun_at
@@ -153,7 +153,7 @@ module _ (ops : ℕ → Op) (x : Setting) (main : Main) (ended : Bool) (s : Core
       let k = task_of n s in
       chain_if (starting_is_published k s) s (told k Status.Starting w (set_starting_published k s)) (λ e. NoPrimitive) (λ e.
       told_walks k Status.Starting w (λ told. (e, starting_now k s told)) (n, (refl, (ready, (implicit, (refl, grind (arith, nat_tests, get-change)))))) (published_to k w s (told_to k w s (sym (ap (λ c. cond c (is_none w) (may_tell k w s)) e) ∙ may)))
-      (word (SetStartingPublished k) tt NoPrimitive))
+      (primitive (SetStartingPublished k) tt NoPrimitive))
 
   -- whether Starting was told or not, who is admitted
   starting_admits : (w : Option ℕ) → may_tell_starting (task_of n s) w s ≡ true → admits n (starting_told (task_of n s) w s) Why.Start ≡ admits n s Why.Start
@@ -180,7 +180,7 @@ module _ (ops : ℕ → Op) (x : Setting) (main : Main) (ended : Bool) (s : Core
 
   -- what a delivery hands out shows only where no wake is handed on
   event_says : (m : Mark) (v : Given) (w : Option ℕ) (t : Core) → (w ≡ None → (sub : Subtask) (e : Status) → handed_by_event n s v ≡ Some (end_for e sub) → HandsOut taking_scene t sub e) → l ≡ event_label m n v w → EndPrimitives taking_scene t
-  event_says m v (Some z) t out is = mute_words taking_scene t is refl
+  event_says m v (Some z) t out is = mute_primitives taking_scene t is refl
   event_says m v None t out is = hands_by taking_scene t is refl refl (λ sub e h. out refl sub e h)
 
   delivered_out : (y : ℕ) (ch : Choice) (g : PickedEvent) (w : Option ℕ) → picked_event true (task_of n s) y (chosen n ch s) s ≡ Some g → w ≡ None → (sub : Subtask) (e : Status) → handed_by_event n s (handed_out ch s g) ≡ Some (end_for e sub) → HandsOut taking_scene (activated n g (handed_out ch s g) (handed_on y g w s)) sub e
@@ -195,7 +195,7 @@ module _ (ops : ℕ → Op) (x : Setting) (main : Main) (ended : Bool) (s : Core
         subst (λ (j : ℕ). may_not_enter j s ≡ false) same open_at,
         subst (λ (j : ℕ). is_some (get (activated n g v t).instances j) ≡ true → may_not_enter j (activated n g v t) ≡ true) (home ∙ same) (shut_here (instance_of n t) (set_given n 0 v (taken g (task_of n t) t))),
       ))
-      (λ to. word (Restart n) (refl, (d, ready)) (word (SetDoNotEnter (instance_of n t) true) (ap (λ (j : ℕ). may_not_enter j s) home ∙ open_at, tt) (set_given_walks n refl 0 v (taken_walks g (task_of n t) may c))))
+      (λ to. primitive (Restart n) (refl, (d, ready)) (primitive (SetDoNotEnter (instance_of n t) true) (ap (λ (j : ℕ). may_not_enter j s) home ∙ open_at, tt) (set_given_walks n refl 0 v (taken_walks g (task_of n t) may c))))
 
   woken_goes : (m : Mark) (y : ℕ) (ch : Choice) (g : PickedEvent) → WasReady taking_scene n (Why.Delivery (Delivery.Set y)) → picked_event true (task_of n s) y (chosen n ch s) s ≡ Some g → MayTake taking_scene (task_of n s) g → may_not_enter (instance_of n s) s ≡ false → Leads taking_scene s (may (may_hand_on y g ch.woken s) (Continues (event_label m n (handed_out ch s g) ch.woken) (activated_woken n y ch.woken g (handed_out ch s g) s) n))
   unfolding activated_woken

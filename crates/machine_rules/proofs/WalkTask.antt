@@ -1,6 +1,6 @@
--- The rows of ops as chains of primitives: what a row owes, the ops on registers and memory cells, and the ops that end a task or
+-- The rules of ops as chains of primitives: what a rule owes, the ops on registers and memory cells, and the ops that end a task or
 -- an activation.
-use Rattle.machine_rules.proofs.Walks.{[], Advance, advanced, and_parts, answered, answered_by, ap, ap₂, arith, Asks, assigned, AwaitsEvent, backpressure_of, begun_holder, blocking_exit_rule, blocking_exits, blocking_returned, Bool, both_none, BySetHandle, Call, call_ends, CallEnd, Caller, cancel_was_delivered, cancelled, cancelled_rest, cancelled_tells, checked, checked_shifts, Choice, chosen_released, code_exits, code_finds, code_kind_rule, code_rule, code_stops, code_wait_rule, code_waits, code_yields, ComesAgain, Component, component_of, Core, data_rule, DataLabel, DataOp, Delivery, direct_exit_to, direct_exits, direct_return, Doer, end_for, end_reopens, EndCall, ended, ended_halts, ended_last, ended_walks, ends_activation, ends_untold, EndsActivation, EndsByExit, EndsCall, EndsOwn, EndTells, EndPrimitives, exit_label, exit_restores, exit_rule_for, exit_stops, Exits, exits_trip, ExportKind, Fails, false, find_passes, FindsEvent, finish, foot_of, get, get-change, Given, given_code, given_handle, given_result, GivesUp, Goal, goal_of, Continues, GoesBack, Going, Gone, Halted, halted_from, halted_on, handed_as, HandsOut, has_ended, has_event_for, has_ready_member, HasSet, held_by_flag, holder_at_exit, HostPoll, OpProgress, if◌then◌else◌, implicit_exit_rule, inl, InOp, inr, instance_of, is_async_lifted, is_at, is_code_op, is_direct, is_ending_exit, is_exit, is_exit_op, is_explicit, is_guest_call, is_holding, is_mute, is_none, is_other, is_over, is_running, is_under, IsPermutation, IsRunner, join, Keep, keep_at, keep_position, keep_stay, kind_exit_rule, kind_of, Label, lands, last_of, last_shifted, LastEnds, LastPrimitives, Leaves, leaves_no_result, Left, left_gone, left_walk, length, List, Main, Mark, may, may_tell, MayBar, MayEnd, MayOwe, min, Move, moved_to, mute_words, nat_le, nat_lt, nat_tests, Never, NoAnswer, None, none_said, NoneHeldIn, not, NoPrimitive, numbers, on_call, on_instance, on_thread, OneEvent, OneNumber, Op, op_at_place, op_in, op_of, OpAnswer, Option, option_map_or, or_never, or_trap, Ordered, outcome_of_label, task_event_of, own_or_none, TaskEvent, OwnScript, passes_after_return, passes_after_stop, passes_check, Place, place_of, placing_shifted, position_of, Progress, Put, ready_same, Records, refl, register_of, release_leaves, released_on, released_shifts, Remains, ret_label, returned, returned_holder, returned_last, returned_rest, returned_tells, ReturnsNow, said_is, saved_own_of, says_by, SaysEnd, Scene, script_of, set_at, set_backpressure, set_do_not_enter, set_do_not_suspend, set_end, set_op_progress, set_place, SetBackpressure, SetDoNotEnter, SetDoNotSuspend, SetOpProgress, SetTaskEvent, SetRegister, SetSavedCallee, Setting, SetWord, Shifted, shifted, shifted_after, shifted_calls, shifted_ready, shifted_task, shifts_shifted, skip_rule, skipped, Some, SomeHost, spared_released, Status, stay_walk, StillAt, Stop, stopped_on, Stops, stored, subst, Subtask, SubtaskEnd, suc, sym, sync_exit_rule, sync_exits, T, task_cancel_label, task_end, task_of, TaskLabel, TaskOp, TellsNever, Then, Thread, thread_exit_rule, told_spares, told_to, ToldSpares, ToldTo, Trap, trap_if, Traps, Trip, trip_walk, true, Turn, Uncovers, under_of, unwrap_or, value_of, Walk, Why, word, Writes, writes_by, WritesCall, WritesToo, written_as, zero, ℕ, ◌%◌, ◌&&◌, ◌*◌, ◌+◌, ◌-◌, ◌/◌, ◌==◌, ◌||◌, ◌∙◌, ◌∷◌, ◌≡◌, ◌≤◌, ◌⊎◌}
+use Rattle.machine_rules.proofs.Walks.{[], Advance, advanced, and_parts, answered, answered_by, ap, ap₂, arith, Asks, assigned, AwaitsEvent, backpressure_of, begun_holder, blocking_exit_rule, blocking_exits, blocking_returned, Bool, both_none, BySetHandle, Call, call_ends, CallEnd, Caller, cancel_was_delivered, cancelled, cancelled_rest, cancelled_tells, checked, checked_shifts, Choice, chosen_released, code_exits, code_finds, code_kind_rule, code_rule, code_stops, code_wait_rule, code_waits, code_yields, ComesAgain, Component, component_of, Core, data_rule, DataLabel, DataOp, Delivery, direct_exit_to, direct_exits, direct_return, Doer, end_for, end_reopens, EndCall, ended, ended_halts, ended_last, ended_walks, ends_activation, ends_untold, EndsActivation, EndsByExit, EndsCall, EndsOwn, EndTells, EndPrimitives, exit_label, exit_restores, exit_rule_for, exit_stops, Exits, exits_trip, ExportKind, Fails, false, find_passes, FindsEvent, finish, foot_of, get, get-change, Given, given_code, given_handle, given_result, GivesUp, Goal, goal_of, Continues, GoesBack, Going, Gone, Halted, halted_from, halted_on, handed_as, HandsOut, has_ended, has_event_for, has_ready_member, HasSet, held_by_flag, holder_at_exit, HostPoll, OpProgress, if◌then◌else◌, implicit_exit_rule, inl, InOp, inr, instance_of, is_async_lifted, is_at, is_code_op, is_direct, is_ending_exit, is_exit, is_exit_op, is_explicit, is_guest_call, is_holding, is_mute, is_none, is_other, is_over, is_running, is_under, IsPermutation, IsRunner, join, Keep, keep_at, keep_position, keep_stay, kind_exit_rule, kind_of, Label, lands, last_of, last_shifted, LastEnds, LastPrimitives, Leaves, leaves_no_result, Left, left_gone, left_walk, length, List, Main, Mark, may, may_tell, MayBar, MayEnd, MayOwe, min, Move, moved_to, mute_primitives, nat_le, nat_lt, nat_tests, Never, NoAnswer, None, none_said, NoneHeldIn, not, NoPrimitive, numbers, on_call, on_instance, on_thread, OneEvent, OneNumber, Op, op_at_place, op_in, op_of, OpAnswer, Option, option_map_or, or_never, or_trap, Ordered, outcome_of_label, task_event_of, own_or_none, TaskEvent, OwnScript, passes_after_return, passes_after_stop, passes_check, Place, place_of, placing_shifted, position_of, Progress, Put, ready_same, Records, refl, register_of, release_leaves, released_on, released_shifts, Remains, ret_label, returned, returned_holder, returned_last, returned_rest, returned_tells, ReturnsNow, said_is, saved_own_of, says_by, SaysEnd, Scene, script_of, set_at, set_backpressure, set_do_not_enter, set_do_not_suspend, set_end, set_op_progress, set_place, SetBackpressure, SetDoNotEnter, SetDoNotSuspend, SetOpProgress, SetTaskEvent, SetRegister, SetSavedCallee, Setting, SetMemoryCell, Shifted, shifted, shifted_after, shifted_calls, shifted_ready, shifted_task, shifts_shifted, skip_rule, skipped, Some, SomeHost, spared_released, Status, stay_walk, StillAt, Stop, stopped_on, Stops, stored, subst, Subtask, SubtaskEnd, suc, sym, sync_exit_rule, sync_exits, T, task_cancel_label, task_end, task_of, TaskLabel, TaskOp, TellsNever, Then, Thread, thread_exit_rule, told_spares, told_to, ToldSpares, ToldTo, Trap, trap_if, Traps, Trip, trip_walk, true, Turn, Uncovers, under_of, unwrap_or, value_of, Walk, Why, primitive, Writes, writes_by, WritesCall, WritesToo, written_as, zero, ℕ, ◌%◌, ◌&&◌, ◌*◌, ◌+◌, ◌-◌, ◌/◌, ◌==◌, ◌||◌, ◌∙◌, ◌∷◌, ◌≡◌, ◌≤◌, ◌⊎◌}
 use Rattle.machine_rules.specs.{Finish.set_given, Task.dec_by, Task.held_by_counter, Task.pressure_gone, Task.pressure_lowered, Task.pressure_raised, Task.ret_rule, Task.task_cancel_rule, Task.task_rule}
 
 -- ---- The op in its script
@@ -22,13 +22,13 @@ abbrev pub CanFinish : Doer → Scene → Core → ℕ → Type 0
 CanFinish (OwnScript r) a b n = Stands a b n
 CanFinish SomeHost a b n = (a.turn ≡ Turn.Run n) × StillAt n a.base b
 
--- ---- What a row owes
+-- ---- What a rule owes
 
 -- the scene of a step of the thread n, which runs or was taken
 abbrev pub seen : (ℕ → Op) → Setting → Main → Turn → Core → ℕ → Label → Turn → Scene
 seen ops x main u s n l next = record { setting = x; main = main; turn = u; base = s; runner = Some n; label = l; next = next; ops = ops }
 
--- From b a chain of primitives leads to what the row results in, where that shows the scene's label and leads to its turn.
+-- From b a chain of primitives leads to what the rule results in, where that shows the scene's label and leads to its turn.
 abbrev pub Leads : Scene → Core → Progress → Type 0
 Leads a b (Continues l new m) = a.label ≡ l → a.next ≡ Turn.Run m → Trip a b new × LastPrimitives a new
 Leads a b (Stops l new) = a.label ≡ l → a.next ≡ Turn.Main → Trip a b new × LastPrimitives a new
@@ -105,7 +105,7 @@ unfolding end_reopens
 reopened_shifted i order s = shifts_shifted (released_shifts order (set_do_not_enter i false s))
 
 module _ {a : Scene} {b : Core} (n : ℕ) (is : IsRunner a n) where
-  -- ---- Registers and words
+  -- ---- Registers and memory cells
 
   pub moved_to_walks : (p : ℕ) {t : Core} → a.turn ≡ Turn.Run n → p ≤ length (script_of (component_of a) n a.base) → Keep a b t → Going a b n (moved_to n p t)
   unfolding moved_to
@@ -117,11 +117,11 @@ module _ {a : Scene} {b : Core} (n : ℕ) (is : IsRunner a n) where
 
   pub assigned_walks : Stands a b n → (r v : ℕ) {t : Core} → Keep a b t → Going a b n (assigned n r v t)
   unfolding assigned
-  assigned_walks on r v c = advanced_walks on (word (SetRegister n r v) tt c)
+  assigned_walks on r v c = advanced_walks on (primitive (SetRegister n r v) tt c)
 
   pub set_given_walks : (r : ℕ) (v : Given) {t : Core} → Keep a b t → Keep a b (set_given n r v t)
   unfolding set_given
-  set_given_walks r v c = word (SetRegister n (r + 2) (given_result v)) tt (word (SetRegister n (r + 1) (given_handle v)) tt (word (SetRegister n r (given_code v)) tt c))
+  set_given_walks r v c = primitive (SetRegister n (r + 2) (given_result v)) tt (primitive (SetRegister n (r + 1) (given_handle v)) tt (primitive (SetRegister n r (given_code v)) tt c))
 
   -- the op is done
   pub finished_walks : (d : Doer) → CanFinish d a b n → (answer : OpAnswer) {t : Core} → Keep a b t → Going a b n (finish d n answer t)
@@ -131,7 +131,7 @@ module _ {a : Scene} {b : Core} (n : ℕ) (is : IsRunner a n) where
   finished_walks SomeHost on k {t = t} c = λ to. Then t (SetOpProgress n OpProgress.Fresh) (keep_stay c) (is, InOp (keep_at n on.0 on.1 c) refl)
 
   pub answered_walks : (d : Doer) → CanFinish d a b n → (v : ℕ) {t : Core} → Keep a b t → Going a b n (answered_by d n v t)
-  answered_walks d on v c = finished_walks d on (OneNumber v) (word (SetSavedCallee n None) tt c)
+  answered_walks d on v c = finished_walks d on (OneNumber v) (primitive (SetSavedCallee n None) tt c)
 
   -- ---- Ends
 
@@ -140,7 +140,7 @@ module _ {a : Scene} {b : Core} (n : ℕ) (is : IsRunner a n) where
   unfolding end_reopens held_by_flag set_do_not_enter
   reopens_walks i order {t = t} ok perm c =
       let same = released_on i (λ r. record r { do_not_enter = false }) order t in
-      subst (λ (u : Core). Keep a b u) (sym same) (word (SetDoNotEnter i false) (ok, subst (λ (u : Core). NoneHeldIn i u) same (release_leaves i (set_do_not_enter i false t) order perm)) (shifted (released_shifts order t) c))
+      subst (λ (u : Core). Keep a b u) (sym same) (primitive (SetDoNotEnter i false) (ok, subst (λ (u : Core). NoneHeldIn i u) same (release_leaves i (set_do_not_enter i false t) order perm)) (shifted (released_shifts order t) c))
 
   -- once the task has returned
   sync_exits_walks : (w : Option ℕ) (t : Core) → ToldTo (task_of n t) w (exit_restores n t) → Leaves a n → Keep a b (returned (task_of n t) (register_of n 0 t) w (exit_restores n t)) → Left a b n (sync_exits n w t)
@@ -232,7 +232,7 @@ module _ (ops : ℕ → Op) (x : Setting) (main : Main) (s : Core) (n : ℕ) (l 
 
   -- n goes on
   pub goes_on : (k : Label) (t : Core) → is_still a t k ≡ true → Going a s n t → Leads a s (Continues k t n)
-  goes_on k t still c = let p = and_parts (is_plain s k) (is_mute a t k) still in goes_on_told k t p.0 (λ is to. mute_words a t is p.1) (λ is. c)
+  goes_on k t still c = let p = and_parts (is_plain s k) (is_mute a t k) still in goes_on_told k t p.0 (λ is to. mute_primitives a t is p.1) (λ is. c)
 
   -- no thread goes on
   stops_so : (k : Label) (t : Core) → is_quiet s k ≡ true → (l ≡ k → Leaves a n → EndPrimitives a t) → (l ≡ k → Leaves a n → Trip a s t × (is_exit k ≡ true → get t.threads n ≡ None)) → Leads a s (Stops k t)
@@ -247,7 +247,7 @@ module _ (ops : ℕ → Op) (x : Setting) (main : Main) (s : Core) (n : ℕ) (l 
   stops_here k t still c =
       let r = and_parts (is_plain s k) (is_mute a t k) still in
       let p = and_parts (is_quiet s k) (not (is_exit k)) r.0 in
-      stops_so k t p.0 (λ is leave. mute_words a t is r.1) (λ is leave. (c leave, λ exit. absurd (subst T (sym p.1 ∙ ap not exit) tt)))
+      stops_so k t p.0 (λ is leave. mute_primitives a t is r.1) (λ is leave. (c leave, λ exit. absurd (subst T (sym p.1 ∙ ap not exit) tt)))
 
   -- another thread, which runs now, goes on
   pub goes_over : (k : Label) (m : ℕ) (t : Core) → is_quiet s k ≡ true → (Turn.Run n ≡ Turn.Run m) ⊎ (option_map_or is_running (place_of m t) true ≡ true) → (l ≡ k → EndPrimitives a t) → (l ≡ k → next ≡ Turn.Run m → Trip a s t × (is_exit k ≡ true → get t.threads n ≡ None)) → Leads a s (Continues k t m)
@@ -264,7 +264,7 @@ module _ (ops : ℕ → Op) (x : Setting) (main : Main) (s : Core) (n : ℕ) (l 
 
   pub data_rule_leads : Stands a s n → (o : DataOp) → Leads a s (data_rule x.component n s o)
   unfolding stored
-  data_rule_leads on (DataOp.Store w y) = goes_on _ _ refl (advanced_walks n refl on (word (SetWord (instance_of n s) w (value_of n s y)) tt NoPrimitive))
+  data_rule_leads on (DataOp.Store w y) = goes_on _ _ refl (advanced_walks n refl on (primitive (SetMemoryCell (instance_of n s) w (value_of n s y)) tt NoPrimitive))
   data_rule_leads on (DataOp.SkipEq y z k) = skip_rule_leads on k (value_of n s y == value_of n s z)
   data_rule_leads on o = goes_on _ _ refl (assigned_walks n refl on _ _ NoPrimitive)
 
@@ -282,7 +282,7 @@ module _ (ops : ℕ → Op) (x : Setting) (main : Main) (s : Core) (n : ℕ) (l 
 
   -- an exit that ends no task
   exit_is_none : (t : Core) → is_ending_exit n s ≡ false → l ≡ exit_label n None → EndPrimitives a t
-  exit_is_none t none is = mute_words a t is (grind (arith, none))
+  exit_is_none t none is = mute_primitives a t is (grind (arith, none))
 
   -- an exit that ends the task
   exit_says_end : (w : Option ℕ) (t : Core) → l ≡ exit_label n w → is_explicit n s ≡ false → is_async_lifted (kind_of (task_of n s) s) ≡ false → is_direct (goal_of (task_of n s) s) ≡ false → (u : Core) → is_over (task_of n s) u ≡ true → Walk a u t → EndTells a t (Subtask.Guest (task_of n s)) Status.Returned → EndPrimitives a t
@@ -304,7 +304,7 @@ module _ (ops : ℕ → Op) (x : Setting) (main : Main) (s : Core) (n : ℕ) (l 
       let k = task_of n s in
       let t = exit_restores n s in
       let told = told_to k w s may in
-      let over : l ≡ exit_label n w → Keep a s (call_ends k CallEnd.Returned t) = λ at. word (EndCall k CallEnd.Returned) (exits w t at implicit (inr kind) refl, exit_says s w at implicit (inr kind)) (word (SetDoNotSuspend (instance_of n s) (unwrap_or (saved_own_of n s) false)) tt NoPrimitive) in
+      let over : l ≡ exit_label n w → Keep a s (call_ends k CallEnd.Returned t) = λ at. primitive (EndCall k CallEnd.Returned) (exits w t at implicit (inr kind) refl, exit_says s w at implicit (inr kind)) (primitive (SetDoNotSuspend (instance_of n s) (unwrap_or (saved_own_of n s) false)) tt NoPrimitive) in
       gone_here (exit_label n w) (sync_exits n w s) (exit_is n w s).0
       (λ at leave.
       let says = exit_says s w at implicit (inr kind) in
@@ -328,7 +328,7 @@ module _ (ops : ℕ → Op) (x : Setting) (main : Main) (s : Core) (n : ℕ) (l 
       let lifted : is_async_lifted (kind_of (task_of n s) s) ≡ false = ap (λ y. is_async_lifted y) kind in
       let told : ToldTo k w t = λ is y at. chosen_released order y w (set_do_not_enter i false s) (told_to k w s may (grind (arith, is, same)) y (grind (arith, at, same))) in
       let spare : ToldSpares k w t = λ is y at none m. spared_released order y m (set_do_not_enter i false s) (told_spares k w s may (grind (arith, is, same)) y (grind (arith, at, same)) none m) in
-      let over : l ≡ exit_label n w → Keep a s (call_ends k CallEnd.Returned t) = λ at. word (EndCall k CallEnd.Returned) (exits w t at implicit (inr lifted) same, exit_says s w at implicit (inr lifted)) (reopens_walks n refl i order (bars w at implicit (ap (λ y. is_holding y) kind) direct) perm NoPrimitive) in
+      let over : l ≡ exit_label n w → Keep a s (call_ends k CallEnd.Returned t) = λ at. primitive (EndCall k CallEnd.Returned) (exits w t at implicit (inr lifted) same, exit_says s w at implicit (inr lifted)) (reopens_walks n refl i order (bars w at implicit (ap (λ y. is_holding y) kind) direct) perm NoPrimitive) in
       gone_here (exit_label n w) (blocking_exits n w order s) (exit_is n w s).0
       (λ at leave.
       let says = exit_says s w at implicit (inr lifted) in
@@ -349,13 +349,13 @@ module _ (ops : ℕ → Op) (x : Setting) (main : Main) (s : Core) (n : ℕ) (l 
       (writes_task Status.Returned _ (call_ends (task_of n t) CallEnd.Returned t) (exit_ends None (direct_exits n m v t) implicit (inl direct)) (EndsByExit (n, (refl, (refl, (implicit, inl direct))))) (subst (λ (i : ℕ). is_over k (call_ends i CallEnd.Returned t) ≡ true) (sym task) (over_now k CallEnd.Returned t)) (trip_walk (direct_exits_walks n refl m v t is_so refl over (under_place n m s under) (back at) NoPrimitive).0) (TellsNever k Status.Returned (grind (arith, direct))))
       (λ sub e out. said_is (HandsOut a (direct_exits n m v t)) (sym (ap₂ (λ (f g : Bool). if not f && g then task_end n Status.Returned s else None) implicit direct) ∙ out) (WritesToo k Status.Returned (exit_says s None at implicit (inl direct)) (inl direct))))
       (λ is to.
-      let r = direct_exits_walks n refl m v t is_so refl to (under_place n m s under) (back is) (word (EndCall (task_of n t) CallEnd.Returned) (subst (λ (k : ℕ). MayEnd a k CallEnd.Returned t) (sym task) (exits None t is implicit (inl direct) calls), says is) c) in
+      let r = direct_exits_walks n refl m v t is_so refl to (under_place n m s under) (back is) (primitive (EndCall (task_of n t) CallEnd.Returned) (subst (λ (k : ℕ). MayEnd a k CallEnd.Returned t) (sym task) (exits None t is implicit (inl direct) calls), says is) c) in
       (r.0, λ exit. r.1)) here over
 
   pub direct_exit_to_leads : (k : ExportKind) (o : Option ℕ) → under_of n s ≡ o → is_explicit n s ≡ false → is_direct (goal_of (task_of n s) s) ≡ true → Leads a s (direct_exit_to n k s o)
   unfolding exit_restores set_do_not_suspend on_instance
   direct_exit_to_leads k None under implicit direct = tt
-  direct_exit_to_leads ExportKind.Sync (Some m) under implicit direct = direct_leads m (exit_restores n s) under implicit direct refl refl (word (SetDoNotSuspend (instance_of n s) (unwrap_or (saved_own_of n s) false)) tt NoPrimitive)
+  direct_exit_to_leads ExportKind.Sync (Some m) under implicit direct = direct_leads m (exit_restores n s) under implicit direct refl refl (primitive (SetDoNotSuspend (instance_of n s) (unwrap_or (saved_own_of n s) false)) tt NoPrimitive)
   direct_exit_to_leads k (Some m) under implicit direct =
       let h : Shifted s (checked (instance_of n s) s) = shifts_shifted (checked_shifts (instance_of n s) s) in
       trap_if_leads a s (not (passes_check (instance_of n s) s)) Trap.CannotBlockSyncTask _ (λ e.
@@ -385,8 +385,8 @@ module _ (ops : ℕ → Op) (x : Setting) (main : Main) (s : Core) (n : ℕ) (l 
   code_kind_rule_leads : (k : Label) (low rest : ℕ) → ((t : Core) → is_still a t k ≡ true) → (l ≡ k → MayBar a (instance_of n s) false) → EndsActivation a n → Leads a s (code_kind_rule k n (held_by_flag (instance_of n s) s) s low rest)
   unfolding code_yields
   code_kind_rule_leads k zero rest plain bar ends =
-      code_exits_leads k (and_parts (is_quiet s k) (not (is_exit k)) (and_parts (is_plain s k) (is_mute a s k) (plain s)).0).0 (λ t is. mute_words a t is (and_parts (is_plain s k) (is_mute a t k) (plain t)).1) bar rest
-  code_kind_rule_leads k (suc zero) rest plain bar ends = λ order perm is to. stops_here k (code_yields n order s) (plain _) (λ leave. lands (Put Mark.Low n (Why.Delivery Delivery.Yield)) refl (ComesAgain leave ends refl) tt (word (SetTaskEvent (task_of n s) (own_or_none (task_event_of (task_of n s) s))) (owes (task_event_of (task_of n s) s) refl ends (code_stops n order s)) (code_stops_walks n refl order (bar is) perm leave NoPrimitive).0)) is to
+      code_exits_leads k (and_parts (is_quiet s k) (not (is_exit k)) (and_parts (is_plain s k) (is_mute a s k) (plain s)).0).0 (λ t is. mute_primitives a t is (and_parts (is_plain s k) (is_mute a t k) (plain t)).1) bar rest
+  code_kind_rule_leads k (suc zero) rest plain bar ends = λ order perm is to. stops_here k (code_yields n order s) (plain _) (λ leave. lands (Put Mark.Low n (Why.Delivery Delivery.Yield)) refl (ComesAgain leave ends refl) tt (primitive (SetTaskEvent (task_of n s) (own_or_none (task_event_of (task_of n s) s))) (owes (task_event_of (task_of n s) s) refl ends (code_stops n order s)) (code_stops_walks n refl order (bar is) perm leave NoPrimitive).0)) is to
   code_kind_rule_leads k (suc (suc zero)) rest plain bar ends = or_trap_leads a s (set_at (instance_of n s) rest s) Trap.BadHandle _ (λ y named. code_wait_rule_leads k y (has_event_for (task_of n s) y s) refl plain bar ends (BySetHandle rest named))
   code_kind_rule_leads k (suc (suc (suc low))) rest plain bar ends = tt
 
@@ -435,7 +435,7 @@ module _ (ops : ℕ → Op) (x : Setting) (main : Main) (s : Core) (n : ℕ) (l 
       let k = task_of n s in
       let told = told_to k w s may in
       let is_so = ret_is ops main n v w s in
-      let over : l ≡ ret_label n v w → Keep a s (call_ends k CallEnd.Returned s) = λ is. word (EndCall k CallEnd.Returned) (ReturnsNow n refl refl refl unended (unnot (is_async_lifted (kind_of k s)) lifted) refl, ap (λ (k : Label). written_as ops s k s) is ∙ (is_so s).1.0) NoPrimitive in
+      let over : l ≡ ret_label n v w → Keep a s (call_ends k CallEnd.Returned s) = λ is. primitive (EndCall k CallEnd.Returned) (ReturnsNow n refl refl refl unended (unnot (is_async_lifted (kind_of k s)) lifted) refl, ap (λ (k : Label). written_as ops s k s) is ∙ (is_so s).1.0) NoPrimitive in
       let t = finish d n NoAnswer (returned k v w s) in
       goes_on_told (ret_label n v w) t (is_so s).0
       (λ is to.
@@ -453,7 +453,7 @@ module _ (ops : ℕ → Op) (x : Setting) (main : Main) (s : Core) (n : ℕ) (l 
       let k = task_of n s in
       let told = told_to k w s may in
       let is_so = task_cancel_is ops main n w s in
-      let over : l ≡ task_cancel_label n w → Keep a s (call_ends k CallEnd.ReturnCancelled s) = λ is. word (EndCall k CallEnd.ReturnCancelled) (GivesUp n refl refl refl unended (unnot (cancel_was_delivered k s) delivered) refl, ap (λ (k : Label). written_as ops s k s) is ∙ (is_so s).1.0) NoPrimitive in
+      let over : l ≡ task_cancel_label n w → Keep a s (call_ends k CallEnd.ReturnCancelled s) = λ is. primitive (EndCall k CallEnd.ReturnCancelled) (GivesUp n refl refl refl unended (unnot (cancel_was_delivered k s) delivered) refl, ap (λ (k : Label). written_as ops s k s) is ∙ (is_so s).1.0) NoPrimitive in
       let t = finish d n NoAnswer (cancelled k w s) in
       goes_on_told (task_cancel_label n w) t (is_so s).0
       (λ is to. task_says Status.ReturnCancelled t is (is_so t).1.0 (is_so t).1.1 (grind arith) unended (call_ends k CallEnd.ReturnCancelled s) (over_now k CallEnd.ReturnCancelled s)
@@ -467,8 +467,8 @@ module _ (ops : ℕ → Op) (x : Setting) (main : Main) (s : Core) (n : ℕ) (l 
   dec_leads d on (suc zero) is = λ order perm.
       let i = instance_of n s in
       let same = released_on i (λ r. record r { backpressure = 0 }) order s in
-      goes_on (Label.Task (TaskLabel.BpDec n)) (finish d n NoAnswer (pressure_gone n order s)) refl (finished_walks n refl d on NoAnswer (subst (λ (u : Core). Keep a s u) (sym same) (word (SetBackpressure i 0) (λ none. subst (λ (u : Core). NoneHeldIn i u) same (release_leaves i (set_backpressure i 0 s) order perm)) (shifted (released_shifts order s) NoPrimitive))))
-  dec_leads d on (suc (suc b)) is = goes_on (Label.Task (TaskLabel.BpDec n)) (finish d n NoAnswer (pressure_lowered n s)) refl (finished_walks n refl d on NoAnswer (word (SetBackpressure (instance_of n s) (backpressure_of (instance_of n s) s - 1)) (λ zero. absurd (omega (arith, zero, is))) NoPrimitive))
+      goes_on (Label.Task (TaskLabel.BpDec n)) (finish d n NoAnswer (pressure_gone n order s)) refl (finished_walks n refl d on NoAnswer (subst (λ (u : Core). Keep a s u) (sym same) (primitive (SetBackpressure i 0) (λ none. subst (λ (u : Core). NoneHeldIn i u) same (release_leaves i (set_backpressure i 0 s) order perm)) (shifted (released_shifts order s) NoPrimitive))))
+  dec_leads d on (suc (suc b)) is = goes_on (Label.Task (TaskLabel.BpDec n)) (finish d n NoAnswer (pressure_lowered n s)) refl (finished_walks n refl d on NoAnswer (primitive (SetBackpressure (instance_of n s) (backpressure_of (instance_of n s) s - 1)) (λ zero. absurd (omega (arith, zero, is))) NoPrimitive))
 
   ends_by : (o : TaskOp) → op_in a n ≡ Op.Task o → is_code_op o ≡ true → EndsActivation a n
   ends_by o is code = (refl, ap (λ p. ends_activation p) is ∙ code)
@@ -483,5 +483,5 @@ module _ (ops : ℕ → Op) (x : Setting) (main : Main) (s : Core) (n : ℕ) (l 
   task_rule_leads d ch (TaskOp.CbWait v) on is = code_rule_leads (Label.Task (TaskLabel.CbWait n)) (16 * value_of n s v + 2) (λ t. refl) (λ shows. ap (λ k. returned_holder s k) shows) (ends_by (TaskOp.CbWait v) is refl)
   task_rule_leads d ch (TaskOp.Code v) on is = code_rule_leads (Label.Task (TaskLabel.Code n)) (value_of n s v) (λ t. refl) (λ shows. ap (λ k. returned_holder s k) shows) (ends_by (TaskOp.Code v) is refl)
   task_rule_leads d ch TaskOp.BpInc on is =
-      trap_if_leads a s (nat_le 65535 (backpressure_of (instance_of n s) s)) Trap.BackpressureOverflow _ (λ e. goes_on (Label.Task (TaskLabel.BpInc n)) (finish d n NoAnswer (pressure_raised n s)) refl (finished_walks n refl d (on refl) NoAnswer (word (SetBackpressure (instance_of n s) (backpressure_of (instance_of n s) s + 1)) (λ zero. absurd (omega (arith, zero))) NoPrimitive)))
+      trap_if_leads a s (nat_le 65535 (backpressure_of (instance_of n s) s)) Trap.BackpressureOverflow _ (λ e. goes_on (Label.Task (TaskLabel.BpInc n)) (finish d n NoAnswer (pressure_raised n s)) refl (finished_walks n refl d (on refl) NoAnswer (primitive (SetBackpressure (instance_of n s) (backpressure_of (instance_of n s) s + 1)) (λ zero. absurd (omega (arith, zero))) NoPrimitive)))
   task_rule_leads d ch TaskOp.BpDec on is = dec_leads d (on refl) (backpressure_of (instance_of n s) s) refl

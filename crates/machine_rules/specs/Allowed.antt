@@ -24,9 +24,9 @@ use Rattle.machine_data.specs.declared.records.Thread.{Thread}
 use Rattle.machine_data.specs.declared.records.Why.{Why}
 use Rattle.machine_data.specs.declared.records.WorkCaller.{WorkCaller}
 use Rattle.machine_data.specs.declared.scenario.MainOpDef.{MainOpDef}
-use Rattle.machine_data.specs.declared.words.Mark.{Mark}
-use Rattle.machine_data.specs.declared.words.TaskEvent.{TaskEvent}
-use Rattle.machine_data.specs.declared.words.Status.{Status}
+use Rattle.machine_data.specs.declared.statuses.Mark.{Mark}
+use Rattle.machine_data.specs.declared.statuses.TaskEvent.{TaskEvent}
+use Rattle.machine_data.specs.declared.statuses.Status.{Status}
 use Rattle.machine_rules.specs.Calls.{new_thread, next_thread, next_work}
 use Rattle.machine_rules.specs.Cancels.{aborted_phase, is_callback_wait}
 use Rattle.machine_rules.specs.Ends.{is_told, own_or_none}
@@ -38,10 +38,10 @@ use Rattle.machine_rules.specs.Scenes.{Scene, component_of, op_in}
 use Rattle.machine_rules.specs.Scripts.{HasOpen, export_kind, is_script, registers_for, script_of, slot_at}
 use Rattle.machine_rules.specs.Threads.{resume_why}
 use Rattle.machine_rules.specs.Takes.{starting_is_published}
-use Rattle.machine_rules.specs.Words.{AddGroup, Advance, Restart, CloseSet, CountWork, EndWork, Enter, FinishWork, GoBehind, MakeCall, MakeThread, Move, NameCall, NameWork, OpenSet, Pend, Places, Placing, Pop, Promote, Put, QueueWork, RemoveCall, RemoveGroup, RemoveThread, RemoveWork, SetCallEvent, SetCallJoin, SetCancelDelivered, SetCancelled, SetBackpressure, SetDoNotEnter, EndCall, SetOpProgress, SetTaskEvent, SetPhase, SetStarted, TakeWorkEvent, SetWorkJoin, Stop, TakeHost, TakePush, UnnameCall, UnnameWork, Withdraw, Primitive, status_of_end, GiveResult, SetUninteresting, SetTrapped}
+use Rattle.machine_rules.specs.Primitives.{AddGroup, Advance, Restart, CloseSet, CountWork, EndWork, Enter, FinishWork, GoBehind, MakeCall, MakeThread, Move, NameCall, NameWork, OpenSet, Pend, Places, Placing, Pop, Promote, Put, QueueWork, RemoveCall, RemoveGroup, RemoveThread, RemoveWork, SetCallEvent, SetCallJoin, SetCancelDelivered, SetCancelled, SetBackpressure, SetDoNotEnter, EndCall, SetOpProgress, SetTaskEvent, SetPhase, SetStarted, TakeWorkEvent, SetWorkJoin, Stop, TakeHost, TakePush, UnnameCall, UnnameWork, Withdraw, Primitive, status_of_end, GiveResult, SetUninteresting, SetTrapped}
 use Rattle.machine_rules.specs.Works.{next_polled, has_end, is_ended_work}
 use Rattle.machine_rules.specs.SubtaskEnds.{end_for, written_as, direct_return}
-use Rattle.machine_data.specs.declared.words.Mark.TheVariants as mark
+use Rattle.machine_data.specs.declared.statuses.Mark.TheVariants as mark
 use Rattle.machine_data.specs.declared.label.Label.TheVariants as label
 use Rattle.machine_data.specs.declared.label.LoopLabel.TheVariants as loop_label
 use Rattle.machine_data.specs.declared.label.TaskLabel.TheVariants as task_label
@@ -58,8 +58,8 @@ use Rattle.machine_data.specs.declared.records.Subtask.TheVariants as subtask
 use Rattle.machine_data.specs.declared.records.Turn.TheVariants as turn
 use Rattle.machine_data.specs.declared.records.Why.TheVariants as why
 use Rattle.machine_data.specs.declared.records.WorkCaller.TheVariants as work_caller
-use Rattle.machine_data.specs.declared.words.TaskEvent.TheVariants as own
-use Rattle.machine_data.specs.declared.words.Status.TheVariants as status
+use Rattle.machine_data.specs.declared.statuses.TaskEvent.TheVariants as own
+use Rattle.machine_data.specs.declared.statuses.Status.TheVariants as status
 
 -- ---- The thread that runs or was taken
 
@@ -527,9 +527,9 @@ Releasing i false s = NoneHeldIn i (set_do_not_enter i false s)
 abbrev pub MayCount : ℕ → ℕ → Core → Type 0
 MayCount i c s = c ≡ 0 → NoneHeldIn i (set_backpressure i c s)
 
--- ---- All words
+-- ---- All primitives
 
--- Where the word is done in this step, right after s.
+-- Where the primitive is done in this step, right after s.
 abbrev pub Allowed : Scene → Primitive → Core → Type 0
 Allowed a (Places p) s = MayShift p s ⊎ MayLeave a p s
 Allowed a (Advance n p) s = MayAdvance a n p

@@ -4,7 +4,7 @@ use Rattle.machine_data.specs.declared.records.Subtask.{Subtask}
 use Rattle.machine_rules.specs.Works.{has_end}
 use Rattle.machine_rules.specs.Calls.{next_work}
 use Rattle.machine_rules.specs.SubtaskEnds.{end_for, handed_as, written_as, direct_return, sync_answered}
-use Rattle.machine_data.specs.declared.words.Status.{Status}
+use Rattle.machine_data.specs.declared.statuses.Status.{Status}
 use Rattle.std.specs.Option.{option_map_or}
 use Rattle.std.specs.Prelude.{Bool, None, Option, Some, false, is_some, length, true, ℕ, ◌+◌, ◌==◌, ◌≡◌, ◌≤◌, ◌⊎◌}
 use Rattle.machine_data.specs.Core.{Core, Main, Scripted, State, Unscripted, MainPlace}
@@ -31,15 +31,15 @@ use Rattle.machine_rules.specs.Stalled.{Setting}
 use Rattle.machine_rules.specs.Finish.{SomeHost}
 use Rattle.machine_rules.specs.Step.{Progresses, Step, scripted_op_rule, op_rule}
 use Rattle.machine_rules.specs.Turns.{settled_turn}
-use Rattle.machine_rules.specs.Words.{GoBehind, Move, Places, Placing, RemoveThread, SetOpProgress, Stop, Primitive, after_primitive}
-use Rattle.machine_data.specs.declared.words.Status.TheVariants as status
+use Rattle.machine_rules.specs.Primitives.{GoBehind, Move, Places, Placing, RemoveThread, SetOpProgress, Stop, Primitive, after_primitive}
+use Rattle.machine_data.specs.declared.statuses.Status.TheVariants as status
 use Rattle.machine_data.specs.declared.records.Subtask.TheVariants as subtask
 use Rattle.machine_data.specs.declared.records.OpProgress.TheVariants as op_progress
 use Rattle.machine_data.specs.declared.label.Label.TheVariants as label
 use Rattle.machine_data.specs.declared.label.TakeLabel.TheVariants as take_label
 use Rattle.machine_data.specs.declared.label.LoopLabel.TheVariants as loop_label
 use Rattle.machine_data.specs.declared.records.Join.TheVariants as join
-use Rattle.machine_data.specs.declared.words.Mark.TheVariants as mark
+use Rattle.machine_data.specs.declared.statuses.Mark.TheVariants as mark
 use Rattle.machine_data.specs.declared.records.Place.TheVariants as place
 use Rattle.machine_data.specs.declared.records.Turn.TheVariants as turn
 use Rattle.machine_data.specs.declared.records.WorkCaller.TheVariants as work_caller
@@ -53,7 +53,7 @@ pub data Chain (may : Primitive → Core → Type 0) (b : Core) : Core → Type 
 abbrev pub Walk : Scene → Core → Core → Type 0
 Walk a b t = Chain (Allowed a) b t
 
--- its words while the running thread stays where it is
+-- its primitives while the running thread stays where it is
 abbrev pub Stay : Scene → Core → Core → Type 0
 Stay a b t = Chain (Stays a) b t
 

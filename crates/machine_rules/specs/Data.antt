@@ -7,8 +7,8 @@ use Rattle.machine_data.specs.declared.op.DataOp.TheVariants as data_op
 use Rattle.machine_data.specs.declared.records.OpProgress.TheVariants as op_progress
 use Rattle.machine_data.specs.declared.label.Label.TheVariants as label
 use Rattle.machine_data.specs.Core.{Core}
-use Rattle.machine_data.specs.Read.{instance_of, position_of, register_of, word_of}
-use Rattle.machine_data.specs.Write.{set_op_progress, set_position, set_register, set_word}
+use Rattle.machine_data.specs.Read.{instance_of, position_of, register_of, memory_cell_of}
+use Rattle.machine_data.specs.Write.{set_op_progress, set_position, set_register, set_memory_cell}
 use Rattle.machine_rules.specs.Progress.{Continues, Progress}
 use Rattle.machine_rules.specs.Scripts.{script_of, value_of}
 
@@ -25,7 +25,7 @@ unfoldable pub assigned : ℕ → ℕ → ℕ → Core → Core
 assigned n r v s = advanced n (set_register n r v s)
 
 unfoldable pub stored : ℕ → ℕ → ℕ → Core → Core
-stored n w v s = advanced n (set_word (instance_of n s) w v s)
+stored n w v s = advanced n (set_memory_cell (instance_of n s) w v s)
 
 -- this many ops are passed over, at most to the script's end
 unfoldable pub skipped : Component → ℕ → ℕ → Core → Core
@@ -41,6 +41,6 @@ data_rule c n s (data_op.Add r x) =
     let v = (register_of n r s + value_of n s x) % 2 ^ 64 in
     Continues (label.Data (data_label.Add n v)) (assigned n r v s) n
 data_rule c n s (data_op.Handle r x) = let v = value_of n s x / 16 in Continues (label.Data (data_label.Handle n v)) (assigned n r v s) n
-data_rule c n s (data_op.Load r w) = let v = word_of (instance_of n s) w s in Continues (label.Data (data_label.Load n v)) (assigned n r v s) n
+data_rule c n s (data_op.Load r w) = let v = memory_cell_of (instance_of n s) w s in Continues (label.Data (data_label.Load n v)) (assigned n r v s) n
 data_rule c n s (data_op.Store w x) = let v = value_of n s x in Continues (label.Data (data_label.Store n v)) (stored n w v s) n
 data_rule c n s (data_op.SkipEq x y ops) = skip_rule c n ops s (value_of n s x == value_of n s y)

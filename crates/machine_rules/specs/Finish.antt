@@ -4,8 +4,8 @@ use Rattle.machine_data.specs.Core.{Core}
 use Rattle.machine_data.specs.Statuses.{status_code}
 use Rattle.machine_data.specs.Write.{set_op_progress, set_register}
 use Rattle.machine_data.specs.declared.records.OpProgress.TheVariants as op_progress
-use Rattle.machine_data.specs.declared.words.Given.{Given}
-use Rattle.machine_data.specs.declared.words.Given.TheVariants as given
+use Rattle.machine_data.specs.declared.statuses.Given.{Given}
+use Rattle.machine_data.specs.declared.statuses.Given.TheVariants as given
 use Rattle.machine_rules.specs.Data.{advanced, assigned}
 
 -- What an op that is done answers: nothing, a number, or an event, as its code, its handle and its result.

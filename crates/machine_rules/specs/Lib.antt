@@ -21,7 +21,7 @@ pub mod History
 pub mod SubtaskEnds
 pub mod Once
 pub mod Notices
-pub mod Words
+pub mod Primitives
 pub mod Scenes
 pub mod OpParts
 pub mod Allowed

@@ -7,14 +7,14 @@ use Rattle.machine_data.specs.declared.component.Component.{Component}
 use Rattle.machine_data.specs.declared.component.HostDef.TheVariants as host_def
 use Rattle.machine_data.specs.declared.label.MainLabel.{MainLabel}
 use Rattle.machine_data.specs.declared.scenario.MainOpDef.{MainOpDef}
-use Rattle.machine_data.specs.declared.words.Phase.{Phase}
+use Rattle.machine_data.specs.declared.statuses.Phase.{Phase}
 use Rattle.machine_data.specs.declared.trap.Trap.{Trap}
 use Rattle.machine_data.specs.declared.records.WorkCaller.{WorkCaller}
 use Rattle.machine_data.specs.declared.records.Caller.TheVariants as caller
 use Rattle.machine_data.specs.declared.records.Goal.TheVariants as goal
 use Rattle.machine_data.specs.declared.label.MainLabel.TheVariants as main_label
 use Rattle.machine_data.specs.declared.scenario.MainOpDef.TheVariants as main_op
-use Rattle.machine_data.specs.declared.words.Phase.TheVariants as phase
+use Rattle.machine_data.specs.declared.statuses.Phase.TheVariants as phase
 use Rattle.machine_data.specs.declared.trap.Trap.TheVariants as trap
 use Rattle.machine_data.specs.declared.records.Why.TheVariants as why
 use Rattle.machine_data.specs.declared.records.WorkCaller.TheVariants as work_caller
@@ -113,7 +113,7 @@ main_rule c k s (Answer v) = Answers v
 
 -- ---- What a main may do
 
--- the component has the export, which takes this many words
+-- the component has the export, which takes this many values
 abbrev pub takes_words : Component → Callee → ℕ → Bool
 takes_words c e n = option_map_or (λ d. d.params == n) (export_at c e) false
 
@@ -129,7 +129,7 @@ is_spawn_caller _ = false
 abbrev pub is_spawn : ℕ → Core → Bool
 is_spawn i s = option_map_or (λ w. is_spawn_caller w.caller) (get s.works i) false
 
--- what a main names is there: the export that it starts, with its words, a host, a spawn, an instance; a start that was refused has trapped
+-- what a main names is there: the export that it starts, with its values, a host, a spawn, an instance; a start that was refused has trapped
 -- the store
 abbrev pub may_act : Component → Core → MainAct → Bool
 may_act c s (Start e words) = takes_words c e (length words)

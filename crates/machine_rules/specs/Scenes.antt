@@ -8,13 +8,13 @@ use Rattle.machine_data.specs.declared.label.Label.{Label}
 use Rattle.machine_data.specs.declared.op.Op.{Op}
 use Rattle.machine_data.specs.declared.records.Entry.{Entry}
 use Rattle.machine_data.specs.declared.records.Turn.{Turn}
-use Rattle.machine_data.specs.declared.words.Mark.{Mark}
+use Rattle.machine_data.specs.declared.statuses.Mark.{Mark}
 use Rattle.machine_rules.specs.Scripts.{ops_of}
 use Rattle.machine_rules.specs.Stalled.{Setting}
 use Rattle.machine_rules.specs.Takes.{popped}
 use Rattle.machine_data.specs.declared.records.Turn.TheVariants as turn
 
--- A step as its row sees it: the core that the row reads, in which an entry that is taken has left its mark; the thread that runs or was
+-- A step as its rule sees it: the core that the rule reads, in which an entry that is taken has left its mark; the thread that runs or was
 -- taken; and the turn to which the step leads.
 pub record Scene : Type 0 where
   pub setting : Setting
@@ -38,7 +38,7 @@ abbrev pub thread_of_entry : Option (Mark × Entry) → Option ℕ
 thread_of_entry None = None
 thread_of_entry (Some e) = entry_thread e.1
 
--- the core that the row reads
+-- the core that the rule reads
 abbrev pub base_at : Turn → Core → Core
 base_at (turn.Take ended) s = base_without (next_entry s) s
 base_at _ s = s

@@ -35,7 +35,7 @@ value_of n s x = value_in (registers_of n s) x
 abbrev pub values_in : List ℕ → List Operand → List ℕ
 values_in registers xs = map (value_in registers) xs
 
--- the registers of a thread that is called with these words
+-- the registers of a thread that is called with these values
 abbrev pub registers_for : List ℕ → List ℕ
 registers_for words = words ++ replicate (16 - length words) 0
 

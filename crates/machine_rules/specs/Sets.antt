@@ -1,12 +1,12 @@
 -- The ops on waitable sets.
 use Rattle.std.specs.Prelude.{Bool, None, Option, Some, false, is_none, not, option_and_then, suc, true, unwrap_or, zero, ℕ, ◌&&◌, ◌+◌}
-use Rattle.machine_data.specs.declared.words.Given.{Given}
+use Rattle.machine_data.specs.declared.statuses.Given.{Given}
 use Rattle.machine_data.specs.declared.records.OpProgress.{OpProgress}
 use Rattle.machine_data.specs.declared.records.Join.{Join}
 use Rattle.machine_data.specs.declared.op.SetOp.{SetOp}
-use Rattle.machine_data.specs.declared.words.Status.{Status}
+use Rattle.machine_data.specs.declared.statuses.Status.{Status}
 use Rattle.machine_data.specs.declared.records.Subtask.{Subtask}
-use Rattle.machine_data.specs.declared.words.Given.TheVariants as given
+use Rattle.machine_data.specs.declared.statuses.Given.TheVariants as given
 use Rattle.machine_data.specs.declared.records.OpProgress.TheVariants as op_progress
 use Rattle.machine_data.specs.declared.records.Join.TheVariants as join
 use Rattle.machine_data.specs.declared.label.Label.TheVariants as label
@@ -79,11 +79,11 @@ scripted_set_drop_rule n h s = set_drop_rule (OwnScript 0) n h s
 abbrev pub chosen : ℕ → Choice → Core → Option Subtask
 chosen n ch s = option_and_then (λ h. subtask_at (instance_of n s) h s) ch.member
 
--- what the gift hands out; default: no member chosen
+-- what the picked event hands out; default: no member chosen
 abbrev pub handed_out : Choice → Core → PickedEvent → Given
 handed_out ch s g = given_for g (unwrap_or ch.member 0) s
 
--- the gift is taken, and what it hands out is the answer
+-- the picked event is taken, and what it hands out is the answer
 abbrev pub received_by : Doer → ℕ → PickedEvent → Given → Core → Core
 received_by d n g v s = finish d n (OneEvent v) (taken g (task_of n s) s)
 
@@ -121,7 +121,7 @@ wait_begins_by d n ch s x false =
 abbrev pub wait_begins : ℕ → ℕ → Choice → Core → ℕ → Bool → Progress
 wait_begins n r ch s x b = wait_begins_by (OwnScript r) n ch s x b
 
--- the wake is handed on where the gift is the task event
+-- the wake is handed on where the picked event is the task event
 abbrev pub received_woken_by : Doer → ℕ → ℕ → Option ℕ → PickedEvent → Given → Core → Core
 received_woken_by d n x w g v s = received_by d n g v (handed_on x g w s)
 

@@ -4,8 +4,8 @@ use Rattle.machine_data.specs.declared.component.Component.{Component}
 use Rattle.machine_data.specs.declared.records.Entry.{Entry}
 use Rattle.machine_data.specs.declared.label.Label.{Label}
 use Rattle.machine_data.specs.declared.scenario.MainOpDef.{MainOpDef}
-use Rattle.machine_data.specs.declared.words.HostPoll.{HostPoll}
-use Rattle.machine_data.specs.declared.words.Mark.{Mark}
+use Rattle.machine_data.specs.declared.statuses.HostPoll.{HostPoll}
+use Rattle.machine_data.specs.declared.statuses.Mark.{Mark}
 use Rattle.machine_data.specs.declared.op.Op.{Op}
 use Rattle.machine_data.specs.declared.trap.Trap.{Trap}
 use Rattle.machine_data.specs.declared.records.Turn.{Turn}
@@ -158,7 +158,7 @@ TurnStep x s (turn.Take ended) l t = TakeStep x s (next_entry s.core) l t
 TurnStep x s (turn.Run n) l t = RunStep x.component s n l t
 TurnStep x s turn.Over l t = ⊥
 
--- the same, where each thread has this op, and this one has it done
+-- what a step in this turn is where each thread has this op, and this one has it done
 abbrev pub TurnStepAs : (Op → Doer) → (ℕ → Op) → Setting → State → Turn → Label → State → Type 0
 TurnStepAs by ops x s (turn.Run n) l t = Progresses s s.core n (op_rule (by (ops n)) x.component n s.core (choice_of l) (ops n)) l t
 TurnStepAs by ops x s p l t = TurnStep x s p l t

@@ -3,27 +3,27 @@ use Rattle.std.specs.Option.{option_map_or, option_or}
 use Rattle.std.specs.Prelude.{Bool, None, Option, Some, false, find, if◌then◌else◌, is_none, not, option_and_then, option_map, true, ℕ, ◌&&◌, ◌==◌, ◌||◌}
 use Rattle.machine_data.specs.declared.label.CallLabel.{CallLabel}
 use Rattle.machine_data.specs.declared.component.Component.{Component}
-use Rattle.machine_data.specs.declared.words.Given.{Given}
+use Rattle.machine_data.specs.declared.statuses.Given.{Given}
 use Rattle.machine_data.specs.declared.records.OpProgress.{OpProgress}
 use Rattle.machine_data.specs.declared.label.Label.{Label}
 use Rattle.machine_data.specs.declared.label.LoopLabel.{LoopLabel}
 use Rattle.machine_data.specs.declared.label.MainLabel.{MainLabel}
 use Rattle.machine_data.specs.declared.op.Op.{Op}
 use Rattle.machine_data.specs.declared.label.SetLabel.{SetLabel}
-use Rattle.machine_data.specs.declared.words.Status.{Status}
+use Rattle.machine_data.specs.declared.statuses.Status.{Status}
 use Rattle.machine_data.specs.declared.records.Subtask.{Subtask}
 use Rattle.machine_data.specs.declared.label.TakeLabel.{TakeLabel}
 use Rattle.machine_data.specs.declared.label.TaskLabel.{TaskLabel}
 use Rattle.machine_data.specs.declared.label.CallLabel.TheVariants as call_label
 use Rattle.machine_data.specs.declared.op.CallOp.TheVariants as call_op
-use Rattle.machine_data.specs.declared.words.Given.TheVariants as given
+use Rattle.machine_data.specs.declared.statuses.Given.TheVariants as given
 use Rattle.machine_data.specs.declared.records.OpProgress.TheVariants as op_progress
 use Rattle.machine_data.specs.declared.label.Label.TheVariants as label
 use Rattle.machine_data.specs.declared.label.LoopLabel.TheVariants as loop_label
 use Rattle.machine_data.specs.declared.label.MainLabel.TheVariants as main_label
 use Rattle.machine_data.specs.declared.op.Op.TheVariants as op
 use Rattle.machine_data.specs.declared.label.SetLabel.TheVariants as set_label
-use Rattle.machine_data.specs.declared.words.Status.TheVariants as status
+use Rattle.machine_data.specs.declared.statuses.Status.TheVariants as status
 use Rattle.machine_data.specs.declared.records.Subtask.TheVariants as subtask
 use Rattle.machine_data.specs.declared.label.TakeLabel.TheVariants as take
 use Rattle.machine_data.specs.declared.label.TaskLabel.TheVariants as task_label

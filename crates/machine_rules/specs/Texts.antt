@@ -4,13 +4,13 @@ use Rattle.std.specs.Prelude.{List, [], codes, decimal, ℕ, ◌++◌, ◌∷◌
 use Rattle.machine_data.specs.Moves.{given_own}
 use Rattle.machine_data.specs.declared.label.CallLabel.{CallLabel}
 use Rattle.machine_data.specs.declared.label.DataLabel.{DataLabel}
-use Rattle.machine_data.specs.declared.words.Given.{Given}
+use Rattle.machine_data.specs.declared.statuses.Given.{Given}
 use Rattle.machine_data.specs.declared.label.Label.{Label}
 use Rattle.machine_data.specs.declared.label.LoopLabel.{LoopLabel}
 use Rattle.machine_data.specs.declared.label.MainLabel.{MainLabel}
-use Rattle.machine_data.specs.declared.words.Mark.{Mark}
+use Rattle.machine_data.specs.declared.statuses.Mark.{Mark}
 use Rattle.machine_data.specs.declared.outcome.Outcome.{Outcome}
-use Rattle.machine_data.specs.declared.words.Phase.{Phase}
+use Rattle.machine_data.specs.declared.statuses.Phase.{Phase}
 use Rattle.machine_data.specs.declared.label.SetLabel.{SetLabel}
 use Rattle.machine_data.specs.declared.label.TakeLabel.{TakeLabel}
 use Rattle.machine_data.specs.declared.label.TaskLabel.{TaskLabel}
@@ -21,9 +21,9 @@ use Rattle.machine_data.specs.declared.label.DataLabel.TheVariants as data_label
 use Rattle.machine_data.specs.declared.label.Label.TheVariants as label
 use Rattle.machine_data.specs.declared.label.LoopLabel.TheVariants as loop_label
 use Rattle.machine_data.specs.declared.label.MainLabel.TheVariants as main_label
-use Rattle.machine_data.specs.declared.words.Mark.TheVariants as mark
+use Rattle.machine_data.specs.declared.statuses.Mark.TheVariants as mark
 use Rattle.machine_data.specs.declared.outcome.Outcome.TheVariants as outcome
-use Rattle.machine_data.specs.declared.words.Phase.TheVariants as phase
+use Rattle.machine_data.specs.declared.statuses.Phase.TheVariants as phase
 use Rattle.machine_data.specs.declared.label.SetLabel.TheVariants as set_label
 use Rattle.machine_data.specs.declared.label.TakeLabel.TheVariants as take
 use Rattle.machine_data.specs.declared.label.TaskLabel.TheVariants as task_label
@@ -108,7 +108,7 @@ take_text (take.HostWakes m i w) = wakes (taken_text m (codes " host ") i) w
 abbrev pub op_text : ℕ → List ℕ → List ℕ
 op_text n what = codes "thread " ++ decimal n ++ what
 
--- the same, and a number
+-- `thread N`, what it does, and a number
 abbrev pub answer_text : ℕ → List ℕ → ℕ → List ℕ
 answer_text n what v = op_text n what ++ decimal v
 

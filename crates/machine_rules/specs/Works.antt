@@ -4,15 +4,15 @@ use Rattle.std.specs.Prelude.{Bool, List, None, Option, Some, [], if◌then◌el
 use Rattle.machine_data.specs.declared.records.Course.{Course}
 use Rattle.machine_data.specs.declared.component.HostDef.{HostDef}
 use Rattle.machine_data.specs.declared.component.HostDef.TheVariants as host_def
-use Rattle.machine_data.specs.declared.words.HostPoll.{HostPoll}
-use Rattle.machine_data.specs.declared.words.HostPoll.TheVariants as host_poll
-use Rattle.machine_data.specs.declared.words.Phase.{Phase}
+use Rattle.machine_data.specs.declared.statuses.HostPoll.{HostPoll}
+use Rattle.machine_data.specs.declared.statuses.HostPoll.TheVariants as host_poll
+use Rattle.machine_data.specs.declared.statuses.Phase.{Phase}
 use Rattle.machine_data.specs.declared.records.Work.{Work}
 use Rattle.machine_data.specs.declared.records.WorkCaller.{WorkCaller}
 use Rattle.machine_data.specs.declared.records.Subtask.{Subtask}
 use Rattle.machine_data.specs.declared.records.Course.TheVariants as course
 use Rattle.machine_data.specs.declared.records.Entry.TheVariants as entry
-use Rattle.machine_data.specs.declared.words.Phase.TheVariants as phase
+use Rattle.machine_data.specs.declared.statuses.Phase.TheVariants as phase
 use Rattle.machine_data.specs.declared.records.Stage.TheVariants as stage
 use Rattle.machine_data.specs.declared.records.Subtask.TheVariants as subtask
 use Rattle.machine_data.specs.declared.records.WorkCaller.TheVariants as work_caller

@@ -3,7 +3,7 @@ use Rattle.std.proofs.Common.{refl, subst, sym}
 use Rattle.std.specs.Prelude.{Bool, Err, Ok, false, Result, ℕ, ◌≡◌}
 use Rattle.ops_state.specs.declared.error.TaskError.{TaskError}
 use Rattle.ops_calls.specs.OpAnswers.{answered, has_stopped}
-use Rattle.ops_calls.specs.Asks.{Answers, Did}
+use Rattle.ops_calls.specs.HostOps.{Answers, Did}
 use Rattle.ops_calls.specs.declared.answer_calls.Step.{Step}
 use Rattle.ops_calls.specs.declared.answer_calls.Step.TheVariants as step
 use Rattle.machine_data.specs.Labels.{Choice}

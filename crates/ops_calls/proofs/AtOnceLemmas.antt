@@ -1,9 +1,9 @@
--- The rows of the ops that don't pause.
-use Rattle.machine_data.specs.declared.words.HostPoll.{HostPoll}
+-- The rules of the ops that don't pause.
+use Rattle.machine_data.specs.declared.statuses.HostPoll.{HostPoll}
 use Rattle.std.proofs.Common.{ap}
 use Rattle.std.specs.Prelude.{Bool, List, None, Option, Some, false, nat_le, not, is_some, suc, true, zero, ℕ, ◌==◌, ◌≡◌}
 use Rattle.ops_calls.specs.OpAnswers.{has_stopped}
-use Rattle.ops_calls.specs.Asks.{is_at_once}
+use Rattle.ops_calls.specs.HostOps.{is_at_once}
 use Rattle.machine_data.specs.Core.{Core}
 use Rattle.machine_data.specs.Labels.{Choice, join_label, task_cancel_label}
 use Rattle.machine_data.specs.Moves.{picked_event}

@@ -6,8 +6,8 @@ use Rattle.ops_calls.specs.MethodWakes.{EntersLose, StartsLose}
 use Rattle.laws_order.specs.Given.{given}
 use Rattle.std.proofs.Common.{refl, subst, sym}
 use Rattle.std.specs.Prelude.{Some, [], true, ℕ, ◌≡◌}
-use Rattle.ops_calls.proofs.AskLemmas.{running_is}
-use Rattle.ops_calls.specs.Asks.{Does, CoreInOrderAs}
+use Rattle.ops_calls.proofs.HostOpLemmas.{running_is}
+use Rattle.ops_calls.specs.HostOps.{Does, CoreInOrderAs}
 use Rattle.ops_calls.specs.Directs.{enters_rule}
 use Rattle.laws_states.specs.Order.{is_open}
 use Rattle.machine_data.specs.Core.{Core, Unscripted}

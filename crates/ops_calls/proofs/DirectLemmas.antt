@@ -11,9 +11,9 @@ use Rattle.machine_data.specs.declared.trap.Trap.TheVariants as trap
 use Rattle.machine_rules.specs.Calls.{enter_rule, enter_runs, next_thread}
 use Rattle.machine_rules.specs.Finish.{Doer, SomeHost}
 use Rattle.machine_rules.specs.Scripts.{export_kind}
-use Rattle.ops_calls.proofs.AskLemmas.{current_runs, did_rule, not_stopped}
+use Rattle.ops_calls.proofs.HostOpLemmas.{current_runs, did_rule, not_stopped}
 use Rattle.ops_calls.proofs.AtOnceLemmas.{IsFree, goes_on}
-use Rattle.ops_calls.specs.Asks.{Did}
+use Rattle.ops_calls.specs.HostOps.{Did}
 use Rattle.ops_calls.specs.OpAnswers.{answered, has_stopped}
 use Rattle.ops_calls.specs.declared.answer_calls.Step.TheVariants as step
 use Rattle.ops_dispatch.proofs.OpLemmas.{tags_told, told_names}
@@ -131,10 +131,10 @@ module _ (c : Component) (e : Callee) (words : List ℕ) (x : ExportKind) (kind 
 
   pub enters_on : has_stopped r ≡ false
   enters_on = goes_on (enter_rule (thread_of s id) e x words s.core) s.core r (ended SomeHost (thread_of s id) r t.core)
-      (entering_free full limit (thread_of s id) (next_thread s.core) runs_then) (does.meets SomeHost)
+      (entering_free full limit (thread_of s id) (next_thread s.core) runs_then) (does.implements SomeHost)
 
   enters_met : Implements (enter_rule (thread_of s id) e x words s.core) s.core r t.core
-  enters_met = entering_met full limit (thread_of s id) (next_thread s.core) runs_then s.core SomeHost (thread_of s id) r t.core (does.meets SomeHost)
+  enters_met = entering_met full limit (thread_of s id) (next_thread s.core) runs_then s.core SomeHost (thread_of s id) r t.core (does.implements SomeHost)
 
   pub enters_did : Did (enters_rule c e words s.core) s r t
   enters_did =
@@ -158,7 +158,7 @@ module _ (c : Component) (e : Callee) (words : List ℕ) (x : ExportKind) (kind 
     pub entered_live : 0 < thread_of t to
     entered_live = grind (arith, entered_number)
 
--- ---- The row of the exit, with the register written before
+-- ---- The rule of the exit, with the register written before
 
 -- one that goes on hangs on no core before
 pub goes_base : (p : Progress) (s u t : Core) (l : Label) (m : ℕ) (said : OpAnswer) → Implements p u (op_result.Continues l m said) t → Implements p s (op_result.Continues l m said) t

@@ -1,6 +1,6 @@
 pub mod AnswerLemmas
 pub mod ApartLemmas
-pub mod AskLemmas
+pub mod HostOpLemmas
 pub mod AtOnceLemmas
 pub mod CallLemmas
 pub mod DirectLemmas

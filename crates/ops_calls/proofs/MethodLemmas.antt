@@ -11,8 +11,8 @@ use Rattle.laws_order.specs.Pieces.{ExitKeeps, IsPrepared, KeepsOrder, PrepareKe
 use Rattle.ops_state.specs.declared.error.TaskError.{TaskError}
 use Rattle.std.specs.Prelude.{Err, Ok, Result}
 use Rattle.ops_subtasks.specs.Starts.{call_starts}
-use Rattle.ops_calls.proofs.AskLemmas.{running_is}
-use Rattle.ops_calls.specs.Asks.{Did, Does, CoreInOrderAs, turn_for}
+use Rattle.ops_calls.proofs.HostOpLemmas.{running_is}
+use Rattle.ops_calls.specs.HostOps.{Did, Does, CoreInOrderAs, turn_for}
 use Rattle.ops_calls.specs.OpAnswers.{answered}
 use Rattle.ops_calls.specs.declared.answer_calls.Step.{Step}
 use Rattle.machine_data.specs.declared.op.Op.{Op}
@@ -83,7 +83,7 @@ module _ (c : Component) (n : ℕ) (s t : StateView) (r : Result Bool TaskError)
   promotes (Some m) q = promoted_so m (m == n) (has_yielded m s.core) refl q
 
 module _ (c : Component) (n i : ℕ) (s t : StateView) (r : Result Bool TaskError) (h : Rests c n s) where
-  -- the row of `resume_later`
+  -- the rule of `resume_later`
   abbrev later : Op
   later = Op.Thread (ThreadOp.ResumeLater (Operand.Number i))
 
@@ -141,7 +141,7 @@ returns_keep c n v false s t r h q = refused_so c n s t r h (has_ended (task_of 
 
 -- ---- Direct calls
 
--- What a row that goes on or is refused is, by what it resulted in.
+-- What a rule that goes on or is refused is, by what it resulted in.
 abbrev Met : Progress → Core → OpResult → Type 0
 Met p t (OpResult.Continues l m said) = p ≡ Continues l t m
 Met p t (OpResult.Traps why) = Unit {0}
@@ -195,10 +195,10 @@ module _ (c : Component) (n v : ℕ) (s t : StateView) (h : Rests c n s) (direct
   exits : (r : OpResult) → Does (exits_rule v s.core n) n s r t → InTurn c t
   unfolding ExitKeeps
   exits (OpResult.Continues l m said) does = then_runs c n m t does.running (kept c (Turn.Run n) (Turn.Run m) u t.core
-      (exit_keeps c n m l t.core u implicit is_so fresh (exit_met n (kind_of (task_of n u) u) (under_of n u) u s.core t.core (OpResult.Continues l m said) does.meets)) written)
-  exits (OpResult.Stops l) does = absurd (exit_met n (kind_of (task_of n u) u) (under_of n u) u s.core t.core (OpResult.Stops l) does.meets)
+      (exit_keeps c n m l t.core u implicit is_so fresh (exit_met n (kind_of (task_of n u) u) (under_of n u) u s.core t.core (OpResult.Continues l m said) does.implements)) written)
+  exits (OpResult.Stops l) does = absurd (exit_met n (kind_of (task_of n u) u) (under_of n u) u s.core t.core (OpResult.Stops l) does.implements)
   exits (OpResult.Traps why) does = stays c n s t h does.stays
-  exits (OpResult.Fails i) does = absurd (exit_met n (kind_of (task_of n u) u) (under_of n u) u s.core t.core (OpResult.Fails i) does.meets)
+  exits (OpResult.Fails i) does = absurd (exit_met n (kind_of (task_of n u) u) (under_of n u) u s.core t.core (OpResult.Fails i) does.implements)
 
   does_exit : (r : OpResult) → Did (exits_rule v s.core) s r t → InTurn c t
   does_exit r did = exits r (running_is s n h.runs (λ k. Does (exits_rule v s.core k) k s r t) did)
@@ -225,15 +225,15 @@ module _ (c : Component) (o : Op) (n : ℕ) (e : Callee) (words : List ℕ) (s t
   pub enters : (r : OpResult) → Does (enters_rule c e words s.core n) n s r t → Entered r
   unfolding EnterKeeps
   enters (OpResult.Continues l m said) does =
-      let r = enter_keeps c o e words n m l t.core s.core callee sync plain h.fresh (entered_met (OpResult.Continues l m said) does.meets) h.order.order in
+      let r = enter_keeps c o e words n m l t.core s.core callee sync plain h.fresh (entered_met (OpResult.Continues l m said) does.implements) h.order.order in
       same_there c n s h (given n o (ops_of c t.core)) (Turn.Run m) t.core r.1 r.0
-  enters (OpResult.Stops l) does = absurd (entered_met (OpResult.Stops l) does.meets)
+  enters (OpResult.Stops l) does = absurd (entered_met (OpResult.Stops l) does.implements)
   enters (OpResult.Traps why) does = does.stays
   enters (OpResult.Fails i) does = does.stays
 
   entered_by : (r : OpResult) → Does (enters_rule c e words s.core n) n s r t → KeepsEntered c o n (answered thread_entered r) t
   entered_by (OpResult.Continues l m said) does = subst (λ (k : Option ℕ). CoreInOrderAs (given n o (ops_of c t.core)) c (turn_for k) t.core) (sym does.running) (enters (OpResult.Continues l m said) does)
-  entered_by (OpResult.Stops l) does = absurd (entered_met (OpResult.Stops l) does.meets)
+  entered_by (OpResult.Stops l) does = absurd (entered_met (OpResult.Stops l) does.implements)
   entered_by (OpResult.Traps why) does = stays c n s t h does.stays
   entered_by (OpResult.Fails i) does = stays c n s t h does.stays
 

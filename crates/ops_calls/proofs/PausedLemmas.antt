@@ -7,8 +7,8 @@ use Rattle.laws_order.specs.Given.{HostInstances, given}
 use Rattle.std.proofs.Common.{ap, arith, refl, subst, sym, ◌∙◌}
 use Rattle.std.proofs.lemmas.Bool.Decides.{nat_tests}
 use Rattle.std.specs.Prelude.{Bool, None, Option, Some, false, if◌then◌else◌, is_some, option_map, true, ℕ, ◌==◌, ◌≡◌}
-use Rattle.ops_calls.proofs.AskLemmas.{meets_progresses, running_is}
-use Rattle.ops_calls.specs.Asks.{HasPaused, IsRunningIn, row_at, runs_after, turn_for}
+use Rattle.ops_calls.proofs.HostOpLemmas.{implements_progresses, running_is}
+use Rattle.ops_calls.specs.HostOps.{HasPaused, IsRunningIn, op_rule_at, runs_after, turn_for}
 use Rattle.laws_states.specs.Order.{FitsAs, InOrder, InOrderAs, ThreadFits}
 use Rattle.machine_data.specs.Core.{Core, Main, State, Unscripted}
 use Rattle.machine_data.specs.Labels.{choice_of}
@@ -122,8 +122,8 @@ module _ (c : Component) (s : StateView) (q : IsRunningIn c s) (paused : (i : �
 -- ---- Order
 
 -- it is the op of the thread at its place
-own_given : (c : Component) (n : ℕ) (s : Core) → FitsAs (ops_of c s) c s → FitsAs (given n (op_of c n s) (ops_of c s)) c s
-own_given c n s fits m r at = subst (λ (o : Op). ThreadFits c s o r) (by (m == n) refl) (fits m r at)
+given_task_event : (c : Component) (n : ℕ) (s : Core) → FitsAs (ops_of c s) c s → FitsAs (given n (op_of c n s) (ops_of c s)) c s
+given_task_event c n s fits m r at = subst (λ (o : Op). ThreadFits c s o r) (by (m == n) refl) (fits m r at)
   where
     by : (b : Bool) → (m == n) ≡ b → op_of c m s ≡ (if b then op_of c n s else op_of c m s)
     by true e = let own : m ≡ n = grind (arith, nat_tests, e) in ap (λ (k : ℕ). op_of c k s) own
@@ -143,7 +143,7 @@ own_steps : (x : Setting) (n : ℕ) (s t : State) (l : Label) → s.turn ≡ tur
 own_steps x n s t l at plain other h row =
     let c = x.component in
     let o = op_of c n s.core in
-    let has : InOrderAs (given n o (ops_of c s.core)) c s = with_ops h (own_given c n s.core h.fits) in
+    let has : InOrderAs (given n o (ops_of c s.core)) c s = with_ops h (given_task_event c n s.core h.fits) in
     let walked = host_walk x o n s t l at other row in
     let kept = rule_keeps (λ k. SomeHost) x o n s t l at plain has row walked (op_of c n t.core)
     (λ r b here was is. (same_place (λ k. SomeHost) x o n s t l at plain has row walked r b here was is).1) in
@@ -166,13 +166,13 @@ module _ (c : Component) (n : ℕ) (s t : StateView) (sits : CoreInOrder c (turn
         handles = λ i low. same.handles i ∙ sits.handles i low;
       }
 
-  rule_of_place : (r : OpResult) → Implements (row_at c s.core n (choice_of (label_of n r))) s.core r t.core → is_going r ≡ true → (m : Main) →
+  rule_of_place : (r : OpResult) → Implements (op_rule_at c s.core n (choice_of (label_of n r))) s.core r t.core → is_going r ≡ true → (m : Main) →
       Progresses (before m) s.core n (rule (label_of n r)) (label_of n r) (state_at t.core m (turn_after r))
   rule_of_place r met on m =
       subst (Progresses (before m) s.core n (rule (label_of n r)) (label_of n r)) (settled r s.core m (turn.Run n) t.core)
-      (meets_progresses (before m) n (rule (label_of n r)) r t.core met on)
+      (implements_progresses (before m) n (rule (label_of n r)) r t.core met on)
 
-  pub host_in_order : (r : OpResult) → Implements (row_at c s.core n (choice_of (label_of n r))) s.core r t.core → StaysAfter r s t → CoreInOrder c (turn_for (runs_after n r)) t.core
+  pub host_in_order : (r : OpResult) → Implements (op_rule_at c s.core n (choice_of (label_of n r))) s.core r t.core → StaysAfter r s t → CoreInOrder c (turn_for (runs_after n r)) t.core
   host_in_order (op_result.Continues l m said) met stays = along l (turn.Run m) (rule_of_place (op_result.Continues l m said) met refl)
   host_in_order (op_result.Stops l) met stays = along l turn.Main (rule_of_place (op_result.Stops l) met refl)
   host_in_order (op_result.Traps why) met stays = subst (λ (v : StateView). CoreInOrder c (turn.Run n) v.core) (sym stays) sits

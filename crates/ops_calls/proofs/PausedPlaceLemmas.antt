@@ -1,11 +1,11 @@
 -- A thread keeps its place where a host has its op taken on that had paused.
 use Rattle.std.proofs.Common.{refl}
 use Rattle.std.specs.Prelude.{false, true, ℕ, ◌≡◌}
-use Rattle.ops_calls.proofs.AskLemmas.{if_running_is, running_is}
+use Rattle.ops_calls.proofs.HostOpLemmas.{if_running_is, running_is}
 use Rattle.ops_calls.proofs.PausedLemmas.{begun, can_be_there, unpaused}
-use Rattle.ops_calls.proofs.PlaceLemmas.{asks_leave_in_place}
-use Rattle.ops_calls.specs.Asks.{Does, row_at, scripted_rule_of}
-use Rattle.ops_calls.specs.InPlace.{AsksLeaveInPlace, PausedLeaveInPlace, is_return}
+use Rattle.ops_calls.proofs.PlaceLemmas.{host_ops_leave_in_place}
+use Rattle.ops_calls.specs.HostOps.{Does, op_rule_at, scripted_rule_of}
+use Rattle.ops_calls.specs.InPlace.{HostOpsLeaveInPlace, PausedLeaveInPlace, is_return}
 use Rattle.ops_calls.specs.Shown.{is_finished}
 use Rattle.machine_data.specs.declared.op.CallOp.TheVariants as call_op
 use Rattle.machine_data.specs.declared.op.Op.{Op}
@@ -31,10 +31,10 @@ paused_finished (op.Call (call_op.CancelSync r x)) f can paused = (refl, (refl, 
 paused_finished (op.Call (call_op.Drop x)) f can paused = (refl, (refl, refl))
 
 pub paused_leave_in_place : PausedLeaveInPlace
-unfolding AsksLeaveInPlace PausedLeaveInPlace
+unfolding HostOpsLeaveInPlace PausedLeaveInPlace
 paused_leave_in_place c i r s t q paused did =
     let n = q.number in
     let o = op_of c n s.core in
     let far = paused_finished o (op_progress_of n s.core) (can_be_there c s q (i, paused)) (begun c s q (i, paused)) in
-    let does = running_is s n q.runs (λ k. Does (row_at c s.core k) k s r t) did in
-    asks_leave_in_place c o n r s t q.runs q.order far.0 far.1.0 far.1.1 (if_running_is s n q.runs (λ k. Does (scripted_rule_of c o s.core k) k s r t) does)
+    let does = running_is s n q.runs (λ k. Does (op_rule_at c s.core k) k s r t) did in
+    host_ops_leave_in_place c o n r s t q.runs q.order far.0 far.1.0 far.1.1 (if_running_is s n q.runs (λ k. Does (scripted_rule_of c o s.core k) k s r t) does)

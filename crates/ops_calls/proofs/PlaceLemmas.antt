@@ -5,11 +5,11 @@ use Rattle.std.specs.Prelude.{Bool, None, Option, Result, Some, false, is_some, 
 use Rattle.std.specs.Option.{option_map_or}
 use Rattle.ops_dispatch.specs.ContinuesDispatch.{running_of}
 use Rattle.ops_state.specs.declared.error.TaskError.{TaskError}
-use Rattle.ops_calls.proofs.AskLemmas.{running_is}
+use Rattle.ops_calls.proofs.HostOpLemmas.{running_is}
 use Rattle.ops_dispatch.proofs.LeavesLemmas.{host_leaves_in_place}
-use Rattle.ops_calls.specs.Asks.{Does, scripted_rule_of}
+use Rattle.ops_calls.specs.HostOps.{Does, scripted_rule_of}
 use Rattle.ops_calls.specs.MainCalls.{Returned, Returns}
-use Rattle.ops_calls.specs.InPlace.{AsksLeaveInPlace, CallsItself, HostLeavesInPlace, IsInPlace, IsUnderWay, ReturnsLeaveInPlace, in_script, is_return}
+use Rattle.ops_calls.specs.InPlace.{HostOpsLeaveInPlace, CallsItself, HostLeavesInPlace, IsInPlace, IsUnderWay, ReturnsLeaveInPlace, in_script, is_return}
 use Rattle.machine_data.specs.Core.{Core, Unscripted}
 use Rattle.machine_data.specs.Labels.{Choice, choice_of}
 use Rattle.machine_data.specs.Maps.{get}
@@ -82,12 +82,12 @@ met_in_place n Never s t r h e = absurd e
 met_in_place n (Ordered ns next) s t r h e = met_in_place n (next e.0) s t r (h e.0) e.1.1
 met_in_place n (Asks next) s t r h e = met_in_place n (next e.0) s t r (h e.0) e.1
 
-pub asks_leave_in_place : AsksLeaveInPlace
-unfolding AsksLeaveInPlace HostLeavesInPlace
-asks_leave_in_place c o n r s t run sits finished apart plain d =
+pub host_ops_leave_in_place : HostOpsLeaveInPlace
+unfolding HostOpsLeaveInPlace HostLeavesInPlace
+host_ops_leave_in_place c o n r s t run sits finished apart plain d =
     let does = running_is s n run (λ k. Does (scripted_rule_of c o s.core k) k s r t) d in
     met_in_place n (op_rule SomeHost c n s.core (choice_of (label_of n r)) o) s.core t.core r
-    (host_leaves_in_place c n s.core (choice_of (label_of n r)) o finished apart (is_under_way c n s.core sits) (λ is. absurd (let no = sym is ∙ plain in cc))) does.meets
+    (host_leaves_in_place c n s.core (choice_of (label_of n r)) o finished apart (is_under_way c n s.core sits) (λ is. absurd (let no = sym is ∙ plain in cc))) does.implements
 
 returned_in_place : (n : ℕ) (p : Progress) (s t : StateView) (r : Result (Unit {0}) TaskError) → IsInPlace n (in_script n s.core) p → Returned p s r t → in_script n t.core ≡ in_script n s.core
 returned_in_place n (Continues l new m) s t r h e = ap (λ (v : StateView). in_script n v.core) e.1 ∙ h

@@ -57,8 +57,8 @@ module _ (n h : ℕ) (s t : StateView) (r : OpResult) (tags : t.tags ≡ s.tags)
   later_first e = by_handle (thread_at (instance_of n s.core) h s.core) e
 
 pub later_resumed : (n h : ℕ) (how : ResumeThread) (s t : StateView) (r : OpResult) (x : Result Bool TaskError) → running_of s ≡ Some n → how ≡ resume.ResumeLater → t.tags ≡ s.tags → t.current ≡ s.current → Implements (resume_later_rule SomeHost n h s.core) s.core r t.core → x ≡ or_refused (came_later r) → IfSome (running_of s) (λ k. Resumed (resumed_by how k h s.core) s x t)
-later_resumed n h how s t r x runs later tags current meets is =
-    let first = answered_first (first_in (resume_later_rule SomeHost n h s.core)) s t (came_later r) (later_first n h s t r tags current meets) in
+later_resumed n h how s t r x runs later tags current implements is =
+    let first = answered_first (first_in (resume_later_rule SomeHost n h s.core)) s t (came_later r) (later_first n h s t r tags current implements) in
     subst (λ (o : Option ℕ). IfSome o (λ k. Resumed (resumed_by how k h s.core) s x t)) (sym runs)
     (subst (λ (w : ResumeThread). Resumed (resumed_by w n h s.core) s x t) (sym later)
     (subst (λ (y : Result Bool TaskError). Resumed (resumed_by resume.ResumeLater n h s.core) s y t) (sym is) first))

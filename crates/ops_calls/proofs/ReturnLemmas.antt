@@ -45,7 +45,7 @@ module _ (s t : StateView) (tags : t.tags ≡ s.tags) (current : t.current ≡ s
   traps : (why : Trap) → Implements (Traps why) s.core r t.core → Returned (Traps why) s (answer_of r) t
   traps why h = (ap answer_of h.0, become s.core h.1)
 
-  -- a row that goes on or traps
+  -- a rule that goes on or traps
   row : (a b d : Bool) (x y : Trap) (l : Label) (new : Core) (m : ℕ) → Implements (trap_if a x (trap_if b y (may d (Continues l new m)))) s.core r t.core →
       Returned (trap_if a x (trap_if b y (may d (Continues l new m)))) s (answer_of r) t
   row true b d x y l new m h = traps x h

@@ -6,7 +6,7 @@ use Rattle.ops_dispatch.specs.ContinuesDispatch.{running_of}
 use Rattle.laws_order.specs.Given.{given, host_op}
 use Rattle.std.proofs.Common.{refl}
 use Rattle.std.specs.Prelude.{None, Option, Some, true, ℕ, ◌≡◌}
-use Rattle.ops_calls.specs.Asks.{turn_for}
+use Rattle.ops_calls.specs.HostOps.{turn_for}
 use Rattle.machine_data.specs.Core.{Core, Unscripted}
 use Rattle.machine_data.specs.declared.component.Component.{Component}
 use Rattle.machine_data.specs.declared.op.Op.{Op}

@@ -15,6 +15,8 @@ use Rattle.machine_rules.specs.Ends.{direct_exit_rule}
 use Rattle.machine_rules.specs.Progress.{Progress}
 use Rattle.machine_rules.specs.Scripts.{export_kind}
 use Rattle.core_primitives.specs.StateView.{StateView, thread_of}
+use Rattle.ops_calls.specs.HostOps.{Answers}
+use Rattle.ops_calls.specs.OpAnswers.{at_once}
 
 abbrev pub enters_rule : Component → Callee → List ℕ → Core → ℕ → Choice → Progress
 enters_rule c e words s n ch = enter_rule n e (export_kind c e) words s
@@ -28,6 +30,10 @@ thread_entered _ = 0
 abbrev pub entered : StateView → Result QualifiedThreadId TaskError → Result ℕ TaskError
 entered t (Ok id) = Ok (thread_of t id.thread)
 entered t (Err why) = Err why
+
+-- The running thread called the export directly, and the callee's thread is answered; only where it is out of memory it did nothing.
+abbrev pub AnswersEntered : Component → Callee → (words : List ℕ) → StateView → Result QualifiedThreadId TaskError → StateView → Type 0
+AnswersEntered c e words s r t = Answers true (enters_rule c e words s.core) thread_entered s (at_once (entered t r)) t
 
 -- The thread is the first one of a direct call.
 pub record IsDirect (n : ℕ) (s : Core) : Type 0 where

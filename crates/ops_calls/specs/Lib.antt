@@ -1,5 +1,5 @@
 pub mod OpAnswers
-pub mod Asks
+pub mod HostOps
 pub mod MainCalls
 pub mod Directs
 pub mod InPlace

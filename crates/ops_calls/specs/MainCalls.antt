@@ -39,7 +39,7 @@ abbrev pub answer_of : OpResult → Result (Unit {0}) TaskError
 answer_of (op_result.Traps why) = Err (task_error.Trap why)
 answer_of _ = Ok tt
 
--- A call that is refused changes nothing; else it goes on as the row says.
+-- A call that is refused changes nothing; else it goes on as the rule says.
 abbrev pub Returned : Progress → StateView → Result (Unit {0}) TaskError → StateView → Type 0
 Returned (Continues l new m) s r t = (r ≡ Ok tt) × (t ≡ with_core new s)
 Returned (Traps why) s r t = (r ≡ Err (task_error.Trap why)) × (t ≡ s)

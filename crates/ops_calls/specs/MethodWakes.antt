@@ -3,7 +3,7 @@ use Rattle.ops_calls.specs.Methods.{Rests, hosts_rule}
 use Rattle.laws_order.specs.Pieces.{IsPrepared}
 use Rattle.ops_state.specs.declared.name_calls.QualifiedThreadId.{QualifiedThreadId}
 use Rattle.std.specs.Prelude.{List, None, Option, false, ℕ, ◌≡◌}
-use Rattle.ops_calls.specs.Asks.{Did, scripted_rule_of}
+use Rattle.ops_calls.specs.HostOps.{Did, scripted_rule_of}
 use Rattle.ops_calls.specs.Directs.{enters_rule}
 use Rattle.ops_calls.specs.Prepared.{starts_in}
 use Rattle.machine_data.specs.Read.{is_async_lifted}

@@ -1,13 +1,13 @@
--- What the calls by which a host has the running thread do a piece of a rule, or a row in place of the one at its place, leave in
+-- What the calls by which a host has the running thread do a piece of a rule, or a rule in place of the one at its place, leave in
 -- order.
 use Rattle.ops_dispatch.specs.ContinuesDispatch.{running_of}
-use Rattle.laws_order.specs.Given.{given, host_op, is_asked}
+use Rattle.laws_order.specs.Given.{given, host_op, is_host_op}
 use Rattle.laws_order.specs.Pieces.{IsPrepared}
 use Rattle.ops_state.specs.declared.error.TaskError.{TaskError}
 use Rattle.ops_state.specs.declared.name_calls.QualifiedThreadId.{QualifiedThreadId}
 use Rattle.std.specs.Prelude.{Bool, Err, List, None, Ok, Option, Result, Some, false, is_some, true, ℕ, ◌≡◌}
 use Rattle.ops_calls.specs.OpAnswers.{nothing_answered}
-use Rattle.ops_calls.specs.Asks.{Answers, Did, CoreInOrderAs, scripted_rule_of, turn_in}
+use Rattle.ops_calls.specs.HostOps.{Answers, Did, CoreInOrderAs, scripted_rule_of, turn_in}
 use Rattle.ops_calls.specs.MainCalls.{Returns}
 use Rattle.ops_calls.specs.Directs.{IsDirect, enters_rule, exits_rule, thread_entered}
 use Rattle.ops_calls.specs.PolledCalls.{blocks_rule, polls_rule}
@@ -33,7 +33,7 @@ use Rattle.machine_rules.specs.Scripts.{export_kind, ops_of}
 use Rattle.ops_turns.specs.Turn.{CoreInOrder}
 use Rattle.core_primitives.specs.StateView.{StateView, thread_of, with_core, with_current}
 
--- the row of a call of a host whose first poll found this, with a register for the value, or that waits for it
+-- the rule of a call of a host whose first poll found this, with a register for the value, or that waits for it
 abbrev pub hosts_rule : Option ℕ → FirstPoll → Core → ℕ → Choice → Progress
 hosts_rule (Some q) found s = polls_rule q found s
 hosts_rule None found s = blocks_rule found s
@@ -123,7 +123,7 @@ unfoldable pub HostsKeep : Type 0
 HostsKeep = (c : Component) (found : FirstPoll) (q : Option ℕ) (n : ℕ) (r : OpResult) (s t : StateView) → Rests c n s →
     Did (hosts_rule q found s.core) s r t → KeepsDone c (host_op q) n r t
 
--- where n did an op of is_asked so, which is done whenever it goes on
-unfoldable pub AsksKeep : Type 0
-AsksKeep = (c : Component) (o : Op) (n : ℕ) (r : OpResult) (s t : StateView) → Rests c n s → is_asked o ≡ true →
+-- where n did an op of is_host_op so, which is done whenever it goes on
+unfoldable pub HostOpsKeep : Type 0
+HostOpsKeep = (c : Component) (o : Op) (n : ℕ) (r : OpResult) (s t : StateView) → Rests c n s → is_host_op o ≡ true →
     Did (scripted_rule_of c o s.core) s r t → KeepsDone c o n r t

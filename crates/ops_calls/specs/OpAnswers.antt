@@ -6,7 +6,7 @@ use Rattle.ops_calls.specs.declared.answer_calls.Answer.{Answer}
 use Rattle.ops_calls.specs.declared.answer_calls.Answer.TheVariants as answer
 use Rattle.ops_calls.specs.declared.answer_calls.Step.{Step}
 use Rattle.ops_calls.specs.declared.answer_calls.Step.TheVariants as step
-use Rattle.machine_data.specs.declared.words.Given.{Given}
+use Rattle.machine_data.specs.declared.statuses.Given.{Given}
 use Rattle.ops_guests.specs.declared.op_result.OpResult.{OpResult}
 use Rattle.ops_guests.specs.declared.op_result.OpResult.TheVariants as op_result
 use Rattle.ops_guests.specs.declared.op_result.OpAnswer.{OpAnswer}

@@ -1,5 +1,5 @@
 -- A call that a thread has made, and not begun.
-use Rattle.std.specs.Prelude.{Bool, Err, List, Ok, Result, Some, false, true, ℕ, ◌≡◌}
+use Rattle.std.specs.Prelude.{Bool, Err, List, Ok, Result, Some, false, true, ℕ, ◌≡◌, IfSome, None}
 use Rattle.ops_state.specs.Named.{IsLive}
 use Rattle.ops_state.specs.declared.error.TaskError.{TaskError}
 use Rattle.ops_state.specs.declared.error.TaskError.TheVariants as task_error
@@ -7,7 +7,7 @@ use Rattle.ops_state.specs.declared.name_calls.QualifiedThreadId.{QualifiedThrea
 use Rattle.ops_subtasks.specs.Starts.{call_starts}
 use Rattle.core_primitives.specs.BecomesRecord.{BecomesRecord}
 use Rattle.machine_data.specs.Core.{Core}
-use Rattle.machine_data.specs.Read.{callee_of, kind_of, place_of, task_of, thread_group}
+use Rattle.machine_data.specs.Read.{callee_of, kind_of, place_of, task_of, thread_group, fits}
 use Rattle.machine_data.specs.declared.component.Callee.{Callee}
 use Rattle.machine_data.specs.declared.component.Component.{Component}
 use Rattle.machine_data.specs.declared.records.Caller.TheVariants as caller
@@ -16,9 +16,10 @@ use Rattle.machine_data.specs.declared.records.Goal.TheVariants as goal
 use Rattle.machine_data.specs.declared.records.Place.TheVariants as place
 use Rattle.machine_data.specs.declared.trap.Trap.TheVariants as trap
 use Rattle.ops_guests.specs.Running.{IsRunning}
-use Rattle.machine_rules.specs.Calls.{call_made, next_thread}
+use Rattle.machine_rules.specs.Calls.{call_made, next_thread, call_queues}
 use Rattle.machine_rules.specs.Scripts.{export_kind}
-use Rattle.core_primitives.specs.StateView.{StateView, thread_of}
+use Rattle.core_primitives.specs.StateView.{StateView, thread_of, with_core, with_current}
+use Rattle.ops_turns.specs.Turn.{running_of}
 
 -- where the call's result goes
 abbrev pub goal_for : (async_caller : Bool) → (register : ℕ) → Goal
@@ -45,8 +46,21 @@ Prepares c n e words g s false r t = (r ≡ Err (task_error.Trap trap.TableFull)
 Prepares c n e words g s true (Ok id) t = Prepared c n e words g s t id
 Prepares c n e words g s true (Err why) t = (why ≡ task_error.NoMemory) × (t ≡ s)
 
+-- The running thread has prepared a call so, where three entries fit.
+abbrev pub PreparesHere : Component → Callee → List ℕ → Goal → StateView → Result QualifiedThreadId TaskError → StateView → Type 0
+PreparesHere c e words g s r t = IfSome (running_of s) (λ n. Prepares c n e words g s (fits 3 s.core) r t)
+
 -- the core once the call of the id, whose start is queued, is begun by n
 abbrev pub starts_in : ℕ → QualifiedThreadId → StateView → Core
 starts_in n id s =
     let k = task_of (thread_of s id.thread) s.core in
     call_starts n (thread_of s id.thread) k (callee_of k s.core).instance (kind_of k s.core) s.core
+
+-- The running thread has begun the call of the id, and none runs.
+abbrev pub StartsHere : QualifiedThreadId → StateView → StateView → Type 0
+StartsHere id s t = IfSome (running_of s) (λ n. t ≡ with_current None (with_core (starts_in n id s) s))
+
+-- Both halves, with nothing between them, are an async call: the core is that of a call whose start is queued.
+abbrev pub QueuesAsWhole : QualifiedThreadId → StateView → StateView → Type 0
+QueuesAsWhole id s t = (c : Component) (n : ℕ) (e : Callee) (words : List ℕ) (g : Goal) (before : StateView) → running_of s ≡ Some n →
+    Prepared c n e words g before s id → t.core ≡ call_queues n e (export_kind c e) g words before.core

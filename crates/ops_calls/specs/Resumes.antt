@@ -14,7 +14,7 @@ use Rattle.machine_rules.specs.Progress.{Continues, Progress, Traps}
 use Rattle.machine_rules.specs.Threads.{resume_later_rule}
 use Rattle.core_primitives.specs.StateView.{StateView, with_core}
 
--- a row that goes on or is refused
+-- a rule that goes on or is refused
 abbrev pub first_in : Progress → First
 first_in (Continues l new m) = GoesFirst new
 first_in (Traps why) = Refused why

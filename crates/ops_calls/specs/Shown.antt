@@ -8,7 +8,7 @@ use Rattle.machine_data.specs.declared.label.CallLabel.TheVariants as call_label
 use Rattle.machine_data.specs.declared.label.Label.{Label}
 use Rattle.machine_data.specs.declared.label.Label.TheVariants as label
 use Rattle.machine_data.specs.declared.op.Op.{Op}
-use Rattle.machine_data.specs.declared.words.HostPoll.{HostPoll}
+use Rattle.machine_data.specs.declared.statuses.HostPoll.{HostPoll}
 use Rattle.ops_guests.specs.Shown.{shown}
 use Rattle.ops_guests.specs.declared.op_result.OpAnswer.{OpAnswer}
 use Rattle.ops_guests.specs.declared.op_result.OpAnswer.TheVariants as op_answer

@@ -15,6 +15,10 @@ use Rattle.machine_data.specs.declared.records.Goal.TheVariants as goal
 use Rattle.machine_data.specs.declared.trap.Trap.TheVariants as trap
 use Rattle.machine_rules.specs.Calls.{call_made, next_thread}
 use Rattle.core_primitives.specs.StateView.{Keeps, KeepsWith, StateView, Tags, thread_of}
+use Rattle.machine_data.specs.declared.component.Component.{Component}
+use Rattle.machine_data.specs.declared.records.Turn.{Turn}
+use Rattle.machine_rules.specs.Scripts.{export_kind}
+use Rattle.ops_turns.specs.Turn.{CoreInOrder}
 
 -- the entries of a call: itself, its thread, the thread's sync-call set, and a group where it has no caller
 abbrev pub entries_of : Option QualifiedThreadId → ℕ
@@ -52,3 +56,7 @@ abbrev pub Begins : ExportKind → ℕ → Option QualifiedThreadId → StateVie
 Begins x i f s false r t = (r ≡ Err (task_error.Trap trap.TableFull)) × (t ≡ s)
 Begins x i f s true (Ok id) t = IsBegun x i f s t id
 Begins x i f s true (Err why) t = (why ≡ task_error.NoMemory) × (t ≡ s)
+
+-- Order is kept in each component whose first export of the instance is of this kind.
+abbrev pub TaskKeepsOrder : ExportKind → ℕ → Core → Core → Type 0
+TaskKeepsOrder x i s t = (c : Component) → (p : Turn) → x ≡ export_kind c (first_export i) → CoreInOrder c p s → CoreInOrder c p t

@@ -83,7 +83,7 @@ pub(crate) fn whole_answer(answer: OpAnswer) -> Answer
     }
 }
 
-/// The answer of an op that doesn't stop its strand, or why it was refused.
+/// Returns the answer of an op that doesn't stop its strand, or why it was refused.
 pub(crate) fn at_once(op_result: OpResult) -> Result<OpAnswer, TaskError>
     requires { has_stopped op_result ≡ false }
     ensures { at_once result ≡ answered (λ a. a) op_result }
@@ -96,7 +96,7 @@ pub(crate) fn at_once(op_result: OpResult) -> Result<OpAnswer, TaskError>
     }
 }
 
-/// The answer of an op that is done, or a pause, or why it was refused.
+/// Returns the answer of an op that is done, or a pause, or why it was refused.
 pub(crate) fn stepped(op_result: OpResult) -> Result<Step<OpAnswer>, TaskError>
     ensures { result ≡ answered (λ a. a) op_result }
 {

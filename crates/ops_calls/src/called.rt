@@ -1,10 +1,8 @@
 //! The host that the running thread's op is about to call.
-ghost use Rattle.ops_dispatch.specs.Polls.{polled_host};
 ghost use Rattle.std.specs.Prelude.{◌≡◌, Some, option_map};
-ghost use Rattle.machine_data.specs.Read.{op_progress_of};
 ghost use Rattle.machine_data.specs.declared.records.Turn.TheVariants as turns;
-ghost use Rattle.machine_rules.specs.Scripts.{op_of};
 ghost use Rattle.ops_turns.specs.Turn.{CoreInOrder, running_of};
+ghost use Rattle.ops_calls.specs.HostOps.{polled_here};
 
 use core_primitives::Primitives;
 use machine_data::{Component, HostDef};
@@ -20,7 +18,7 @@ pub fn host_called<W: Primitives>(
 ) -> Option<(u32, HostDef)>
     requires order { CoreInOrder component.now (turns.Run number) (W.view w.now).core }
     requires runs { running_of (W.view w.now) ≡ Some number }
-    ensures { option_map (λ h. h.1) result ≡ polled_host component.now (op_progress_of number (W.view w.now).core) (op_of component.now number (W.view w.now).core) }
+    ensures { option_map (λ h. h.1) result ≡ polled_here component.now number (W.view w.now).core }
 {
     // only the contract speaks of `number`
     let _number = number;

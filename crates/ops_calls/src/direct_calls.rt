@@ -1,10 +1,10 @@
 //! The two halves of a direct call, of a sync or blocking export.
 ghost use Rattle.ops_dispatch.specs.ContinuesDispatch.{given};
-ghost use Rattle.std.specs.Prelude.{◌≡◌, ◌<◌, ◌^◌, IfOk, IfSome, IsSome, false, length, true};
+ghost use Rattle.std.specs.Prelude.{◌≡◌, ◌<◌, ◌^◌, IfOk, IfSome, IsSome, false, length};
 ghost use Rattle.ops_state.specs.Named.{IsLive};
 ghost use Rattle.ops_calls.specs.OpAnswers.{at_once, nothing_answered};
-ghost use Rattle.ops_calls.specs.Asks.{Answers, IsRunningIn};
-ghost use Rattle.ops_calls.specs.Directs.{IsDirect, entered, enters_rule, exits_rule, thread_entered};
+ghost use Rattle.ops_calls.specs.HostOps.{Answers, IsRunningIn};
+ghost use Rattle.ops_calls.specs.Directs.{IsDirect, exits_rule, AnswersEntered};
 ghost use Rattle.machine_data.specs.Read.{is_async_lifted};
 ghost use Rattle.machine_rules.specs.Scripts.{export_at, export_kind};
 ghost use Rattle.ops_turns.specs.Turn.{running_of};
@@ -17,7 +17,7 @@ use ops_guests::{OpResult, exit_direct};
 use ops_state::{QualifiedThreadId, TaskError};
 use ops_subtasks::enter;
 
-/// Returns the first half of a direct call: the callee is made with these words, 0 to 16, as many as it takes, and its thread,
+/// Begins a direct call: the callee is made with these words, 0 to 16, as many as it takes, and its thread,
 /// which is answered, runs on top of the calling one. Refused with trap 18 where its three entries don't fit into the table, and
 /// else with trap 17 if no handle may be given. Where it is refused, or it is out of memory, nothing is changed.
 pub fn enter_call<W: Primitives>(
@@ -31,7 +31,7 @@ pub fn enter_call<W: Primitives>(
     requires there { IsSome (export_at component.now callee) }
     requires words { IfSome (export_at component.now callee) (λ e. length words.now ≡ e.params) }
     requires direct { is_async_lifted (export_kind component.now callee) ≡ false }
-    ensures answers { Answers true (enters_rule component.now callee words.now (W.view w.old).core) thread_entered (W.view w.old) (at_once (entered (W.view w.new) result)) (W.view w.new) }
+    ensures answers { AnswersEntered component.now callee words.now (W.view w.old) result (W.view w.new) }
     ensures live { IfOk result (λ id. IsLive (W.view w.new) id) }
 {
     w.none_is_zero();

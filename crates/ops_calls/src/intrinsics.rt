@@ -2,7 +2,7 @@
 ghost use Rattle.ops_dispatch.specs.Fits.{calls_host, is_data_op, op_fits};
 ghost use Rattle.ops_dispatch.specs.Makes.{takes_memory};
 ghost use Rattle.std.specs.Prelude.{◌≡◌, false, true};
-ghost use Rattle.ops_calls.specs.Asks.{is_at_once};
+ghost use Rattle.ops_calls.specs.HostOps.{is_at_once};
 ghost use Rattle.ops_calls.specs.Intrinsics.{cancel_op, pressure_op, suspension_op};
 ghost use Rattle.machine_data.specs.declared.component.Component.{Component};
 

@@ -3,10 +3,10 @@
 #![tactic(auto)]
 
 mod answer_calls;
-mod asks;
 mod called;
 mod direct_calls;
 mod host_calls;
+mod host_ops;
 mod intrinsics;
 mod methods;
 mod new_task_calls;
@@ -19,14 +19,14 @@ mod untrapped;
 mod wakes;
 
 pub use answer_calls::{Answer, Step};
-pub use asks::{
-    ask_event, ask_nothing, ask_number, begin_event, begin_nothing, begin_number, go_on,
-};
 pub use called::host_called;
 pub use direct_calls::{enter_call, exit_call};
 pub use host_calls::{finish_call, start_call};
+pub use host_ops::{
+    begin_event, begin_nothing, begin_number, go_on, host_op_event, host_op_nothing, host_op_number,
+};
 pub use intrinsics::{ResumeThread, SuspensionTarget, cancel_op, pressure_op, suspension_op};
-pub use methods::{asks_keep, calls_keep, directs_keep, resumes_keep, returns_keep};
+pub use methods::{calls_keep, directs_keep, host_ops_keep, resumes_keep, returns_keep};
 pub use new_task_calls::new_guest_task;
 pub use ops_state::{QualifiedThreadId, TaskError, is_live};
 pub use poll_calls::{block_on_host, poll_host};

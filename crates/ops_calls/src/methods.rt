@@ -1,5 +1,5 @@
 ghost use Rattle.ops_calls.specs.Methods.{EntersKeep, ExitsKeep, PreparesKeep, PreparesMake};
-ghost use Rattle.ops_calls.specs.Methods.{AsksKeep, HostsKeep, OpsKeep, ResumesKeep, ReturnsKeep, StartsKeep};
+ghost use Rattle.ops_calls.specs.Methods.{HostOpsKeep, HostsKeep, OpsKeep, ResumesKeep, ReturnsKeep, StartsKeep};
 
 /// A thread that has another one go on, first or later, by its handle, keeps order, and so does a refusal.
 #[tactic(auto, using(crate::proofs::MethodLemmas::resumes_keep))]
@@ -31,11 +31,11 @@ pub fn calls_keep()
 {}
 
 /// An op that a host has the thread do, but one on registers and memory cells or one that ends an activation, keeps order in which
-/// the thread has that op, wherever the thread is in its script. An op of `is_asked` (no export, no host, no end, not plain), and a
+/// the thread has that op, wherever the thread is in its script. An op of `is_host_op` (no export, no host, no end, not plain), and a
 /// call of a host, which need be none of the component's, leaves the state in order where it is done or refused.
-#[tactic(auto, using(crate::proofs::DidLemmas::ops_keep, crate::proofs::DidLemmas::hosts_keep, crate::proofs::DidLemmas::asks_keep))]
-pub fn asks_keep()
+#[tactic(auto, using(crate::proofs::DidLemmas::ops_keep, crate::proofs::DidLemmas::hosts_keep, crate::proofs::DidLemmas::host_ops_keep))]
+pub fn host_ops_keep()
     ensures op { OpsKeep }
     ensures host { HostsKeep }
-    ensures asked { AsksKeep }
+    ensures asked { HostOpsKeep }
 {}

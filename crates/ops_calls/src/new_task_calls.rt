@@ -1,14 +1,11 @@
 //! Calls whose threads are New.
 ghost use Rattle.std.specs.Prelude.{◌≡◌, ◌<◌, ◌^◌, IfOk, IfSome, IsSome, OnErr, OnOk, true};
 ghost use Rattle.ops_state.specs.Named.{IsLive};
-ghost use Rattle.ops_calls.specs.Tasks.{KeepsFor, Begins, entries_of, first_export, task_made};
+ghost use Rattle.ops_calls.specs.Tasks.{KeepsFor, Begins, entries_of, task_made, TaskKeepsOrder};
 ghost use Rattle.machine_data.specs.Maps.{get};
 ghost use Rattle.machine_data.specs.Read.{fits};
-ghost use Rattle.machine_data.specs.declared.component.Component.{Component};
-ghost use Rattle.machine_data.specs.declared.records.Turn.{Turn};
 ghost use Rattle.machine_rules.specs.Calls.{next_thread};
-ghost use Rattle.machine_rules.specs.Scripts.{export_kind};
-ghost use Rattle.ops_turns.specs.Turn.{CoreInOrder, given};
+ghost use Rattle.ops_turns.specs.Turn.{given};
 ghost use Rattle.core_primitives.specs.StateView.{call_of, thread_of};
 
 use core_primitives::Primitives;
@@ -70,7 +67,7 @@ pub fn new_guest_task<W: Primitives>(
     requires caller { IfSome caller (λ id. IsLive (W.view w.old) id) }
     requires given { given (W.view w.old).core < 2 ^ 61 }
     ensures begins { Begins kind instance caller (W.view w.old) (fits (entries_of caller) (W.view w.old).core) result (W.view w.new) }
-    ensures order { (c : Component) → (p : Turn) → kind ≡ export_kind c (first_export instance) → CoreInOrder c p (W.view w.old).core → CoreInOrder c p (W.view w.new).core }
+    ensures order { TaskKeepsOrder kind instance (W.view w.old).core (W.view w.new).core }
 {
     if !w.fits(entries_for(caller)) {
         return Err(TaskError::Trap(Trap::TableFull));

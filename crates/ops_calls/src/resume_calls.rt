@@ -1,10 +1,10 @@
 //! Another thread goes on, as the running one says.
 ghost use Rattle.std.specs.Prelude.{◌≡◌, IfSome};
-ghost use Rattle.ops_calls.specs.Asks.{IsRunningIn};
+ghost use Rattle.ops_calls.specs.HostOps.{IsRunningIn};
 ghost use Rattle.ops_calls.specs.Resumes.{Resumed, came_later, or_refused, resumed_by};
 ghost use Rattle.ops_turns.specs.Turn.{running_of};
 
-use crate::asks::leave;
+use crate::host_ops::leave;
 use crate::intrinsics::ResumeThread;
 use core_primitives::Primitives;
 use machine_data::{Component, Trap};

@@ -5,7 +5,7 @@ ghost use Rattle.machine_data.specs.declared.records.Turn.{Turn};
 ghost use Rattle.ops_turns.specs.WellFormed.{IsWellFormed};
 ghost use Rattle.ops_turns.specs.Turn.{CoreInOrder, running_of};
 
-use crate::asks::leave;
+use crate::host_ops::leave;
 use core_primitives::Primitives;
 use machine_data::Component;
 use ops_guests::{OpResult, ret, ret_bad};

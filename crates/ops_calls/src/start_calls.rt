@@ -1,16 +1,13 @@
 //! The two halves of a call by a thread whose start is queued.
 ghost use Rattle.ops_dispatch.specs.ContinuesDispatch.{given};
-ghost use Rattle.std.specs.Prelude.{◌≡◌, ◌<◌, ◌^◌, IfSome, IsSome, List, None, Ok, Some, length, ℕ};
-ghost use Rattle.ops_calls.specs.Asks.{IsRunningIn};
-ghost use Rattle.ops_calls.specs.Prepared.{CanStart, Prepared, Prepares, goal_for, starts_in};
-ghost use Rattle.machine_data.specs.Read.{fits};
+ghost use Rattle.std.specs.Prelude.{◌≡◌, ◌<◌, ◌^◌, IfSome, IsSome, None, Ok, Some, length};
+ghost use Rattle.ops_calls.specs.HostOps.{IsRunningIn};
+ghost use Rattle.ops_calls.specs.Prepared.{CanStart, goal_for, PreparesHere, QueuesAsWhole, StartsHere};
 ghost use Rattle.machine_data.specs.declared.component.Callee.{Callee};
 ghost use Rattle.machine_data.specs.declared.component.Component.{Component};
 ghost use Rattle.machine_data.specs.declared.records.Goal.{Goal};
-ghost use Rattle.machine_rules.specs.Calls.{call_queues};
-ghost use Rattle.machine_rules.specs.Scripts.{export_at, export_kind};
+ghost use Rattle.machine_rules.specs.Scripts.{export_at};
 ghost use Rattle.ops_turns.specs.Turn.{running_of};
-ghost use Rattle.core_primitives.specs.StateView.{StateView, with_core, with_current};
 
 use crate::answer_calls::Step;
 use core_primitives::Primitives;
@@ -29,7 +26,7 @@ fn goal_for(async_caller: bool, register: u8) -> Goal
     Goal::Answer
 }
 
-/// Returns the first half: a call by the running thread is made with these words, 0 to 16, as many as the callee takes; its first
+/// Prepares a call by the running thread: it is made with these words, 0 to 16, as many as the callee takes; its first
 /// thread, which is New, is answered. The result of an async caller's call goes to the register. Refused with trap 18 exactly where
 /// its three entries don't fit into the table. Where it is refused, or it is out of memory, nothing is changed.
 pub fn prepare_call<W: Primitives>(
@@ -44,7 +41,7 @@ pub fn prepare_call<W: Primitives>(
     requires few { given (W.view w.old).core < 2 ^ 61 }
     requires there { IsSome (export_at component.now callee) }
     requires words { IfSome (export_at component.now callee) (λ e. length words.now ≡ e.params) }
-    ensures { IfSome (running_of (W.view w.old)) (λ n. Prepares component.now n callee words.now (goal_for async_caller register) (W.view w.old) (fits 3 (W.view w.old).core) result (W.view w.new)) }
+    ensures { PreparesHere component.now callee words.now (goal_for async_caller register) (W.view w.old) result (W.view w.new) }
 {
     w.none_is_zero();
     let Some(from) = w.current() else {
@@ -63,7 +60,7 @@ pub fn prepare_call<W: Primitives>(
     Ok(QualifiedThreadId { task, thread })
 }
 
-/// Returns the second half, of a call that the running thread prepared: its start becomes the switch entry, the flag
+/// Starts a call that the running thread prepared: its start becomes the switch entry, the flag
 /// `do_not_suspend` of an async-typed callee's instance is saved and cleared, and the calling thread goes behind the callee's, as
 /// `call` does where it begins. The strand has stopped, which is answered.
 pub fn start_prepared<W: Primitives>(
@@ -73,8 +70,8 @@ pub fn start_prepared<W: Primitives>(
     requires runs { IsSome (running_of (W.view w.old)) }
     requires prepared { IfSome (running_of (W.view w.old)) (λ n. CanStart n callee (W.view w.old)) }
     ensures answer { result ≡ Ok Step.Pause }
-    ensures starts { IfSome (running_of (W.view w.old)) (λ n. W.view w.new ≡ with_current None (with_core (starts_in n callee (W.view w.old)) (W.view w.old))) }
-    ensures whole { (c : Component) (n : ℕ) (e : Callee) (words : List ℕ) (g : Goal) (s : StateView) → running_of (W.view w.old) ≡ Some n → Prepared c n e words g s (W.view w.old) callee → (W.view w.new).core ≡ call_queues n e (export_kind c e) g words s.core }
+    ensures starts { StartsHere callee (W.view w.old) (W.view w.new) }
+    ensures whole { QueuesAsWhole callee (W.view w.old) (W.view w.new) }
 {
     w.none_is_zero();
     let Some(thread) = w.current() else {

@@ -1,6 +1,6 @@
 -- Calls of hosts, and the works that they make.
 use Rattle.ops_dispatch.proofs.SubtaskRules.{IsQuiet, anybody, enter_quiet}
-use Rattle.ops_dispatch.proofs.RowLemmas.{ShowsAs, here, if_traps}
+use Rattle.ops_dispatch.proofs.RuleLemmas.{ShowsAs, here, if_traps}
 use Rattle.machine_data.specs.Labels.{Choice}
 use Rattle.ops_subtasks.specs.Rules.{begins_call, queues_call}
 use Rattle.std.proofs.Common.{ap, ap₂, refl, sym, ◌∙◌}
@@ -27,7 +27,7 @@ use Rattle.machine_data.specs.declared.records.OpProgress.TheVariants as op_prog
 use Rattle.machine_data.specs.declared.records.Subtask.TheVariants as subtask
 use Rattle.machine_data.specs.declared.trap.Trap.{Trap}
 use Rattle.machine_data.specs.declared.trap.Trap.TheVariants as trap
-use Rattle.machine_data.specs.declared.words.Status.TheVariants as status
+use Rattle.machine_data.specs.declared.statuses.Status.TheVariants as status
 use Rattle.ops_guests.specs.OpResult.{Implements}
 use Rattle.ops_guests.specs.declared.op_result.OpResult.{OpResult}
 use Rattle.machine_rules.specs.Calls.{AtOnce, Failing, FirstPoll, Later, call_begins, call_host_by, call_queues, call_rule, call_sync_begins, call_sync_host_by, call_sync_host_rule, call_sync_host_stops, call_sync_rule, first_polled, host_valued, host_with_handle, next_thread, next_work}

@@ -1,4 +1,4 @@
--- What the row of a cancel is by how far the op has come, and what it shows.
+-- What the rule of a cancel is by how far the op has come, and what it shows.
 use Rattle.ops_dispatch.proofs.Shows.{ShowsAs, here, if_found, if_traps}
 use Rattle.ops_dispatch.specs.Runner.{awaits_end, waits_behind}
 use Rattle.std.proofs.Common.{refl}
@@ -13,7 +13,7 @@ use Rattle.machine_data.specs.declared.records.Join.TheVariants as join
 use Rattle.machine_data.specs.declared.records.Subtask.{Subtask}
 use Rattle.machine_data.specs.declared.records.Subtask.TheVariants as subtask
 use Rattle.machine_data.specs.declared.trap.Trap.TheVariants as trap
-use Rattle.machine_data.specs.declared.words.Status.{Status}
+use Rattle.machine_data.specs.declared.statuses.Status.{Status}
 use Rattle.machine_rules.specs.Cancels as cancels
 use Rattle.machine_rules.specs.Finish.{Doer}
 use Rattle.machine_rules.specs.Cancels.{CancelCase, Mode, after_cancel_by, cancel_aborts_host, cancel_asks, cancel_by, cancel_case, cancel_ended_by, cancel_found_by, cancel_guest_by, cancel_resumed, cancel_rule, cancel_stops, cancel_subtask_by, cancel_unended_by, pauses}

@@ -4,7 +4,7 @@ use Rattle.machine_rules.specs.Data.{data_rule}
 use Rattle.ops_guests.proofs.DoesLemmas.{same_rest}
 use Rattle.machine_data.specs.declared.op.DataOp.{DataOp}
 use Rattle.ops_dispatch.proofs.StayLemmas.{same_stays}
-use Rattle.ops_dispatch.proofs.RowLemmas.{data_shows}
+use Rattle.ops_dispatch.proofs.RuleLemmas.{data_shows}
 use Rattle.ops_dispatch.proofs.GoesLemmasDispatch.{same_goes}
 use Rattle.ops_dispatch.proofs.OpLemmas.{told_names}
 use Rattle.ops_dispatch.proofs.StandsLemmas.{exit_unanswered}
@@ -30,7 +30,7 @@ use Rattle.machine_data.specs.declared.op.Op.TheVariants as op
 use Rattle.machine_data.specs.declared.op.TaskOp.TheVariants as task_op
 use Rattle.machine_data.specs.declared.records.Course.TheVariants as course
 use Rattle.machine_data.specs.declared.records.Work.{Work}
-use Rattle.machine_data.specs.declared.words.HostPoll.{HostPoll}
+use Rattle.machine_data.specs.declared.statuses.HostPoll.{HostPoll}
 use Rattle.ops_guests.proofs.EndedLemmas.{ended_threads, unended}
 use Rattle.ops_guests.specs.OpResult.{Implements}
 use Rattle.ops_guests.specs.Does.{Rule}
@@ -137,8 +137,8 @@ module _ (AreKept : StateView → StateView → Type 0) (rule : Rule) (d : Doer)
   threads_alone : u ≡ with_core (record v.core { threads = (ended d number r v.core).threads }) v
   threads_alone = is_ended ∙ ap (λ (x : Core). with_core x v) (ended_threads d number r v.core)
 
-  pub end_meets : Implements (rule d number (choice_of (label_of number r)) s.core) s.core r u.core
-  end_meets = subst (λ (x : Core). Implements (rule d number (choice_of (label_of number r)) s.core) s.core r x) (sym (ap (λ (w : StateView). w.core) is_ended)) (did.meets d)
+  pub end_implements : Implements (rule d number (choice_of (label_of number r)) s.core) s.core r u.core
+  end_implements = subst (λ (x : Core). Implements (rule d number (choice_of (label_of number r)) s.core) s.core r x) (sym (ap (λ (w : StateView). w.core) is_ended)) (did.implements d)
 
   pub end_stays : StaysAfter r s u
   end_stays = stays_ended d number s v u r is_ended did.stays
@@ -174,7 +174,7 @@ module _ (answer : HostPoll) (c : Component) (o : Op) (id : TableId ThreadKey) (
 
   pub end_op : DidOp answer c o id s done u
   end_op = record {
-    meets = end_meets NamesTold (rule_of c o) (own_script o) id s v u done.op_result did.does over;
+    implements = end_implements NamesTold (rule_of c o) (own_script o) id s v u done.op_result did.does over;
     goes = end_goes NamesTold (rule_of c o) (own_script o) id s v u done.op_result did.does over;
     stays = end_stays NamesTold (rule_of c o) (own_script o) id s v u done.op_result did.does over;
     polls = end_polls;
@@ -184,19 +184,19 @@ module _ (answer : HostPoll) (c : Component) (o : Op) (id : TableId ThreadKey) (
 -- ---- At a script's end
 
 -- an exit leaves nothing to end
-pub exit_meets : (id : TableId ThreadKey) (s t : StateView) (r : OpResult) → DoesOp KeepsTold exits id s r t → Implements (exit_rule (thread_of s id) (choice_of (label_of (thread_of s id) r)).woken s.core) s.core r t.core
-exit_meets id s t r did =
+pub exit_implements : (id : TableId ThreadKey) (s t : StateView) (r : OpResult) → DoesOp KeepsTold exits id s r t → Implements (exit_rule (thread_of s id) (choice_of (label_of (thread_of s id) r)).woken s.core) s.core r t.core
+exit_implements id s t r did =
     let n = thread_of s id in
     let w = (choice_of (label_of n r)).woken in
     let p = exit_rule n w s.core in
-    let met = did.meets SomeHost in
+    let met = did.implements SomeHost in
     subst (λ (x : Core). Implements p s.core r x) (unended p s.core r (ended SomeHost n r t.core) (exit_unanswered n w s.core (is_explicit n s.core)) met SomeHost n t.core) met
 
 -- it did the op that represents the end, which polls no host
 pub exit_op : (answer : HostPoll) (c : Component) (id : TableId ThreadKey) (s t : StateView) (r : OpResult) → DoesOp KeepsTold exits id s r t
     → DidOp answer c (op.Task task_op.Exit) id s (record { op_result = r; polled = None; work = None }) t
 exit_op answer c id s t r did = record {
-  meets = exit_meets id s t r did;
+  implements = exit_implements id s t r did;
   goes = did.goes;
   stays = did.stays;
   polls = record { polled = refl; work = refl; course = tt; none = λ e. inl refl };
@@ -207,10 +207,10 @@ exit_op answer c id s t r did = record {
 
 pub data_op : (answer : HostPoll) (c : Component) (o : DataOp) (id : TableId ThreadKey) (s t : StateView) (r : OpResult) → s.current ≡ Some id → Implements (data_rule c (thread_of s id) s.core o) s.core r t.core → t.tags ≡ s.tags → t.current ≡ s.current
     → DidOp answer c (op.Data o) id s (record { op_result = r; polled = None; work = None }) t
-data_op answer c o id s t r runs meets tags current = record {
-  meets = meets;
-  goes = same_goes id (data_rule c (thread_of s id) s.core o) s t r (data_shows c (thread_of s id) s.core o) meets runs tags current;
-  stays = same_stays (data_rule c (thread_of s id) s.core o) s t r meets tags current;
+data_op answer c o id s t r runs implements tags current = record {
+  implements = implements;
+  goes = same_goes id (data_rule c (thread_of s id) s.core o) s t r (data_shows c (thread_of s id) s.core o) implements runs tags current;
+  stays = same_stays (data_rule c (thread_of s id) s.core o) s t r implements tags current;
   polls = record { polled = refl; work = refl; course = tt; none = λ e. inl refl };
   works = told_names s t (same_rest s t (tags, current)).0;
 }

@@ -30,7 +30,7 @@ still_runs id s t runs current name = ap (option_map (λ i. thread_of t i)) (cur
 pub same_name : (id : TableId ThreadKey) (s t : StateView) → t.tags ≡ s.tags → thread_of t id ≡ thread_of s id
 same_name id s t tags = cc
 
--- an op whose row shows so lets this thread go on, or none
+-- an op whose rule shows so lets this thread go on, or none
 pub rule_goes : (id : TableId ThreadKey) (p : Progress) (s t : StateView) (r : OpResult) (u : Core) → ShowsAs (thread_of s id) p → Implements p s.core r u → s.current ≡ Some id → t.current ≡ s.current → thread_of t id ≡ thread_of s id → OpGoesOn r t
 rule_goes id p s t r u g h runs current name = shown_goes (thread_of s id) r t (shows_of (thread_of s id) p s.core r u g h) (still_runs id s t runs current name)
 
@@ -47,9 +47,9 @@ module _ (AreKept : StateView → StateView → Type 0) (rule : Rule) (id : Tabl
   -- what was kept is what is to be kept, or more
   pub does_op : (WasKept : StateView → StateView → Type 0) → DoesRule WasKept rule id s r t → AreKept s t → t.current ≡ s.current → thread_of t id ≡ thread_of s id → DoesOp AreKept rule id s r t
   does_op WasKept did kept current name = record {
-    meets = did.meets;
+    implements = did.implements;
     named = λ e. name;
-    goes = rule_goes id (rule SomeHost (thread_of s id) (choice_of (label_of (thread_of s id) r)) s.core) s t r (ended SomeHost (thread_of s id) r t.core) shows (did.meets SomeHost) runs current name;
+    goes = rule_goes id (rule SomeHost (thread_of s id) (choice_of (label_of (thread_of s id) r)) s.core) s t r (ended SomeHost (thread_of s id) r t.core) shows (did.implements SomeHost) runs current name;
     stays = did.stays;
     kept = kept;
   }

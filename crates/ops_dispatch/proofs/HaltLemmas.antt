@@ -23,15 +23,15 @@ module _ (n : ℕ) (l : ThreadLabel) (s : Core) where
   nothing_ends d r none is = ap (λ (x : OpResult). ended d n x s) is ∙ ap (λ (a : OpAnswer). ended d n (op_result.Continues (label.Thread l) n a) s) none
 
   -- it was, and is done
-  pub resumed_meets : (d : Doer) (f : OpProgress) (p : Progress) (r : OpResult) → is_resumed f ≡ true → shown_thread l ≡ op_answer.Nothing → r ≡ goes_as (label.Thread l) n → Implements (resumed_by d f n (label.Thread l) s p) s r (ended d n r s)
-  resumed_meets d op_progress.Suspends p r e none is = (is, nothing_ends d r none is)
-  resumed_meets d op_progress.Yields p r e none is = (is, nothing_ends d r none is)
-  resumed_meets d op_progress.Fresh p r e none is = absurd (cc)
-  resumed_meets d (op_progress.Waits x) p r e none is = absurd (cc)
-  resumed_meets d (op_progress.Calls sub) p r e none is = absurd (cc)
-  resumed_meets d (op_progress.Answered v) p r e none is = absurd (cc)
-  resumed_meets d (op_progress.Cancels sub) p r e none is = absurd (cc)
-  resumed_meets d (op_progress.AwaitsEnd sub) p r e none is = absurd (cc)
+  pub resumed_implements : (d : Doer) (f : OpProgress) (p : Progress) (r : OpResult) → is_resumed f ≡ true → shown_thread l ≡ op_answer.Nothing → r ≡ goes_as (label.Thread l) n → Implements (resumed_by d f n (label.Thread l) s p) s r (ended d n r s)
+  resumed_implements d op_progress.Suspends p r e none is = (is, nothing_ends d r none is)
+  resumed_implements d op_progress.Yields p r e none is = (is, nothing_ends d r none is)
+  resumed_implements d op_progress.Fresh p r e none is = absurd (cc)
+  resumed_implements d (op_progress.Waits x) p r e none is = absurd (cc)
+  resumed_implements d (op_progress.Calls sub) p r e none is = absurd (cc)
+  resumed_implements d (op_progress.Answered v) p r e none is = absurd (cc)
+  resumed_implements d (op_progress.Cancels sub) p r e none is = absurd (cc)
+  resumed_implements d (op_progress.AwaitsEnd sub) p r e none is = absurd (cc)
 
   -- it wasn't, and begins
   pub begins_rule : (d : Doer) (f : OpProgress) (p : Progress) → is_resumed f ≡ false → resumed_by d f n (label.Thread l) s p ≡ p

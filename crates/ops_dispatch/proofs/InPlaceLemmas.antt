@@ -30,11 +30,11 @@ use Rattle.machine_data.specs.declared.records.Subtask.TheVariants as subtask
 use Rattle.machine_data.specs.declared.records.Thread.{Thread}
 use Rattle.machine_data.specs.declared.records.Why.{Why}
 use Rattle.machine_data.specs.declared.records.Why.TheVariants as why
-use Rattle.machine_data.specs.declared.words.Given.{Given}
-use Rattle.machine_data.specs.declared.words.Mark.TheVariants as mark
-use Rattle.machine_data.specs.declared.words.TaskEvent.TheVariants as own
-use Rattle.machine_data.specs.declared.words.Status.{Status}
-use Rattle.machine_data.specs.declared.words.Status.TheVariants as status
+use Rattle.machine_data.specs.declared.statuses.Given.{Given}
+use Rattle.machine_data.specs.declared.statuses.Mark.TheVariants as mark
+use Rattle.machine_data.specs.declared.statuses.TaskEvent.TheVariants as own
+use Rattle.machine_data.specs.declared.statuses.Status.{Status}
+use Rattle.machine_data.specs.declared.statuses.Status.TheVariants as status
 use Rattle.ops_guests.proofs.PositionLemmas.{position_register}
 use Rattle.machine_rules.specs.Calls.{call_made, next_thread, settle_group_of, host_valued, work_deleted, work_group}
 use Rattle.machine_rules.specs.Ends.{cancelled, is_told, result_given, returned, told}

@@ -43,9 +43,9 @@ use Rattle.machine_data.specs.declared.records.Why.TheVariants as why
 use Rattle.machine_data.specs.declared.records.WorkCaller.{WorkCaller}
 use Rattle.machine_data.specs.declared.trap.Trap.{Trap}
 use Rattle.machine_data.specs.declared.trap.Trap.TheVariants as trap
-use Rattle.machine_data.specs.declared.words.Given.{Given}
-use Rattle.machine_data.specs.declared.words.Status.{Status}
-use Rattle.machine_data.specs.declared.words.Status.TheVariants as status
+use Rattle.machine_data.specs.declared.statuses.Given.{Given}
+use Rattle.machine_data.specs.declared.statuses.Status.{Status}
+use Rattle.machine_data.specs.declared.statuses.Status.TheVariants as status
 use Rattle.machine_rules.specs.Calls.{AtOnce, Failing, FirstPoll, Later, call_begins, call_clears_flag, call_host_by, call_let_go, call_made, call_queues, call_resumes, call_rule, call_status_by, call_stops, call_sync_begins, call_sync_host_by, call_sync_host_rule, call_sync_host_stops, call_sync_rule, call_sync_status_by, call_sync_stops, call_taken, call_with_handle, enter_runs, first_polled, heard_first, host_with_handle, next_thread, polled_first, put_back, status_found, sync_sets_flag, with_handle, with_thread_handle, work_queued}
 use Rattle.machine_rules.specs.Cancels.{AlreadyEnded, Async, CallbackWaits, CallbackYields, CancelCase, Mode, OtherwiseRuns, StartNotRun, Sync, after_cancel_by, behind_switch, cancel_aborts_host, cancel_asks, cancel_by, cancel_case, cancel_ended_by, cancel_found_by, cancel_goes_behind, cancel_guest_by, cancel_label, cancel_promotes_yield, cancel_resumed, cancel_rule, cancel_stops, cancel_subtask_by, cancel_unended_by, cancel_wakes_callback, drop_by, is_callback_wait, subtask_rule, subtask_settled, unnamed}
 use Rattle.machine_rules.specs.Ends.{may_tell}

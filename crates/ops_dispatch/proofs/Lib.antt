@@ -1,7 +1,7 @@
 pub mod Shows
 pub mod GoesLemmas
 pub mod CancelLemmas
-pub mod RowLemmas
+pub mod RuleLemmas
 pub mod GoesLemmasDispatch
 pub mod StayLemmas
 pub mod SubtaskRules

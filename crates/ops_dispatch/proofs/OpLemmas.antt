@@ -1,6 +1,6 @@
 -- The running thread's ops, from what they did.
 use Rattle.ops_dispatch.proofs.GoesLemmas.{RuleShows, does_op, same_op}
-use Rattle.ops_dispatch.proofs.RowLemmas.{ShowsAs, StopsAs, if_traps, stops_goes}
+use Rattle.ops_dispatch.proofs.RuleLemmas.{ShowsAs, StopsAs, if_traps, stops_goes}
 use Rattle.ops_dispatch.proofs.SubtaskRules.{IsQuiet, anybody}
 use Rattle.ops_dispatch.specs.ContinuesDispatch.{DoesOp, OpGoesOn}
 use Rattle.std.proofs.Common.{ap, arith, inl, inr, refl, subst, sym, ◌∙◌}
@@ -14,7 +14,7 @@ use Rattle.machine_data.specs.declared.component.ExportKind.TheVariants as kind
 use Rattle.machine_data.specs.declared.trap.Trap.{Trap}
 use Rattle.machine_data.specs.declared.trap.Trap.TheVariants as trap
 use Rattle.ops_guests.proofs.DoesLemmas.{does_rule, same_rest}
-use Rattle.ops_guests.proofs.EndedLemmas.{IsUnanswered, meets_ended, undue}
+use Rattle.ops_guests.proofs.EndedLemmas.{IsUnanswered, implements_ended, undue}
 use Rattle.ops_subtasks.specs.Named.{LosesCall, LosesWork}
 use Rattle.machine_data.specs.Maps.{get}
 use Rattle.ops_guests.specs.OpResult.{IsCurrent, Implements}
@@ -50,7 +50,7 @@ pub told_names : (s t : StateView) → KeepsTold s t → NamesTold s t
 told_names s t k = ((λ id live. inl (k.0 id live)), k.1)
 
 pub named_op : (rule : Rule) (id : TableId ThreadKey) (s t : StateView) (r : OpResult) → DoesOp KeepsTold rule id s r t → DoesOp NamesTold rule id s r t
-named_op rule id s t r did = record { meets = did.meets; named = did.named; goes = did.goes; stays = did.stays; kept = told_names s t did.kept }
+named_op rule id s t r did = record { implements = did.implements; named = did.named; goes = did.goes; stays = did.stays; kept = told_names s t did.kept }
 
 -- each id that named something names it still
 pub tags_told : (s t : StateView) → KeepsTags s t → KeepsTold s t
@@ -94,16 +94,16 @@ work_told i s t gone k = ((λ id live. by_number (work_of s id) i _ (λ e. inr (
 -- a call of a host, whose rule has asked what the host answers
 pub asked_op : (own rule : Rule) (id : TableId ThreadKey) (s t : StateView) (r : OpResult) → RuleShows own id s r → s.current ≡ Some id → 0 < thread_of s id → DoesRule KeepsNames own id s r t
     → ((d : Doer) → Implements (rule d (thread_of s id) (choice_of (label_of (thread_of s id) r)) s.core) s.core r (ended d (thread_of s id) r t.core)) → DoesOp NamesTold rule id s r t
-asked_op own rule id s t r shows runs live did meets =
+asked_op own rule id s t r shows runs live did implements =
     let o = does_op NamesTold own id s t r shows runs KeepsNames did (told_names s t (tags_told s t did.kept.0)) did.kept.1 (did.kept.0.threads id live) in
-    record { meets = meets; named = o.named; goes = o.goes; stays = o.stays; kept = o.kept }
+    record { implements = implements; named = o.named; goes = o.goes; stays = o.stays; kept = o.kept }
 
 -- ---- By another name of the rule
 
 module _ (AreKept : StateView → StateView → Type 0) (rule other : Rule) (id : TableId ThreadKey) (s t : StateView) (r : OpResult) where
   pub scripted_op_rule : DoesOp AreKept rule id s r t → ((d : Doer) → other d (thread_of s id) (choice_of (label_of (thread_of s id) r)) s.core ≡ rule d (thread_of s id) (choice_of (label_of (thread_of s id) r)) s.core) → DoesOp AreKept other id s r t
   scripted_op_rule did alike = record {
-    meets = λ d. subst (λ (p : Progress). Implements p s.core r (ended d (thread_of s id) r t.core)) (sym (alike d)) (did.meets d);
+    implements = λ d. subst (λ (p : Progress). Implements p s.core r (ended d (thread_of s id) r t.core)) (sym (alike d)) (did.implements d);
     named = did.named;
     goes = did.goes;
     stays = did.stays;
@@ -112,7 +112,7 @@ module _ (AreKept : StateView → StateView → Type 0) (rule other : Rule) (id 
 
 -- ---- Ends of threads and of activations
 
--- a row after which no thread goes on answers nothing
+-- a rule after which no thread goes on answers nothing
 pub stops_unanswered : (p : Progress) → StopsAs p → IsUnanswered p
 stops_unanswered (Continues l new m) h = absurd h.0
 stops_unanswered (Stops l new) h = tt
@@ -122,19 +122,19 @@ stops_unanswered Never h = tt
 stops_unanswered (Ordered ns next) h = λ order. stops_unanswered (next order) (h order)
 stops_unanswered (Asks next) h = λ answer. stops_unanswered (next answer) (h answer)
 
--- the row is the same whoever has it done
-module _ (p : Progress) (id : TableId ThreadKey) (s t : StateView) (r : OpResult) (meets : Implements p s.core r t.core) (stays : StaysAfter r s t) (kept : KeepsTold s t) where
+-- the rule is the same whoever has it done
+module _ (p : Progress) (id : TableId ThreadKey) (s t : StateView) (r : OpResult) (implements : Implements p s.core r t.core) (stays : StaysAfter r s t) (kept : KeepsTold s t) where
   pub rule_op : IsUnanswered p → OpGoesOn r t → DoesOp KeepsTold (λ d n ch c. p) id s r t
   rule_op none goes = record {
-    meets = λ d. meets_ended p s.core r t.core none meets d (thread_of s id);
-    named = λ due. absurd (let e = undue p s.core r t.core none meets in let h = sym e ∙ due in cc);
+    implements = λ d. implements_ended p s.core r t.core none implements d (thread_of s id);
+    named = λ due. absurd (let e = undue p s.core r t.core none implements in let h = sym e ∙ due in cc);
     goes = goes;
     stays = stays;
     kept = kept;
   }
 
   pub stops_op : StopsAs p → DoesOp KeepsTold (λ d n ch c. p) id s r t
-  stops_op stops = rule_op (stops_unanswered p stops) (stops_goes t p s.core r t.core stops meets)
+  stops_op stops = rule_op (stops_unanswered p stops) (stops_goes t p s.core r t.core stops implements)
 
 -- ---- The end of a direct call
 
@@ -160,7 +160,7 @@ direct_quiet n kind.Blocking s (Some m) = quiet_trap (not (passes_check (instanc
 direct_quiet n kind.Stackful s (Some m) = quiet_trap (not (passes_check (instance_of n s) s)) trap.CannotBlockSyncTask _ (tt, refl)
 direct_quiet n kind.Callback s (Some m) = quiet_trap (not (passes_check (instance_of n s) s)) trap.CannotBlockSyncTask _ (tt, refl)
 
--- what came of a row that shows so gives no outcome
+-- what came of a rule that shows so gives no outcome
 abbrev pub CameQuiet : OpResult → Type 0
 CameQuiet (op_result.Continues l m said) = outcome_of_label l ≡ None
 CameQuiet (op_result.Stops l) = outcome_of_label l ≡ None
@@ -189,4 +189,4 @@ quiet_goes p s r u t g h runs = current_goes r t (came_quiet p s r u g h) runs
 
 -- it did what its rule says, and each id that named something names it still
 pub made_op : (rule : Rule) (id : TableId ThreadKey) (s t : StateView) (r : OpResult) → 0 < thread_of s id → OpGoesOn r t → DoesRule KeepsTags rule id s r t → DoesOp KeepsTold rule id s r t
-made_op rule id s t r live goes did = record { meets = did.meets; named = λ due. did.kept.threads id live; goes = goes; stays = did.stays; kept = tags_told s t did.kept }
+made_op rule id s t r live goes did = record { implements = did.implements; named = λ due. did.kept.threads id live; goes = goes; stays = did.stays; kept = tags_told s t did.kept }

@@ -1,5 +1,5 @@
--- What a row shows: the thread goes on or none does, and the label gives no outcome.
-use Rattle.machine_data.specs.declared.words.HostPoll.{HostPoll}
+-- What a rule shows: the thread goes on or none does, and the label gives no outcome.
+use Rattle.machine_data.specs.declared.statuses.HostPoll.{HostPoll}
 use Rattle.ops_dispatch.specs.Continues.{OpGoesOn, Shows}
 use Rattle.std.proofs.Common.{subst, sym}
 use Rattle.std.specs.Prelude.{Bool, List, None, Option, Some, false, true, ℕ, ◌≡◌}

@@ -2,7 +2,7 @@
 use Rattle.ops_dispatch.proofs.InPlaceLemmas.{at_done, same_place}
 use Rattle.ops_dispatch.proofs.LeavesLemmas.{ops_leave_places}
 use Rattle.ops_dispatch.proofs.OpLemmas.{direct_unanswered, stops_unanswered}
-use Rattle.ops_dispatch.proofs.RowLemmas.{blocking_exit_stops, code_stops, sync_exit_stops, thread_exit_stops}
+use Rattle.ops_dispatch.proofs.RuleLemmas.{blocking_exit_stops, code_stops, sync_exit_stops, thread_exit_stops}
 use Rattle.ops_dispatch.specs.Fits.{is_data_op, op_fits}
 use Rattle.ops_dispatch.specs.ContinuesDispatch.{DoesOp}
 use Rattle.ops_dispatch.specs.InPlace.{AnswerKind, KeepsPlace, LeavesPlace, OpsLeavePlaces, answers_of, answers_so, in_script, is_finished, may_answer}
@@ -134,7 +134,7 @@ module _ (AreKept : StateView → StateView → Type 0) (c : Component) (o : Op)
       by true e = refl
       by false e = absurd (
           let ch = choice_of (label_of number r) in
-          let none = undue (op_rule SomeHost c number s.core ch o) s.core r (ended SomeHost number r t.core) (unfinished SomeHost c number s.core ch o other e) (did.meets SomeHost) in
+          let none = undue (op_rule SomeHost c number s.core ch o) s.core r (ended SomeHost number r t.core) (unfinished SomeHost c number s.core ch o other e) (did.implements SomeHost) in
           let h = sym none ∙ due in
           cc)
 
@@ -145,13 +145,13 @@ module _ (AreKept : StateView → StateView → Type 0) (c : Component) (o : Op)
   -- it is no farther in its script
   pub stands_below : position_of (thread_of t id) t.core ≤ position_of number s.core
   stands_below =
-      let p = met_below (KeepsPlace number s.core o) (answers_of o) number s.core _ r (ended SomeHost number r t.core) leaves (did.meets SomeHost) in
+      let p = met_below (KeepsPlace number s.core o) (answers_of o) number s.core _ r (ended SomeHost number r t.core) leaves (did.implements SomeHost) in
       let q = same_place number t.core (ended SomeHost number r t.core) (ended_place number r t.core) in
       let m = ap (λ (k : ℕ). position_of k t.core) (did.named due) in
       grind (arith, p, q, m)
 
   said_due : answers_so (answers_of o) r ≡ true
-  said_due = met_said (KeepsPlace number s.core o) (answers_of o) number s.core _ r (ended SomeHost number r t.core) leaves (did.meets SomeHost)
+  said_due = met_said (KeepsPlace number s.core o) (answers_of o) number s.core _ r (ended SomeHost number r t.core) leaves (did.implements SomeHost)
 
 -- it answers what such an op may answer
 pub answers_right : (AreKept : StateView → StateView → Type 0) (c : Component) (o : Op) (id : TableId ThreadKey) (s t : StateView) (r : OpResult) → is_data_op o ≡ false → DoesOp AreKept (rule_of c o) id s r t → answers_so (answers_of o) r ≡ true

@@ -1,8 +1,8 @@
--- What the rows of ops on subtasks show.
+-- What the rules of ops on subtasks show.
 use Rattle.machine_rules.specs.Scripts.{value_of}
 use Rattle.std.proofs.Common.{refl}
 use Rattle.std.specs.Prelude.{List, None, Option, Some, is_some, not, ℕ, ◌≡◌}
-use Rattle.ops_dispatch.proofs.RowLemmas.{ShowsAs, ShowsFor, drop_set_shows, here, if_found, if_lawful, if_traps, new_set_shows, poll_shows, two_traps, waiting_shows}
+use Rattle.ops_dispatch.proofs.RuleLemmas.{ShowsAs, ShowsFor, drop_set_shows, here, if_found, if_lawful, if_traps, new_set_shows, poll_shows, two_traps, waiting_shows}
 use Rattle.machine_data.specs.Core.{Core}
 use Rattle.machine_data.specs.Labels.{Choice, join_label}
 use Rattle.machine_data.specs.Moves.{passes_check}
@@ -17,8 +17,8 @@ use Rattle.machine_data.specs.declared.op.SetOp.{SetOp}
 use Rattle.machine_data.specs.declared.op.SetOp.TheVariants as set_op
 use Rattle.machine_data.specs.declared.records.Subtask.{Subtask}
 use Rattle.machine_data.specs.declared.trap.Trap.TheVariants as trap
-use Rattle.machine_data.specs.declared.words.Status.{Status}
-use Rattle.machine_data.specs.declared.words.Status.TheVariants as status
+use Rattle.machine_data.specs.declared.statuses.Status.{Status}
+use Rattle.machine_data.specs.declared.statuses.Status.TheVariants as status
 use Rattle.machine_rules.specs.Calls.{AtOnce, Failing, FirstPoll, Later, answered_by, call_host_by, call_resumes, call_status_by, call_sync_host_by, call_sync_host_stops, call_sync_status_by, call_sync_stops, call_with_handle, enter_rule, enter_runs, host_with_handle, next_thread, next_work}
 use Rattle.machine_rules.specs.Cancels.{drop_by, drop_rule}
 use Rattle.machine_rules.specs.Finish.{Doer, NoAnswer, OneNumber, finish}

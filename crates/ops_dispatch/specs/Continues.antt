@@ -1,5 +1,5 @@
 -- Which thread goes on after an op or a taking.
-use Rattle.std.specs.Prelude.{None, Option, Some, option_map, true, ℕ, ◌+◌, ◌≡◌}
+use Rattle.std.specs.Prelude.{None, Option, Some, option_map, true, ℕ, ◌+◌, ◌≡◌, IfOk, Result}
 use Rattle.machine_data.specs.Core.{Core}
 use Rattle.machine_data.specs.Labels.{choice_of}
 use Rattle.machine_data.specs.Read.{op_progress_of}
@@ -16,6 +16,8 @@ use Rattle.machine_rules.specs.Outcome.{outcome_of_label}
 use Rattle.task_table.specs.declared.id.TableId.{TableId}
 use Rattle.task_wait.specs.declared.keys.ThreadKey.{ThreadKey}
 use Rattle.core_primitives.specs.StateView.{StateView, thread_of}
+use Rattle.machine_data.specs.declared.memory.NoMemory.{NoMemory}
+use Rattle.ops_guests.specs.Works.{NamesTold}
 
 -- the number of the thread that runs
 abbrev pub running_of : StateView → Option ℕ
@@ -37,7 +39,7 @@ Shows n _ = Unit {0}
 -- until then the thread is named as it was. A thread that goes on runs, a trap has changed nothing, and of the names that much is kept.
 pub record DoesOp (AreKept : StateView → StateView → Type 0) (rule : Rule) (id : TableId ThreadKey) (s : StateView) (r : OpResult)
     (t : StateView) : Type 0 where
-  pub meets : (d : Doer) → Implements (rule d (thread_of s id) (choice_of (label_of (thread_of s id) r)) s.core) s.core r
+  pub implements : (d : Doer) → Implements (rule d (thread_of s id) (choice_of (label_of (thread_of s id) r)) s.core) s.core r
       (ended d (thread_of s id) r t.core)
   pub named : ends_op r ≡ true → thread_of t id ≡ thread_of s id
   pub goes : OpGoesOn r t
@@ -51,3 +53,7 @@ cancels_here mode h d n ch s = cancel_rule d mode n h s (op_progress_of n s)
 -- how many threads, works, sets and groups were made
 abbrev pub given : Core → ℕ
 given s = s.made.threads + s.made.works + s.made.sets + s.made.groups
+
+-- unless it is out of memory the running thread did an op as its rule says; the ids of works name what they named, but those that are gone
+abbrev pub DoesIfOk : Rule → TableId ThreadKey → StateView → Result OpResult NoMemory → StateView → Type 0
+DoesIfOk rule id s result t = IfOk result (λ op_result. DoesOp NamesTold rule id s op_result t)

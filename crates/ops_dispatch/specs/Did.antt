@@ -1,4 +1,4 @@
--- What an op came to that the thread's script had it do, and that was ended.
+-- What an op resulted in that the thread's script had it do, and that was ended.
 use Rattle.std.specs.Prelude.{length, ℕ, ◌<◌, ◌≡◌}
 use Rattle.ops_dispatch.specs.ContinuesDispatch.{OpGoesOn}
 use Rattle.ops_dispatch.specs.Polls.{Polls}
@@ -8,7 +8,7 @@ use Rattle.machine_data.specs.Labels.{choice_of}
 use Rattle.machine_data.specs.Read.{op_progress_of, position_of}
 use Rattle.machine_data.specs.declared.component.Component.{Component}
 use Rattle.machine_data.specs.declared.op.Op.{Op}
-use Rattle.machine_data.specs.declared.words.HostPoll.{HostPoll}
+use Rattle.machine_data.specs.declared.statuses.HostPoll.{HostPoll}
 use Rattle.ops_guests.specs.OpResult.{Implements}
 use Rattle.ops_guests.specs.Stays.{StaysAfter}
 use Rattle.ops_guests.specs.Steps.{label_of}
@@ -31,7 +31,7 @@ StandsBefore end c n s = (position_of n s < end) × (length (script_of c n s) �
 
 -- The op was done and ended: t is what its rule says, a thread that goes on runs, and what polled is so.
 pub record DidOp (answer : HostPoll) (c : Component) (o : Op) (id : TableId ThreadKey) (s : StateView) (done : Done) (t : StateView) : Type 0 where
-  pub meets : Implements (scripted_rule_of c o id s done.op_result) s.core done.op_result t.core
+  pub implements : Implements (scripted_rule_of c o id s done.op_result) s.core done.op_result t.core
   pub goes : OpGoesOn done.op_result t
   pub stays : StaysAfter done.op_result s t
   pub polls : Polls answer c (op_progress_of (thread_of s id) s.core) o s done t

@@ -17,7 +17,7 @@ use Rattle.machine_data.specs.declared.op.ThreadOp.{ThreadOp}
 use Rattle.machine_data.specs.declared.op.ThreadOp.TheVariants as thread_op
 use Rattle.machine_data.specs.declared.records.Caller.TheVariants as caller
 use Rattle.machine_data.specs.declared.records.Subtask.TheVariants as subtask
-use Rattle.machine_data.specs.declared.words.HostPoll.{HostPoll}
+use Rattle.machine_data.specs.declared.statuses.HostPoll.{HostPoll}
 use Rattle.ops_guests.specs.Shown.{shown}
 use Rattle.ops_guests.specs.declared.op_result.OpResult.{OpResult}
 use Rattle.ops_guests.specs.declared.op_result.OpResult.TheVariants as op_result
@@ -120,7 +120,7 @@ may_answer k (op_answer.Value v) = false
 may_answer AnEvent (op_answer.Event g) = true
 may_answer k (op_answer.Event g) = false
 
--- the same of what the op resulted in
+-- this of what the op resulted in
 abbrev pub answers_so : AnswerKind → OpResult → Bool
 answers_so k (op_result.Continues l m said) = may_answer k said
 answers_so k _ = true

@@ -1,5 +1,5 @@
 -- Which ops may take memory, and which make something.
-use Rattle.std.specs.Prelude.{Bool, false, true}
+use Rattle.std.specs.Prelude.{Bool, false, true, None, ℕ, ◌<◌, ◌^◌, ◌≡◌}
 use Rattle.machine_data.specs.declared.op.CallOp.TheVariants as call_op
 use Rattle.machine_data.specs.declared.op.Op.{Op}
 use Rattle.machine_data.specs.declared.op.Op.TheVariants as op
@@ -8,6 +8,10 @@ use Rattle.machine_data.specs.declared.op.ThreadOp.TheVariants as thread_op
 use Rattle.machine_data.specs.declared.records.OpProgress.{OpProgress}
 use Rattle.machine_data.specs.declared.records.OpProgress.TheVariants as op_progress
 use Rattle.machine_data.specs.declared.records.Subtask.TheVariants as subtask
+use Rattle.machine_data.specs.Core.{Core}
+use Rattle.machine_data.specs.Read.{op_progress_of}
+use Rattle.ops_dispatch.specs.Continues.{given}
+use Rattle.ops_dispatch.specs.Runner.{called_call, given_answer}
 
 -- The calls, `set_new` and `thread_new` may take memory. No other op does, and so none answers that it is out of memory.
 abbrev pub takes_memory : Op → Bool
@@ -26,3 +30,7 @@ makes (op_progress.Calls (subtask.Guest k)) (op.Call (call_op.CallSync r e xs)) 
 makes (op_progress.Calls (subtask.Host i)) (op.Call (call_op.CallSyncHost r h)) = false
 makes (op_progress.Answered v) (op.Call (call_op.CallSync r e xs)) = false
 makes h o = takes_memory o
+
+-- The thread, where its call of an export isn't made and it was given no answer, can make the call: new numbers fit.
+abbrev pub HasNumbersForCall : ℕ → Core → Type 0
+HasNumbersForCall n s = given_answer (op_progress_of n s) ≡ None → called_call (op_progress_of n s) ≡ None → given s < 2 ^ 61

@@ -1,5 +1,5 @@
 -- The host that an op polls first, and the work that it makes.
-use Rattle.std.specs.Prelude.{None, Option, Some, option_map, ℕ, ◌≡◌, ◌⊎◌}
+use Rattle.std.specs.Prelude.{None, Option, Some, option_map, ℕ, ◌≡◌, ◌⊎◌, IfOk, Result}
 use Rattle.ops_dispatch.specs.ContinuesDispatch.{DoesOp}
 use Rattle.ops_dispatch.specs.Rules.{rule_of}
 use Rattle.ops_dispatch.specs.declared.done.Done.{Done}
@@ -12,7 +12,7 @@ use Rattle.machine_data.specs.declared.component.HostDef.{HostDef}
 use Rattle.machine_data.specs.declared.op.CallOp.TheVariants as call_op
 use Rattle.machine_data.specs.declared.op.Op.{Op}
 use Rattle.machine_data.specs.declared.op.Op.TheVariants as op
-use Rattle.machine_data.specs.declared.words.HostPoll.{HostPoll}
+use Rattle.machine_data.specs.declared.statuses.HostPoll.{HostPoll}
 use Rattle.machine_data.specs.declared.records.OpProgress.{OpProgress}
 use Rattle.machine_data.specs.declared.records.OpProgress.TheVariants as op_progress
 use Rattle.machine_data.specs.declared.records.Subtask.TheVariants as subtask
@@ -23,6 +23,8 @@ use Rattle.task_table.specs.declared.id.TableId.{TableId}
 use Rattle.task_wait.specs.declared.keys.HostTaskKey.{HostTaskKey}
 use Rattle.task_wait.specs.declared.keys.ThreadKey.{ThreadKey}
 use Rattle.core_primitives.specs.StateView.{StateView, thread_of, work_of}
+use Rattle.machine_data.specs.declared.memory.NoMemory.{NoMemory}
+use Rattle.machine_data.specs.declared.op.CallOp.{CallOp}
 
 -- what an op that has come so far polls first: a host that it calls now
 abbrev pub polled_host : Component → OpProgress → Op → Option HostDef
@@ -30,6 +32,10 @@ polled_host c h (op.Call (call_op.CallHost r q i)) = Some (host_at c i)
 polled_host c (op_progress.Calls (subtask.Host j)) (op.Call (call_op.CallSyncHost r i)) = None
 polled_host c h (op.Call (call_op.CallSyncHost r i)) = Some (host_at c i)
 polled_host c h o = None
+
+-- what an op of the thread polls first, by how far the thread has come in it
+abbrev pub polled_by : Component → TableId ThreadKey → StateView → Op → Option HostDef
+polled_by c id s o = polled_host c (op_progress_of (thread_of s id) s.core) o
 
 abbrev pub made_work : HostPoll → Option HostDef → OpResult → Core → Option ℕ
 made_work answer None r s = None
@@ -51,3 +57,7 @@ pub record DoesPolled (answer : HostPoll) (c : Component) (o : Op) (id : TableId
   where
     pub does : DoesOp NamesTold (rule_of c o) id s done.op_result t
     pub polls : Polls answer c (op_progress_of (thread_of s id) s.core) o s done t
+
+-- unless it is out of memory the call of a host was done so, whichever register it has for its answer
+abbrev pub DoesHostCall : HostPoll → Component → (call : ℕ → CallOp) → TableId ThreadKey → StateView → Result Done NoMemory → StateView → Type 0
+DoesHostCall answer c call id s result t = IfOk result (λ done. (r : ℕ) → DoesPolled answer c (op.Call (call r)) id s done t)

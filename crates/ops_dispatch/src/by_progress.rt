@@ -36,7 +36,7 @@ fn awaiting<W: Primitives>(w: &W, thread: ThreadId) -> Option<SubtaskId>
 
 /// Does the op `cancel R X`, or `cancel_sync R X` if it is sync, of the running thread, by how far it has come: it begins, or goes
 /// on where it was resumed behind its callee, or once its subtask ended. It is `cancel_rule` of the machine, by whoever has it
-/// done, takes no memory, and refuses nothing: where the row traps, `Traps` says which trap.
+/// done, takes no memory, and refuses nothing: where the rule traps, `Traps` says which trap.
 pub fn cancels<W: Primitives>(w: &mut W, thread: ThreadId, handle: u64, sync: bool) -> OpResult
     requires runner { Runner thread (W.view w.old) }
     ensures does { DoesOp KeepsTold (cancels_here (mode_of sync) handle) thread (W.view w.old) result (W.view w.new) }

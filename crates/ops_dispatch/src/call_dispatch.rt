@@ -1,8 +1,8 @@
 //! The ops on subtasks, as they begin or resumed inside them.
 ghost use Rattle.ops_dispatch.specs.Fits.{HasInstances, call_op_fits, is_host_call};
 ghost use Rattle.ops_dispatch.specs.ContinuesDispatch.{DoesOp, cancels_here, given};
-ghost use Rattle.ops_dispatch.specs.Makes.{makes, takes_memory};
-ghost use Rattle.ops_dispatch.specs.Polls.{DoesPolled, polled_host};
+ghost use Rattle.ops_dispatch.specs.Makes.{makes, takes_memory, HasNumbersForCall};
+ghost use Rattle.ops_dispatch.specs.Polls.{DoesPolled, DoesHostCall, polled_by};
 ghost use Rattle.ops_dispatch.specs.Rules.{calls_here, calls_in_sync, rule_of};
 ghost use Rattle.ops_dispatch.specs.RunnerDispatch.{Runner, UnderWay, called_call, called_work, given_answer};
 ghost use Rattle.std.specs.Option.{option_map_or};
@@ -14,6 +14,7 @@ ghost use Rattle.machine_data.specs.declared.op.CallOp.{CallOp};
 ghost use Rattle.machine_data.specs.declared.op.Op.TheVariants as ops;
 ghost use Rattle.ops_guests.specs.Works.{NamesTold};
 ghost use Rattle.core_primitives.specs.StateView.{call_of, thread_of, work_of};
+ghost use Rattle.ops_dispatch.specs.Continues.{DoesIfOk};
 
 use crate::cancels;
 use crate::done::{Done, plain};
@@ -76,7 +77,7 @@ fn call<W: Primitives>(
     requires there { IsSome (get (W.view w.old).core.instances callee.instance) }
     requires handles { is_some (get (W.view w.old).core.handles (instance_of (thread_of (W.view w.old) thread) (W.view w.old).core)) ≡ true }
     requires few { called_call (op_progress_of (thread_of (W.view w.old) thread) (W.view w.old).core) ≡ None → given (W.view w.old).core < 2 ^ 61 }
-    ensures does { IfOk result (λ op_result. DoesOp NamesTold (calls_here component.now register callee params.now) thread (W.view w.old) op_result (W.view w.new)) }
+    ensures does { DoesIfOk (calls_here component.now register callee params.now) thread (W.view w.old) result (W.view w.new) }
     ensures err { OnErr result (W.view w.new ≡ W.view w.old) }
 {
     if let Some(call) = called(w, thread) {
@@ -104,7 +105,7 @@ fn begins_sync<W: Primitives>(
     requires few { given (W.view w.old).core < 2 ^ 61 }
     requires unanswered { given_answer (op_progress_of (thread_of (W.view w.old) thread) (W.view w.old).core) ≡ None }
     requires uncalled { called_call (op_progress_of (thread_of (W.view w.old) thread) (W.view w.old).core) ≡ None }
-    ensures does { IfOk result (λ op_result. DoesOp NamesTold (calls_in_sync component.now callee params.now) thread (W.view w.old) op_result (W.view w.new)) }
+    ensures does { DoesIfOk (calls_in_sync component.now callee params.now) thread (W.view w.old) result (W.view w.new) }
     ensures err { OnErr result (W.view w.new ≡ W.view w.old) }
 {
     let mut words = [0; 16];
@@ -124,8 +125,8 @@ fn call_sync<W: Primitives>(
     requires runner { Runner thread (W.view w.old) }
     requires words { length params.now ≤ 16 }
     requires there { IsSome (get (W.view w.old).core.instances callee.instance) }
-    requires few { given_answer (op_progress_of (thread_of (W.view w.old) thread) (W.view w.old).core) ≡ None → called_call (op_progress_of (thread_of (W.view w.old) thread) (W.view w.old).core) ≡ None → given (W.view w.old).core < 2 ^ 61 }
-    ensures does { IfOk result (λ op_result. DoesOp NamesTold (calls_in_sync component.now callee params.now) thread (W.view w.old) op_result (W.view w.new)) }
+    requires few { HasNumbersForCall (thread_of (W.view w.old) thread) (W.view w.old).core }
+    ensures does { DoesIfOk (calls_in_sync component.now callee params.now) thread (W.view w.old) result (W.view w.new) }
     ensures err { OnErr result (W.view w.new ≡ W.view w.old) }
 {
     if let Some(value) = answered(w, thread) {
@@ -148,7 +149,7 @@ fn call_of_host<W: Primitives>(
 ) -> Result<Done, NoMemory>
     requires runner { Runner thread (W.view w.old) }
     requires few { given (W.view w.old).core < 2 ^ 61 }
-    ensures does { IfOk result (λ done. (r : ℕ) → DoesPolled answer component.now (ops.Call (CallOp.CallHost r register host)) thread (W.view w.old) done (W.view w.new)) }
+    ensures does { DoesHostCall answer component.now (λ r. CallOp.CallHost r register host) thread (W.view w.old) result (W.view w.new) }
     ensures err { OnErr result (W.view w.new ≡ W.view w.old) }
 {
     let host = host_def(component, host);
@@ -170,7 +171,7 @@ fn call_sync_of_host<W: Primitives>(
 ) -> Result<Done, NoMemory>
     requires runner { Runner thread (W.view w.old) }
     requires few { called_work (op_progress_of (thread_of (W.view w.old) thread) (W.view w.old).core) ≡ None → given (W.view w.old).core < 2 ^ 61 }
-    ensures does { IfOk result (λ done. (r : ℕ) → DoesPolled answer component.now (ops.Call (CallOp.CallSyncHost r host)) thread (W.view w.old) done (W.view w.new)) }
+    ensures does { DoesHostCall answer component.now (λ r. CallOp.CallSyncHost r host) thread (W.view w.old) result (W.view w.new) }
     ensures err { OnErr result (W.view w.new ≡ W.view w.old) }
 {
     if let Some(work) = served(w, thread) {
@@ -201,7 +202,7 @@ fn first_host<W: Primitives>(
     host: u32,
 ) -> Option<(u32, HostDef)>
     requires { UnderWay (thread_of (W.view w.now) thread) (W.view w.now).core }
-    ensures { (r : ℕ) → option_map (λ h. h.1) result ≡ polled_host component.now (op_progress_of (thread_of (W.view w.now) thread) (W.view w.now).core) (ops.Call (CallOp.CallSyncHost r host)) }
+    ensures { (r : ℕ) → option_map (λ h. h.1) result ≡ polled_by component.now thread (W.view w.now) (ops.Call (CallOp.CallSyncHost r host)) }
 {
     if let Some(_work) = served(w, thread) {
         return None;
@@ -219,7 +220,7 @@ pub fn called_host<W: Primitives>(
     op: Option<&Op>,
 ) -> Option<(u32, HostDef)>
     requires { UnderWay (thread_of (W.view w.now) thread) (W.view w.now).core }
-    ensures { option_map (λ h. h.1) result ≡ option_map_or (λ o. polled_host component.now (op_progress_of (thread_of (W.view w.now) thread) (W.view w.now).core) o) (option_copied op.entry) None }
+    ensures { option_map (λ h. h.1) result ≡ option_map_or (λ o. polled_by component.now thread (W.view w.now) o) (option_copied op.entry) None }
 {
     match op {
         Some(Op::Call(CallOp::CallHost { host, .. })) => {
@@ -275,7 +276,7 @@ fn cancel<W: Primitives>(
     Ok(cancels(w, thread, handle, sync))
 }
 
-/// Returns an op on subtasks that calls no host. If it is out of memory, all is as before.
+/// Does an op on subtasks that calls no host. If it is out of memory, all is as before.
 #[inline(always)]
 pub(crate) fn do_plain_call<W: Primitives>(
     component: &Component,

@@ -29,7 +29,7 @@ fn wait<W: Primitives>(w: &mut W, thread: ThreadId, handle: u64) -> OpResult
     }
 }
 
-/// Returns an op on waitable sets. If it is out of memory, all is as before.
+/// Does an op on waitable sets. If it is out of memory, all is as before.
 pub(crate) fn do_set_op<W: Primitives>(
     w: &mut W,
     thread: ThreadId,

@@ -43,7 +43,7 @@ fn exits<W: Primitives>(w: &mut W, thread: ThreadId) -> OpResult
     exit(w, thread)
 }
 
-/// Returns an op that ends the task or the activation, or changes backpressure.
+/// Does an op that ends the task or the activation, or changes backpressure.
 pub(crate) fn do_task_op<W: Primitives>(w: &mut W, thread: ThreadId, op: TaskOp) -> OpResult
     requires runner { Runner thread (W.view w.old) }
     ensures does { DoesOp KeepsTold (λ d n ch s. task_rule d n s ch op) thread (W.view w.old) result (W.view w.new) }

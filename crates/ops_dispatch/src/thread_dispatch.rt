@@ -136,7 +136,7 @@ fn do_halting_op<W: Primitives>(w: &mut W, thread: ThreadId, op: ThreadOp) -> Op
     }
 }
 
-/// Returns an op on the task's own threads. If it is out of memory, all is as before.
+/// Does an op on the task's own threads. If it is out of memory, all is as before.
 pub(crate) fn do_thread_op<W: Primitives>(
     component: &Component,
     w: &mut W,

@@ -18,9 +18,9 @@ use Rattle.machine_data.specs.declared.records.Subtask.{Subtask}
 use Rattle.machine_data.specs.declared.records.Subtask.TheVariants as subtask
 use Rattle.machine_data.specs.declared.records.Why.{Why}
 use Rattle.machine_data.specs.declared.records.Why.TheVariants as why
-use Rattle.machine_data.specs.declared.words.Mark.TheVariants as mark
-use Rattle.machine_data.specs.declared.words.Status.{Status}
-use Rattle.machine_data.specs.declared.words.Status.TheVariants as status
+use Rattle.machine_data.specs.declared.statuses.Mark.TheVariants as mark
+use Rattle.machine_data.specs.declared.statuses.Status.{Status}
+use Rattle.machine_data.specs.declared.statuses.Status.TheVariants as status
 use Rattle.ops_moves.proofs.TellLemmas.{result_quiet}
 use Rattle.ops_moves.proofs.UntouchedLemmas.{set_end_untouched, set_event_untouched}
 use Rattle.ops_guests.specs.Running.{Stand}
@@ -134,7 +134,7 @@ module _ (n : ℕ) (q : Place) (busy : is_busy q ≡ true) where
   released_good [] s st = st
   released_good (m ∷ ns) s st = released_good ns (released_one m (held_why_of m s) s) (released_one_good m (place_of m s) s refl st)
 
--- ---- Words that leave places alone, and a stop
+-- ---- Primitives that leave places alone, and a stop
 
 pub quiet_stand : (n : ℕ) (q : Place) (xs : List ℕ) (s t : Core) → Untouched s t → Stand n q xs s → Stand n q xs t
 quiet_stand n q xs s t u st = stops.quiet_stand n (Some q) xs s t u st

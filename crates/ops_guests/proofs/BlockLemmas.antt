@@ -28,9 +28,9 @@ use Rattle.machine_data.specs.declared.records.Subtask.TheVariants as subtask
 use Rattle.machine_data.specs.declared.records.Thread.{Thread}
 use Rattle.machine_data.specs.declared.records.Why.{Why}
 use Rattle.machine_data.specs.declared.records.Why.TheVariants as why
-use Rattle.machine_data.specs.declared.words.Mark.TheVariants as mark
-use Rattle.machine_data.specs.declared.words.Status.{Status}
-use Rattle.machine_data.specs.declared.words.Status.TheVariants as status
+use Rattle.machine_data.specs.declared.statuses.Mark.TheVariants as mark
+use Rattle.machine_data.specs.declared.statuses.Status.{Status}
+use Rattle.machine_data.specs.declared.statuses.Status.TheVariants as status
 use Rattle.ops_moves.proofs.TellLemmas.{end_quiet, result_quiet}
 use Rattle.ops_guests.specs.OpWakes.{WaitersTogether, is_of, wakes_in}
 use Rattle.machine_rules.proofs.CheckLemmas.{blocking_check, enter_passes, given_keeps, put_passes, reopens_passes, returned_keeps, returned_told, same_passes}

@@ -15,8 +15,8 @@ use Rattle.machine_data.specs.declared.records.Delivery.TheVariants as delivery
 use Rattle.machine_data.specs.declared.records.Place.TheVariants as place
 use Rattle.machine_data.specs.declared.records.Why.TheVariants as why
 use Rattle.machine_data.specs.declared.trap.Trap.TheVariants as trap
-use Rattle.machine_data.specs.declared.words.TaskEvent.{TaskEvent}
-use Rattle.machine_data.specs.declared.words.TaskEvent.TheVariants as task_event
+use Rattle.machine_data.specs.declared.statuses.TaskEvent.{TaskEvent}
+use Rattle.machine_data.specs.declared.statuses.TaskEvent.TheVariants as task_event
 use Rattle.ops_guests.specs.OpResult.{Implements}
 use Rattle.ops_guests.specs.Reopens.{InSomeOrder}
 use Rattle.ops_guests.specs.Running.{IsRunning}
@@ -61,9 +61,9 @@ module _ (n : TableId ThreadKey) where
       ap (λ b. trap_if (not b) trap.CannotBlockSyncTask (trap_if (leaves_no_result m c) trap.NoAsyncResult (Ordered held (λ order. Stops l (code_exits m order c))))) passes
       ∙ ap (λ b. trap_if b trap.NoAsyncResult (Ordered held (λ order. Stops l (code_exits m order c)))) leaves
 
-  pub code_exits_meets : (f i : ℕ) (l : Label) (b d : Bool) (s r t u x : StateView) → r ≡ s → i ≡ instance_of (thread_of s n) s.core → f ≡ foot_of (thread_of s n) s.core → b ≡ passes_after_stop i f (held_by_flag i s.core) s.core → b ≡ true → d ≡ leaves_no_result (thread_of r n) r.core → d ≡ false → Reopened n r t → u ≡ on_core (checked i) t → x.core ≡ ended (thread_of u n) u.core → (rest : ℕ) → Implements (code_kind_rule l (thread_of s n) (held_by_flag (instance_of (thread_of s n) s.core) s.core) s.core zero rest) s.core (op_result.Stops l) x.core
+  pub code_exits_implements : (f i : ℕ) (l : Label) (b d : Bool) (s r t u x : StateView) → r ≡ s → i ≡ instance_of (thread_of s n) s.core → f ≡ foot_of (thread_of s n) s.core → b ≡ passes_after_stop i f (held_by_flag i s.core) s.core → b ≡ true → d ≡ leaves_no_result (thread_of r n) r.core → d ≡ false → Reopened n r t → u ≡ on_core (checked i) t → x.core ≡ ended (thread_of u n) u.core → (rest : ℕ) → Implements (code_kind_rule l (thread_of s n) (held_by_flag (instance_of (thread_of s n) s.core) s.core) s.core zero rest) s.core (op_result.Stops l) x.core
   unfolding code_exits
-  code_exits_meets f i l b d s r t u x same at foot passes passed leaves left was e out rest =
+  code_exits_implements f i l b d s r t u x same at foot passes passed leaves left was e out rest =
       let N = thread_of s n in
       let I = instance_of N s.core in
       let o = subst (λ (v : StateView). Reopened n v t) same was in
@@ -78,9 +78,9 @@ module _ (n : TableId ThreadKey) where
   owned_unqueued k e s t u st o d =
       own_unqueued (thread_of u n) place.Running u.core (stands_on n place.Running (set_task_event k e) t u d (quiet_stand (thread_of t n) place.Running [] t.core _ (set_task_event_untouched k e t.core) (reopened_stands s t st o)))
 
-  pub code_yields_meets : (k : TableId GuestTaskKey) (event : Option TaskEvent) (l : Label) (s t u x : StateView) → call_of s k ≡ task_of (thread_of s n) s.core → event ≡ own_or_none (task_event_of (call_of s k) s.core) → Reopened n s t → u ≡ on_core (set_task_event (call_of t k) event) t → x ≡ on_core (put_low (thread_of u n) (why.Delivery delivery.Yield)) u → (rest : ℕ) → Implements (code_kind_rule l (thread_of s n) (held_by_flag (instance_of (thread_of s n) s.core) s.core) s.core (suc zero) rest) s.core (op_result.Stops l) x.core
+  pub code_yields_implements : (k : TableId GuestTaskKey) (event : Option TaskEvent) (l : Label) (s t u x : StateView) → call_of s k ≡ task_of (thread_of s n) s.core → event ≡ own_or_none (task_event_of (call_of s k) s.core) → Reopened n s t → u ≡ on_core (set_task_event (call_of t k) event) t → x ≡ on_core (put_low (thread_of u n) (why.Delivery delivery.Yield)) u → (rest : ℕ) → Implements (code_kind_rule l (thread_of s n) (held_by_flag (instance_of (thread_of s n) s.core) s.core) s.core (suc zero) rest) s.core (op_result.Stops l) x.core
   unfolding code_yields
-  code_yields_meets k event l s t u x task own o e d rest =
+  code_yields_implements k event l s t u x task own o e d rest =
       let N = thread_of s n in
       let w = why.Delivery delivery.Yield in
       let core = ap (λ (v : StateView). v.core) d ∙ (ap (λ (v : StateView). put_low (thread_of v n) w v.core) e ∙ (ap (λ (v : StateView). put_low (thread_of v n) w (set_task_event (call_of v k) event v.core)) o.1.1
@@ -89,8 +89,8 @@ module _ (n : TableId ThreadKey) where
 
   -- ---- Code 2
 
-  pub code_waits_meets : (k : TableId GuestTaskKey) (id : TableId SetKey) (i h : ℕ) (b finds : Bool) (l : Label) (new : ℕ → List ℕ → Core → Core) (s t x : StateView) → i ≡ instance_of (thread_of s n) s.core → Some (set_of s id) ≡ set_at i h s.core → call_of s k ≡ task_of (thread_of s n) s.core → b ≡ has_event_for (call_of s k) (set_of s id) s.core → b ≡ finds → ((y : ℕ) (held : List ℕ) (c : Core) → code_wait_rule l (thread_of s n) y held c finds ≡ Ordered held (λ order. Stops l (new y order c))) → ((o : Reopened n s t) → x.core ≡ new (set_of s id) o.0 s.core) → Reopened n s t → Implements (code_kind_rule l (thread_of s n) (held_by_flag (instance_of (thread_of s n) s.core) s.core) s.core (suc (suc zero)) h) s.core (op_result.Stops l) x.core
-  code_waits_meets k id i h b finds l new s t x at names task event found row core o =
+  pub code_waits_implements : (k : TableId GuestTaskKey) (id : TableId SetKey) (i h : ℕ) (b finds : Bool) (l : Label) (new : ℕ → List ℕ → Core → Core) (s t x : StateView) → i ≡ instance_of (thread_of s n) s.core → Some (set_of s id) ≡ set_at i h s.core → call_of s k ≡ task_of (thread_of s n) s.core → b ≡ has_event_for (call_of s k) (set_of s id) s.core → b ≡ finds → ((y : ℕ) (held : List ℕ) (c : Core) → code_wait_rule l (thread_of s n) y held c finds ≡ Ordered held (λ order. Stops l (new y order c))) → ((o : Reopened n s t) → x.core ≡ new (set_of s id) o.0 s.core) → Reopened n s t → Implements (code_kind_rule l (thread_of s n) (held_by_flag (instance_of (thread_of s n) s.core) s.core) s.core (suc (suc zero)) h) s.core (op_result.Stops l) x.core
+  code_waits_implements k id i h b finds l new s t x at names task event found row core o =
       let N = thread_of s n in
       let I = instance_of N s.core in
       let X = set_of s id in

@@ -15,8 +15,8 @@ use Rattle.machine_data.specs.declared.records.Place.{Place}
 use Rattle.machine_data.specs.declared.records.Place.TheVariants as place
 use Rattle.machine_data.specs.declared.records.Why.{Why}
 use Rattle.machine_data.specs.declared.records.Why.TheVariants as why
-use Rattle.machine_data.specs.declared.words.Given.{Given}
-use Rattle.machine_data.specs.declared.words.Mark.{Mark}
+use Rattle.machine_data.specs.declared.statuses.Given.{Given}
+use Rattle.machine_data.specs.declared.statuses.Mark.{Mark}
 use Rattle.ops_guests.specs.OpResult.{Implements}
 use Rattle.ops_guests.specs.PickedEvents.{picked_event_in, handle_in, member_in}
 use Rattle.ops_guests.specs.Running.{IsTaken}
@@ -41,8 +41,8 @@ held_is n f w s t u taken foot e d =
     ∙ (ap (λ (v : Why). with_core (set_place N (place.Held v) (stopped (thread_of s f) s.core)) s) (why_kept N (thread_of s f) w s.core taken)
     ∙ ap (λ (g : ℕ). with_core (set_place N (place.Held (why_of N s.core)) (stopped g s.core)) s) foot))
 
-pub own_meets : (n : TableId ThreadKey) (m : Mark) (k j : ℕ) (r : OpResult) (g : PickedEvent) (v : Given) (s t : StateView) → k ≡ task_of (thread_of s n) s.core → j ≡ thread_of s n → picked_event_in s.tags g ≡ moves.picked_task_event_only k s.core → handle_in g ≡ None → v ≡ moves.given_for (picked_event_in s.tags g) (unwrap_or (handle_in g) 0) s.core → r ≡ goes_as (event_label m j v None) j → t ≡ on_core (activated (thread_of s n) (picked_event_in s.tags g) v) s → Implements (own_delivered m (thread_of s n) s.core (moves.picked_task_event_only (task_of (thread_of s n) s.core) s.core)) s.core r t.core
-own_meets n m k j r g v s t task number own none is shown e =
+pub own_implements : (n : TableId ThreadKey) (m : Mark) (k j : ℕ) (r : OpResult) (g : PickedEvent) (v : Given) (s t : StateView) → k ≡ task_of (thread_of s n) s.core → j ≡ thread_of s n → picked_event_in s.tags g ≡ moves.picked_task_event_only k s.core → handle_in g ≡ None → v ≡ moves.given_for (picked_event_in s.tags g) (unwrap_or (handle_in g) 0) s.core → r ≡ goes_as (event_label m j v None) j → t ≡ on_core (activated (thread_of s n) (picked_event_in s.tags g) v) s → Implements (own_delivered m (thread_of s n) s.core (moves.picked_task_event_only (task_of (thread_of s n) s.core) s.core)) s.core r t.core
+own_implements n m k j r g v s t task number own none is shown e =
     let N = thread_of s n in
     let G = moves.picked_task_event_only (task_of N s.core) s.core in
     let picked_event_is = own ∙ ap (λ (q : ℕ). moves.picked_task_event_only q s.core) task in
@@ -62,9 +62,9 @@ delivered_is m n x w tags (picked_events.Own e) v s given is hands =
 delivered_is m n x w tags (picked_events.Member sub k) v s given is hands = absurd (subst T (sym hands) tt)
 delivered_is m n x w tags picked_events.Nothing v s given is hands = absurd (subst T (sym hands) tt)
 
-pub set_meets : (n : TableId ThreadKey) (m : Mark) (x k j w o : ℕ) (r : OpResult) (g : PickedEvent) (v : Given) (s t u : StateView) → r ≡ goes_as (event_label m j v (Some o)) j → k ≡ task_of (thread_of s n) s.core → j ≡ thread_of s n → o ≡ w → moves.picked_event true k x (member_in s.tags g) s.core ≡ Some (picked_event_in s.tags g) → v ≡ moves.given_for (picked_event_in s.tags g) (unwrap_or (handle_in g) 0) s.core → may_hand_on x (picked_event_in s.tags g) (Some w) s.core ≡ true → t ≡ on_core (handed_on x (picked_event_in s.tags g) (Some w)) s → u ≡ on_core (activated (thread_of t n) (picked_event_in t.tags g) v) t → Implements (delivered m (thread_of s n) (choice_of (label_of (thread_of s n) r)) s.core (delivery.Set x)) s.core r u.core
+pub set_implements : (n : TableId ThreadKey) (m : Mark) (x k j w o : ℕ) (r : OpResult) (g : PickedEvent) (v : Given) (s t u : StateView) → r ≡ goes_as (event_label m j v (Some o)) j → k ≡ task_of (thread_of s n) s.core → j ≡ thread_of s n → o ≡ w → moves.picked_event true k x (member_in s.tags g) s.core ≡ Some (picked_event_in s.tags g) → v ≡ moves.given_for (picked_event_in s.tags g) (unwrap_or (handle_in g) 0) s.core → may_hand_on x (picked_event_in s.tags g) (Some w) s.core ≡ true → t ≡ on_core (handed_on x (picked_event_in s.tags g) (Some w)) s → u ≡ on_core (activated (thread_of t n) (picked_event_in t.tags g) v) t → Implements (delivered m (thread_of s n) (choice_of (label_of (thread_of s n) r)) s.core (delivery.Set x)) s.core r u.core
 unfolding activated_woken
-set_meets n m x k j w o r g v s t u shown task number woken given is hands e d =
+set_implements n m x k j w o r g v s t u shown task number woken given is hands e d =
     let N = thread_of s n in
     let row = delivered_is m N x w s.tags g v s.core (ap (λ (q : ℕ). moves.picked_event true q x (member_in s.tags g) s.core) (sym task) ∙ given) is hands in
     let core = ap (λ (y : StateView). y.core) d ∙ ap (λ (y : StateView). activated (thread_of y n) (picked_event_in y.tags g) v y.core) e in

@@ -54,9 +54,9 @@ ended_stays p d n (op_result.Fails i) s t h tags current = same_view s t (failed
 pub does_same : (rule : Rule) (id : TableId ThreadKey) (s t : StateView) (r : OpResult)
     → ((d : Doer) → Implements (rule d (thread_of s id) (choice_of (label_of (thread_of s id) r)) s.core) s.core r (ended d (thread_of s id) r t.core))
     → t.tags ≡ s.tags → t.current ≡ s.current → DoesRule SameNames rule id s r t
-does_same rule id s t r meets tags current = record {
-  meets = meets;
-  stays = ended_stays (rule SomeHost (thread_of s id) (choice_of (label_of (thread_of s id) r)) s.core) SomeHost (thread_of s id) r s t (meets SomeHost) tags current;
+does_same rule id s t r implements tags current = record {
+  implements = implements;
+  stays = ended_stays (rule SomeHost (thread_of s id) (choice_of (label_of (thread_of s id) r)) s.core) SomeHost (thread_of s id) r s t (implements SomeHost) tags current;
   kept = (tags, current);
 }
 
@@ -64,7 +64,7 @@ does_same rule id s t r meets tags current = record {
 pub does_on : (rule : Rule) (id : TableId ThreadKey) (new : Core) (s t : StateView) (r : OpResult) → t ≡ with_core new s
     → ((d : Doer) → Implements (rule d (thread_of s id) (choice_of (label_of (thread_of s id) r)) s.core) s.core r (ended d (thread_of s id) r t.core))
     → DoesRule SameNames rule id s r t
-does_on rule id new s t r e meets = does_same rule id s t r meets (ap (λ (v : StateView). v.tags) e) (ap (λ (v : StateView). v.current) e)
+does_on rule id new s t r e implements = does_same rule id s t r implements (ap (λ (v : StateView). v.tags) e) (ap (λ (v : StateView). v.current) e)
 
 -- ---- What is kept
 
@@ -77,7 +77,7 @@ same_rest s t k = ((λ id live. ap (λ (g : Tags). work_number g id) k.0, ap (λ
 pub does_rule : (AreKept : StateView → StateView → Type 0) (rule other : Rule) (id : TableId ThreadKey) (s t : StateView) (r : OpResult) → DoesRule AreKept rule id s r t
     → ((d : Doer) (c : Choice) → other d (thread_of s id) c s.core ≡ rule d (thread_of s id) c s.core) → DoesRule AreKept other id s r t
 does_rule AreKept rule other id s t r did same = record {
-  meets = λ d. subst (λ (p : Progress). Implements p s.core r (ended d (thread_of s id) r t.core)) (sym (same d (choice_of (label_of (thread_of s id) r)))) (did.meets d);
+  implements = λ d. subst (λ (p : Progress). Implements p s.core r (ended d (thread_of s id) r t.core)) (sym (same d (choice_of (label_of (thread_of s id) r)))) (did.implements d);
   stays = did.stays;
   kept = did.kept;
 }

@@ -4,7 +4,7 @@ use Rattle.std.specs.Prelude.{List, false, ℕ, ◌≡◌}
 use Rattle.machine_data.specs.Core.{Core}
 use Rattle.machine_data.specs.Write.{on_thread, set_op_progress, set_position, set_register}
 use Rattle.machine_data.specs.declared.label.Label.{Label}
-use Rattle.machine_data.specs.declared.words.HostPoll.{HostPoll}
+use Rattle.machine_data.specs.declared.statuses.HostPoll.{HostPoll}
 use Rattle.ops_guests.specs.OpResult.{Implements}
 use Rattle.ops_guests.specs.Ended.{answered_to, ended, ends_op, is_due}
 use Rattle.ops_guests.specs.Shown.{goes_as, shown}
@@ -66,9 +66,9 @@ unended Never s r t none h d n u = absurd h
 unended (Ordered ns next) s r t none h d n u = unended (next h.0) s r t (none h.0) h.1.1 d n u
 unended (Asks next) s r t none h d n u = unended (next h.0) s r t (none h.0) h.1 d n u
 
--- what meets such a row meets it once the op is ended too
-pub meets_ended : (p : Progress) (s : Core) (r : OpResult) (t : Core) → IsUnanswered p → Implements p s r t → (d : Doer) (n : ℕ) → Implements p s r (ended d n r t)
-meets_ended p s r t none h d n = subst (λ (u : Core). Implements p s r u) (sym (unended p s r t none h d n t)) h
+-- what implements such a rule implements it once the op is ended too
+pub implements_ended : (p : Progress) (s : Core) (r : OpResult) (t : Core) → IsUnanswered p → Implements p s r t → (d : Doer) (n : ℕ) → Implements p s r (ended d n r t)
+implements_ended p s r t none h d n = subst (λ (u : Core). Implements p s r u) (sym (unended p s r t none h d n t)) h
 
 -- and no answer is due
 pub undue : (p : Progress) (s : Core) (r : OpResult) (t : Core) → IsUnanswered p → Implements p s r t → ends_op r ≡ false

@@ -10,7 +10,7 @@ use Rattle.machine_data.specs.Write.{push_high}
 use Rattle.machine_data.specs.declared.records.Place.{Place}
 use Rattle.machine_data.specs.declared.records.Place.TheVariants as place
 use Rattle.machine_data.specs.declared.records.Why.{Why}
-use Rattle.machine_data.specs.declared.words.Mark.TheVariants as mark
+use Rattle.machine_data.specs.declared.statuses.Mark.TheVariants as mark
 use Rattle.ops_moves.specs.Stops.{MayStop}
 use Rattle.ops_guests.proofs.RunLemmas.{KeepsUnder, foot_is, foot_kept, may_stop}
 use Rattle.ops_guests.proofs.BesideLemmas.{checked_place, free_loose, is_busy}
@@ -61,7 +61,7 @@ unfolding released
 released_under [] s = λ k x at. at
 released_under (m ∷ ms) s = under_after s (released_one m (held_why_of m s) s) (released ms (released_one m (held_why_of m s) s)) (one_under m (held_why_of m s) s refl) (released_under ms (released_one m (held_why_of m s) s))
 
--- ---- In the words of what contracts see
+-- ---- As contracts see it
 
 -- the strand with the foot of before may stop
 pub foot_may_still : (n f : TableId ThreadKey) (q : Place) (g : Core → Core) (s t : StateView) → is_busy q ≡ true → thread_of s f ≡ foot_of (thread_of s n) s.core → t ≡ on_core g s → KeepsUnder s.core (g s.core) → Stand (thread_of s n) q [] (g s.core) → MayStop (thread_of t f) t.core

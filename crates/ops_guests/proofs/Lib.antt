@@ -1,5 +1,5 @@
 pub mod BesideLemmas
-pub mod MeetLemmas
+pub mod ImplementLemmas
 pub mod RunLemmas
 pub mod PositionLemmas
 pub mod DoesLemmas
@@ -9,7 +9,7 @@ pub mod SetLemmas
 pub mod FootLemmas
 pub mod ExitLemmas
 pub mod CodeLemmas
-pub mod StrikeLemmas
+pub mod UnwindLemmas
 pub mod TellingLemmas
 pub mod MainLemmas
 pub mod SwitchLemmas

@@ -16,7 +16,7 @@ use Rattle.machine_data.specs.declared.records.Subtask.{Subtask}
 use Rattle.machine_data.specs.declared.records.Subtask.TheVariants as subtask
 use Rattle.machine_data.specs.declared.records.Why.{Why}
 use Rattle.machine_data.specs.declared.records.Work.{Work}
-use Rattle.machine_data.specs.declared.words.Mark.TheVariants as mark
+use Rattle.machine_data.specs.declared.statuses.Mark.TheVariants as mark
 use Rattle.ops_moves.specs.Idle.{AreIdleUnqueued, CanPublish, IsJoinThere, IsWaiting}
 use Rattle.ops_guests.proofs.BesideLemmas.{all_of}
 use Rattle.ops_guests.proofs.ExitLemmas.{reopened_stand}
@@ -109,7 +109,7 @@ all_waits : (waiter : Option (TableId ThreadKey)) (i : ℕ) (order : List ℕ) (
 all_waits None i order s h = tt
 all_waits (Some id) i order s h = open_waits (thread_of s id) i order s.core h
 
--- ---- In the words of what contracts see
+-- ---- As contracts see it
 
 module _ (n : TableId ThreadKey) (k : TableId GuestTaskKey) (waiter : Option (TableId ThreadKey)) (i : ℕ) (s t : StateView) (st : IsRunning (thread_of s n) s.core) (opens : InSomeOrder i (end_reopens i) s t) where
   abbrev N : ℕ

@@ -11,7 +11,7 @@ use Rattle.machine_data.specs.Read.{instance_of, set_at, subtask_at, task_of}
 use Rattle.machine_data.specs.declared.label.Label.TheVariants as label
 use Rattle.machine_data.specs.declared.label.SetLabel.TheVariants as set_label
 use Rattle.machine_data.specs.declared.trap.Trap.TheVariants as trap
-use Rattle.machine_data.specs.declared.words.Given.{Given}
+use Rattle.machine_data.specs.declared.statuses.Given.{Given}
 use Rattle.ops_guests.specs.OpResult.{Implements}
 use Rattle.ops_guests.specs.PickedEvents.{AllMembersNamed, IsNamedIn, MembersNamed, picked_event_in, handle_in, member_in}
 use Rattle.ops_guests.specs.declared.picked_events.PickedEvent.{PickedEvent}
@@ -36,8 +36,8 @@ poll_is n r h x tags g v ch s at named given member is =
     ∙ (ap (λ o. or_never o (poll_takes_by r n ch s)) given
     ∙ ap (λ (w : Given). Continues (label.Set (set_label.Poll w n)) (received_by r n (picked_event_in tags g) w s) n) (ap (λ o. moves.given_for (picked_event_in tags g) (unwrap_or o 0) s) member ∙ sym is)))
 
-pub poll_meets : (n : TableId ThreadKey) (id : TableId SetKey) (r : Doer) (h i k m : ℕ) (g : PickedEvent) (v : Given) (s t : StateView) → i ≡ instance_of (thread_of s n) s.core → k ≡ task_of (thread_of s n) s.core → m ≡ thread_of s n → Some (set_of s id) ≡ set_at i h s.core → IsNamedIn i s.tags g s.core → moves.picked_event false k (set_of s id) (member_in s.tags g) s.core ≡ Some (picked_event_in s.tags g) → handle_given v ≡ handle_in g → v ≡ moves.given_for (picked_event_in s.tags g) (unwrap_or (handle_in g) 0) s.core → t ≡ on_core (moves.taken (picked_event_in s.tags g) k) s → Implements (poll_rule r (thread_of s n) h (choice_of (label.Set (set_label.Poll v m))) s.core) s.core (goes_as (label.Set (set_label.Poll v m)) m) (finish r (thread_of s n) (OneEvent v) t.core)
-poll_meets n id r h i k m g v s t at task is names named given member out e =
+pub poll_implements : (n : TableId ThreadKey) (id : TableId SetKey) (r : Doer) (h i k m : ℕ) (g : PickedEvent) (v : Given) (s t : StateView) → i ≡ instance_of (thread_of s n) s.core → k ≡ task_of (thread_of s n) s.core → m ≡ thread_of s n → Some (set_of s id) ≡ set_at i h s.core → IsNamedIn i s.tags g s.core → moves.picked_event false k (set_of s id) (member_in s.tags g) s.core ≡ Some (picked_event_in s.tags g) → handle_given v ≡ handle_in g → v ≡ moves.given_for (picked_event_in s.tags g) (unwrap_or (handle_in g) 0) s.core → t ≡ on_core (moves.taken (picked_event_in s.tags g) k) s → Implements (poll_rule r (thread_of s n) h (choice_of (label.Set (set_label.Poll v m))) s.core) s.core (goes_as (label.Set (set_label.Poll v m)) m) (finish r (thread_of s n) (OneEvent v) t.core)
+poll_implements n id r h i k m g v s t at task is names named given member out e =
     let N = thread_of s n in
     subst (λ (p : Progress). Implements p s.core (goes_as (label.Set (set_label.Poll v m)) m) (finish r N (OneEvent v) t.core))
     (sym (poll_is N r h (set_of s id) s.tags g v (choice_of (label.Set (set_label.Poll v m))) s.core (sym (names ∙ ap (λ (j : ℕ). set_at j h s.core) at)) (subst (λ (j : ℕ). IsNamedIn j s.tags g s.core) at named) (ap (λ (j : ℕ). moves.picked_event false j (set_of s id) (member_in s.tags g) s.core) (sym task) ∙ given) member out)) (

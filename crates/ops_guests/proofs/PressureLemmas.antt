@@ -97,9 +97,9 @@ same_came m n e = ap (λ (k : ℕ). goes_as (label.Task (task_label.BpDec k)) k)
 opening_is : (d : Doer) (n m : ℕ) (order : List ℕ) (s : Core) → backpressure_of (instance_of n s) s ≡ 1 → IsPermutation (held_by_counter (instance_of n s) s) order → m ≡ n → Implements (dec_rule d n s) s (goes_as (label.Task (task_label.BpDec m)) m) (finish d n NoAnswer (pressure_gone n order s))
 opening_is d n m order s one held is = subst (λ (b : ℕ). Implements (dec_by d n s b) s (goes_as (label.Task (task_label.BpDec m)) m) (finish d n NoAnswer (pressure_gone n order s))) (sym one) (order, (held, (same_came m n is, refl)))
 
-pub opening_meets : (n : TableId ThreadKey) (f : Doer) (i c k m : ℕ) (s t u : StateView) → i ≡ instance_of (thread_of s n) s.core → c ≡ backpressure_of i s.core → c ≡ 1 → k ≡ 0 → m ≡ thread_of s n → t ≡ on_core (set_backpressure i k) s → Opened i t u → Implements (dec_rule f (thread_of s n) s.core) s.core (goes_as (label.Task (task_label.BpDec m)) m) (finish f (thread_of s n) NoAnswer u.core)
+pub opening_implements : (n : TableId ThreadKey) (f : Doer) (i c k m : ℕ) (s t u : StateView) → i ≡ instance_of (thread_of s n) s.core → c ≡ backpressure_of i s.core → c ≡ 1 → k ≡ 0 → m ≡ thread_of s n → t ≡ on_core (set_backpressure i k) s → Opened i t u → Implements (dec_rule f (thread_of s n) s.core) s.core (goes_as (label.Task (task_label.BpDec m)) m) (finish f (thread_of s n) NoAnswer u.core)
 unfolding pressure_gone held_by_counter
-opening_meets n f i c k m s t u at count one none is e o =
+opening_implements n f i c k m s t u at count one none is e o =
     let N = thread_of s n in
     let I = instance_of N s.core in
     let held = ap (λ (w : StateView). admitted_held i w.core) e ∙ ap₂ (λ (j b : ℕ). admitted_held j (set_backpressure j b s.core)) at none in
@@ -110,11 +110,11 @@ opening_meets n f i c k m s t u at count one none is e o =
 lowering_is : (d : Doer) (n m c : ℕ) (s : Core) → backpressure_of (instance_of n s) s ≡ suc (suc c) → m ≡ n → Implements (dec_rule d n s) s (goes_as (label.Task (task_label.BpDec m)) m) (finish d n NoAnswer (pressure_lowered n s))
 lowering_is d n m c s more is = subst (λ (b : ℕ). Implements (dec_by d n s b) s (goes_as (label.Task (task_label.BpDec m)) m) (finish d n NoAnswer (pressure_lowered n s))) (sym more) (same_came m n is, refl)
 
-pub lowering_meets : (n : TableId ThreadKey) (f : Doer) (i c m : ℕ) (s t : StateView) → i ≡ instance_of (thread_of s n) s.core → c ≡ backpressure_of i s.core → (c ≡ 0 → ⊥) → (c ≡ 1 → ⊥) → m ≡ thread_of s n → t ≡ on_core (set_backpressure i (c - 1)) s → Implements (dec_rule f (thread_of s n) s.core) s.core (goes_as (label.Task (task_label.BpDec m)) m) (finish f (thread_of s n) NoAnswer t.core)
+pub lowering_implements : (n : TableId ThreadKey) (f : Doer) (i c m : ℕ) (s t : StateView) → i ≡ instance_of (thread_of s n) s.core → c ≡ backpressure_of i s.core → (c ≡ 0 → ⊥) → (c ≡ 1 → ⊥) → m ≡ thread_of s n → t ≡ on_core (set_backpressure i (c - 1)) s → Implements (dec_rule f (thread_of s n) s.core) s.core (goes_as (label.Task (task_label.BpDec m)) m) (finish f (thread_of s n) NoAnswer t.core)
 unfolding pressure_lowered
-lowering_meets n f i zero m s t at count some more is e = absurd (some refl)
-lowering_meets n f i (suc zero) m s t at count some more is e = absurd (more refl)
-lowering_meets n f i (suc (suc c)) m s t at count some more is e =
+lowering_implements n f i zero m s t at count some more is e = absurd (some refl)
+lowering_implements n f i (suc zero) m s t at count some more is e = absurd (more refl)
+lowering_implements n f i (suc (suc c)) m s t at count some more is e =
     let N = thread_of s n in
     let here : backpressure_of (instance_of N s.core) s.core ≡ suc (suc c) = ap (λ (j : ℕ). backpressure_of j s.core) (sym at) ∙ sym count in
     let core = ap (λ (w : StateView). finish f N NoAnswer w.core) e ∙ ap₂ (λ (j b : ℕ). finish f N NoAnswer (set_backpressure j (b - 1) s.core)) at (sym here) in

@@ -169,7 +169,7 @@ module _ (n : ℕ) (q : Place) (s : Core) (st : Stand n q [] s) where
   pub own_apart : IsApart n s
   own_apart = record { unqueued = own_unqueued; switch = own_loose.switch; behind = own_loose.callers }
 
--- ---- In the words of what contracts see
+-- ---- As contracts see it
 
 module _ (n : TableId ThreadKey) (q : Place) where
   pub stands_on : (f : Core → Core) (s t : StateView) → t ≡ on_core f s → Stand (thread_of s n) q [] (f s.core) → Stand (thread_of t n) q [] t.core

@@ -31,9 +31,9 @@ new_rule_is d n s room limit =
     ap (λ b. trap_if (not b) trap.TableFull (trap_if (at_handle_limit s) trap.HandleLimit (Continues (label.Set (set_label.New (new_handle (instance_of n s) s) n)) (set_made d n s) n))) room
     ∙ ap (λ b. trap_if b trap.HandleLimit (Continues (label.Set (set_label.New (new_handle (instance_of n s) s) n)) (set_made d n s) n)) limit
 
-pub set_new_meets : (n : TableId ThreadKey) (r : Doer) (i h m : ℕ) (s t : StateView) → fits 1 s.core ≡ true → at_handle_limit s.core ≡ false → i ≡ instance_of (thread_of s n) s.core → h ≡ new_handle i s.core → m ≡ thread_of s n → t.core ≡ with_set i s.core → Implements (set_new_rule r (thread_of s n) s.core) s.core (goes_as (label.Set (set_label.New h m)) m) (finish r (thread_of s n) (OneNumber h) t.core)
+pub set_new_implements : (n : TableId ThreadKey) (r : Doer) (i h m : ℕ) (s t : StateView) → fits 1 s.core ≡ true → at_handle_limit s.core ≡ false → i ≡ instance_of (thread_of s n) s.core → h ≡ new_handle i s.core → m ≡ thread_of s n → t.core ≡ with_set i s.core → Implements (set_new_rule r (thread_of s n) s.core) s.core (goes_as (label.Set (set_label.New h m)) m) (finish r (thread_of s n) (OneNumber h) t.core)
 unfolding set_opened
-set_new_meets n r i h m s t room limit at handle is e =
+set_new_implements n r i h m s t room limit at handle is e =
     let N = thread_of s n in
     let I = instance_of N s.core in
     let core = ap (λ (c : Core). finish r N (OneNumber h) c) e ∙ ap₂ (λ (j g : ℕ). finish r N (OneNumber g) (with_set j s.core)) at (handle ∙ ap (λ (j : ℕ). new_handle j s.core) at) in
@@ -60,9 +60,9 @@ drop_rule_is d n h x s at waiters members =
     ∙ (ap (λ b. trap_if b trap.WaitableSetDropHasWaiters (trap_if (has_member x s) trap.TableHasChildren (Continues (label.Set (set_label.Drop n)) (finish d n NoAnswer (set_closed n h x s)) n))) waiters
     ∙ ap (λ b. trap_if b trap.TableHasChildren (Continues (label.Set (set_label.Drop n)) (finish d n NoAnswer (set_closed n h x s)) n)) members)
 
-pub set_drop_meets : (n : TableId ThreadKey) (d : Doer) (i h x m : ℕ) (s t : StateView) → i ≡ instance_of (thread_of s n) s.core → Some x ≡ set_at i h s.core → has_waiters x s.core ≡ false → has_member x s.core ≡ false → m ≡ thread_of s n → t.core ≡ remove_set x (free_handle i h s.core) → Implements (set_drop_rule d (thread_of s n) h s.core) s.core (goes_as (label.Set (set_label.Drop m)) m) (finish d (thread_of s n) NoAnswer t.core)
+pub set_drop_implements : (n : TableId ThreadKey) (d : Doer) (i h x m : ℕ) (s t : StateView) → i ≡ instance_of (thread_of s n) s.core → Some x ≡ set_at i h s.core → has_waiters x s.core ≡ false → has_member x s.core ≡ false → m ≡ thread_of s n → t.core ≡ remove_set x (free_handle i h s.core) → Implements (set_drop_rule d (thread_of s n) h s.core) s.core (goes_as (label.Set (set_label.Drop m)) m) (finish d (thread_of s n) NoAnswer t.core)
 unfolding set_closed
-set_drop_meets n d i h x m s t at names waiters members is e =
+set_drop_implements n d i h x m s t at names waiters members is e =
     let N = thread_of s n in
     let core = ap (λ (c : Core). finish d N NoAnswer c) e ∙ ap (λ (j : ℕ). finish d N NoAnswer (remove_set x (free_handle j h s.core))) at in
     subst (λ (p : Progress). Implements p s.core (goes_as (label.Set (set_label.Drop m)) m) (finish d N NoAnswer t.core))

@@ -23,7 +23,7 @@ use Rattle.machine_data.specs.declared.records.Thread.{Thread}
 use Rattle.machine_data.specs.declared.records.Why.{Why}
 use Rattle.machine_data.specs.declared.trap.Trap.{Trap}
 use Rattle.machine_data.specs.declared.trap.Trap.TheVariants as trap
-use Rattle.machine_data.specs.declared.words.Mark.{Mark}
+use Rattle.machine_data.specs.declared.statuses.Mark.{Mark}
 use Rattle.ops_guests.specs.OpResult.{Implements}
 use Rattle.ops_guests.specs.Ended.{ended}
 use Rattle.ops_guests.specs.Halting.{ComesFirst, First, GoesFirst, Refused, StaysBehind, halts_then, or_refused, promoted_first, promoted_found, promoted_if, refused_if, resumed_first, resumed_found}
@@ -212,7 +212,7 @@ comes_same (GoesFirst new) s t r h = (ap (λ (v : StateView). v.tags) h.1, ap (�
 comes_same StaysBehind s t r h = (ap (λ (v : StateView). v.tags) h.1, ap (λ (v : StateView). v.current) h.1)
 comes_same (Refused why) s t r h = (ap (λ (v : StateView). v.tags) h.1, ap (λ (v : StateView). v.current) h.1)
 
--- the rows of the ops that let another thread go first
+-- the rules of the ops that let another thread go first
 resume_halts : (x : Halt) (n h : ℕ) (l : Label) (s : Core) → then_resume_rule x n h s ≡ halts_then SomeHost x n l s (resumed_first n h s)
 unfolding halted_resuming
 resume_halts x n h l s = at (thread_at (instance_of n s) h s)
@@ -333,9 +333,9 @@ new_rule_is d n x v ops s room limit =
     ap (λ b. trap_if (not b) trap.TableFull (trap_if (at_handle_limit s) trap.HandleLimit (Continues (thread_new_label n s) (thread_made d n x v s) n))) room
     ∙ ap (λ b. trap_if b trap.HandleLimit (Continues (thread_new_label n s) (thread_made d n x v s) n)) limit
 
-pub thread_new_meets : (n : TableId ThreadKey) (r : Doer) (x v k h m o : ℕ) (line : Slot) (ops : Seq Op) (s t : StateView) → line ≡ slot.Script ops → fits 2 s.core ≡ true → at_handle_limit s.core ≡ false → k ≡ task_of (thread_of s n) s.core → h ≡ new_thread_handle (instance_of (thread_of s n) s.core) s.core → m ≡ thread_of s n → o ≡ next_thread s.core → t.core ≡ with_thread (call_instance k s.core) k x v s.core → Implements (thread_new_rule r (thread_of s n) x v s.core line) s.core (goes_as (label.Thread (thread_label.New h m o)) m) (finish r (thread_of s n) (OneNumber h) t.core)
+pub thread_new_implements : (n : TableId ThreadKey) (r : Doer) (x v k h m o : ℕ) (line : Slot) (ops : Seq Op) (s t : StateView) → line ≡ slot.Script ops → fits 2 s.core ≡ true → at_handle_limit s.core ≡ false → k ≡ task_of (thread_of s n) s.core → h ≡ new_thread_handle (instance_of (thread_of s n) s.core) s.core → m ≡ thread_of s n → o ≡ next_thread s.core → t.core ≡ with_thread (call_instance k s.core) k x v s.core → Implements (thread_new_rule r (thread_of s n) x v s.core line) s.core (goes_as (label.Thread (thread_label.New h m o)) m) (finish r (thread_of s n) (OneNumber h) t.core)
 unfolding thread_added
-thread_new_meets n r x v k h m o line ops s t is room limit task handle number other e =
+thread_new_implements n r x v k h m o line ops s t is room limit task handle number other e =
     let N = thread_of s n in
     let I = instance_of N s.core in
     let core = ap (λ (c : Core). finish r N (OneNumber h) c) e ∙ ap₂ (λ (j g : ℕ). finish r N (OneNumber g) (with_thread (call_instance j s.core) j x v s.core)) task handle in

@@ -18,9 +18,9 @@ use Rattle.machine_data.specs.declared.records.Subtask.{Subtask}
 use Rattle.machine_data.specs.declared.records.Subtask.TheVariants as subtask
 use Rattle.machine_data.specs.declared.records.Why.{Why}
 use Rattle.machine_data.specs.declared.records.Why.TheVariants as why
-use Rattle.machine_data.specs.declared.words.Mark.TheVariants as mark
-use Rattle.machine_data.specs.declared.words.Status.{Status}
-use Rattle.machine_data.specs.declared.words.Status.TheVariants as status
+use Rattle.machine_data.specs.declared.statuses.Mark.TheVariants as mark
+use Rattle.machine_data.specs.declared.statuses.Status.{Status}
+use Rattle.machine_data.specs.declared.statuses.Status.TheVariants as status
 use Rattle.ops_moves.proofs.TellLemmas.{Quiet, call_quiet, can_still, result_quiet}
 use Rattle.ops_moves.specs.Idle.{CanPublish, IsWaiting}
 use Rattle.ops_moves.specs.Stops.{MayStop}
@@ -193,7 +193,7 @@ none_under n s none = go (under_of n s) refl
     go None e = e
     go (Some j) e = absurd (none j (under_place n j s e))
 
--- ---- In the words of what contracts see
+-- ---- As contracts see it
 
 started_quiet : (k : ℕ) (s : Core) → Quiet s (set_started k s)
 unfolding set_started

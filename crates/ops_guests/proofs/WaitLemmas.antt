@@ -6,7 +6,7 @@ use Rattle.task_wait.specs.declared.keys.GuestTaskKey.{GuestTaskKey}
 use Rattle.task_wait.specs.declared.keys.ThreadKey.{ThreadKey}
 use Rattle.machine_data.proofs.MapLemmas.{change-field}
 use Rattle.machine_data.specs.Core.{Core}
-use Rattle.machine_data.specs.Labels.{choice_of, handle_given, own_given, wait_label}
+use Rattle.machine_data.specs.Labels.{choice_of, handle_given, given_task_event, wait_label}
 use Rattle.machine_data.specs.Moves as moves
 use Rattle.machine_data.specs.Moves.{handed_on, hands_on, is_callback_waiter, may_hand_on, put_high, wake, waken_by}
 use Rattle.machine_data.specs.Read.{instance_of, task_of}
@@ -17,9 +17,9 @@ use Rattle.machine_data.specs.declared.records.Place.TheVariants as place
 use Rattle.machine_data.specs.declared.records.Thread.{Thread}
 use Rattle.machine_data.specs.declared.records.Why.{Why}
 use Rattle.machine_data.specs.declared.records.Why.TheVariants as why
-use Rattle.machine_data.specs.declared.words.Given.{Given}
-use Rattle.machine_data.specs.declared.words.Mark.TheVariants as mark
-use Rattle.machine_data.specs.declared.words.TaskEvent.TheVariants as own
+use Rattle.machine_data.specs.declared.statuses.Given.{Given}
+use Rattle.machine_data.specs.declared.statuses.Mark.TheVariants as mark
+use Rattle.machine_data.specs.declared.statuses.TaskEvent.TheVariants as own
 use Rattle.ops_moves.proofs.TellLemmas.{map_or_is}
 use Rattle.ops_guests.proofs.PollLemmas.{chosen_is}
 use Rattle.ops_guests.specs.OpResult.{Implements}
@@ -62,7 +62,7 @@ module _ (n : TableId ThreadKey) (x : ℕ) (g : moves.PickedEvent) (w : Option �
   pub handed_task : (k : TableId GuestTaskKey) → call_of s k ≡ task_of (thread_of s n) s.core → call_of t k ≡ task_of (thread_of t n) t.core
   handed_task k at = ap (λ (v : StateView). call_of v k) e ∙ (at ∙ (sym (task_handed (thread_of s n) x g w s.core) ∙ sym (ap (λ (v : StateView). task_of (thread_of v n) v.core) e)))
 
--- ---- The row where another waiter is woken
+-- ---- The rule where another waiter is woken
 
 goes_on_is : (n x : ℕ) (r : Doer) (h w : ℕ) (tags : Tags) (g : PickedEvent) (v : Given) (s : Core) → moves.picked_event false (task_of n s) x (member_in tags g) s ≡ Some (picked_event_in tags g) → v ≡ moves.given_for (picked_event_in tags g) (unwrap_or (handle_in g) 0) s → may_hand_on x (picked_event_in tags g) (Some w) s ≡ true → wait_rule r n h (choice_of (wait_label n v (Some w))) s (op_progress.Waits x) ≡ Continues (wait_label n v (Some w)) (received_woken_by r n x (Some w) (picked_event_in tags g) v s) n
 unfolding may_hand_on
@@ -74,15 +74,15 @@ goes_on_is n x r h w tags (picked_events.Member sub k) v s given is hands = absu
 goes_on_is n x r h w tags picked_events.Nothing v s given is hands = absurd (subst T (sym hands) tt)
 
 -- who hands a wake on was given the task event, which the label shows
-own_shown : (x w : ℕ) (tags : Tags) (g : PickedEvent) (v : Given) (s : Core) → v ≡ moves.given_for (picked_event_in tags g) (unwrap_or (handle_in g) 0) s → may_hand_on x (picked_event_in tags g) (Some w) s ≡ true → moves.given_own (own_given v) ≡ v
+own_shown : (x w : ℕ) (tags : Tags) (g : PickedEvent) (v : Given) (s : Core) → v ≡ moves.given_for (picked_event_in tags g) (unwrap_or (handle_in g) 0) s → may_hand_on x (picked_event_in tags g) (Some w) s ≡ true → moves.given_own (given_task_event v) ≡ v
 unfolding may_hand_on moves.given_for
-own_shown x w tags (picked_events.Own own.None) v s is hands = ap (λ (y : Given). moves.given_own (own_given y)) is ∙ sym is
-own_shown x w tags (picked_events.Own own.Cancelled) v s is hands = ap (λ (y : Given). moves.given_own (own_given y)) is ∙ sym is
+own_shown x w tags (picked_events.Own own.None) v s is hands = ap (λ (y : Given). moves.given_own (given_task_event y)) is ∙ sym is
+own_shown x w tags (picked_events.Own own.Cancelled) v s is hands = ap (λ (y : Given). moves.given_own (given_task_event y)) is ∙ sym is
 own_shown x w tags (picked_events.Member sub k) v s is hands = absurd (subst T (sym hands) tt)
 own_shown x w tags picked_events.Nothing v s is hands = absurd (subst T (sym hands) tt)
 
-pub goes_on_meets : (n : TableId ThreadKey) (x : ℕ) (r : Doer) (k : TableId GuestTaskKey) (m w o : ℕ) (op_result : OpResult) (g : PickedEvent) (v : Given) (s t u : StateView) → op_result ≡ goes_as (wait_label m v (Some o)) m → call_of s k ≡ task_of (thread_of s n) s.core → m ≡ thread_of s n → o ≡ w → moves.picked_event false (call_of s k) x (member_in s.tags g) s.core ≡ Some (picked_event_in s.tags g) → v ≡ moves.given_for (picked_event_in s.tags g) (unwrap_or (handle_in g) 0) s.core → may_hand_on x (picked_event_in s.tags g) (Some w) s.core ≡ true → t ≡ on_core (handed_on x (picked_event_in s.tags g) (Some w)) s → u ≡ on_core (moves.taken (picked_event_in t.tags g) (call_of t k)) t → (h : ℕ) → Implements (wait_rule r (thread_of s n) h (choice_of (label_of (thread_of s n) op_result)) s.core (op_progress.Waits x)) s.core op_result (ended r (thread_of s n) op_result u.core)
-goes_on_meets n x r k m w o op_result g v s t u shown task number woken given is hands e d h =
+pub goes_on_implements : (n : TableId ThreadKey) (x : ℕ) (r : Doer) (k : TableId GuestTaskKey) (m w o : ℕ) (op_result : OpResult) (g : PickedEvent) (v : Given) (s t u : StateView) → op_result ≡ goes_as (wait_label m v (Some o)) m → call_of s k ≡ task_of (thread_of s n) s.core → m ≡ thread_of s n → o ≡ w → moves.picked_event false (call_of s k) x (member_in s.tags g) s.core ≡ Some (picked_event_in s.tags g) → v ≡ moves.given_for (picked_event_in s.tags g) (unwrap_or (handle_in g) 0) s.core → may_hand_on x (picked_event_in s.tags g) (Some w) s.core ≡ true → t ≡ on_core (handed_on x (picked_event_in s.tags g) (Some w)) s → u ≡ on_core (moves.taken (picked_event_in t.tags g) (call_of t k)) t → (h : ℕ) → Implements (wait_rule r (thread_of s n) h (choice_of (label_of (thread_of s n) op_result)) s.core (op_progress.Waits x)) s.core op_result (ended r (thread_of s n) op_result u.core)
+goes_on_implements n x r k m w o op_result g v s t u shown task number woken given is hands e d h =
     let N = thread_of s n in
     let row = goes_on_is N x r h w s.tags g v s.core (ap (λ (j : ℕ). moves.picked_event false j x (member_in s.tags g) s.core) (sym task) ∙ given) is hands in
     let handed = handed_on x (picked_event_in s.tags g) (Some w) s.core in
@@ -94,7 +94,7 @@ goes_on_meets n x r k m w o op_result g v s t u shown task number woken given is
     (subst (λ (j : ℕ). Implements (wait_rule r N h (choice_of (wait_label N v (Some j))) s.core (op_progress.Waits x)) s.core (goes_as (wait_label N v (Some j)) N) (ended r N (goes_as (wait_label N v (Some j)) N) u.core)) (sym woken)
     (subst (λ (p : Progress). Implements p s.core (goes_as (wait_label N v (Some w)) N) (ended r N (goes_as (wait_label N v (Some w)) N) u.core)) (sym row) (refl, core))))
 
--- ---- The row where none is woken
+-- ---- The rule where none is woken
 
 answered_is : (n x : ℕ) (r : Doer) (f : moves.PickedEvent) (v : Given) (o : Option ℕ) (s : Core) → handle_given v ≡ o → v ≡ moves.given_for f (unwrap_or o 0) s → may_hand_on x f None s ≡ true → may (may_hand_on x f None s) (Continues (wait_label n (moves.given_for f (unwrap_or (handle_given v) 0) s) None) (received_woken_by r n x None f (moves.given_for f (unwrap_or (handle_given v) 0) s) s) n) ≡ Continues (wait_label n v None) (received_woken_by r n x None f v s) n
 answered_is n x r f v o s member is hands =
@@ -112,8 +112,8 @@ takes_is n x r h tags g v s some named given member is hands =
     ∙ (ap (λ o. or_never o (wait_goes_on_by r n x (choice_of (wait_label n v None)) s)) given
     ∙ takes_picked_event n x r tags g v s some member is hands)
 
-pub takes_meets : (n : TableId ThreadKey) (x : ℕ) (r : Doer) (k : TableId GuestTaskKey) (i m : ℕ) (op_result : OpResult) (g : PickedEvent) (v : Given) (s t u : StateView) → (g ≡ picked_events.Nothing → ⊥) → op_result ≡ goes_as (wait_label m v None) m → i ≡ instance_of (thread_of s n) s.core → IsNamedIn i s.tags g s.core → handle_given v ≡ handle_in g → call_of s k ≡ task_of (thread_of s n) s.core → m ≡ thread_of s n → moves.picked_event false (call_of s k) x (member_in s.tags g) s.core ≡ Some (picked_event_in s.tags g) → v ≡ moves.given_for (picked_event_in s.tags g) (unwrap_or (handle_in g) 0) s.core → may_hand_on x (picked_event_in s.tags g) None s.core ≡ true → t ≡ on_core (handed_on x (picked_event_in s.tags g) None) s → u ≡ on_core (moves.taken (picked_event_in t.tags g) (call_of t k)) t → (h : ℕ) → Implements (wait_rule r (thread_of s n) h (choice_of (label_of (thread_of s n) op_result)) s.core (op_progress.Waits x)) s.core op_result (ended r (thread_of s n) op_result u.core)
-takes_meets n x r k i m op_result g v s t u some shown at named member task number given is hands e d h =
+pub takes_implements : (n : TableId ThreadKey) (x : ℕ) (r : Doer) (k : TableId GuestTaskKey) (i m : ℕ) (op_result : OpResult) (g : PickedEvent) (v : Given) (s t u : StateView) → (g ≡ picked_events.Nothing → ⊥) → op_result ≡ goes_as (wait_label m v None) m → i ≡ instance_of (thread_of s n) s.core → IsNamedIn i s.tags g s.core → handle_given v ≡ handle_in g → call_of s k ≡ task_of (thread_of s n) s.core → m ≡ thread_of s n → moves.picked_event false (call_of s k) x (member_in s.tags g) s.core ≡ Some (picked_event_in s.tags g) → v ≡ moves.given_for (picked_event_in s.tags g) (unwrap_or (handle_in g) 0) s.core → may_hand_on x (picked_event_in s.tags g) None s.core ≡ true → t ≡ on_core (handed_on x (picked_event_in s.tags g) None) s → u ≡ on_core (moves.taken (picked_event_in t.tags g) (call_of t k)) t → (h : ℕ) → Implements (wait_rule r (thread_of s n) h (choice_of (label_of (thread_of s n) op_result)) s.core (op_progress.Waits x)) s.core op_result (ended r (thread_of s n) op_result u.core)
+takes_implements n x r k i m op_result g v s t u some shown at named member task number given is hands e d h =
     let N = thread_of s n in
     let row = takes_is N x r h s.tags g v s.core some (subst (λ (j : ℕ). IsNamedIn j s.tags g s.core) at named) (ap (λ (j : ℕ). moves.picked_event false j x (member_in s.tags g) s.core) (sym task) ∙ given) member is hands in
     let handed = handed_on x (picked_event_in s.tags g) None s.core in

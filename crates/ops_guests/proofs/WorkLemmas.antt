@@ -12,7 +12,7 @@ use Rattle.machine_data.specs.declared.records.Stage.{Stage}
 use Rattle.machine_data.specs.declared.records.Subtask.{Subtask}
 use Rattle.machine_data.specs.declared.records.Subtask.TheVariants as subtask
 use Rattle.machine_data.specs.declared.records.Work.{Work}
-use Rattle.machine_data.specs.declared.words.Phase.{Phase}
+use Rattle.machine_data.specs.declared.statuses.Phase.{Phase}
 use Rattle.core_primitives.specs.Apart.{IsBlockedUnqueued, IsUnqueued, work_entries}
 use Rattle.core_primitives.specs.StateView.{StateView, on_core, with_core, work_of}
 

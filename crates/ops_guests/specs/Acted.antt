@@ -8,7 +8,7 @@ use Rattle.ops_guests.specs.declared.mains.Acted.TheVariants as acted
 use Rattle.machine_rules.specs.MainOps.{Answers, Does, MainProgress, Pends}
 use Rattle.core_primitives.specs.StateView.{Keeps, KeepsWith, StateView}
 
--- The op that began in s did what the row says, and the core is t.
+-- The op that began in s did what the rule says, and the core is t.
 abbrev pub MainImplements : MainProgress → Core → Acted → Core → Type 0
 MainImplements (Does l new) s r t = (r ≡ acted.Does l) × (t ≡ new)
 MainImplements Pends s r t = (r ≡ acted.Pends) × (t ≡ s)

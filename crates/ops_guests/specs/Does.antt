@@ -18,11 +18,11 @@ use Rattle.core_primitives.specs.StateView.{Keeps, StateView, thread_of}
 abbrev pub Rule : Type 0
 Rule = Doer → ℕ → Choice → Core → Progress
 
--- The op that began in s came to what its rule says, whoever has it done: its core is the rule's once the op is ended with what it answers.
+-- The op that began in s resulted in what its rule says, whoever has it done: its core is the rule's once the op is ended with what it answers.
 -- A trap has changed nothing, and of the names that much is kept.
 pub record DoesRule (AreKept : StateView → StateView → Type 0) (rule : Rule) (id : TableId ThreadKey) (s : StateView) (r : OpResult)
     (t : StateView) : Type 0 where
-  pub meets : (d : Doer) → Implements (rule d (thread_of s id) (choice_of (label_of (thread_of s id) r)) s.core) s.core r
+  pub implements : (d : Doer) → Implements (rule d (thread_of s id) (choice_of (label_of (thread_of s id) r)) s.core) s.core r
       (ended d (thread_of s id) r t.core)
   pub stays : StaysAfter r s t
   pub kept : AreKept s t
@@ -37,7 +37,7 @@ SameNames s t = (t.tags ≡ s.tags) × (t.current ≡ s.current)
 abbrev pub KeepsTags : StateView → StateView → Type 0
 KeepsTags s t = Keeps s.tags t.tags
 
--- the same, and the same thread is current
+-- each id that named something names it still, and the same thread is current
 abbrev pub KeepsNames : StateView → StateView → Type 0
 KeepsNames s t = KeepsTags s t × (t.current ≡ s.current)
 

@@ -16,7 +16,7 @@ answered_to d n (op_answer.Event g) t = finish d n (OneEvent g) t
 answered_to d n (op_answer.Entered m) t = t
 answered_to d n op_answer.NoneDue t = t
 
--- the same of what the op resulted in
+-- this of what the op resulted in
 abbrev pub ended : Doer → ℕ → OpResult → Core → Core
 ended d n (op_result.Continues l m said) t = answered_to d n said t
 ended d n _ t = t

@@ -1,7 +1,7 @@
 -- What an op resulted in, against its rule.
 use Rattle.std.specs.Prelude.{IsPermutation, List, Some, ℕ, ◌≡◌}
 use Rattle.machine_data.specs.Core.{Core}
-use Rattle.machine_data.specs.declared.words.HostPoll.{HostPoll}
+use Rattle.machine_data.specs.declared.statuses.HostPoll.{HostPoll}
 use Rattle.machine_rules.specs.Progress.{Asks, Fails, Continues, Never, Ordered, Progress, Stops, Traps}
 use Rattle.task_table.specs.declared.id.TableId.{TableId}
 use Rattle.task_wait.specs.declared.keys.ThreadKey.{ThreadKey}
@@ -10,7 +10,7 @@ use Rattle.ops_guests.specs.declared.op_result.OpResult.{OpResult}
 use Rattle.ops_guests.specs.declared.op_result.OpResult.TheVariants as op_result
 use Rattle.ops_guests.specs.Shown.{goes_as}
 
--- The op that began in s did what the row says, and the core is t. A trap has changed nothing.
+-- The op that began in s did what the rule says, and the core is t. A trap has changed nothing.
 abbrev pub Implements : Progress → Core → OpResult → Core → Type 0
 Implements (Continues l new m) s r t = (r ≡ goes_as l m) × (t ≡ new)
 Implements (Stops l new) s r t = (r ≡ op_result.Stops l) × (t ≡ new)

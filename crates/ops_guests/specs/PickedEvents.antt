@@ -28,7 +28,7 @@ abbrev pub MembersNamed : ℕ → ℕ → Core → Type 0
 MembersNamed i x s = (sub : Subtask) → is_ready_member x sub s ≡ true →
     (h : ℕ) × ((subtask_handle sub s ≡ Some h) × (subtask_at i h s ≡ Some sub))
 
--- what the handle of the gift names in the instance is the member
+-- what the handle of the picked event names in the instance is the member
 abbrev pub IsNamedIn : ℕ → Tags → PickedEvent → Core → Type 0
 IsNamedIn i tags (picked_events.Member sub h) s = subtask_at i h s ≡ Some (subtask_in tags sub)
 IsNamedIn i tags _ s = Unit {0}

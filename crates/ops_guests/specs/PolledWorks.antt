@@ -6,8 +6,8 @@ use Rattle.ops_guests.specs.declared.work_ops.Polled.{Polled}
 use Rattle.ops_guests.specs.declared.work_ops.Polled.TheVariants as polled
 use Rattle.ops_guests.specs.declared.work_ops.PollNews.{PollNews}
 use Rattle.ops_guests.specs.declared.work_ops.PollNews.TheVariants as told
-use Rattle.machine_data.specs.declared.words.HostPoll.{HostPoll}
-use Rattle.machine_data.specs.declared.words.HostPoll.TheVariants as host_poll
+use Rattle.machine_data.specs.declared.statuses.HostPoll.{HostPoll}
+use Rattle.machine_data.specs.declared.statuses.HostPoll.TheVariants as host_poll
 use Rattle.machine_rules.specs.Works.{Asked, Ends, FailsNow, Poll, StillPends, next_polled, poll_ends, poll_pends}
 
 -- what a work has answered that has told this; an open one ends with a value alone

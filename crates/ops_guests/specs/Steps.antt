@@ -20,7 +20,7 @@ use Rattle.machine_data.specs.declared.label.LoopLabel.TheVariants as loop_label
 use Rattle.machine_data.specs.declared.label.MainLabel.TheVariants as main_label
 use Rattle.machine_data.specs.declared.records.Entry.{Entry}
 use Rattle.machine_data.specs.declared.scenario.MainOpDef.{MainOpDef}
-use Rattle.machine_data.specs.declared.words.Mark.{Mark}
+use Rattle.machine_data.specs.declared.statuses.Mark.{Mark}
 use Rattle.ops_guests.specs.Acted.{MainImplements}
 use Rattle.ops_guests.specs.declared.mains.Acted.{Acted}
 use Rattle.ops_guests.specs.declared.mains.Acted.TheVariants as acted
@@ -44,14 +44,14 @@ core_after n (op_result.Stops l) t = t
 core_after n (op_result.Traps why) t = unwound n t
 core_after n (op_result.Fails i) t = unwound n t
 
--- each op that meets its rule is a step of the machine
-abbrev pub MeetingIsStep : Type 0
-MeetingIsStep =
+-- each op that implements its rule is a step of the machine
+abbrev pub ImplementingIsStep : Type 0
+ImplementingIsStep =
     (x : Setting) (s : State) (n : ℕ) (r : OpResult) (t : Core) → s.turn ≡ turn.Run n →
     Implements (did x.component n s.core (choice_of (label_of n r))) s.core r t →
     Step x s (label_of n r) (goes_to s (core_after n r t) (turn_after r))
 
--- each taking that meets its rule, from the core that the entry has left, is a step of the machine
+-- each taking that implements its rule, from the core that the entry has left, is a step of the machine
 abbrev pub TakingIsStep : Type 0
 TakingIsStep =
     (x : Setting) (s : State) (ended : Bool) (e : Mark × Entry) (r : OpResult) (t : Core) → s.turn ≡ turn.Take ended →
@@ -72,7 +72,7 @@ main_after s p o (acted.Does l) t = at_turn s t (Scripted (advanced_main o l p))
 main_after s p o acted.Pends t = goes_to s t (turn.Futures 0)
 main_after s p o (acted.Answers v) t = goes_to s t turn.Over
 
--- each op of main's script that meets its rule is a step of the machine
+-- each op of main's script that implements its rule is a step of the machine
 abbrev pub ActingIsStep : Type 0
 ActingIsStep =
     (x : Setting) (s : State) (p : MainPlace) (o : MainOpDef) (r : Acted) (t : Core) → s.turn ≡ turn.Main → s.main ≡ Scripted p →

@@ -9,7 +9,7 @@ use Rattle.core_primitives.specs.StateView.{StateView, work_of}
 abbrev pub KeepsWorks : StateView → StateView → Type 0
 KeepsWorks s t = (id : TableId HostTaskKey) → 0 < work_of s id → work_of t id ≡ work_of s id
 
--- the same, unless the work is gone
+-- each id of a work names it still, unless the work is gone
 abbrev pub NamesWorks : StateView → StateView → Type 0
 NamesWorks s t =
     (id : TableId HostTaskKey) → 0 < work_of s id → (work_of t id ≡ work_of s id) ⊎ (get t.core.works (work_of s id) ≡ None)

@@ -33,7 +33,7 @@ fn skip_equal<W: Primitives>(
     end: u32,
 ) -> OpResult
     requires { position_of (thread_of (W.view w.old) thread) (W.view w.old).core < end }
-    ensures meets { (c : Component) → length (script_of c (thread_of (W.view w.old) thread) (W.view w.old).core) ≡ end → Implements (data_rule c (thread_of (W.view w.old) thread) (W.view w.old).core (data_ops.SkipEq left right ops)) (W.view w.old).core result (W.view w.new).core }
+    ensures implements { (c : Component) → length (script_of c (thread_of (W.view w.old) thread) (W.view w.old).core) ≡ end → Implements (data_rule c (thread_of (W.view w.old) thread) (W.view w.old).core (data_ops.SkipEq left right ops)) (W.view w.old).core result (W.view w.new).core }
     ensures tags { (W.view w.new).tags ≡ (W.view w.old).tags }
     ensures current { (W.view w.new).current ≡ (W.view w.old).current }
 {
@@ -52,16 +52,16 @@ fn skip_equal<W: Primitives>(
 }
 
 // `store W X`
-#[tactic(auto, using(crate::proofs::PositionLemmas::position_word), unfolding(machine_rules::specs::Data::stored))]
-fn store<W: Primitives>(w: &mut W, thread: ThreadId, word: u8, value: Operand, end: u32) -> OpResult
+#[tactic(auto, using(crate::proofs::PositionLemmas::position_memory_cell), unfolding(machine_rules::specs::Data::stored))]
+fn store<W: Primitives>(w: &mut W, thread: ThreadId, cell: u8, value: Operand, end: u32) -> OpResult
     requires { position_of (thread_of (W.view w.old) thread) (W.view w.old).core < end }
-    ensures meets { (c : Component) → length (script_of c (thread_of (W.view w.old) thread) (W.view w.old).core) ≡ end → Implements (data_rule c (thread_of (W.view w.old) thread) (W.view w.old).core (data_ops.Store word value)) (W.view w.old).core result (W.view w.new).core }
+    ensures implements { (c : Component) → length (script_of c (thread_of (W.view w.old) thread) (W.view w.old).core) ≡ end → Implements (data_rule c (thread_of (W.view w.old) thread) (W.view w.old).core (data_ops.Store word value)) (W.view w.old).core result (W.view w.new).core }
     ensures tags { (W.view w.new).tags ≡ (W.view w.old).tags }
     ensures current { (W.view w.new).current ≡ (W.view w.old).current }
 {
     let number = w.number(thread);
     let answer = value_of(w, thread, value);
-    w.set_word(w.instance_of(thread), word, answer);
+    w.set_memory_cell(w.instance_of(thread), cell, answer);
     w.advance(thread);
     OpResult::Continues(
         Label::Data(DataLabel::Store(number, answer)),
@@ -70,11 +70,11 @@ fn store<W: Primitives>(w: &mut W, thread: ThreadId, word: u8, value: Operand, e
     )
 }
 
-/// Returns an op on registers and memory cells, of a script that ends at `end`.
-#[tactic(auto, using(crate::proofs::PositionLemmas::position_word))]
+/// Does an op on registers and memory cells, of a script that ends at `end`.
+#[tactic(auto, using(crate::proofs::PositionLemmas::position_memory_cell))]
 pub fn compute<W: Primitives>(w: &mut W, thread: ThreadId, op: DataOp, end: u32) -> OpResult
     requires { position_of (thread_of (W.view w.old) thread) (W.view w.old).core < end }
-    ensures meets { (c : Component) → length (script_of c (thread_of (W.view w.old) thread) (W.view w.old).core) ≡ end → Implements (data_rule c (thread_of (W.view w.old) thread) (W.view w.old).core op) (W.view w.old).core result (W.view w.new).core }
+    ensures implements { (c : Component) → length (script_of c (thread_of (W.view w.old) thread) (W.view w.old).core) ≡ end → Implements (data_rule c (thread_of (W.view w.old) thread) (W.view w.old).core op) (W.view w.old).core result (W.view w.new).core }
     ensures tags { (W.view w.new).tags ≡ (W.view w.old).tags }
     ensures current { (W.view w.new).current ≡ (W.view w.old).current }
 {
@@ -97,12 +97,12 @@ pub fn compute<W: Primitives>(w: &mut W, thread: ThreadId, op: DataOp, end: u32)
             w.assign(thread, to, answer);
             DataLabel::Handle(number, answer)
         }
-        DataOp::Load { to, word } => {
-            let answer = w.word(w.instance_of(thread), word);
+        DataOp::Load { to, cell } => {
+            let answer = w.memory_cell(w.instance_of(thread), cell);
             w.assign(thread, to, answer);
             DataLabel::Load(number, answer)
         }
-        DataOp::Store { word, value } => return store(w, thread, word, value, end),
+        DataOp::Store { cell, value } => return store(w, thread, cell, value, end),
         DataOp::SkipEq { left, right, ops } => {
             return skip_equal(w, thread, left, right, ops, end);
         }

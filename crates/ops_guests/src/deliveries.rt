@@ -15,12 +15,12 @@ ghost use Rattle.core_primitives.specs.StateView.{call_of, on_core, set_of, thre
 
 use crate::op_result::{OpAnswer, OpResult};
 use crate::picked_events::{PickedEvent, given, picked_event_for, picked_task_event_only, take};
-use crate::wait_ops::{hand_on, own_given};
+use crate::wait_ops::{given_task_event, hand_on};
 use core_primitives::{CallId, PlaceId, Primitives, SetId, ThreadId};
 use machine_data::{Given, Label, Mark, TakeLabel};
 use ops_moves::{foot_of, stop};
 
-// What the gift hands out is in r0, r1 and r2, and the react script runs.
+// What the picked event hands out is in r0, r1 and r2, and the react script runs.
 #[tactic(auto, unfolding(machine_rules::specs::Takes::activated, core_primitives::specs::Context::activating))]
 #[inline(always)]
 fn activate<W: Primitives>(
@@ -49,17 +49,17 @@ fn activated(mark: Mark, thread: u64, given: Given, woken: Option<u64>) -> OpRes
             OpAnswer::NoneDue,
         ),
         Some(woken) => OpResult::Continues(
-            Label::Take(TakeLabel::EventWakes(mark, own_given(given), thread, woken)),
+            Label::Take(TakeLabel::EventWakes(mark, given_task_event(given), thread, woken)),
             thread,
             OpAnswer::NoneDue,
         ),
     }
 }
 
-/// Returns a delivery of a yield or of a cancel, which is admitted.
+/// Makes a delivery of a yield or of a cancel, which is admitted.
 #[inline(always)]
 pub fn deliver_own<W: Primitives>(w: &mut W, mark: Mark, thread: ThreadId) -> OpResult
-    ensures meets { Implements (own_delivered mark (thread_of (W.view w.old) thread) (W.view w.old).core (picked_task_event_only (task_of (thread_of (W.view w.old) thread) (W.view w.old).core) (W.view w.old).core)) (W.view w.old).core result (W.view w.new).core }
+    ensures implements { Implements (own_delivered mark (thread_of (W.view w.old) thread) (W.view w.old).core (picked_task_event_only (task_of (thread_of (W.view w.old) thread) (W.view w.old).core) (W.view w.old).core)) (W.view w.old).core result (W.view w.new).core }
     ensures tags { (W.view w.new).tags ≡ (W.view w.old).tags }
     ensures current { (W.view w.new).current ≡ (W.view w.old).current }
 {
@@ -71,7 +71,7 @@ pub fn deliver_own<W: Primitives>(w: &mut W, mark: Mark, thread: ThreadId) -> Op
     activated(mark, number, given, None)
 }
 
-/// Returns a resumption, or the start of an explicit thread: the thread goes on.
+/// Resumes a thread, or starts an explicit one: the thread goes on.
 #[tactic(auto, unfolding(machine_rules::specs::Takes::running))]
 pub fn resume<W: Primitives>(w: &mut W, mark: Mark, thread: ThreadId) -> OpResult
     ensures label { result ≡ goes_as (take_label mark (thread_of (W.view w.old) thread) None) (thread_of (W.view w.old) thread) }
@@ -86,7 +86,7 @@ pub fn resume<W: Primitives>(w: &mut W, mark: Mark, thread: ThreadId) -> OpResul
     )
 }
 
-/// Returns a delivery that is not admitted: the thread is held with its entry, and its strand stops.
+/// Holds a delivery that is not admitted: the thread is held with its entry, and its strand stops.
 pub fn hold_delivery<W: Primitives>(w: &mut W, mark: Mark, thread: ThreadId) -> OpResult
     requires live { 0 < thread_of (W.view w.old) thread }
     requires taken { IsTaken (thread_of (W.view w.old) thread) (why_of (thread_of (W.view w.old) thread) (W.view w.old).core) (W.view w.old).core }
@@ -113,7 +113,7 @@ fn wait_again<W: Primitives>(w: &mut W, thread: ThreadId, set: SetId)
     w.set_place(thread, PlaceId::Waiting { set, by_callback });
 }
 
-/// Returns a delivery for the set, which is admitted.
+/// Makes a delivery for the set, which is admitted.
 #[tactic(auto, unfolding(machine_rules::specs::Takes::activated_woken))]
 pub fn deliver_set<W: Primitives>(w: &mut W, mark: Mark, thread: ThreadId, set: SetId) -> OpResult
     requires live { 0 < thread_of (W.view w.old) thread }
@@ -121,7 +121,7 @@ pub fn deliver_set<W: Primitives>(w: &mut W, mark: Mark, thread: ThreadId, set: 
     requires taken { IsTaken (thread_of (W.view w.old) thread) (why_of (thread_of (W.view w.old) thread) (W.view w.old).core) (W.view w.old).core }
     requires unqueued { AreWaitersUnqueued (set_of (W.view w.old) set) (W.view w.old).core }
     requires members { MembersNamed (instance_of (thread_of (W.view w.old) thread) (W.view w.old).core) (set_of (W.view w.old) set) (W.view w.old).core }
-    ensures meets { Implements (delivered mark (thread_of (W.view w.old) thread) (choice_of (label_of (thread_of (W.view w.old) thread) result)) (W.view w.old).core (deliveries.Set (set_of (W.view w.old) set))) (W.view w.old).core result (W.view w.new).core }
+    ensures implements { Implements (delivered mark (thread_of (W.view w.old) thread) (choice_of (label_of (thread_of (W.view w.old) thread) result)) (W.view w.old).core (deliveries.Set (set_of (W.view w.old) set))) (W.view w.old).core result (W.view w.new).core }
     ensures tags { (W.view w.new).tags ≡ (W.view w.old).tags }
     ensures current { (W.view w.new).current ≡ (W.view w.old).current }
 {

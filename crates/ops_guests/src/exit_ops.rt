@@ -38,12 +38,12 @@ pub(crate) fn stop_and_end<W: Primitives>(w: &mut W, thread: ThreadId)
     end_thread(w, thread);
 }
 
-/// Returns the exit of an explicit thread, or of a stackful export.
+/// Makes the exit of an explicit thread, or of a stackful export.
 #[inline(always)]
 pub fn exit_thread<W: Primitives>(w: &mut W, thread: ThreadId) -> OpResult
     requires live { 0 < thread_of (W.view w.old) thread }
     requires running { IsRunning (thread_of (W.view w.old) thread) (W.view w.old).core }
-    ensures meets { Implements (thread_exit_rule (thread_of (W.view w.old) thread) (W.view w.old).core) (W.view w.old).core result (W.view w.new).core }
+    ensures implements { Implements (thread_exit_rule (thread_of (W.view w.old) thread) (W.view w.old).core) (W.view w.old).core result (W.view w.new).core }
     ensures stays { StaysAfter result (W.view w.old) (W.view w.new) }
     ensures current { (W.view w.new).current ≡ (W.view w.old).current }
     ensures works { KeepsTold (W.view w.old) (W.view w.new) }

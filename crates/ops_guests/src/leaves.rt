@@ -52,12 +52,12 @@ fn leave<W: Primitives>(w: &mut W, thread: ThreadId, waiter: Option<ThreadId>)
     end_thread(w, thread);
 }
 
-/// Returns the exit of a sync export that was not called directly.
+/// Makes the exit of a sync export that was not called directly.
 pub fn exit_sync<W: Primitives>(w: &mut W, thread: ThreadId) -> OpResult
     requires live { 0 < thread_of (W.view w.old) thread }
     requires running { IsRunning (thread_of (W.view w.old) thread) (W.view w.old).core }
     requires there { IsJoinThere (subtasks.Guest (task_of (thread_of (W.view w.old) thread) (W.view w.old).core)) (W.view w.old).core }
-    ensures meets { Implements (sync_exit_rule (thread_of (W.view w.old) thread) (choice_of (label_of (thread_of (W.view w.old) thread) result)).woken (W.view w.old).core) (W.view w.old).core result (W.view w.new).core }
+    ensures implements { Implements (sync_exit_rule (thread_of (W.view w.old) thread) (choice_of (label_of (thread_of (W.view w.old) thread) result)).woken (W.view w.old).core) (W.view w.old).core result (W.view w.new).core }
     ensures stays { StaysAfter result (W.view w.old) (W.view w.new) }
     ensures current { (W.view w.new).current ≡ (W.view w.old).current }
     ensures works { KeepsTold (W.view w.old) (W.view w.new) }
@@ -115,7 +115,7 @@ fn leave_direct<W: Primitives>(w: &mut W, thread: ThreadId, call: CallId) -> Res
     requires named { 0 < call_of (W.view w.old) call }
     requires call { call_of (W.view w.old) call ≡ task_of (thread_of (W.view w.old) thread) (W.view w.old).core }
     requires under { IsSome (under_of (thread_of (W.view w.old) thread) (W.view w.old).core) }
-    ensures meets { Implements (direct_exit_rule (thread_of (W.view w.old) thread) (W.view w.old).core) (W.view w.old).core (goes_by (exit_label (thread_of (W.view w.old) thread) None) result) (W.view w.new).core }
+    ensures implements { Implements (direct_exit_rule (thread_of (W.view w.old) thread) (W.view w.old).core) (W.view w.old).core (goes_by (exit_label (thread_of (W.view w.old) thread) None) result) (W.view w.new).core }
     ensures stays { StaysAfter (goes_by (exit_label (thread_of (W.view w.old) thread) None) result) (W.view w.old) (W.view w.new) }
     ensures current { IsCurrent (goes_by (exit_label (thread_of (W.view w.old) thread) None) result) (W.view w.new) }
     ensures works { KeepsTold (W.view w.old) (W.view w.new) }
@@ -141,7 +141,7 @@ fn leave_direct<W: Primitives>(w: &mut W, thread: ThreadId, call: CallId) -> Res
     Ok(to)
 }
 
-/// Returns the exit of the first thread of this direct call, with a thread under it, which is current from then on.
+/// Makes the exit of the first thread of this direct call, with a thread under it, which is current from then on.
 #[inline(always)]
 pub fn exit_direct<W: Primitives>(w: &mut W, thread: ThreadId, call: CallId) -> OpResult
     requires live { 0 < thread_of (W.view w.old) thread }
@@ -149,7 +149,7 @@ pub fn exit_direct<W: Primitives>(w: &mut W, thread: ThreadId, call: CallId) -> 
     requires named { 0 < call_of (W.view w.old) call }
     requires call { call_of (W.view w.old) call ≡ task_of (thread_of (W.view w.old) thread) (W.view w.old).core }
     requires under { IsSome (under_of (thread_of (W.view w.old) thread) (W.view w.old).core) }
-    ensures meets { Implements (direct_exit_rule (thread_of (W.view w.old) thread) (W.view w.old).core) (W.view w.old).core result (W.view w.new).core }
+    ensures implements { Implements (direct_exit_rule (thread_of (W.view w.old) thread) (W.view w.old).core) (W.view w.old).core result (W.view w.new).core }
     ensures stays { StaysAfter result (W.view w.old) (W.view w.new) }
     ensures current { IsCurrent result (W.view w.new) }
     ensures works { KeepsTold (W.view w.old) (W.view w.new) }
@@ -212,13 +212,13 @@ fn leave_open<W: Primitives>(w: &mut W, thread: ThreadId, waiter: Option<ThreadI
     stop_and_end(w, thread);
 }
 
-/// Returns the exit of a blocking export that was not called directly.
+/// Makes the exit of a blocking export that was not called directly.
 pub fn exit_blocking<W: Primitives>(w: &mut W, thread: ThreadId) -> OpResult
     requires live { 0 < thread_of (W.view w.old) thread }
     requires running { IsRunning (thread_of (W.view w.old) thread) (W.view w.old).core }
     requires there { IsJoinThere (subtasks.Guest (task_of (thread_of (W.view w.old) thread) (W.view w.old).core)) (W.view w.old).core }
     requires together { WaitersTogether (W.view w.old).core }
-    ensures meets { Implements (blocking_exit_rule (thread_of (W.view w.old) thread) (choice_of (label_of (thread_of (W.view w.old) thread) result)).woken (W.view w.old).core) (W.view w.old).core result (W.view w.new).core }
+    ensures implements { Implements (blocking_exit_rule (thread_of (W.view w.old) thread) (choice_of (label_of (thread_of (W.view w.old) thread) result)).woken (W.view w.old).core) (W.view w.old).core result (W.view w.new).core }
     ensures stays { StaysAfter result (W.view w.old) (W.view w.new) }
     ensures current { (W.view w.new).current ≡ (W.view w.old).current }
     ensures works { KeepsTold (W.view w.old) (W.view w.new) }

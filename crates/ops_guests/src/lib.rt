@@ -1,5 +1,5 @@
-//! The ops of guests over the primitives of a core: each is its rule of the machine. It tests in the row's order, then makes the
-//! moves in the order of the row's new core.
+//! The ops of guests over the primitives of a core: each is its rule of the machine. It makes the rule's tests in the rule's order, then
+//! the rule's moves in their order.
 #![tactic(auto)]
 
 mod codes;
@@ -22,7 +22,7 @@ mod unwinds;
 mod wait_ops;
 mod work_ops;
 
-ghost use Rattle.ops_guests.specs.Steps.{ActingIsStep, MeetingIsStep, TakingIsStep};
+ghost use Rattle.ops_guests.specs.Steps.{ActingIsStep, ImplementingIsStep, TakingIsStep};
 
 pub use codes::end_activation;
 pub use data::{compute, value_of};
@@ -42,14 +42,14 @@ pub use switches::{
 };
 pub use task_end_ops::{ret, ret_bad, task_cancel};
 pub use thread_ops::{halt, resume_later};
-pub use unwinds::strike;
+pub use unwinds::unwind_thread;
 pub use wait_ops::{begin_wait, go_on_waiting};
 pub use work_ops::{PollNews, Polled, poll_work, take_push};
 
 /// Says that an op which implements its rule is a step of the machine; so is a taking, and an op of main's script.
-#[tactic(auto, using(crate::proofs::MeetLemmas::meeting_is_step, crate::proofs::MeetLemmas::taking_is_step, crate::proofs::MeetLemmas::acting_is_step))]
+#[tactic(auto, using(crate::proofs::ImplementLemmas::implementing_is_step, crate::proofs::ImplementLemmas::taking_is_step, crate::proofs::ImplementLemmas::acting_is_step))]
 pub fn ops_are_steps()
-    ensures meeting { MeetingIsStep }
+    ensures meeting { ImplementingIsStep }
     ensures taking { TakingIsStep }
     ensures acting { ActingIsStep }
 {}

@@ -53,7 +53,7 @@ pub fn start<W: Primitives>(
     requires words { length words.now ≤ 16 }
     requires few { (W.view w.old).core.made.threads + 1 < 2 ^ 64 }
     requires groups { (W.view w.old).core.made.groups + 1 < 2 ^ 64 }
-    ensures meets { IfOk result (λ acted. (c : Component) → export_kind c callee ≡ kind → MainImplements (main_rule c line (W.view w.old).core (Start callee words.now)) (W.view w.old).core acted (W.view w.new).core) }
+    ensures implements { IfOk result (λ acted. (c : Component) → export_kind c callee ≡ kind → MainImplements (main_rule c line (W.view w.old).core (Start callee words.now)) (W.view w.old).core acted (W.view w.new).core) }
     ensures tags { KeepsStarted result (W.view w.old) (W.view w.new) }
     ensures current { (W.view w.new).current ≡ (W.view w.old).current }
     ensures asked { OnErr result (start_refusal (W.view w.old).core ≡ None) }
@@ -70,7 +70,7 @@ pub fn start<W: Primitives>(
 
 /// Does `finish K R`, of the start that made this call, or was refused.
 pub fn finish<W: Primitives>(w: &mut W, line: u32, call: u64) -> Acted
-    ensures meets { (c : Component) → MainImplements (main_rule c line (W.view w.old).core (Finish (Began call))) (W.view w.old).core result (W.view w.new).core }
+    ensures implements { (c : Component) → MainImplements (main_rule c line (W.view w.old).core (Finish (Began call))) (W.view w.old).core result (W.view w.new).core }
     ensures tags { (W.view w.new).tags ≡ (W.view w.old).tags }
     ensures current { (W.view w.new).current ≡ (W.view w.old).current }
 {
@@ -87,7 +87,7 @@ pub fn finish<W: Primitives>(w: &mut W, line: u32, call: u64) -> Acted
 #[tactic(auto, unfolding(machine_rules::specs::MainOps::main_spawned))]
 pub fn spawn<W: Primitives>(w: &mut W, line: u32, host: HostDef) -> Result<Acted, NoMemory>
     requires few { (W.view w.old).core.made.works + 1 < 2 ^ 64 }
-    ensures meets { IfOk result (λ acted. (c : Component) → (h : ℕ) → host_at c h ≡ host → MainImplements (main_rule c line (W.view w.old).core (Spawn h)) (W.view w.old).core acted (W.view w.new).core) }
+    ensures implements { IfOk result (λ acted. (c : Component) → (h : ℕ) → host_at c h ≡ host → MainImplements (main_rule c line (W.view w.old).core (Spawn h)) (W.view w.old).core acted (W.view w.new).core) }
     ensures tags { Keeps (W.view w.old).tags (W.view w.new).tags }
     ensures current { (W.view w.new).current ≡ (W.view w.old).current }
     ensures err { OnErr result (W.view w.new ≡ W.view w.old) }
@@ -109,7 +109,7 @@ fn aborted(phase: Phase) -> Phase
 /// Does `abort K`, of the spawn that made this work.
 #[tactic(auto, unfolding(machine_rules::specs::MainOps::main_aborted))]
 pub fn abort<W: Primitives>(w: &mut W, line: u32, work: WorkId) -> Acted
-    ensures meets { (c : Component) → MainImplements (main_rule c line (W.view w.old).core (Abort (work_of (W.view w.old) work))) (W.view w.old).core result (W.view w.new).core }
+    ensures implements { (c : Component) → MainImplements (main_rule c line (W.view w.old).core (Abort (work_of (W.view w.old) work))) (W.view w.old).core result (W.view w.new).core }
     ensures tags { (W.view w.new).tags ≡ (W.view w.old).tags }
     ensures current { (W.view w.new).current ≡ (W.view w.old).current }
 {
@@ -129,7 +129,7 @@ pub fn await_spawn<W: Primitives>(w: &W, line: u32, work: WorkId) -> Acted
     }
 }
 
-/// `quiet`
+/// Does `quiet`: main waits as long as a task is interesting.
 pub fn quiet<W: Primitives>(w: &W) -> Acted
     ensures { (c : Component) → (k : ℕ) → MainImplements (main_rule c k (W.view w.now).core Quiet) (W.view w.now).core result (W.view w.now).core }
 {
@@ -152,10 +152,11 @@ pub fn ready<W: Primitives>(w: &W, instance: u32) -> Acted
     }
 }
 
-/// `answer X`
+/// Does `answer X`: main's last op.
 pub fn answer<W: Primitives>(w: &W, value: u64) -> Acted
     ensures { (c : Component) → (k : ℕ) → MainImplements (main_rule c k (W.view w.now).core (Answer value)) (W.view w.now).core result (W.view w.now).core }
 {
+    // only the contract speaks of `w`
     let _state = w;
     Acted::Answers(value)
 }

@@ -69,7 +69,7 @@ pub(crate) fn picked_task_event_only<W: Primitives>(w: &W, call: CallId) -> Pick
     }
 }
 
-/// Returns what is handed out for the gift.
+/// Returns what is handed out for the picked event.
 #[tactic(auto, unfolding(machine_data::specs::Moves::given_for))]
 pub(crate) fn given<W: Primitives>(w: &W, picked_event: PickedEvent) -> Given
     ensures is { result ≡ given_for (picked_event_in (W.view w.now).tags picked_event) (unwrap_or (handle_in picked_event) 0) (W.view w.now).core }

@@ -12,7 +12,7 @@ use crate::picked_events::{given, picked_event_for, take};
 use core_primitives::{Primitives, ThreadId};
 use machine_data::{Label, SetLabel, Trap};
 
-/// Does `poll R X`
+/// Does `poll R X`.
 pub fn poll<W: Primitives>(w: &mut W, thread: ThreadId, handle: u64) -> OpResult
     requires sets { SetsThere (W.view w.old).core }
     requires members { AllMembersNamed (instance_of (thread_of (W.view w.old) thread) (W.view w.old).core) (W.view w.old).core }

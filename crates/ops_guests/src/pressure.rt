@@ -9,7 +9,7 @@ use crate::op_result::{OpAnswer, OpResult};
 use core_primitives::{Primitives, ThreadId};
 use machine_data::{Label, TaskLabel, Trap};
 
-/// Does `bp_inc`
+/// Does `bp_inc`.
 #[tactic(auto, unfolding(machine_rules::specs::Task::pressure_raised))]
 pub fn raise<W: Primitives>(w: &mut W, thread: ThreadId) -> OpResult
     ensures does { DoesRule SameNames (λ d n ch s. inc_rule d n s) thread (W.view w.old) result (W.view w.new) }

@@ -12,7 +12,7 @@ use crate::op_result::{OpAnswer, OpResult};
 use core_primitives::{NoMemory, Primitives, ThreadId};
 use machine_data::{Label, SetLabel, Trap};
 
-/// Does `set_new R`
+/// Does `set_new R`.
 pub fn set_new<W: Primitives>(w: &mut W, thread: ThreadId) -> Result<OpResult, NoMemory>
     requires live { 0 < thread_of (W.view w.old) thread }
     requires there { is_some (get (W.view w.old).core.handles (instance_of (thread_of (W.view w.old) thread) (W.view w.old).core)) ≡ true }
@@ -37,7 +37,7 @@ pub fn set_new<W: Primitives>(w: &mut W, thread: ThreadId) -> Result<OpResult, N
     ))
 }
 
-/// Does `set_drop X`
+/// Does `set_drop X`.
 pub fn set_drop<W: Primitives>(w: &mut W, thread: ThreadId, handle: u64) -> OpResult
     requires live { 0 < thread_of (W.view w.old) thread }
     requires sets { SetsThere (W.view w.old).core }

@@ -164,7 +164,7 @@ pub fn take_start<W: Primitives>(
     requires taken { IsStartTaken (thread_of (W.view w.old) thread) (W.view w.old).core }
     requires bottom { under_of (thread_of (W.view w.old) thread) (W.view w.old).core ≡ None }
     requires there { IsJoinThere (subtasks.Guest (task_of (thread_of (W.view w.old) thread) (W.view w.old).core)) (W.view w.old).core }
-    ensures meets { IfOk result (λ op_result. Implements (start_rule mark (thread_of (W.view w.old) thread) (choice_of (label_of (thread_of (W.view w.old) thread) op_result)).woken (W.view w.old).core (admits (thread_of (W.view w.old) thread) (W.view w.old).core whys.Start)) (W.view w.old).core op_result (W.view w.new).core) }
+    ensures implements { IfOk result (λ op_result. Implements (start_rule mark (thread_of (W.view w.old) thread) (choice_of (label_of (thread_of (W.view w.old) thread) op_result)).woken (W.view w.old).core (admits (thread_of (W.view w.old) thread) (W.view w.old).core whys.Start)) (W.view w.old).core op_result (W.view w.new).core) }
     ensures tags { (W.view w.new).tags ≡ (W.view w.old).tags }
     ensures current { (W.view w.new).current ≡ (W.view w.old).current }
     ensures err { OnErr result (W.view w.new ≡ W.view w.old) }

@@ -40,7 +40,7 @@ pub fn resume_first<W: Primitives>(w: &mut W, thread: ThreadId, handle: u64) -> 
     Ok(true)
 }
 
-/// Does `suspend_then_resume X` and `yield_then_resume X`, as they begin
+/// Does `suspend_then_resume X` and `yield_then_resume X`, as they begin.
 pub fn halt_then_resume<W: Primitives>(
     w: &mut W,
     thread: ThreadId,
@@ -99,7 +99,7 @@ pub fn promote_first<W: Primitives>(w: &mut W, thread: ThreadId, handle: u64) ->
     Ok(true)
 }
 
-/// Does `suspend_then_promote X` and `yield_then_promote X`, as they begin
+/// Does `suspend_then_promote X` and `yield_then_promote X`, as they begin.
 pub fn halt_then_promote<W: Primitives>(
     w: &mut W,
     thread: ThreadId,
@@ -123,7 +123,7 @@ pub fn halt_then_promote<W: Primitives>(
     }
 }
 
-/// Does `thread_index R`
+/// Does `thread_index R`.
 pub fn thread_index<W: Primitives>(w: &W, thread: ThreadId) -> OpResult
     ensures does { DoesRule SameNames (λ d n ch s. thread_index_rule d n s) thread (W.view w.now) result (W.view w.now) }
 {

@@ -21,7 +21,7 @@ fn is_async_lifted(kind: ExportKind) -> bool
     matches!(kind, ExportKind::Stackful | ExportKind::Callback)
 }
 
-/// Does `ret X`
+/// Does `ret X`.
 pub fn ret<W: Primitives>(w: &mut W, thread: ThreadId, value: u64) -> OpResult
     requires live { 0 < thread_of (W.view w.old) thread }
     requires running { IsRunning (thread_of (W.view w.old) thread) (W.view w.old).core }
@@ -52,7 +52,7 @@ pub fn ret<W: Primitives>(w: &mut W, thread: ThreadId, value: u64) -> OpResult
     }
 }
 
-/// Does `ret_bad X`
+/// Does `ret_bad X`.
 pub fn ret_bad<W: Primitives>(w: &W, thread: ThreadId) -> OpResult
     ensures { Implements (ret_bad_rule (thread_of (W.view w.now) thread) (W.view w.now).core) (W.view w.now).core result (W.view w.now).core }
 {
@@ -62,7 +62,7 @@ pub fn ret_bad<W: Primitives>(w: &W, thread: ThreadId) -> OpResult
     OpResult::Traps(Trap::TaskReturnInvalid)
 }
 
-/// Does `task_cancel`
+/// Does `task_cancel`.
 pub fn task_cancel<W: Primitives>(w: &mut W, thread: ThreadId) -> OpResult
     requires live { 0 < thread_of (W.view w.old) thread }
     requires running { IsRunning (thread_of (W.view w.old) thread) (W.view w.old).core }

@@ -30,7 +30,7 @@ pub(crate) fn stop_top<W: Primitives>(w: &mut W, thread: ThreadId, yielding: boo
     }
 }
 
-/// Does `suspend` and `yield`, as they begin
+/// Does `suspend` and `yield`, as they begin.
 #[tactic(auto, unfolding(machine_rules::specs::Threads::halted_checked))]
 #[inline(always)]
 pub fn halt<W: Primitives>(w: &mut W, thread: ThreadId, yielding: bool, label: Label) -> OpResult
@@ -63,7 +63,7 @@ pub(crate) fn resume_why<W: Primitives>(w: &W, thread: ThreadId) -> Option<WhyId
     }
 }
 
-/// Does `resume_later X`
+/// Does `resume_later X`.
 pub fn resume_later<W: Primitives>(w: &mut W, thread: ThreadId, handle: u64) -> OpResult
     requires live { 0 < thread_of (W.view w.old) thread }
     requires running { IsRunning (thread_of (W.view w.old) thread) (W.view w.old).core }

@@ -30,7 +30,7 @@ fn remove_strand<W: Primitives>(w: &mut W, thread: ThreadId)
 
 /// Unwinds the thread's strand, traps the store and finishes all groups.
 #[tactic(auto, unfolding(machine_rules::specs::Step::unwound))]
-pub fn strike<W: Primitives>(w: &mut W, thread: ThreadId)
+pub fn unwind_thread<W: Primitives>(w: &mut W, thread: ThreadId)
     requires live { 0 < thread_of (W.view w.old) thread }
     requires top { IsTopmost (thread_of (W.view w.old) thread) (W.view w.old).core }
     ensures core { (W.view w.new).core ≡ unwound (thread_of (W.view w.old) thread) (W.view w.old).core }

@@ -1,6 +1,6 @@
 //! Waiting on a set.
 ghost use Rattle.std.specs.Prelude.{◌≡◌, ◌<◌, option_map, true};
-ghost use Rattle.machine_data.specs.Labels.{own_given, wait_label};
+ghost use Rattle.machine_data.specs.Labels.{given_task_event, wait_label};
 ghost use Rattle.machine_data.specs.Moves.{handed_on, may_hand_on};
 ghost use Rattle.machine_data.specs.Read.{instance_of};
 ghost use Rattle.machine_data.specs.declared.records.OpProgress.TheVariants as op_progresses;
@@ -65,7 +65,7 @@ fn stop_waiting<W: Primitives>(w: &mut W, thread: ThreadId, set: SetId)
     );
 }
 
-/// Does `wait R X`, as it begins
+/// Does `wait R X`, as it begins.
 #[tactic(auto, unfolding(machine_rules::specs::Sets::wait_stops_checked))]
 pub fn begin_wait<W: Primitives>(w: &mut W, thread: ThreadId, handle: u64) -> OpResult
     requires live { 0 < thread_of (W.view w.old) thread }
@@ -99,8 +99,8 @@ pub fn begin_wait<W: Primitives>(w: &mut W, thread: ThreadId, handle: u64) -> Op
 }
 
 // The task event that was given.
-pub(crate) fn own_given(given: Given) -> TaskEvent
-    ensures { result ≡ own_given given }
+pub(crate) fn given_task_event(given: Given) -> TaskEvent
+    ensures { result ≡ given_task_event given }
 {
     match given {
         Given::Cancelled => TaskEvent::Cancelled,
@@ -141,7 +141,7 @@ fn waited(thread: u64, given: Given, woken: Option<u64>) -> OpResult
     }
 }
 
-/// Does `wait R X`, resumed inside it, whatever its handle names by then
+/// Does `wait R X`, resumed inside it, whatever its handle names by then.
 pub fn go_on_waiting<W: Primitives>(w: &mut W, thread: ThreadId, set: SetId) -> OpResult
     requires live { 0 < thread_of (W.view w.old) thread }
     requires set { 0 < set_of (W.view w.old) set }

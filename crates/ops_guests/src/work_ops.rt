@@ -36,7 +36,7 @@ pub enum Polled {
     Fails,
 }
 
-/// Returns the push of a work: it is live.
+/// Takes the push entry of a work: it is live.
 #[tactic(auto, unfolding(machine_rules::specs::Takes::pushed))]
 pub fn take_push<W: Primitives>(w: &mut W, mark: Mark, work: WorkId) -> OpResult
     ensures label { result ≡ OpResult.Stops (labels.Take (take_labels.Push mark (work_of (W.view w.old) work))) }
@@ -96,7 +96,7 @@ pub fn poll_work<W: Primitives>(w: &mut W, work: WorkId, told: PollNews) -> Poll
     requires told { TellsPoll told (poll_of (work_of (W.view w.old) work) (W.view w.old).core) }
     requires blocked { IsBlockedUnqueued (subtasks.Host (work_of (W.view w.old) work)) (W.view w.old).core }
     requires unqueued { work_entries (work_of (W.view w.old) work) (W.view w.old).core.queues.high ≡ 0 }
-    ensures meets { PollImplements (work_of (W.view w.old) work) (poll_of (work_of (W.view w.old) work) (W.view w.old).core) (W.view w.old).core result (W.view w.new).core }
+    ensures implements { PollImplements (work_of (W.view w.old) work) (poll_of (work_of (W.view w.old) work) (W.view w.old).core) (W.view w.old).core result (W.view w.new).core }
     ensures core { PolledTo told (work_of (W.view w.old) work) (poll_of (work_of (W.view w.old) work) (W.view w.old).core) (W.view w.old).core (W.view w.new).core }
     ensures tags { (W.view w.new).tags ≡ (W.view w.old).tags }
     ensures current { (W.view w.new).current ≡ (W.view w.old).current }

@@ -14,8 +14,8 @@ use Rattle.machine_data.specs.declared.records.OpProgress.{OpProgress}
 use Rattle.machine_data.specs.declared.records.Place.{Place}
 use Rattle.machine_data.specs.declared.records.Place.TheVariants as place
 use Rattle.machine_data.specs.declared.records.Why.{Why}
-use Rattle.machine_data.specs.declared.words.Mark.{Mark}
-use Rattle.machine_data.specs.declared.words.Mark.TheVariants as mark
+use Rattle.machine_data.specs.declared.statuses.Mark.{Mark}
+use Rattle.machine_data.specs.declared.statuses.Mark.TheVariants as mark
 use Rattle.core_primitives.specs.Apart.{IsBehindNobody, IsSwitchUnqueued, IsUnqueued}
 use Rattle.core_primitives.specs.StateView.{KeepsBut, Lost, StateView, Tags, on_core, thread_of}
 

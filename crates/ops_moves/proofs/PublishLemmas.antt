@@ -18,7 +18,7 @@ use Rattle.machine_data.specs.declared.records.Subtask.{Subtask}
 use Rattle.machine_data.specs.declared.records.Subtask.TheVariants as subtask
 use Rattle.machine_data.specs.declared.records.Why.{Why}
 use Rattle.machine_data.specs.declared.records.Why.TheVariants as why
-use Rattle.machine_data.specs.declared.words.Status.{Status}
+use Rattle.machine_data.specs.declared.statuses.Status.{Status}
 use Rattle.ops_moves.specs.Idle.{AreIdleUnqueued, IsJoinThere, IsWaiting, number_of}
 use Rattle.machine_rules.proofs.StandLemmas.{by_number, entries-append}
 use Rattle.machine_rules.proofs.StopLemmas.{find_passes}

@@ -14,7 +14,7 @@ use Rattle.machine_data.specs.declared.records.Entry.TheVariants as entry
 use Rattle.machine_data.specs.declared.records.Place.TheVariants as place
 use Rattle.machine_data.specs.declared.records.Why.{Why}
 use Rattle.machine_data.specs.declared.records.Why.TheVariants as why
-use Rattle.machine_data.specs.declared.words.Mark.TheVariants as mark
+use Rattle.machine_data.specs.declared.statuses.Mark.TheVariants as mark
 use Rattle.ops_moves.specs.Stops.{AreCallersUnqueued, MayPass, behind_from, resumed_from}
 use Rattle.machine_rules.proofs.StandLemmas.{by_number, entries-append, eq_refl, not_eq, times-append, times-newest}
 use Rattle.machine_rules.specs.Places.{entries, one_if, times}

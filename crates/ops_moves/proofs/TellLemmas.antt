@@ -23,7 +23,7 @@ use Rattle.machine_data.specs.declared.records.Set.{Set}
 use Rattle.machine_data.specs.declared.records.Subtask.{Subtask}
 use Rattle.machine_data.specs.declared.records.Subtask.TheVariants as subtask
 use Rattle.machine_data.specs.declared.records.Thread.{Thread}
-use Rattle.machine_data.specs.declared.words.Status.TheVariants as status
+use Rattle.machine_data.specs.declared.statuses.Status.TheVariants as status
 use Rattle.ops_moves.specs.Idle.{AreIdleUnqueued, CanPublish, IsJoinThere, IsWaiting, number_of}
 use Rattle.machine_rules.proofs.StopLemmas.{Untouched}
 use Rattle.ops_moves.proofs.UntouchedLemmas.{give_result_untouched, same_untouched, set_end_untouched, set_register_untouched, set_result_untouched}
@@ -136,7 +136,7 @@ result_live goal.Answer f k v s t zero same = refl
 result_live goal.Nowhere f k v s t zero same = refl
 result_live goal.Direct f k v s t zero same = refl
 
--- ---- In the words of what contracts see
+-- ---- As contracts see it
 
 still_waiting : (waiter : Option (TableId ThreadKey)) (f : Core → Core) (s : StateView) → Untouched s.core (f s.core) → IfSome waiter (λ id. IsWaiting (thread_of s id) s.core) → IfSome waiter (λ id. IsWaiting (thread_of s id) (f s.core))
 still_waiting None f s u waits = tt

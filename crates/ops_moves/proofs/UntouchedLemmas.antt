@@ -9,8 +9,8 @@ use Rattle.machine_data.specs.declared.records.CallEnd.{CallEnd}
 use Rattle.machine_data.specs.declared.records.Instance.{Instance}
 use Rattle.machine_data.specs.declared.records.Subtask.{Subtask}
 use Rattle.machine_data.specs.declared.records.Subtask.TheVariants as subtask
-use Rattle.machine_data.specs.declared.words.TaskEvent.{TaskEvent}
-use Rattle.machine_data.specs.declared.words.Status.{Status}
+use Rattle.machine_data.specs.declared.statuses.TaskEvent.{TaskEvent}
+use Rattle.machine_data.specs.declared.statuses.Status.{Status}
 use Rattle.machine_rules.proofs.StopLemmas.{Untouched}
 use Rattle.machine_rules.specs.Calls.{with_thread_handle}
 

@@ -19,6 +19,7 @@ fn way_down<W: Primitives>(w: &W, thread: ThreadId) -> ThreadId
             return foot;
         };
         foot = below;
+        // the loop counts its steps, so that it ends
         let _ = step;
     }
     foot

@@ -2,7 +2,7 @@
 ghost use Rattle.std.specs.Prelude.{◌≡◌, ◌<◌, IfSome, option_map, true};
 ghost use Rattle.machine_data.specs.Moves.{PickedTaskEvent, behind_one, handed_on, is_callback_waiter, may_hand_on, may_wake, unblocked, wake, waken_by};
 ghost use Rattle.machine_data.specs.Read.{blocked_on};
-ghost use Rattle.machine_data.specs.declared.words.TaskEvent.{TaskEvent};
+ghost use Rattle.machine_data.specs.declared.statuses.TaskEvent.{TaskEvent};
 ghost use Rattle.core_primitives.specs.Apart.{AreWaitersUnqueued, IsBehindNobody, IsBlockedUnqueued, IsUnqueued};
 ghost use Rattle.core_primitives.specs.Names.{number_in, subtask_in};
 ghost use Rattle.core_primitives.specs.StateView.{on_core, set_of, thread_of};

@@ -6,7 +6,7 @@ use Rattle.machine_data.specs.Core.{Core}
 use Rattle.machine_data.specs.Moves.{PickedMember, NothingPicked, PickedTaskEvent, picked_event, picked_event_after_own, picked_task_event_of, own_or_nothing, taken, taken_own}
 use Rattle.machine_data.specs.Write.{set_event}
 use Rattle.machine_data.specs.declared.records.Subtask.{Subtask}
-use Rattle.machine_data.specs.declared.words.TaskEvent.{TaskEvent}
+use Rattle.machine_data.specs.declared.statuses.TaskEvent.{TaskEvent}
 use Rattle.ops_guests.proofs.PickedEventLemmas.{member_given}
 use Rattle.task_wait.specs.declared.codes.Event.{Event}
 use Rattle.core_primitives.specs.StateView.{StateView, on_core}

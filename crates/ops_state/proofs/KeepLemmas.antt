@@ -12,9 +12,9 @@ use Rattle.machine_data.specs.Write.{set_event, set_join, set_place}
 use Rattle.machine_data.specs.declared.records.Join.{Join}
 use Rattle.machine_data.specs.declared.records.Place.TheVariants as place
 use Rattle.machine_data.specs.declared.records.Subtask.{Subtask}
-use Rattle.machine_data.specs.declared.words.Mark.{Mark}
-use Rattle.machine_data.specs.declared.words.TaskEvent.{TaskEvent}
-use Rattle.machine_data.specs.declared.words.Status.{Status}
+use Rattle.machine_data.specs.declared.statuses.Mark.{Mark}
+use Rattle.machine_data.specs.declared.statuses.TaskEvent.{TaskEvent}
+use Rattle.machine_data.specs.declared.statuses.Status.{Status}
 use Rattle.machine_rules.specs.Sets.{joins, may_wake_new, wakes_joined}
 use Rattle.machine_rules.specs.Takes.{popped}
 use Rattle.task_table.specs.declared.id.TableId.{TableId}

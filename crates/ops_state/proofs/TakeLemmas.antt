@@ -7,7 +7,7 @@ use Rattle.machine_data.specs.Maps.{get}
 use Rattle.machine_data.specs.Read.{next_entry, or_high, place_of}
 use Rattle.machine_data.specs.declared.records.Entry.{Entry}
 use Rattle.machine_data.specs.declared.records.Entry.TheVariants as entry
-use Rattle.machine_data.specs.declared.words.Mark.{Mark}
+use Rattle.machine_data.specs.declared.statuses.Mark.{Mark}
 use Rattle.task_table.specs.declared.id.TableId.{TableId}
 use Rattle.task_wait.specs.declared.keys.ThreadKey.{ThreadKey}
 use Rattle.core_primitives.specs.Names.{entry_in}

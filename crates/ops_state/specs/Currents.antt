@@ -72,3 +72,7 @@ now_runs c s = with_current (thread_in c) (on_core (λ core. entered (number_in 
 pub record LosesNoWake (old new : Option ℕ) (s : Core) : Type 0 where
   pub leaves : (n : ℕ) → old ≡ Some n → is_left n new s ≡ true → MaySuspend n s
   pub runs : (n : ℕ) → new ≡ Some n → MayComeToRun n s
+
+-- so is it where this thread, or none, is to run
+abbrev pub LosesNoWakeFor : CurrentThread → StateView → Type 0
+LosesNoWakeFor c s = LosesNoWake (runner s) (number_in s c) s.core

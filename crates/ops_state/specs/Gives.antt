@@ -1,12 +1,12 @@
 -- The event that a task is given.
-use Rattle.std.specs.Prelude.{Bool, false, None, Option, Some, unwrap_or, ℕ, ◌≡◌}
+use Rattle.std.specs.Prelude.{Bool, false, None, Option, Some, unwrap_or, ℕ, ◌≡◌, true}
 use Rattle.machine_data.specs.Core.{Core}
 use Rattle.machine_data.specs.Moves.{PickedEvent, PickedMember, NothingPicked, PickedTaskEvent, picked_event, picked_task_event_of, own_or_nothing, taken}
-use Rattle.machine_data.specs.Read.{event_of, has_ready_member, is_ready_member, subtask_handle}
+use Rattle.machine_data.specs.Read.{event_of, has_ready_member, is_ready_member, subtask_handle, is_async_lifted, kind_of}
 use Rattle.machine_data.specs.declared.records.Subtask.{Subtask}
-use Rattle.machine_data.specs.declared.words.TaskEvent.{TaskEvent}
-use Rattle.machine_data.specs.declared.words.TaskEvent.TheVariants as own
-use Rattle.machine_data.specs.declared.words.Status.TheVariants as status
+use Rattle.machine_data.specs.declared.statuses.TaskEvent.{TaskEvent}
+use Rattle.machine_data.specs.declared.statuses.TaskEvent.TheVariants as own
+use Rattle.machine_data.specs.declared.statuses.Status.TheVariants as status
 use Rattle.task_wait.specs.declared.codes.Event.{Event}
 use Rattle.task_wait.specs.declared.codes.Event.TheVariants as event
 use Rattle.core_primitives.specs.StateView.{StateView, on_core}
@@ -39,7 +39,11 @@ abbrev pub is_ready_in : Option ℕ → Subtask → Core → Bool
 is_ready_in None sub s = false
 is_ready_in (Some x) sub s = is_ready_member x sub s
 
--- The gift was taken, and what it hands out is the answer.
+-- a call that may be told of its cancel is of an async-lifted export
+abbrev pub IsAsyncIfCancellable : (cancellable : Bool) → ℕ → Core → Type 0
+IsAsyncIfCancellable cancellable k s = cancellable ≡ true → is_async_lifted (kind_of k s) ≡ true
+
+-- The picked event was taken, and what it hands out is the answer.
 pub record Gives (cancellable : Bool) (k : ℕ) (set : Option ℕ) (s : StateView) (r : Option (Event × ℕ)) (t : StateView) :
     Type 0 where
   pub chosen : Option Subtask

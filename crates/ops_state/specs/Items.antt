@@ -1,11 +1,11 @@
 -- What is queued: items, and the entries that they are.
-use Rattle.laws_order.specs.KeptOrder.{Hand}
-use Rattle.std.specs.Prelude.{Bool, None, Option, Some, false, option_map, true, ℕ, ◌<◌, ◌≡◌}
+use Rattle.laws_order.specs.KeptOrder.{Hand, put_back}
+use Rattle.std.specs.Prelude.{Bool, None, Option, Some, false, option_map, true, ℕ, ◌<◌, ◌≡◌, ◌≢◌}
 use Rattle.ops_state.specs.Named.{IsLive}
 use Rattle.ops_state.specs.declared.entry_calls.Item.{Item}
 use Rattle.ops_state.specs.declared.entry_calls.Item.TheVariants as item
 use Rattle.ops_state.specs.declared.name_calls.QualifiedThreadId.{QualifiedThreadId}
-use Rattle.laws_states.specs.Order.{is_finishing}
+use Rattle.laws_states.specs.Order.{is_finishing, is_open}
 use Rattle.machine_data.specs.Core.{Core}
 use Rattle.machine_data.specs.Moves.{why_of}
 use Rattle.machine_data.specs.Read.{is_at, is_explicit, is_new, place_of, stage_of}
@@ -19,16 +19,20 @@ use Rattle.machine_data.specs.declared.records.Stage.{Stage}
 use Rattle.machine_data.specs.declared.records.Stage.TheVariants as stage
 use Rattle.machine_data.specs.declared.records.Why.{Why}
 use Rattle.machine_data.specs.declared.records.Why.TheVariants as why
-use Rattle.machine_data.specs.declared.words.Mark.{Mark}
-use Rattle.machine_data.specs.declared.words.Mark.TheVariants as mark
+use Rattle.machine_data.specs.declared.statuses.Mark.{Mark}
+use Rattle.machine_data.specs.declared.statuses.Mark.TheVariants as mark
 use Rattle.machine_rules.specs.Allowed.{MayPut as GetsEntry}
 use Rattle.machine_rules.specs.Places.{is_for_start, switch_entries}
 use Rattle.machine_rules.specs.Takes.{popped}
-use Rattle.machine_rules.specs.Words.{put_at}
+use Rattle.machine_rules.specs.Primitives.{put_at}
 use Rattle.core_primitives.specs.Apart.{IsSwitchUnqueued, IsUnqueued, work_entries}
 use Rattle.core_primitives.specs.Live.{live_set}
 use Rattle.core_primitives.specs.Names.{delivery_in}
 use Rattle.core_primitives.specs.StateView.{StateView, Tags, on_core, thread_number, thread_of, work_number, work_of}
+use Rattle.laws_order.specs.Pieces.{KeepsOrder}
+use Rattle.machine_data.specs.declared.component.Component.{Component}
+use Rattle.machine_data.specs.declared.records.Turn.{Turn}
+use Rattle.machine_data.specs.declared.records.Turn.TheVariants as turn
 
 -- ---- An item as an entry
 
@@ -115,6 +119,15 @@ CanReturn from (item.Deliver id d) s = IsHeld from (thread_of s id.thread) (why.
 CanReturn from (item.Resume id) s = IsHeld from (thread_of s id.thread) why.Resumption s.core
 CanReturn from _ s = ⊥
 
+-- beside a thread that runs, what comes to switch keeps order
+abbrev pub PutKeepsOrderBeside : Mark → Item → StateView → StateView → Type 0
+PutKeepsOrderBeside m i s t = (c : Component) (n : ℕ) → m ≡ mark.Switch → CanGet i s → KeepsOrder c (turn.Run n) s.core (turn.Run n) t.core
+
+-- an item that is put back, but not to switch, keeps order as it was in hand
+abbrev pub PutKeepsOrderBack : Mark → Item → StateView → StateView → Type 0
+PutKeepsOrderBack m i s t = (c : Component) (p : Turn) (from : Mark) → is_open p ≡ true → m ≢ mark.Switch → CanReturn from i s →
+    KeepsOrder c p (put_back (Some (from, entry_of s.tags i)) s.core) p t.core
+
 -- ---- Taking an item
 
 -- what is in hand once this was taken
@@ -125,6 +138,9 @@ in_hand tags r = option_map (λ x. (x.0, entry_of tags x.1)) r
 abbrev pub live_why : Why → Core → Why
 live_why (why.Delivery (delivery.Set x)) s = why.Delivery (delivery.Set (live_set x s))
 live_why w s = w
+
+abbrev pub live_why_of : ℕ → Core → Why
+live_why_of n s = live_why (why_of n s) s
 
 -- The id names the thread and its call.
 pub record Names (s : StateView) (n : ℕ) (id : QualifiedThreadId) : Type 0 where
@@ -140,7 +156,7 @@ pub record IsStarting (made : Bool) (n : ℕ) (s : Core) : Type 0 where
 abbrev pub IsItemOf : StateView → ℕ → Item → Type 0
 IsItemOf s n (item.StartImplicit id) = Names s n id × IsStarting false n s.core
 IsItemOf s n (item.StartExplicit id) = Names s n id × IsStarting true n s.core
-IsItemOf s n (item.Deliver id d) = Names s n id × (why.Delivery (delivery_in s.tags d) ≡ live_why (why_of n s.core) s.core)
+IsItemOf s n (item.Deliver id d) = Names s n id × (why.Delivery (delivery_in s.tags d) ≡ live_why_of n s.core)
 IsItemOf s n (item.Resume id) = Names s n id × (why_of n s.core ≡ why.Resumption)
 IsItemOf s n _ = ⊥
 

@@ -5,4 +5,5 @@ pub mod Instances
 pub mod Items
 pub mod Named
 pub mod Promotions
+pub mod Stopping
 pub mod Woken

@@ -1,9 +1,9 @@
 //! The thread that runs.
 ghost use Rattle.laws_order.specs.KeptOrder.{TurnsInOrder};
 ghost use Rattle.std.specs.Prelude.{◌≡◌, IfOk, OnErr};
-ghost use Rattle.ops_state.specs.Currents.{IsCurrent, LeavesNobody, LosesNoWake, MayRun, left_for, now_runs, number_in, runner, thread_in};
+ghost use Rattle.ops_state.specs.Currents.{IsCurrent, LeavesNobody, MayRun, left_for, now_runs, number_in, runner, thread_in, LosesNoWakeFor};
 ghost use Rattle.core_primitives.specs.StateView.{on_core};
-ghost use Rattle.laws_order.specs.Stands.{NoWakeLost};
+ghost use Rattle.laws_order.specs.Stands.{KeepsWakes};
 
 use crate::error::TaskError;
 use crate::name_calls::QualifiedThreadId;
@@ -83,7 +83,7 @@ pub fn set_thread<W: Primitives>(
     ensures answer { IfOk result (λ before. IsCurrent (W.view w.old) before) }
     ensures never { OnErr result ⊥ }
     ensures new { W.view w.new ≡ now_runs thread (W.view w.old) }
-    ensures wakes { LosesNoWake (runner (W.view w.old)) (number_in (W.view w.old) thread) (W.view w.old).core → NoWakeLost (W.view w.old).core → NoWakeLost (W.view w.new).core }
+    ensures wakes { LosesNoWakeFor thread (W.view w.old) → KeepsWakes (W.view w.old).core (W.view w.new).core }
     ensures order { TurnsInOrder (runner (W.view w.old)) (number_in (W.view w.old) thread) (W.view w.old).core (W.view w.new).core }
 {
     let before = current_thread(w);

@@ -1,7 +1,7 @@
 //! The end of a thread.
 ghost use Rattle.laws_order.specs.KeptOrder.{LeavesInOrder};
 ghost use Rattle.std.specs.Prelude.{◌≡◌, OnOk};
-ghost use Rattle.ops_state.specs.Ends.{Ends, MayEnd};
+ghost use Rattle.ops_state.specs.Ends.{MayEnd, EndsThread};
 ghost use Rattle.ops_state.specs.Named.{IsLive};
 ghost use Rattle.machine_rules.specs.Ends.{leaves_no_result};
 ghost use Rattle.core_primitives.specs.StateView.{thread_of};
@@ -30,7 +30,7 @@ fn leaves_no_result<W: Primitives>(w: &W, thread: ThreadId) -> bool
 pub fn cleanup_thread<W: Primitives>(w: &mut W, thread: QualifiedThreadId) -> Result<(), TaskError>
     requires live { IsLive (W.view w.old) thread }
     requires may { MayEnd (thread_of (W.view w.old) thread.thread) (W.view w.old).core }
-    ensures ends { Ends (thread_of (W.view w.old) thread.thread) (leaves_no_result (thread_of (W.view w.old) thread.thread) (W.view w.old).core) (W.view w.old) result (W.view w.new) }
+    ensures ends { EndsThread thread (W.view w.old) result (W.view w.new) }
     ensures wakes { MayLeave (thread_of (W.view w.old) thread.thread) (W.view w.old).core → NoWakeLost (W.view w.old).core → NoWakeLost (W.view w.new).core }
     ensures order { OnOk result (LeavesInOrder (thread_of (W.view w.old) thread.thread) (W.view w.old).core (W.view w.new).core) }
 {

@@ -1,19 +1,14 @@
 //! The items that are queued and taken.
 ghost use Rattle.laws_order.specs.KeptOrder.{StaysInOrder, put_back};
-ghost use Rattle.laws_order.specs.Pieces.{KeepsOrder};
-ghost use Rattle.std.specs.Prelude.{◌≡◌, ◌≢◌, ◌<◌, Ok, Some, true, ℕ};
-ghost use Rattle.ops_state.specs.Items.{CanGet, CanReturn, IsItemOf, MayPut, MayQueue, Takes, entry_of, in_hand, item_put, live_why};
+ghost use Rattle.std.specs.Prelude.{◌≡◌, ◌≢◌, ◌<◌, Ok, Some};
+ghost use Rattle.ops_state.specs.Items.{CanGet, IsItemOf, MayPut, MayQueue, Takes, in_hand, item_put, PutKeepsOrderBack, PutKeepsOrderBeside, live_why_of};
 ghost use Rattle.ops_state.specs.Named.{IsLive};
-ghost use Rattle.laws_states.specs.Order.{is_open};
 ghost use Rattle.machine_data.specs.Moves.{why_of};
 ghost use Rattle.machine_data.specs.Read.{next_entry};
-ghost use Rattle.machine_data.specs.declared.component.Component.{Component};
-ghost use Rattle.machine_data.specs.declared.records.Turn.{Turn};
-ghost use Rattle.machine_data.specs.declared.records.Turn.TheVariants as turns;
-ghost use Rattle.machine_data.specs.declared.words.Mark.{Mark};
+ghost use Rattle.machine_data.specs.declared.statuses.Mark.{Mark};
 ghost use Rattle.machine_data.specs.declared.records.Why.TheVariants as whys;
 ghost use Rattle.machine_rules.specs.Places.{Placed};
-ghost use Rattle.machine_rules.specs.Words.{put_at};
+ghost use Rattle.machine_rules.specs.Primitives.{put_at};
 ghost use Rattle.core_primitives.specs.Names.{delivery_in, why_in};
 ghost use Rattle.core_primitives.specs.StateView.{on_core, thread_of};
 ghost use Rattle.laws_order.specs.Stands.{NoWakeLost};
@@ -80,8 +75,8 @@ pub fn push_work_item<W: Primitives + StatePrimitives>(
     ensures answer { result ≡ Ok tt }
     ensures put { W.view w.new ≡ on_core (item_put (W.view w.old).tags mark item) (W.view w.old) }
     ensures order { mark ≢ Mark.Switch → CanGet item (W.view w.old) → StaysInOrder (W.view w.old).core (W.view w.new).core }
-    ensures beside { (c : Component) (n : ℕ) → mark ≡ Mark.Switch → CanGet item (W.view w.old) → KeepsOrder c (turns.Run n) (W.view w.old).core (turns.Run n) (W.view w.new).core }
-    ensures back { (c : Component) (p : Turn) (from : Mark) → is_open p ≡ true → mark ≢ Mark.Switch → CanReturn from item (W.view w.old) → KeepsOrder c p (put_back (Some (from, entry_of (W.view w.old).tags item)) (W.view w.old).core) p (W.view w.new).core }
+    ensures beside { PutKeepsOrderBeside mark item (W.view w.old) (W.view w.new) }
+    ensures back { PutKeepsOrderBack mark item (W.view w.old) (W.view w.new) }
 {
     put_item(w, item, mark);
     Ok(())
@@ -103,7 +98,7 @@ fn start_of<W: Primitives>(w: &W, id: QualifiedThreadId) -> Item
 // What the thread's delivery is for.
 fn delivery_of<W: Primitives>(w: &W, thread: ThreadId, delivery: Delivery) -> DeliveryId
     requires { why_of (thread_of (W.view w.now) thread) (W.view w.now).core ≡ whys.Delivery delivery }
-    ensures { whys.Delivery (delivery_in (W.view w.now).tags result) ≡ live_why (why_of (thread_of (W.view w.now) thread) (W.view w.now).core) (W.view w.now).core }
+    ensures { whys.Delivery (delivery_in (W.view w.now).tags result) ≡ live_why_of (thread_of (W.view w.now) thread) (W.view w.now).core }
 {
     match delivery {
         Delivery::Yield => DeliveryId::Yield,

@@ -1,10 +1,9 @@
 //! The events of waitables.
 ghost use Rattle.laws_order.specs.KeptOrder.{StaysInOrder};
-ghost use Rattle.std.specs.Prelude.{◌≡◌, IsSome, None, is_some, option_map, true};
+ghost use Rattle.std.specs.Prelude.{◌≡◌, IsSome, None, option_map, true};
 ghost use Rattle.ops_state.specs.Named.{IsLiveWaitable, waitable_in};
-ghost use Rattle.ops_state.specs.Woken.{CanBeTold, Wakes, event_set, member_woken, status_in};
-ghost use Rattle.machine_data.specs.Moves.{may_publish};
-ghost use Rattle.machine_data.specs.Read.{event_of, subtask_handle};
+ghost use Rattle.ops_state.specs.Woken.{CanBeTold, status_in, MarksReady, SetsEvent, has_handle};
+ghost use Rattle.machine_data.specs.Read.{event_of};
 ghost use Rattle.machine_data.specs.Write.{set_event};
 ghost use Rattle.ops_moves.specs.Idle.{AreIdleUnqueued, IsJoinThere};
 ghost use Rattle.task_wait.specs.declared.codes.Event.TheVariants as events;
@@ -32,7 +31,7 @@ pub fn set_event<W: Primitives>(
     requires status { IsSome (status_in event) }
     requires idle { AreIdleUnqueued (W.view w.old).core }
     requires there { IsJoinThere (waitable_in (W.view w.old).tags waitable) (W.view w.old).core }
-    ensures woken { Wakes (may_publish (waitable_in (W.view w.old).tags waitable)) (event_set (waitable_in (W.view w.old).tags waitable) event) (W.view w.old) result (W.view w.new) }
+    ensures woken { SetsEvent waitable event (W.view w.old) result (W.view w.new) }
     ensures wakes { NoWakeLost (W.view w.old).core → NoWakeLost (W.view w.new).core }
     ensures order { CanBeTold (waitable_in (W.view w.old).tags waitable) event (W.view w.old).core → StaysInOrder (W.view w.old).core (W.view w.new).core }
 {
@@ -46,14 +45,14 @@ pub fn set_event<W: Primitives>(
     Ok(woken)
 }
 
-/// Returns the event of a waitable, which is gone then; none exactly where there was none. No wake is lost by it, and order is kept
-/// where a handle names the waitable.
+/// Takes the event of a waitable and answers it; none exactly where there was none. No wake is lost by it, and order is kept where a
+/// handle names the waitable.
 pub fn take_event<W: Primitives>(w: &mut W, waitable: Waitable) -> Option<Event>
     requires live { IsLiveWaitable (W.view w.old) waitable }
     ensures event { result ≡ option_map events.Subtask (event_of (waitable_in (W.view w.old).tags waitable) (W.view w.old).core) }
     ensures gone { W.view w.new ≡ on_core (set_event (waitable_in (W.view w.old).tags waitable) None) (W.view w.old) }
     ensures wakes { NoWakeLost (W.view w.old).core → NoWakeLost (W.view w.new).core }
-    ensures order { is_some (subtask_handle (waitable_in (W.view w.old).tags waitable) (W.view w.old).core) ≡ true → StaysInOrder (W.view w.old).core (W.view w.new).core }
+    ensures order { has_handle waitable (W.view w.old) ≡ true → StaysInOrder (W.view w.old).core (W.view w.new).core }
 {
     let subtask = subtask_of(w, waitable);
     let event = w.event(subtask);
@@ -74,7 +73,7 @@ pub fn mark_ready<W: Primitives>(
     requires event { IsSome (event_of (waitable_in (W.view w.old).tags waitable) (W.view w.old).core) }
     requires idle { AreIdleUnqueued (W.view w.old).core }
     requires there { IsJoinThere (waitable_in (W.view w.old).tags waitable) (W.view w.old).core }
-    ensures woken { Wakes (may_publish (waitable_in (W.view w.old).tags waitable)) (member_woken (waitable_in (W.view w.old).tags waitable)) (W.view w.old) result (W.view w.new) }
+    ensures woken { MarksReady waitable (W.view w.old) result (W.view w.new) }
     ensures wakes { NoWakeLost (W.view w.old).core → NoWakeLost (W.view w.new).core }
     ensures order { StaysInOrder (W.view w.old).core (W.view w.new).core }
 {

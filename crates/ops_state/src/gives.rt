@@ -1,12 +1,11 @@
 //! The event that a task is given.
 ghost use Rattle.laws_order.specs.KeptOrder.{StaysInOrder};
-ghost use Rattle.std.specs.Prelude.{◌≡◌, ◌<◌, IfNone, IfSome, None, false, option_map, true};
-ghost use Rattle.ops_state.specs.Gives.{Gives, has_ready_in, is_ready_in, member_told, own_told};
+ghost use Rattle.std.specs.Prelude.{◌≡◌, ◌<◌, IfNone, IfSome, None, false, true};
+ghost use Rattle.ops_state.specs.Gives.{Gives, has_ready_in, is_ready_in, member_told, own_told, IsAsyncIfCancellable};
 ghost use Rattle.machine_data.specs.Moves.{picked_task_event_of, taken_own};
-ghost use Rattle.machine_data.specs.Read.{is_async_lifted, kind_of};
 ghost use Rattle.machine_data.specs.Write.{set_event};
 ghost use Rattle.core_primitives.specs.Names.{subtask_in};
-ghost use Rattle.core_primitives.specs.StateView.{call_of, on_core, set_of};
+ghost use Rattle.core_primitives.specs.StateView.{call_of, on_core, set_of, set_if_any};
 ghost use Rattle.laws_order.specs.Stands.{NoWakeLost};
 
 use core_primitives::{CallId, Primitives, SetId, SubtaskId};
@@ -47,8 +46,8 @@ fn told(event: TaskEvent) -> Event
 // The first ready member of the set, if one is given.
 fn ready_member<W: Primitives>(w: &W, set: Option<SetId>) -> Option<SubtaskId>
     requires { IfSome set (λ id. 0 < set_of (W.view w.now) id) }
-    ensures none { IfNone result (has_ready_in (option_map (λ id. set_of (W.view w.now) id) set) (W.view w.now).core ≡ false) }
-    ensures some { IfSome result (λ member. is_ready_in (option_map (λ id. set_of (W.view w.now) id) set) (subtask_in (W.view w.now).tags member) (W.view w.now).core ≡ true) }
+    ensures none { IfNone result (has_ready_in (set_if_any (W.view w.now) set) (W.view w.now).core ≡ false) }
+    ensures some { IfSome result (λ member. is_ready_in (set_if_any (W.view w.now) set) (subtask_in (W.view w.now).tags member) (W.view w.now).core ≡ true) }
 {
     match set {
         Some(set) => w.first_ready(set),
@@ -79,9 +78,9 @@ pub fn get_event<W: Primitives>(
 ) -> Option<(Event, u32)>
     requires task { 0 < call_of (W.view w.old) task }
     requires set { IfSome set (λ id. 0 < set_of (W.view w.old) id) }
-    ensures given { Gives cancellable (call_of (W.view w.old) task) (option_map (λ id. set_of (W.view w.old) id) set) (W.view w.old) result (W.view w.new) }
+    ensures given { Gives cancellable (call_of (W.view w.old) task) (set_if_any (W.view w.old) set) (W.view w.old) result (W.view w.new) }
     ensures wakes { NoWakeLost (W.view w.old).core → NoWakeLost (W.view w.new).core }
-    ensures order { (cancellable ≡ true → is_async_lifted (kind_of (call_of (W.view w.old) task) (W.view w.old).core) ≡ true) → StaysInOrder (W.view w.old).core (W.view w.new).core }
+    ensures order { IsAsyncIfCancellable cancellable (call_of (W.view w.old) task) (W.view w.old).core → StaysInOrder (W.view w.old).core (W.view w.new).core }
 {
     if let Some(event) = task_event(w, task, cancellable) {
         take_own(w, task, event);

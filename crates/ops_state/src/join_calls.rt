@@ -1,14 +1,14 @@
 //! The sets of waitables.
-ghost use Rattle.laws_order.specs.KeptOrder.{CanJoin, StaysInOrder};
-ghost use Rattle.std.specs.Prelude.{◌≡◌, ◌<◌, IfSome, IsSome, None, Option, Some, option_map, true};
+ghost use Rattle.laws_order.specs.KeptOrder.{StaysInOrder};
+ghost use Rattle.std.specs.Prelude.{◌≡◌, ◌<◌, IfSome, IsSome, None, Option, Some, true};
 ghost use Rattle.ops_state.specs.Named.{IsLiveWaitable, waitable_in};
-ghost use Rattle.ops_state.specs.Woken.{Wakes, member_woken, set_joined};
-ghost use Rattle.machine_data.specs.Read.{blocked_on, event_of, subtask_handle};
+ghost use Rattle.ops_state.specs.Woken.{member_woken, JoinsSet, MayJoin};
+ghost use Rattle.machine_data.specs.Read.{blocked_on, subtask_handle};
 ghost use Rattle.ops_moves.specs.Idle.{AreIdleUnqueued, IsJoinThere, IsWaiting};
 ghost use Rattle.machine_rules.specs.Sets.{joins, may_wake_new, wakes_joined};
 ghost use Rattle.core_primitives.specs.Apart.{IsUnqueued};
 ghost use Rattle.core_primitives.specs.Names.{join_in, subtask_in};
-ghost use Rattle.core_primitives.specs.StateView.{on_core, set_of, thread_of};
+ghost use Rattle.core_primitives.specs.StateView.{on_core, set_of, thread_of, set_if_any, thread_if_any};
 ghost use Rattle.laws_order.specs.Stands.{NoWakeLost};
 
 use crate::error::TaskError;
@@ -23,7 +23,7 @@ pub(crate) fn wake_member<W: Primitives>(w: &mut W, subtask: SubtaskId, waiter: 
     requires there { IsJoinThere (subtask_in (W.view w.old).tags subtask) (W.view w.old).core }
     requires live { IfSome waiter (λ id. 0 < thread_of (W.view w.old) id) }
     requires unqueued { IfSome waiter (λ id. IsUnqueued (thread_of (W.view w.old) id) (W.view w.old).core) }
-    ensures { W.view w.new ≡ on_core (member_woken (subtask_in (W.view w.old).tags subtask) (option_map (λ id. thread_of (W.view w.old) id) waiter)) (W.view w.old) }
+    ensures { W.view w.new ≡ on_core (member_woken (subtask_in (W.view w.old).tags subtask) (thread_if_any (W.view w.old) waiter)) (W.view w.old) }
 {
     if let JoinId::Set(set) = w.join(subtask) {
         wake_chosen(w, set, waiter);
@@ -38,7 +38,7 @@ fn waiter_of_new<W: Primitives>(
     set: Option<SetId>,
 ) -> Option<ThreadId>
     requires { IfSome set (λ id. 0 < set_of (W.view w.now) id) }
-    ensures choice { may_wake_new event (option_map (λ id. set_of (W.view w.now) id) set) (option_map (λ id. thread_of (W.view w.now) id) result) (W.view w.now).core ≡ true }
+    ensures choice { may_wake_new event (set_if_any (W.view w.now) set) (thread_if_any (W.view w.now) result) (W.view w.now).core ≡ true }
     ensures live { IfSome result (λ id. 0 < thread_of (W.view w.now) id) }
     ensures waits { IfSome result (λ id. IsWaiting (thread_of (W.view w.now) id) (W.view w.now).core) }
 {
@@ -57,7 +57,7 @@ fn wake_new<W: Primitives>(
 )
     requires live { IfSome waiter (λ id. 0 < thread_of (W.view w.old) id) }
     requires unqueued { IfSome waiter (λ id. IsUnqueued (thread_of (W.view w.old) id) (W.view w.old).core) }
-    ensures { W.view w.new ≡ on_core (wakes_joined event (option_map (λ id. set_of (W.view w.old) id) set) (option_map (λ id. thread_of (W.view w.old) id) waiter)) (W.view w.old) }
+    ensures { W.view w.new ≡ on_core (wakes_joined event (set_if_any (W.view w.old) set) (thread_if_any (W.view w.old) waiter)) (W.view w.old) }
 {
     if let (Some(_), Some(set)) = (event, set) {
         wake_chosen(w, set, waiter);
@@ -66,7 +66,7 @@ fn wake_new<W: Primitives>(
 
 // The set as a join, or none.
 fn joins<W: Primitives>(w: &W, set: Option<SetId>) -> JoinId
-    ensures { join_in (W.view w.now).tags result ≡ joins (option_map (λ id. set_of (W.view w.now) id) set) }
+    ensures { join_in (W.view w.now).tags result ≡ joins (set_if_any (W.view w.now) set) }
 {
     // only the contract speaks of `w`
     let _w = w;
@@ -90,9 +90,9 @@ pub fn join<W: Primitives>(
     requires unblocked { blocked_on (waitable_in (W.view w.old).tags waitable) (W.view w.old).core ≡ None }
     requires handle { IfSome set (λ id. IsSome (subtask_handle (waitable_in (W.view w.old).tags waitable) (W.view w.old).core)) }
     requires idle { AreIdleUnqueued (W.view w.old).core }
-    ensures woken { Wakes (may_wake_new (event_of (waitable_in (W.view w.old).tags waitable) (W.view w.old).core) (option_map (λ id. set_of (W.view w.old) id) set)) (set_joined (waitable_in (W.view w.old).tags waitable) (option_map (λ id. set_of (W.view w.old) id) set)) (W.view w.old) result (W.view w.new) }
+    ensures woken { JoinsSet waitable set (W.view w.old) result (W.view w.new) }
     ensures wakes { NoWakeLost (W.view w.old).core → NoWakeLost (W.view w.new).core }
-    ensures order { CanJoin (waitable_in (W.view w.old).tags waitable) (option_map (λ id. set_of (W.view w.old) id) set) (W.view w.old).core → StaysInOrder (W.view w.old).core (W.view w.new).core }
+    ensures order { MayJoin waitable set (W.view w.old) → StaysInOrder (W.view w.old).core (W.view w.new).core }
 {
     let subtask = subtask_of(w, waitable);
     let event = w.event(subtask);

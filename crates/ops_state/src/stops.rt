@@ -1,14 +1,11 @@
 //! The Stop of a strand.
-ghost use Rattle.laws_order.specs.KeptOrder.{Hand, is_idle, is_off_switch, put_back};
-ghost use Rattle.laws_order.specs.Pieces.{KeepsOrder};
-ghost use Rattle.std.specs.Prelude.{◌≡◌, Ok, true};
+ghost use Rattle.std.specs.Prelude.{◌≡◌, Ok};
 ghost use Rattle.ops_state.specs.Named.{IsLive};
 ghost use Rattle.machine_data.specs.Moves.{stopped};
-ghost use Rattle.machine_data.specs.declared.component.Component.{Component};
-ghost use Rattle.machine_data.specs.declared.records.Turn.{Turn};
 ghost use Rattle.ops_moves.specs.Stops.{MayStop};
 ghost use Rattle.core_primitives.specs.StateView.{on_core, thread_of};
 ghost use Rattle.laws_order.specs.Stands.{NoWakeLost};
+ghost use Rattle.ops_state.specs.Stopping.{StopsInOrder};
 
 use crate::error::TaskError;
 use crate::name_calls::QualifiedThreadId;
@@ -24,7 +21,7 @@ pub fn stop<W: Primitives>(w: &mut W, foot: QualifiedThreadId) -> Result<(), Tas
     ensures answer { result ≡ Ok tt }
     ensures stopped { W.view w.new ≡ on_core (stopped (thread_of (W.view w.old) foot.thread)) (W.view w.old) }
     ensures wakes { NoWakeLost (W.view w.old).core → NoWakeLost (W.view w.new).core }
-    ensures order { (c : Component) (p : Turn) (h : Hand) → is_idle p ≡ true → is_off_switch h ≡ true → KeepsOrder c p (put_back h (W.view w.old).core) p (put_back h (W.view w.new).core) }
+    ensures order { StopsInOrder (W.view w.old).core (W.view w.new).core }
 {
     ops_moves::stop(w, foot.thread);
     Ok(())

@@ -99,7 +99,7 @@ cleared_stand n j kind.Blocking s st = quiet_stand n place.Running [] s _ (saved
 cleared_stand n j kind.Stackful s st = quiet_stand n place.Running [] s _ (saved_untouched n j (Some (may_not_suspend j s)) s) st
 cleared_stand n j kind.Callback s st = quiet_stand n place.Running [] s _ (saved_untouched n j (Some (may_not_suspend j s)) s) st
 
--- ---- In the words of what contracts see
+-- ---- As contracts see it
 
 -- a call that begins leaves its thread behind nobody until it goes behind the callee's start
 pub cleared_behind : (n m : TableId ThreadKey) (x : ExportKind) (j : ℕ) (t u v : StateView) → IsRunning (thread_of t n) t.core → place_of (thread_of t m) t.core ≡ Some place.New → u ≡ on_core (put_switch (thread_of t m) why.Start) t → v ≡ on_core (call_clears_flag (thread_of u n) j x) u → IsBehindNobody (thread_of v n) v.core

@@ -1,4 +1,4 @@
--- The row of a cancel, where what the handle names may be gone.
+-- The rule of a cancel, where what the handle names may be gone.
 use Rattle.std.proofs.Common.{T, ap, arith, refl, subst, sym, ◌∙◌}
 use Rattle.std.specs.Option.{option_map_or}
 use Rattle.std.specs.Prelude.{Bool, None, Option, Some, false, if◌then◌else◌, is_some, option_and_then, option_map, true, ℕ, ◌<◌, ◌≡◌}
@@ -79,10 +79,10 @@ named_call i h k q s there is e = go (subtask_at i h s) refl e
 pub there_live : (k : ℕ) (s : Core) → get s.calls 0 ≡ None → is_some (get s.calls k) ≡ true → 0 < k
 there_live k s none h = by_number k 0 (0 < k) (λ e. absurd (subst T (sym (ap (λ (o : Option Call). is_some o) (sym none) ∙ (ap (λ j. is_some (get s.calls j)) (sym e) ∙ h))) tt)) (λ d. grind (arith, d))
 
-pub host_meets : (mode : Mode) (n : ℕ) (r : Doer) (i : ℕ) (s : Core) (c : OpResult) (u : Core) → was_cancelled i s ≡ false → Implements (after_cancel_by r mode n (subtask.Host i) (cancel_aborts_host i s)) s c u → Implements (cancel_host_by r mode n i s) s c u
-host_meets mode n r i s c u fresh meets =
-    subst (λ (b : Bool). Implements (trap_if b trap.SubtaskCancelAfterTerminal (after_cancel_by r mode n (subtask.Host i) (cancel_aborts_host i s))) s c u) (sym fresh) meets
+pub host_implements : (mode : Mode) (n : ℕ) (r : Doer) (i : ℕ) (s : Core) (c : OpResult) (u : Core) → was_cancelled i s ≡ false → Implements (after_cancel_by r mode n (subtask.Host i) (cancel_aborts_host i s)) s c u → Implements (cancel_host_by r mode n i s) s c u
+host_implements mode n r i s c u fresh implements =
+    subst (λ (b : Bool). Implements (trap_if b trap.SubtaskCancelAfterTerminal (after_cancel_by r mode n (subtask.Host i) (cancel_aborts_host i s))) s c u) (sym fresh) implements
 
-pub found_meets : (mode : Mode) (n : ℕ) (r : Doer) (q : Subtask) (s : Core) (c : OpResult) (u : Core) → is_joined (join_of q s) ≡ false → Implements (cancel_subtask_by r mode n s q) s c u → Implements (cancel_found_by r mode n s q) s c u
-found_meets mode n r q s c u apart meets =
-    subst (λ (b : Bool). Implements (trap_if b trap.WaitableSyncAndAsync (cancel_subtask_by r mode n s q)) s c u) (sym apart) meets
+pub found_implements : (mode : Mode) (n : ℕ) (r : Doer) (q : Subtask) (s : Core) (c : OpResult) (u : Core) → is_joined (join_of q s) ≡ false → Implements (cancel_subtask_by r mode n s q) s c u → Implements (cancel_found_by r mode n s q) s c u
+found_implements mode n r q s c u apart implements =
+    subst (λ (b : Bool). Implements (trap_if b trap.WaitableSyncAndAsync (cancel_subtask_by r mode n s q)) s c u) (sym apart) implements

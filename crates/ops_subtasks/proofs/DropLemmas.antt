@@ -23,7 +23,7 @@ use Rattle.machine_data.specs.declared.records.Subtask.{Subtask}
 use Rattle.machine_data.specs.declared.records.Subtask.TheVariants as subtask
 use Rattle.machine_data.specs.declared.records.Work.{Work}
 use Rattle.machine_data.specs.declared.trap.Trap.TheVariants as trap
-use Rattle.machine_data.specs.declared.words.Status.{Status}
+use Rattle.machine_data.specs.declared.statuses.Status.{Status}
 use Rattle.ops_guests.specs.OpResult.{Implements}
 use Rattle.machine_rules.specs.Calls.{settle_group_of, work_deleted, work_group}
 use Rattle.machine_rules.specs.Cancels.{drop_by, subtask_settled, unnamed}
@@ -182,10 +182,10 @@ module _ (n : TableId ThreadKey) (id : SubtaskId) (i h : ℕ) (s a b c : StateVi
           ∙ (ap (λ (v : StateView). subtask_settled (subtask_in v.tags id) v.core) freed_is
           ∙ ap (λ (j : ℕ). subtask_settled q (free_handle j h (set_subtask_handle q None (set_join q join.Nowhere s.core)))) at)
 
--- ---- The row
+-- ---- The rule
 
-pub drop_meets : (d : Doer) (n h m : ℕ) (q : Subtask) (s u : Core) → m ≡ n → is_watched (join_of q s) ≡ false → subtask_ended q s ≡ true → is_some (event_of q s) ≡ false → u ≡ unnamed n h q s → Implements (drop_by d n h s q) s (goes_as (label.Call (call_label.Drop m)) m) (finish d n NoAnswer u)
-drop_meets d n h m q s u number apart ended quiet core =
+pub drop_implements : (d : Doer) (n h m : ℕ) (q : Subtask) (s u : Core) → m ≡ n → is_watched (join_of q s) ≡ false → subtask_ended q s ≡ true → is_some (event_of q s) ≡ false → u ≡ unnamed n h q s → Implements (drop_by d n h s q) s (goes_as (label.Call (call_label.Drop m)) m) (finish d n NoAnswer u)
+drop_implements d n h m q s u number apart ended quiet core =
     let done = Continues (label.Call (call_label.Drop n)) (dropped d n h q s) n in
     let row : drop_by d n h s q ≡ done =
     ap (λ (b : Bool). trap_if b trap.WaitableSyncAndAsync (trap_if (not (subtask_ended q s)) trap.SubtaskDropNotResolved (trap_if (is_some (event_of q s)) trap.SubtaskDropNotResolved done))) apart

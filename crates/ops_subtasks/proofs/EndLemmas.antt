@@ -13,7 +13,7 @@ use Rattle.machine_data.specs.declared.records.Subtask.{Subtask}
 use Rattle.machine_data.specs.declared.records.Subtask.TheVariants as subtask
 use Rattle.machine_data.specs.declared.trap.Trap.{Trap}
 use Rattle.machine_data.specs.declared.trap.Trap.TheVariants as trap
-use Rattle.machine_data.specs.declared.words.Status.{Status}
+use Rattle.machine_data.specs.declared.statuses.Status.{Status}
 use Rattle.ops_moves.specs.Stops.{MayStop}
 use Rattle.ops_guests.specs.Ended.{ended}
 use Rattle.ops_guests.proofs.RunLemmas.{checked_stands, foot_may_stop}
@@ -97,20 +97,20 @@ refused_same mode n sub s t a =
     ∙ (ap (λ (o : Option Status). if subtask_ended sub s then refused_end (undelivered_end o) else refused_block mode n t) (a.events sub)
     ∙ ap (λ (o : Option Trap). if subtask_ended sub s then refused_end (undelivered_end (event_of sub s)) else o) (block_same mode n s t a))
 
--- ---- In the words of what contracts see
+-- ---- As contracts see it
 
 module _ (mode : Mode) (n : TableId ThreadKey) (r : Doer) (sub : SubtaskId) (f : Core → Core) (s t : StateView) (e : t ≡ on_core f s) where
   pub refused_on : (o : Option Trap) → refused mode (thread_of s n) (subtask_in s.tags sub) (f s.core) ≡ o → refused mode (thread_of t n) (subtask_in t.tags sub) t.core ≡ o
   refused_on o h = ap (λ (v : StateView). refused mode (thread_of v n) (subtask_in v.tags sub) v.core) e ∙ h
 
   pub finished : (c : OpResult) (u : Core) → refused mode (thread_of s n) (subtask_in s.tags sub) (f s.core) ≡ None → Implements (after_cancel_by r mode (thread_of t n) (subtask_in t.tags sub) t.core) t.core c (ended r (thread_of t n) c u) → Implements (after_cancel_by r mode (thread_of s n) (subtask_in s.tags sub) (f s.core)) s.core c (ended r (thread_of s n) c u)
-  finished c u may meets =
+  finished c u may implements =
       let_go mode (thread_of s n) r (subtask_in s.tags sub) (f s.core) (f s.core) s.core c (ended r (thread_of s n) c u) may
-      (subst (λ (v : StateView). Implements (after_cancel_by r mode (thread_of v n) (subtask_in v.tags sub) v.core) v.core c (ended r (thread_of v n) c u)) e meets)
+      (subst (λ (v : StateView). Implements (after_cancel_by r mode (thread_of v n) (subtask_in v.tags sub) v.core) v.core c (ended r (thread_of v n) c u)) e implements)
 
 -- it traps, and nothing has changed
-pub trapped_meets : (mode : Mode) (n : ℕ) (r : Doer) (q : Subtask) (s t : Core) (y : Trap) → refused mode n q t ≡ Some y → Implements (after_cancel_by r mode n q t) s (op_result.Traps y) s
-trapped_meets mode n r q s t y e = subst (λ (p : Progress). Implements p s (op_result.Traps y) s) (sym (refused_rule mode n r q t y e)) (refl, refl)
+pub trapped_implements : (mode : Mode) (n : ℕ) (r : Doer) (q : Subtask) (s t : Core) (y : Trap) → refused mode n q t ≡ Some y → Implements (after_cancel_by r mode n q t) s (op_result.Traps y) s
+trapped_implements mode n r q s t y e = subst (λ (p : Progress). Implements p s (op_result.Traps y) s) (sym (refused_rule mode n r q t y e)) (refl, refl)
 
 -- ---- It answers
 

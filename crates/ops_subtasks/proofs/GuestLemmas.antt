@@ -18,8 +18,8 @@ use Rattle.machine_data.specs.declared.records.Place.{Place}
 use Rattle.machine_data.specs.declared.records.Place.TheVariants as place
 use Rattle.machine_data.specs.declared.records.Thread.{Thread}
 use Rattle.machine_data.specs.declared.records.Why.{Why}
-use Rattle.machine_data.specs.declared.words.Mark.{Mark}
-use Rattle.machine_data.specs.declared.words.TaskEvent.TheVariants as own
+use Rattle.machine_data.specs.declared.statuses.Mark.{Mark}
+use Rattle.machine_data.specs.declared.statuses.TaskEvent.TheVariants as own
 use Rattle.ops_guests.proofs.BesideLemmas.{promoted_unless_stand, put_switch_good}
 use Rattle.ops_guests.proofs.RunLemmas.{stands_on}
 use Rattle.ops_guests.specs.OpResult.{Implements}
@@ -224,18 +224,18 @@ module _ (n : TableId ThreadKey) (k : TableId GuestTaskKey) (i : ℕ) (b : Bool)
 -- ---- Which case it is
 
 -- it has ended
-pub ended_meets : (mode : Mode) (n : ℕ) (r : Doer) (k : ℕ) (s : Core) (c : OpResult) (u : Core) → has_ended k s ≡ true → Implements (cancel_ended_by r mode n (subtask.Guest k) s (undelivered_end (event_of (subtask.Guest k) s))) s c u → Implements (cancel_guest_by r mode n k s (cancel_case k s)) s c u
-ended_meets mode n r k s c u over meets =
+pub ended_implements : (mode : Mode) (n : ℕ) (r : Doer) (k : ℕ) (s : Core) (c : OpResult) (u : Core) → has_ended k s ≡ true → Implements (cancel_ended_by r mode n (subtask.Guest k) s (undelivered_end (event_of (subtask.Guest k) s))) s c u → Implements (cancel_guest_by r mode n k s (cancel_case k s)) s c u
+ended_implements mode n r k s c u over implements =
     subst (λ (y : CancelCase). Implements (cancel_guest_by r mode n k s y) s c u)
-    (sym (ap (λ (b : Bool). if b then AlreadyEnded else (if not (was_started k s) then StartNotRun else (if is_at k s is_callback_wait then CallbackWaits else (if is_at k s is_callback_yield then CallbackYields else OtherwiseRuns)))) over)) meets
+    (sym (ap (λ (b : Bool). if b then AlreadyEnded else (if not (was_started k s) then StartNotRun else (if is_at k s is_callback_wait then CallbackWaits else (if is_at k s is_callback_yield then CallbackYields else OtherwiseRuns)))) over)) implements
 
 module _ (mode : Mode) (n : ℕ) (r : Doer) (k : ℕ) (s : Core) (unended : has_ended k s ≡ false) where
   unended_case : cancel_case k s ≡ (if not (was_started k s) then StartNotRun else (if is_at k s is_callback_wait then CallbackWaits else (if is_at k s is_callback_yield then CallbackYields else OtherwiseRuns)))
   unended_case = ap (λ (b : Bool). if b then AlreadyEnded else (if not (was_started k s) then StartNotRun else (if is_at k s is_callback_wait then CallbackWaits else (if is_at k s is_callback_yield then CallbackYields else OtherwiseRuns)))) unended
 
   -- the start is withdrawn, and nothing is saved any more
-  pub withdrawn_meets : was_started k s ≡ false → (m : ℕ) (c : OpResult) (u : Core) → m ≡ n → c ≡ goes_as (cancel_label mode m 3) m → u ≡ set_saved_callee n None (withdrawn k s) → Implements (cancel_guest_by r mode n k s (cancel_case k s)) s c (ended r n c u)
-  withdrawn_meets fresh m c u number is core =
+  pub withdrawn_implements : was_started k s ≡ false → (m : ℕ) (c : OpResult) (u : Core) → m ≡ n → c ≡ goes_as (cancel_label mode m 3) m → u ≡ set_saved_callee n None (withdrawn k s) → Implements (cancel_guest_by r mode n k s (cancel_case k s)) s c (ended r n c u)
+  withdrawn_implements fresh m c u number is core =
       subst (λ (y : CancelCase). Implements (cancel_guest_by r mode n k s y) s c (ended r n c u)) (sym (unended_case ∙ ap (λ (b : Bool). if not b then StartNotRun else (if is_at k s is_callback_wait then CallbackWaits else (if is_at k s is_callback_yield then CallbackYields else OtherwiseRuns))) fresh)) (
         is ∙ ap (λ (j : ℕ). goes_as (cancel_label mode j 3) j) number,
         ap (λ (y : OpResult). ended r n y u) is ∙ (cancel_ends mode r n m 3 u ∙ ap (λ (y : Core). finish r n (OneNumber 3) y) core),
@@ -245,8 +245,8 @@ module _ (mode : Mode) (n : ℕ) (r : Doer) (k : ℕ) (s : Core) (unended : has_
     started_case : cancel_case k s ≡ (if is_at k s is_callback_wait then CallbackWaits else (if is_at k s is_callback_yield then CallbackYields else OtherwiseRuns))
     started_case = unended_case ∙ ap (λ (b : Bool). if not b then StartNotRun else (if is_at k s is_callback_wait then CallbackWaits else (if is_at k s is_callback_yield then CallbackYields else OtherwiseRuns))) started
 
-    pub waits_meets : (m : ℕ) (u : Core) → is_at k s is_callback_wait ≡ true → m ≡ n → u ≡ cancel_wakes_callback n k s → Implements (cancel_guest_by r mode n k s (cancel_case k s)) s (op_result.Stops (pauses m)) u
-    waits_meets m u waits number core =
+    pub waits_implements : (m : ℕ) (u : Core) → is_at k s is_callback_wait ≡ true → m ≡ n → u ≡ cancel_wakes_callback n k s → Implements (cancel_guest_by r mode n k s (cancel_case k s)) s (op_result.Stops (pauses m)) u
+    waits_implements m u waits number core =
         subst (λ (c : CancelCase). Implements (cancel_guest_by r mode n k s c) s (op_result.Stops (pauses m)) u) (sym (started_case ∙ ap (λ (b : Bool). if b then CallbackWaits else (if is_at k s is_callback_yield then CallbackYields else OtherwiseRuns)) waits))
         (ap (λ (j : ℕ). op_result.Stops (pauses j)) number, core)
 
@@ -254,13 +254,13 @@ module _ (mode : Mode) (n : ℕ) (r : Doer) (k : ℕ) (s : Core) (unended : has_
       awake_case : cancel_case k s ≡ (if is_at k s is_callback_yield then CallbackYields else OtherwiseRuns)
       awake_case = started_case ∙ ap (λ (b : Bool). if b then CallbackWaits else (if is_at k s is_callback_yield then CallbackYields else OtherwiseRuns)) awake
 
-      pub yields_meets : (m : ℕ) (u : Core) → is_at k s is_callback_yield ≡ true → m ≡ n → u ≡ cancel_promotes_yield n k s → Implements (cancel_guest_by r mode n k s (cancel_case k s)) s (op_result.Stops (pauses m)) u
-      yields_meets m u yields number core =
+      pub yields_implements : (m : ℕ) (u : Core) → is_at k s is_callback_yield ≡ true → m ≡ n → u ≡ cancel_promotes_yield n k s → Implements (cancel_guest_by r mode n k s (cancel_case k s)) s (op_result.Stops (pauses m)) u
+      yields_implements m u yields number core =
           subst (λ (c : CancelCase). Implements (cancel_guest_by r mode n k s c) s (op_result.Stops (pauses m)) u) (sym (awake_case ∙ ap (λ (b : Bool). if b then CallbackYields else OtherwiseRuns) yields))
           (ap (λ (j : ℕ). op_result.Stops (pauses j)) number, core)
 
-      pub runs_meets : (c : OpResult) (u : Core) → is_at k s is_callback_yield ≡ false → Implements (after_cancel_by r mode n (subtask.Guest k) (cancel_asks k s)) s c u → Implements (cancel_guest_by r mode n k s (cancel_case k s)) s c u
-      runs_meets c u other meets = subst (λ (y : CancelCase). Implements (cancel_guest_by r mode n k s y) s c u) (sym (awake_case ∙ ap (λ (b : Bool). if b then CallbackYields else OtherwiseRuns) other)) meets
+      pub runs_implements : (c : OpResult) (u : Core) → is_at k s is_callback_yield ≡ false → Implements (after_cancel_by r mode n (subtask.Guest k) (cancel_asks k s)) s c u → Implements (cancel_guest_by r mode n k s (cancel_case k s)) s c u
+      runs_implements c u other implements = subst (λ (y : CancelCase). Implements (cancel_guest_by r mode n k s y) s c u) (sym (awake_case ∙ ap (λ (b : Bool). if b then CallbackYields else OtherwiseRuns) other)) implements
 
 pub asks_steady : (k : ℕ) (s : Core) → Steady s (cancel_asks k s)
 unfolding cancel_asks

@@ -12,7 +12,7 @@ use Rattle.std.specs.Option.{option_map_or}
 use Rattle.ops_moves.proofs.TellLemmas.{map_or_is}
 use Rattle.machine_rules.proofs.PlacingLemmas.{Shifted, placing_shifted, shifted_made, shifts_shifted}
 use Rattle.machine_rules.proofs.WalkMoves.{checked_shifts}
-use Rattle.machine_rules.specs.Words.{Stop}
+use Rattle.machine_rules.specs.Primitives.{Stop}
 use Rattle.machine_data.specs.Moves.{checked, first_entry, first_low, group_settled, has_entry, is_group_done, less, promoted, promoted_first, unqueued, why_of}
 use Rattle.machine_data.specs.Read.{course_of, entry_thread, foot_of, instance_of, is_entry_in, is_entry_of, may_not_suspend, thread_group}
 use Rattle.machine_data.specs.Write.{add_work, count_work, give_handle, on_thread, on_work, push_high, remove_group, remove_work, set_high, set_op_progress, set_low, set_place, set_subtask_handle, set_switch}
@@ -27,7 +27,7 @@ use Rattle.machine_data.specs.declared.records.MadeCounts.{MadeCounts}
 use Rattle.machine_data.specs.declared.records.Work.{Work}
 use Rattle.machine_data.specs.declared.records.WorkCaller.{WorkCaller}
 use Rattle.machine_data.specs.declared.records.WorkCaller.TheVariants as work_caller
-use Rattle.machine_data.specs.declared.words.Mark.TheVariants as mark
+use Rattle.machine_data.specs.declared.statuses.Mark.TheVariants as mark
 use Rattle.ops_guests.proofs.BesideLemmas.{checked_stand, quiet_stand}
 use Rattle.ops_guests.proofs.RunLemmas.{stands_on}
 use Rattle.ops_guests.specs.Running.{IsRunning}
@@ -106,7 +106,7 @@ module _ (f : WorkCaller) (host : HostDef) (g : Option ℕ) where
   unfolding work_queued push_high add_work count_work
   queued_untouched s = record { places = λ k. refl; switch = λ k. refl; high = λ k. let e = entries-append k s.queues.high (entry.Push (next_work s)) in omega (arith, e); low = λ k. refl; callers = refl; made = le_refl _ }
 
--- ---- In the words of what contracts see
+-- ---- As contracts see it
 
 pub thread_left : (n : TableId ThreadKey) (i : ℕ) (s t : StateView) → 0 < thread_of s n → KeepsBut (lost_work i) s.tags t.tags → thread_of t n ≡ thread_of s n
 thread_left n i s t live keeps = keeps.threads n (λ e. absurd (none (subst (λ m. 0 < m) e live)))

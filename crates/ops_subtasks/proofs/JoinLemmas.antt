@@ -17,7 +17,7 @@ use Rattle.machine_data.specs.declared.records.Place.TheVariants as place
 use Rattle.machine_data.specs.declared.records.Subtask.{Subtask}
 use Rattle.machine_data.specs.declared.records.Subtask.TheVariants as subtask
 use Rattle.machine_data.specs.declared.trap.Trap.TheVariants as trap
-use Rattle.machine_data.specs.declared.words.Status.{Status}
+use Rattle.machine_data.specs.declared.statuses.Status.{Status}
 use Rattle.ops_moves.specs.Idle.{AreIdleUnqueued}
 use Rattle.ops_guests.specs.Ended.{ended}
 use Rattle.ops_guests.specs.OpResult.{Implements}
@@ -127,9 +127,9 @@ module _ (n : TableId ThreadKey) (q : Subtask) (e : Option Status) (x w : Option
       ap (λ b. trap_if b trap.WaitableSyncAndAsync (may (may_wake_new (event_of q s.core) x w s.core) (Continues (join_label N w) (finish g N NoAnswer (moved_over q x w s.core)) N))) apart
       ∙ ap (λ b. may b (Continues (join_label N w) (finish g N NoAnswer (moved_over q x w s.core)) N)) choice
 
-  pub join_meets : (g : Doer) (m : ℕ) → m ≡ thread_of s n → is_watched (join_of q s.core) ≡ false → e ≡ event_of q s.core → may_wake_new e x w t.core ≡ true → u ≡ on_core (wakes_joined e x w) t → Implements (join_done_by g (thread_of s n) q (choice_of (join_label m w)).woken s.core x) s.core (goes_as (join_label m w) m) (ended g (thread_of s n) (goes_as (join_label m w) m) u.core)
+  pub join_implements : (g : Doer) (m : ℕ) → m ≡ thread_of s n → is_watched (join_of q s.core) ≡ false → e ≡ event_of q s.core → may_wake_new e x w t.core ≡ true → u ≡ on_core (wakes_joined e x w) t → Implements (join_done_by g (thread_of s n) q (choice_of (join_label m w)).woken s.core x) s.core (goes_as (join_label m w) m) (ended g (thread_of s n) (goes_as (join_label m w) m) u.core)
   unfolding moved_over
-  join_meets g m number apart event may_w d =
+  join_implements g m number apart event may_w d =
       let N = thread_of s n in
       let core = ap (λ (y : StateView). finish g N NoAnswer y.core) d ∙ (ap (λ (y : StateView). finish g N NoAnswer (wakes_joined e x w y.core)) joined_is ∙ ap (λ o. finish g N NoAnswer (wakes_joined o x w (set_join q (joins x) s.core))) event) in
       subst (λ (j : ℕ). Implements (join_done_by g N q (choice_of (join_label j w)).woken s.core x) s.core (goes_as (join_label j w) j) (ended g N (goes_as (join_label j w) j) u.core)) (sym number)
@@ -152,15 +152,15 @@ module _ (n : TableId ThreadKey) (sub : SubtaskId) (set : Option (TableId SetKey
     woken_as : u ≡ on_core (wakes_joined e (option_map (λ id. set_of s id) set) (option_map (λ id. thread_of t id) waiter)) t
     woken_as = woken ∙ ap (λ (g : Tags). on_core (wakes_joined e (option_map (λ id. set_number g id) set) (option_map (λ id. thread_of t id) waiter)) t) same_tags
 
-    pub set_joined_meets : (h : Doer) (m : ℕ) (r : OpResult) (o : Option ℕ) → m ≡ thread_of s n → r ≡ goes_as (join_label m o) m → o ≡ option_map (λ id. thread_of t id) waiter → is_watched (join_of (subtask_in s.tags sub) s.core) ≡ false → e ≡ event_of (subtask_in s.tags sub) s.core → may_wake_new e (option_map (λ id. set_of t id) set) (option_map (λ id. thread_of t id) waiter) t.core ≡ true → Implements (join_done_by h (thread_of s n) (subtask_in s.tags sub) (choice_of (label_of (thread_of s n) r)).woken s.core (option_map (λ id. set_of s id) set)) s.core r (ended h (thread_of s n) r u.core)
-    set_joined_meets h m r o number shown chosen apart event may_w =
+    pub set_joined_implements : (h : Doer) (m : ℕ) (r : OpResult) (o : Option ℕ) → m ≡ thread_of s n → r ≡ goes_as (join_label m o) m → o ≡ option_map (λ id. thread_of t id) waiter → is_watched (join_of (subtask_in s.tags sub) s.core) ≡ false → e ≡ event_of (subtask_in s.tags sub) s.core → may_wake_new e (option_map (λ id. set_of t id) set) (option_map (λ id. thread_of t id) waiter) t.core ≡ true → Implements (join_done_by h (thread_of s n) (subtask_in s.tags sub) (choice_of (label_of (thread_of s n) r)).woken s.core (option_map (λ id. set_of s id) set)) s.core r (ended h (thread_of s n) r u.core)
+    set_joined_implements h m r o number shown chosen apart event may_w =
         let N = thread_of s n in
         let q = subtask_in s.tags sub in
         let x = option_map (λ id. set_of s id) set in
         let w = option_map (λ id. thread_of t id) waiter in
         let choice : may_wake_new e x w t.core ≡ true = ap (λ (g : Tags). may_wake_new e (option_map (λ id. set_number g id) set) w t.core) (sym same_tags) ∙ may_w in
         subst (λ (y : OpResult). Implements (join_done_by h N q (choice_of (label_of N y)).woken s.core x) s.core y (ended h N y u.core)) (sym (shown ∙ ap (λ (k : Option ℕ). goes_as (join_label m k) m) chosen))
-        (join_meets n q e x w s t u joined_as h m number apart event choice woken_as)
+        (join_implements n q e x w s t u joined_as h m number apart event choice woken_as)
 
 pub to_zero : (d : Doer) (n y : ℕ) (w : Option ℕ) (s : Core) (q : Subtask) → y ≡ 0 → join_to_by d n y w s q ≡ join_done_by d n q w s None
 to_zero d n y w s q e = ap (λ (k : ℕ). join_to_by d n k w s q) e

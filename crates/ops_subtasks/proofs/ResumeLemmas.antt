@@ -16,7 +16,7 @@ use Rattle.machine_data.specs.declared.records.Place.TheVariants as place
 use Rattle.machine_data.specs.declared.records.Subtask.{Subtask}
 use Rattle.machine_data.specs.Statuses.{status_code}
 use Rattle.machine_data.specs.declared.trap.Trap.TheVariants as trap
-use Rattle.machine_data.specs.declared.words.Status.{Status}
+use Rattle.machine_data.specs.declared.statuses.Status.{Status}
 use Rattle.ops_moves.proofs.UntouchedLemmas.{on_instance_untouched, same_untouched}
 use Rattle.ops_guests.proofs.BesideLemmas.{quiet_stand}
 use Rattle.ops_guests.proofs.RunLemmas.{stands_on}
@@ -95,19 +95,19 @@ awaits_trap mode n r q s none =
     (none ∙ ap (λ (e : Option Status). undelivered_end e) (sym ((join_steady q join.Nowhere s).events q))) (refl, refl)
 
 -- an end that is taken is answered, by which op it is
-pub end_meets : (mode : Mode) (n : ℕ) (r : Doer) (q : Subtask) (e : Status) (s m u : Core) → u ≡ end_answered n q m → Implements (cancel_ended_by r mode n q m (Some e)) s (goes_as (cancel_label mode n (status_code e)) n) (ended r n (goes_as (cancel_label mode n (status_code e)) n) u)
-end_meets Async n r q e s m u core = (refl, ap (λ (c : Core). finish r n (OneNumber (status_code e)) c) core)
-end_meets Sync n r q e s m u core = (refl, ap (λ (c : Core). finish r n (OneNumber (status_code e)) c) core)
+pub end_implements : (mode : Mode) (n : ℕ) (r : Doer) (q : Subtask) (e : Status) (s m u : Core) → u ≡ end_answered n q m → Implements (cancel_ended_by r mode n q m (Some e)) s (goes_as (cancel_label mode n (status_code e)) n) (ended r n (goes_as (cancel_label mode n (status_code e)) n) u)
+end_implements Async n r q e s m u core = (refl, ap (λ (c : Core). finish r n (OneNumber (status_code e)) c) core)
+end_implements Sync n r q e s m u core = (refl, ap (λ (c : Core). finish r n (OneNumber (status_code e)) c) core)
 
-pub awaits_meets : (mode : Mode) (n : TableId ThreadKey) (r : Doer) (sub : SubtaskId) (e : Status) (s t u : StateView) (c : OpResult) → Some e ≡ undelivered_end (event_of (subtask_in s.tags sub) s.core) → t ≡ on_core (set_join (subtask_in s.tags sub) join.Nowhere) s → c ≡ goes_as (cancel_label mode (thread_of t n) (status_code e)) (thread_of t n) → u ≡ on_core (end_answered (thread_of t n) (subtask_in t.tags sub)) t → Implements (cancel_ended_by r mode (thread_of s n) (subtask_in s.tags sub) (set_join (subtask_in s.tags sub) join.Nowhere s.core) (undelivered_end (event_of (subtask_in s.tags sub) (set_join (subtask_in s.tags sub) join.Nowhere s.core)))) s.core c (ended r (thread_of s n) c u.core)
-awaits_meets mode n r sub e s t u c told left shown taken =
+pub awaits_implements : (mode : Mode) (n : TableId ThreadKey) (r : Doer) (sub : SubtaskId) (e : Status) (s t u : StateView) (c : OpResult) → Some e ≡ undelivered_end (event_of (subtask_in s.tags sub) s.core) → t ≡ on_core (set_join (subtask_in s.tags sub) join.Nowhere) s → c ≡ goes_as (cancel_label mode (thread_of t n) (status_code e)) (thread_of t n) → u ≡ on_core (end_answered (thread_of t n) (subtask_in t.tags sub)) t → Implements (cancel_ended_by r mode (thread_of s n) (subtask_in s.tags sub) (set_join (subtask_in s.tags sub) join.Nowhere s.core) (undelivered_end (event_of (subtask_in s.tags sub) (set_join (subtask_in s.tags sub) join.Nowhere s.core)))) s.core c (ended r (thread_of s n) c u.core)
+awaits_implements mode n r sub e s t u c told left shown taken =
     let N = thread_of s n in
     let q = subtask_in s.tags sub in
     let m = set_join q join.Nowhere s.core in
     let came_is = shown ∙ ap (λ (v : StateView). goes_as (cancel_label mode (thread_of v n) (status_code e)) (thread_of v n)) left in
     let core = ap (λ (v : StateView). v.core) taken ∙ ap (λ (v : StateView). end_answered (thread_of v n) (subtask_in v.tags sub) v.core) left in
     subst (λ (o : Option Status). Implements (cancel_ended_by r mode N q m o) s.core c (ended r N c u.core)) (told ∙ ap (λ (o : Option Status). undelivered_end o) (sym ((join_steady q join.Nowhere s.core).events q)))
-    (subst (λ (y : OpResult). Implements (cancel_ended_by r mode N q m (Some e)) s.core y (ended r N y u.core)) (sym came_is) (end_meets mode N r q e s.core m u.core core))
+    (subst (λ (y : OpResult). Implements (cancel_ended_by r mode N q m (Some e)) s.core y (ended r N y u.core)) (sym came_is) (end_implements mode N r q e s.core m u.core core))
 
 pub resumed_as : (n : TableId ThreadKey) (sub : SubtaskId) (s p t : StateView) → p ≡ s → t ≡ on_core (cancel_resumed (thread_of p n) (subtask_in p.tags sub)) p → t ≡ on_core (cancel_resumed (thread_of s n) (subtask_in s.tags sub)) s
 resumed_as n sub s p t same e = e ∙ ap (λ (v : StateView). on_core (cancel_resumed (thread_of v n) (subtask_in v.tags sub)) v) same

@@ -16,7 +16,7 @@ use Rattle.machine_data.specs.declared.records.Call.{Call}
 use Rattle.machine_data.specs.declared.records.Instance.{Instance}
 use Rattle.machine_data.specs.declared.records.Place.TheVariants as place
 use Rattle.machine_data.specs.declared.records.Subtask.TheVariants as subtask
-use Rattle.machine_data.specs.declared.words.Status.{Status}
+use Rattle.machine_data.specs.declared.statuses.Status.{Status}
 use Rattle.ops_moves.proofs.TellLemmas.{map_or_is}
 use Rattle.ops_guests.proofs.BesideLemmas.{checked_stand, quiet_stand}
 use Rattle.ops_guests.proofs.RunLemmas.{stands_on}
@@ -87,7 +87,7 @@ resumed_untouched n k s = go (saved_callee_of n s)
     go None = record { places = λ m. refl; switch = λ m. refl; high = λ m. refl; low = λ m. refl; callers = refl; made = le_refl _ }
     go (Some b) = record { places = λ m. refl; switch = λ m. refl; high = λ m. refl; low = λ m. refl; callers = refl; made = le_refl _ }
 
--- ---- In the words of what contracts see
+-- ---- As contracts see it
 
 module _ (n : TableId ThreadKey) where
   pub thread_kept : (q : ℕ) (s t : StateView) → 0 < thread_of s n → KeepsBut (lost_call q) s.tags t.tags → thread_of t n ≡ thread_of s n

@@ -22,8 +22,8 @@ use Rattle.machine_data.specs.declared.records.Subtask.{Subtask}
 use Rattle.machine_data.specs.declared.records.Subtask.TheVariants as subtask
 use Rattle.machine_data.specs.declared.records.Thread.{Thread}
 use Rattle.machine_data.specs.declared.records.Work.{Work}
-use Rattle.machine_data.specs.declared.words.TaskEvent.{TaskEvent}
-use Rattle.machine_data.specs.declared.words.Phase.{Phase}
+use Rattle.machine_data.specs.declared.statuses.TaskEvent.{TaskEvent}
+use Rattle.machine_data.specs.declared.statuses.Phase.{Phase}
 use Rattle.ops_moves.proofs.TellLemmas.{map_or_is}
 use Rattle.ops_guests.proofs.BesideLemmas.{quiet_stand}
 use Rattle.ops_guests.proofs.RunLemmas.{stands_on}
@@ -173,7 +173,7 @@ steady_check i s t a =
     ap₂ (λ (b c : Bool). not b || c) (ap (λ (m : Records Instance). option_map_or (λ (r : Instance). r.do_not_suspend) (get m i) false) a.instances)
     (ap₂ (λ (b c : Bool). b || c) (ap (λ (q : Queues). is_some q.switch) a.queues) (ap (λ (o : Option ℕ). is_some o) (entry_same i s t a)))
 
--- ---- In the words of what contracts see
+-- ---- As contracts see it
 
 module _ (n : TableId ThreadKey) (f : Core → Core) (s t : StateView) (e : t ≡ on_core f s) (a : Steady s.core (f s.core)) where
   pub still_runs : IsRunning (thread_of s n) s.core → IsRunning (thread_of t n) t.core

@@ -69,7 +69,7 @@ kept_alike (subtask.Host k) s calls works = go (get s.works k) refl
     go None e = rw e (gone_works k 0 s e works)
     go (Some c) e = rw e (same_alike (subtask.Host k) s)
 
--- ---- The row of a named subtask
+-- ---- The rule of a named subtask
 
 pub at_kept : (i h : ℕ) (q : Subtask) (s : Core) (row : Subtask → Progress) → Some q ≡ option_map (λ sub. live_subtask sub s) (subtask_at i h s) → ((sub : Subtask) → subtask_at i h s ≡ Some sub → row sub ≡ row (live_subtask sub s)) → or_trap (subtask_at i h s) trap.BadHandle row ≡ row q
 at_kept i h q s row e same = go (subtask_at i h s) refl e
@@ -84,7 +84,7 @@ at_kept i h q s row e same = go (subtask_at i h s) refl e
     go None at d = absurd (no_both d)
     go (Some sub) at d = same sub at ∙ ap row (same_some q (live_subtask sub s) d)
 
--- the row in the words of what contracts see
-pub named_meets : (n i h : ℕ) (q : Subtask) (row : Subtask → Progress) (s t : Core) (r : OpResult) → i ≡ instance_of n s → Some q ≡ option_map (λ sub. live_subtask sub s) (subtask_at i h s) → ((sub : Subtask) → subtask_at i h s ≡ Some sub → row sub ≡ row (live_subtask sub s)) → Implements (row q) s r t → Implements (or_trap (subtask_at (instance_of n s) h s) trap.BadHandle row) s r t
-named_meets n i h q row s t r at named same meets =
-    subst (λ (j : ℕ). Implements (or_trap (subtask_at j h s) trap.BadHandle row) s r t) at (subst (λ (p : Progress). Implements p s r t) (sym (at_kept i h q s row named same)) meets)
+-- the rule as contracts see it
+pub named_implements : (n i h : ℕ) (q : Subtask) (row : Subtask → Progress) (s t : Core) (r : OpResult) → i ≡ instance_of n s → Some q ≡ option_map (λ sub. live_subtask sub s) (subtask_at i h s) → ((sub : Subtask) → subtask_at i h s ≡ Some sub → row sub ≡ row (live_subtask sub s)) → Implements (row q) s r t → Implements (or_trap (subtask_at (instance_of n s) h s) trap.BadHandle row) s r t
+named_implements n i h q row s t r at named same implements =
+    subst (λ (j : ℕ). Implements (or_trap (subtask_at j h s) trap.BadHandle row) s r t) at (subst (λ (p : Progress). Implements p s r t) (sym (at_kept i h q s row named same)) implements)

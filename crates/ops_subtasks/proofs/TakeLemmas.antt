@@ -25,8 +25,8 @@ use Rattle.machine_data.specs.declared.records.Why.TheVariants as why
 use Rattle.machine_data.specs.declared.records.Work.{Work}
 use Rattle.machine_data.specs.declared.records.WorkCaller.{WorkCaller}
 use Rattle.machine_data.specs.declared.records.WorkCaller.TheVariants as work_caller
-use Rattle.machine_data.specs.declared.words.Mark.TheVariants as mark
-use Rattle.machine_data.specs.declared.words.Status.{Status}
+use Rattle.machine_data.specs.declared.statuses.Mark.TheVariants as mark
+use Rattle.machine_data.specs.declared.statuses.Status.{Status}
 use Rattle.ops_moves.proofs.TellLemmas.{Quiet, can_still, map_or_is}
 use Rattle.ops_moves.specs.Idle.{AreIdleUnqueued, CanPublish}
 use Rattle.std.proofs.Common.{le_refl}
@@ -117,7 +117,7 @@ caller_live (work_caller.Async n r) None s t zero same = refl
 caller_live work_caller.Spawn v s t zero same = refl
 caller_live (work_caller.Sync n) v s t zero same = refl
 
--- ---- In the words of what contracts see
+-- ---- As contracts see it
 
 staged_quiet : (i : ℕ) (x : Stage) (s : Core) → Quiet s (set_stage i x s)
 unfolding set_stage on_work

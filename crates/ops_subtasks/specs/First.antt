@@ -3,7 +3,7 @@ use Rattle.ops_subtasks.specs.declared.host_ops.First.{First}
 use Rattle.ops_subtasks.specs.declared.host_ops.First.TheVariants as first
 use Rattle.machine_data.specs.declared.component.HostDef.{HostDef}
 use Rattle.machine_data.specs.declared.component.HostDef.TheVariants as host_def
-use Rattle.machine_data.specs.declared.words.HostPoll.{HostPoll}
+use Rattle.machine_data.specs.declared.statuses.HostPoll.{HostPoll}
 use Rattle.machine_rules.specs.Calls.{AtOnce, Failing, FirstPoll, Later, heard_first, polled_first}
 
 abbrev pub first_named : First → FirstPoll

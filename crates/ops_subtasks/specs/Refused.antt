@@ -6,7 +6,7 @@ use Rattle.machine_data.specs.Read.{event_of, instance_of, subtask_ended, undeli
 use Rattle.machine_data.specs.declared.records.Subtask.{Subtask}
 use Rattle.machine_data.specs.declared.trap.Trap.{Trap}
 use Rattle.machine_data.specs.declared.trap.Trap.TheVariants as trap
-use Rattle.machine_data.specs.declared.words.Status.{Status}
+use Rattle.machine_data.specs.declared.statuses.Status.{Status}
 use Rattle.machine_rules.specs.Cancels.{Async, Mode, Sync}
 
 abbrev pub mode_of : (sync : Bool) → Mode

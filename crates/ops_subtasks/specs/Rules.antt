@@ -81,7 +81,7 @@ answers_work i d n ch s =
 abbrev pub cancels_from : Mode → OpProgress → (handle : ℕ) → Rule
 cancels_from mode f h d n ch s = cancel_rule d mode n h s f
 
--- the same of one that is resumed inside, whatever its handle names by then
+-- the rule of one that is resumed inside, whatever its handle names by then
 abbrev pub goes_on_from : Mode → OpProgress → Rule
 goes_on_from mode f d n ch s = cancel_rule d mode n 0 s f
 

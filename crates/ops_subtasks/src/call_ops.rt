@@ -72,7 +72,7 @@ fn queue_start<W: Primitives>(
     Ok(other)
 }
 
-/// Returns a call that begins and queues its callee's start: `call R Q F X*`, or `call_sync R F X*` of a stackful or callback
+/// Begins a call that queues its callee's start: `call R Q F X*`, or `call_sync R F X*` of a stackful or callback
 /// export. If it is out of memory, all is as before.
 pub fn begin_call<W: Primitives>(
     w: &mut W,

@@ -24,7 +24,7 @@ fn is_joined<W: Primitives>(w: &W, subtask: SubtaskId) -> bool
     !matches!(w.join(subtask), JoinId::Nowhere)
 }
 
-/// Does `cancel R X`, and `cancel_sync R X`, as they begin
+/// Does `cancel R X`, and `cancel_sync R X`, as they begin.
 pub fn cancel<W: Primitives>(w: &mut W, thread: ThreadId, handle: u64, sync: bool) -> OpResult
     requires live { 0 < thread_of (W.view w.old) thread }
     requires running { IsRunning (thread_of (W.view w.old) thread) (W.view w.old).core }

@@ -61,7 +61,7 @@ fn part<W: Primitives>(w: &mut W, thread: ThreadId, handle: u32, subtask: Subtas
     settle(w, subtask);
 }
 
-/// Does `drop X`
+/// Does `drop X`.
 pub fn drop_subtask<W: Primitives>(w: &mut W, thread: ThreadId, handle: u64) -> OpResult
     requires live { 0 < thread_of (W.view w.old) thread }
     requires works { WorksQueued (W.view w.old).core }

@@ -7,7 +7,7 @@ ghost use Rattle.ops_subtasks.specs.Rules.{answers_work, calls_host, calls_sync_
 ghost use Rattle.machine_data.specs.Maps.{get};
 ghost use Rattle.machine_data.specs.Read.{at_handle_limit, fits, instance_of, new_handle};
 ghost use Rattle.machine_data.specs.Statuses.{packed};
-ghost use Rattle.machine_data.specs.declared.words.Status.TheVariants as statuses;
+ghost use Rattle.machine_data.specs.declared.statuses.Status.TheVariants as statuses;
 ghost use Rattle.ops_guests.specs.Does.{DoesRule, KeepsNames};
 ghost use Rattle.ops_guests.specs.Running.{IsRunning};
 ghost use Rattle.machine_rules.specs.Calls.{Later, call_sync_host_stops, host_valued, host_with_handle, next_work};

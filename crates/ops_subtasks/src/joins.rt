@@ -97,7 +97,7 @@ fn join_set<W: Primitives>(
     }
 }
 
-/// Does `join X Y`
+/// Does `join X Y`.
 pub fn join<W: Primitives>(w: &mut W, thread: ThreadId, handle: u64, set: u64) -> OpResult
     requires running { IsRunning (thread_of (W.view w.old) thread) (W.view w.old).core }
     requires sets { SetsThere (W.view w.old).core }

@@ -1,5 +1,5 @@
-//! The ops of guests on subtasks over the primitives of a core: each is its rule of the machine. It tests in the row's order, then
-//! makes the moves in the order of the row's new core.
+//! The ops of guests on subtasks over the primitives of a core: each is its rule of the machine. It makes the
+//! rule's tests in the rule's order, then the rule's moves in their order.
 #![tactic(auto)]
 
 mod aborts;

@@ -66,7 +66,7 @@ fn resume_canceller<W: Primitives>(w: &mut W, thread: ThreadId, subtask: Subtask
     w.set_join(subtask, JoinId::Nowhere);
 }
 
-/// Does `cancel R X`, and `cancel_sync R X`, resumed behind the callee
+/// Does `cancel R X`, and `cancel_sync R X`, resumed behind the callee.
 pub fn go_on_cancelling<W: Primitives>(
     w: &mut W,
     thread: ThreadId,
@@ -84,7 +84,7 @@ pub fn go_on_cancelling<W: Primitives>(
     finish_cancel(w, thread, sync, subtask)
 }
 
-/// Does `cancel_sync R X`, resumed once the end was told
+/// Does `cancel_sync R X`, resumed once the end was told.
 pub fn go_on_awaiting<W: Primitives>(
     w: &mut W,
     thread: ThreadId,

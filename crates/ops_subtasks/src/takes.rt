@@ -71,13 +71,13 @@ fn end_host<W: Primitives>(w: &mut W, work: WorkId, waiter: Option<ThreadId>)
     give_value(w, caller, value);
 }
 
-/// Returns the entry of a host call that has ended, taken from the mark: the call is done, which is published, and its value goes
-/// to the calling thread.
+/// Takes the entry of a host call that has ended from the mark: the call is done, which is published, and its value goes to the
+/// calling thread.
 pub fn take_host<W: Primitives>(w: &mut W, mark: Mark, work: WorkId) -> OpResult
     requires live { 0 < work_of (W.view w.old) work }
     requires placed { Placed (W.view w.old).core }
     requires there { IsJoinThere (subtasks.Host (work_of (W.view w.old) work)) (W.view w.old).core }
-    ensures meets { Implements (scripted_host_rule mark (work_of (W.view w.old) work) (choice_of (label_of (work_of (W.view w.old) work) result)).woken (W.view w.old).core) (W.view w.old).core result (W.view w.new).core }
+    ensures implements { Implements (scripted_host_rule mark (work_of (W.view w.old) work) (choice_of (label_of (work_of (W.view w.old) work) result)).woken (W.view w.old).core) (W.view w.old).core result (W.view w.new).core }
     ensures stays { StaysAfter result (W.view w.old) (W.view w.new) }
     ensures tags { (W.view w.new).tags ≡ (W.view w.old).tags }
     ensures current { (W.view w.new).current ≡ (W.view w.old).current }

@@ -7,8 +7,8 @@ use Rattle.machine_data.proofs.CommuteLemmas.{change-change_same, get-change}
 use Rattle.machine_data.proofs.MapLemmas.{get-change_same, same_records}
 use Rattle.machine_data.specs.Core.{Core}
 use Rattle.machine_data.specs.Maps.{Records, change, get}
-use Rattle.machine_data.specs.Read.{call_instance, instance_of, position_of, registers_of, task_of, word_of}
-use Rattle.machine_data.specs.Write.{on_instance, on_thread, set_op_progress, set_position, set_register, set_word}
+use Rattle.machine_data.specs.Read.{call_instance, instance_of, position_of, registers_of, task_of, memory_cell_of}
+use Rattle.machine_data.specs.Write.{on_instance, on_thread, set_op_progress, set_position, set_register, set_memory_cell}
 use Rattle.machine_data.specs.declared.component.Component.{Component}
 use Rattle.machine_data.specs.declared.label.DataLabel.{DataLabel}
 use Rattle.machine_data.specs.declared.label.DataLabel.TheVariants as data_label
@@ -29,20 +29,20 @@ use Rattle.core_primitives.specs.StateView.{StateView, on_core}
 abbrev pub in_record : ℕ → List ℕ → Thread → Thread
 in_record p rs t = record t { position = p; registers = rs; op_progress = op_progress.Fresh }
 
-word-context : (i w n p : ℕ) (rs : List ℕ) (s : Core) → word_of i w (with_context n p rs s) ≡ word_of i w s
+memory_cell-context : (i w n p : ℕ) (rs : List ℕ) (s : Core) → memory_cell_of i w (with_context n p rs s) ≡ memory_cell_of i w s
 unfolding with_context on_thread
-word-context i w n p rs s = refl
+memory_cell-context i w n p rs s = refl
 
-pub beside_word : (i w v : ℕ) (s t : StateView) → t ≡ on_core (set_word i w v) s → KeepsBeside s t
-unfolding set_word on_instance
-beside_word i w v s t e = subst (KeepsBeside s) (sym e) (record { threads = refl; calls = refl; works = refl; made = refl; tags = refl; current = refl })
+pub beside_memory_cell : (i w v : ℕ) (s t : StateView) → t ≡ on_core (set_memory_cell i w v) s → KeepsBeside s t
+unfolding set_memory_cell on_instance
+beside_memory_cell i w v s t e = subst (KeepsBeside s) (sym e) (record { threads = refl; calls = refl; works = refl; made = refl; tags = refl; current = refl })
 
-word_beside : (n p : ℕ) (rs : List ℕ) (i w v : ℕ) (s : Core) → set_word i w v (with_context n p rs s) ≡ with_context n p rs (set_word i w v s)
-unfolding with_context on_thread set_word on_instance
-word_beside n p rs i w v s = refl
+memory_cell_beside : (n p : ℕ) (rs : List ℕ) (i w v : ℕ) (s : Core) → set_memory_cell i w v (with_context n p rs s) ≡ with_context n p rs (set_memory_cell i w v s)
+unfolding with_context on_thread set_memory_cell on_instance
+memory_cell_beside n p rs i w v s = refl
 
-threads_beside : (i w v : ℕ) (s : Core) → (set_word i w v s).threads ≡ s.threads
-unfolding set_word on_instance
+threads_beside : (i w v : ℕ) (s : Core) → (set_memory_cell i w v s).threads ≡ s.threads
+unfolding set_memory_cell on_instance
 threads_beside i w v s = refl
 
 same_position : (n p : ℕ) (rs : List ℕ) (k : ℕ) (s : Core) → call_instance k (with_context n p rs s) ≡ call_instance k s
@@ -99,14 +99,14 @@ module _ (n : ℕ) (s : Core) (t : Thread) (found : get s.threads n ≡ Some t) 
   unfolding assigned
   assigned-context p rs r v = ap (advanced n) (written-context p rs r v) ∙ advanced-context p (slice_set rs r v)
 
-pub stored-context : (n : ℕ) (s : Core) (t : Thread) → get s.threads n ≡ Some t → (p : ℕ) (rs : List ℕ) (w v : ℕ) → stored n w v (with_context n p rs s) ≡ with_context n (p + 1) rs (set_word (instance_of n s) w v s)
+pub stored-context : (n : ℕ) (s : Core) (t : Thread) → get s.threads n ≡ Some t → (p : ℕ) (rs : List ℕ) (w v : ℕ) → stored n w v (with_context n p rs s) ≡ with_context n (p + 1) rs (set_memory_cell (instance_of n s) w v s)
 unfolding stored
 stored-context n s t found p rs w v =
-    ap (λ i. advanced n (set_word i w v (with_context n p rs s))) (instance-context n s t found p rs)
-    ∙ (ap (advanced n) (word_beside n p rs (instance_of n s) w v s)
-    ∙ advanced-context n (set_word (instance_of n s) w v s) t (ap (λ (m : Records Thread). get m n) (threads_beside (instance_of n s) w v s) ∙ found) p rs)
+    ap (λ i. advanced n (set_memory_cell i w v (with_context n p rs s))) (instance-context n s t found p rs)
+    ∙ (ap (advanced n) (memory_cell_beside n p rs (instance_of n s) w v s)
+    ∙ advanced-context n (set_memory_cell (instance_of n s) w v s) t (ap (λ (m : Records Thread). get m n) (threads_beside (instance_of n s) w v s) ∙ found) p rs)
 
--- ---- The rows
+-- ---- The rules
 
 module _ (n i : ℕ) (s : Core) (there : (t : Thread) × (get s.threads n ≡ Some t)) (instance : i ≡ instance_of n s) (x : ThreadContext) (c : Component) where
   abbrev at : Core
@@ -140,18 +140,18 @@ module _ (n i : ℕ) (s : Core) (there : (t : Thread) × (get s.threads n ≡ So
   pub handle_rule : (to : ℕ) (o : Operand) (v : ℕ) (y : ThreadContext) → v ≡ value_in x.registers o → y ≡ answered to (v / 16) → data_rule c n at (data_op.Handle to o) ≡ Continues (label.Data (data_label.Handle n (v / 16))) (in_context n y s) n
   handle_rule to o v y value is = answers (data_label.Handle n) to (value_of n at o / 16) (v / 16) y (ap (λ v. v / 16) (value_is o ∙ sym value)) is
 
-  pub load_rule : (to w v : ℕ) (y : ThreadContext) → v ≡ word_of i w s → y ≡ answered to v → data_rule c n at (data_op.Load to w) ≡ Continues (label.Data (data_label.Load n v)) (in_context n y s) n
+  pub load_rule : (to w v : ℕ) (y : ThreadContext) → v ≡ memory_cell_of i w s → y ≡ answered to v → data_rule c n at (data_op.Load to w) ≡ Continues (label.Data (data_label.Load n v)) (in_context n y s) n
   load_rule to w v y word is =
-      answers (data_label.Load n) to (word_of (instance_of n at) w at) v y
-      (ap (λ j. word_of j w at) instance_is ∙ word-context i w n x.position x.registers s ∙ sym word) is
+      answers (data_label.Load n) to (memory_cell_of (instance_of n at) w at) v y
+      (ap (λ j. memory_cell_of j w at) instance_is ∙ memory_cell-context i w n x.position x.registers s ∙ sym word) is
 
-  pub store_rule : (w : ℕ) (o : Operand) (v : ℕ) (u : Core) → v ≡ value_in x.registers o → u ≡ set_word i w v s
+  pub store_rule : (w : ℕ) (o : Operand) (v : ℕ) (u : Core) → v ≡ value_in x.registers o → u ≡ set_memory_cell i w v s
       → data_rule c n at (data_op.Store w o) ≡ Continues (label.Data (data_label.Store n v)) (with_context n (x.position + 1) x.registers u) n
   store_rule w o v u value is =
       ap (λ v. Continues (label.Data (data_label.Store n v)) (stored n w v at) n) (value_is o ∙ sym value)
       ∙ ap (λ new. Continues (label.Data (data_label.Store n v)) new n)
       (stored-context n s there.0 there.1 x.position x.registers w v
-      ∙ ap (λ j. with_context n (x.position + 1) x.registers (set_word j w v s)) (sym instance)
+      ∙ ap (λ j. with_context n (x.position + 1) x.registers (set_memory_cell j w v s)) (sym instance)
       ∙ ap (with_context n (x.position + 1) x.registers) (sym is))
 
   module _ (end : ℕ) (script : length (script_of c n at) ≡ end) (before : x.position < end) where

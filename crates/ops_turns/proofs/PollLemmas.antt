@@ -98,9 +98,9 @@ over_by i polled.Ends t = sym (take_open (queues_are_empty t)).0
 over_by i polled.Fails t = refl
 
 pub poll_makes : (c : Component) (k i : ℕ) (s t : StateView) (r : Polled) (made : MadeStep) → next_polled k s.core ≡ Some i → PollImplements i (poll_of i s.core) s.core r t.core → s.current ≡ None → t.current ≡ s.current → made.label ≡ label_by i r → made.turn ≡ turn_by i r t.core → MakesStep c (turn.Futures k) s made t
-poll_makes c k i s t r made next meets none current label_is turn_is = record {
+poll_makes c k i s t r made next implements none current label_is turn_is = record {
   step = λ x component m. subst (λ (l : Label). Step x (state_at s.core m (turn.Futures k)) l (state_at t.core m made.turn)) (sym label_is)
-      (subst (λ (p : Turn). Step x (state_at s.core m (turn.Futures k)) (label_by i r) (state_at t.core m p)) (sym turn_is) (poll_step k i s.core t.core m r next meets x));
+      (subst (λ (p : Turn). Step x (state_at s.core m (turn.Futures k)) (label_by i r) (state_at t.core m p)) (sym turn_is) (poll_step k i s.core t.core m r next implements x));
   running = ap (option_map (λ id. thread_of t id)) (current ∙ none) ∙ sym (ap runs_in turn_is ∙ none_runs i r t.core);
   over = ap (λ (l : Label). is_none (outcome_of_label l)) label_is ∙ (over_by i r t.core ∙ ap is_open (sym turn_is));
 }

@@ -10,7 +10,7 @@ use Rattle.machine_data.specs.declared.label.LoopLabel.TheVariants as loop_label
 use Rattle.machine_data.specs.declared.records.Entry.{Entry}
 use Rattle.machine_data.specs.declared.records.Turn.TheVariants as turn
 use Rattle.machine_data.specs.declared.scenario.IdleLine.TheVariants as idle_line
-use Rattle.machine_data.specs.declared.words.Mark.{Mark}
+use Rattle.machine_data.specs.declared.statuses.Mark.{Mark}
 use Rattle.machine_rules.specs.Stalled.{Setting, deadlock_trap, is_idle, main_pends, may_deadlock, works_rest}
 use Rattle.machine_rules.specs.Step.{DeadlockStep, EmptyFor, Step, TakeStep}
 use Rattle.machine_rules.specs.Turns.{at_turn}

@@ -14,7 +14,7 @@ use Rattle.machine_data.specs.declared.label.Label.{Label}
 use Rattle.machine_data.specs.declared.label.Label.TheVariants as label
 use Rattle.machine_data.specs.declared.label.TakeLabel.TheVariants as take_label
 use Rattle.machine_data.specs.declared.records.Entry.TheVariants as entry
-use Rattle.machine_data.specs.declared.words.Mark.{Mark}
+use Rattle.machine_data.specs.declared.statuses.Mark.{Mark}
 use Rattle.machine_data.specs.declared.op.Op.{Op}
 use Rattle.machine_data.specs.declared.op.Op.TheVariants as op
 use Rattle.machine_data.specs.declared.op.TaskOp.TheVariants as task
@@ -22,7 +22,7 @@ use Rattle.machine_data.specs.declared.records.Script.{Script}
 use Rattle.machine_data.specs.declared.records.Thread.{Thread}
 use Rattle.machine_data.specs.declared.records.Turn.{Turn}
 use Rattle.machine_data.specs.declared.records.Turn.TheVariants as turn
-use Rattle.ops_guests.proofs.MeetLemmas.{meeting_is_step, taking_is_step}
+use Rattle.ops_guests.proofs.ImplementLemmas.{implementing_is_step, taking_is_step}
 use Rattle.ops_guests.specs.OpResult.{Implements}
 use Rattle.ops_guests.specs.Stays.{StaysAfter}
 use Rattle.ops_guests.specs.Steps.{core_after, label_of, turn_after}
@@ -51,7 +51,7 @@ module _ (c : Component) (n : ℕ) (s : Core) (t : Thread) (here : get s.threads
       ∙ (ap (λ j. script_in c (callee_of j s) t.script) (sym (call ∙ ap (λ (o : Option Thread). option_map_or (λ (u : Thread). u.call) o 0) here))
       ∙ (ap (λ g. script_in c g t.script) (sym callee) ∙ (ap (script_in c f) (sym script) ∙ sym read)))
 
-  -- the row of the op at the thread's place; at the script's end it exits
+  -- the rule of the op at the thread's place; at the script's end it exits
   pub row_at : (o : Option Op) → o ≡ slice_get ops p → (r : OpResult) (u : Core) → Implements (scripted_op_rule c n s (choice_of (label_of n r)) (unwrap_or o (op.Task task.Exit))) s r u → Implements (did c n s (choice_of (label_of n r))) s r u
   unfolding did op_of
   row_at o e r u h = subst (λ (q : Option Op). Implements (scripted_op_rule c n s (choice_of (label_of n r)) (unwrap_or q (op.Task task.Exit))) s r u) (e ∙ (ap (slice_get ops) place ∙ ap (λ (os : List Op). slice_get os (position_of n s)) (sym script_is))) h
@@ -83,27 +83,27 @@ module _ (id : TableId ThreadKey) (n : ℕ) (s t : StateView) (number : thread_o
   core_same (op_result.Traps why) e = ap (λ k. core_after k (op_result.Traps why) t.core) (ap (λ (v : StateView). thread_of v id) e ∙ number)
   core_same (op_result.Fails i) e = ap (λ k. core_after k (op_result.Fails i) t.core) (ap (λ (v : StateView). thread_of v id) e ∙ number)
 
-  -- an op that met its rule makes a step
+  -- an op that did its rule makes a step
   pub ran : (c : Component) (r : OpResult) (l : Label) (p : Turn) (u : Core) → Implements (did c n s.core (choice_of (label_of n r))) s.core r t.core → StaysAfter r s t → l ≡ label_of (thread_of t id) r → p ≡ turn_after r
       → u ≡ core_after (thread_of t id) r t.core → (x : Setting) → x.component ≡ c → (m : Main) → Step x (state_at s.core m (turn.Run n)) l (state_at u m p)
-  ran c r l p u meets stays label_is turn_is core_is x component m =
-      let step = meeting_is_step x (state_at s.core m (turn.Run n)) n r t.core refl (subst (λ (d : Component). Implements (did d n s.core (choice_of (label_of n r))) s.core r t.core) (sym component) meets) in
+  ran c r l p u implements stays label_is turn_is core_is x component m =
+      let step = implementing_is_step x (state_at s.core m (turn.Run n)) n r t.core refl (subst (λ (d : Component). Implements (did d n s.core (choice_of (label_of n r))) s.core r t.core) (sym component) implements) in
       let shown = label_is ∙ label_same r stays in
       let after : state_at u m p ≡ goes_to (state_at s.core m (turn.Run n)) (core_after n r t.core) (turn_after r) =
       ap (λ (q : Turn). state_at u m q) turn_is ∙ (ap (λ (v : Core). state_at v m (turn_after r)) (core_is ∙ core_same r stays) ∙ sym (settled r s.core m (turn.Run n) (core_after n r t.core))) in
       rw shown (rw after step)
 
-  -- the same, where the op met the row of the id's thread
+  -- the same, where the op did the rule of the id's thread
   pub ran_at : (c : Component) (r : OpResult) (l : Label) (p : Turn) (u : Core) → Implements (did c (thread_of s id) s.core (choice_of (label_of (thread_of s id) r))) s.core r t.core → StaysAfter r s t → l ≡ label_of (thread_of t id) r → p ≡ turn_after r
       → u ≡ core_after (thread_of t id) r t.core → (x : Setting) → x.component ≡ c → (m : Main) → Step x (state_at s.core m (turn.Run n)) l (state_at u m p)
-  ran_at c r l p u meets = ran c r l p u (subst (λ k. Implements (did c k s.core (choice_of (label_of k r))) s.core r t.core) number meets)
+  ran_at c r l p u implements = ran c r l p u (subst (λ k. Implements (did c k s.core (choice_of (label_of k r))) s.core r t.core) number implements)
 
--- a taking that met its rule makes a step
+-- a taking that did its rule makes a step
 pub took : (c : Component) (ended : Bool) (mark : Mark) (id : TableId ThreadKey) (n : ℕ) (s u t : StateView) (r : OpResult) (l : Label) (p : Turn) (z : Core) → thread_of u id ≡ n → u.core ≡ popped mark s.core
     → next_entry s.core ≡ Some (mark, entry.Thread n) → Implements (thread_taken mark (thread_of u id) (choice_of (label_of (thread_of u id) r)) u.core (place_of (thread_of u id) u.core)) u.core r t.core → StaysAfter r u t
     → l ≡ label_of (thread_of t id) r → p ≡ turn_after r → z ≡ core_after (thread_of t id) r t.core → (x : Setting) → x.component ≡ c → (m : Main) → Step x (state_at s.core m (turn.Take ended)) l (state_at z m p)
-took c ended mark id n s u t r l p z number base next meets stays label_is turn_is core_is x component m =
-    let named = subst (λ k. Implements (thread_taken mark k (choice_of (label_of k r)) u.core (place_of k u.core)) u.core r t.core) number meets in
+took c ended mark id n s u t r l p z number base next implements stays label_is turn_is core_is x component m =
+    let named = subst (λ k. Implements (thread_taken mark k (choice_of (label_of k r)) u.core (place_of k u.core)) u.core r t.core) number implements in
     let based = subst (λ (b : Core). Implements (thread_taken mark n (choice_of (label_of n r)) b (place_of n b)) b r t.core) base named in
     let step = taking_is_step x (state_at s.core m (turn.Take ended)) ended (mark, entry.Thread n) r t.core refl next based in
     let shown = label_is ∙ label_same id n u t number r stays in
@@ -119,8 +119,8 @@ took_push c ended mark i s t next core x component m =
 
 pub took_host : (c : Component) (ended : Bool) (mark : Mark) (i : ℕ) (s u t : StateView) (r : OpResult) (l : Label) → u.core ≡ popped mark s.core → next_entry s.core ≡ Some (mark, entry.Host i) → Implements (scripted_host_rule mark i (choice_of (label_of i r)).woken u.core) u.core r t.core → r ≡ op_result.Stops l
     → (x : Setting) → x.component ≡ c → (m : Main) → Step x (state_at s.core m (turn.Take ended)) l (state_at t.core m turn.Main)
-took_host c ended mark i s u t r l base next meets is x component m =
-    let based = subst (λ (b : Core). Implements (scripted_host_rule mark i (choice_of (label_of i r)).woken b) b r t.core) base meets in
+took_host c ended mark i s u t r l base next implements is x component m =
+    let based = subst (λ (b : Core). Implements (scripted_host_rule mark i (choice_of (label_of i r)).woken b) b r t.core) base implements in
     let shown = subst (λ (q : OpResult). Implements (scripted_host_rule mark i (choice_of (label_of i q)).woken (popped mark s.core)) (popped mark s.core) q t.core) is based in
     subst (Step x (state_at s.core m (turn.Take ended)) l) (settled (op_result.Stops l) s.core m (turn.Take ended) t.core)
     (taking_is_step x (state_at s.core m (turn.Take ended)) ended (mark, entry.Host i) (op_result.Stops l) t.core refl next shown)

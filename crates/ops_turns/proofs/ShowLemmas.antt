@@ -8,8 +8,8 @@ use Rattle.machine_data.specs.Read.{at_handle_limit, is_explicit, task_of}
 use Rattle.machine_data.specs.declared.records.Delivery.TheVariants as delivery
 use Rattle.machine_data.specs.declared.records.Place.TheVariants as place
 use Rattle.machine_data.specs.declared.trap.Trap.TheVariants as trap
-use Rattle.machine_data.specs.declared.words.Given.{Given}
-use Rattle.machine_data.specs.declared.words.Mark.{Mark}
+use Rattle.machine_data.specs.declared.statuses.Given.{Given}
+use Rattle.machine_data.specs.declared.statuses.Mark.{Mark}
 use Rattle.machine_data.specs.Moves.{why_of}
 use Rattle.ops_guests.specs.OpResult.{Implements}
 use Rattle.ops_guests.specs.Running.{IsTopmost}
@@ -22,7 +22,7 @@ use Rattle.machine_rules.specs.Progress.{Continues, Stops, may, or_never}
 use Rattle.machine_rules.specs.Sets.{chosen, handed_out}
 use Rattle.machine_rules.specs.Takes.{activated_woken, delivered, may_tell_starting, set_delivered, start_admitted, start_begins, start_holds, start_rule}
 use Rattle.task_table.specs.declared.id.TableId.{TableId}
-use Rattle.ops_dispatch.proofs.RowLemmas.{ShowsAs, here, if_lawful, if_traps, shows_of}
+use Rattle.ops_dispatch.proofs.RuleLemmas.{ShowsAs, here, if_lawful, if_traps, shows_of}
 use Rattle.ops_turns.specs.Taken.{Taken}
 use Rattle.ops_turns.specs.Turn.{CanUnwind, Shows}
 use Rattle.task_wait.specs.declared.keys.ThreadKey.{ThreadKey}
@@ -77,8 +77,8 @@ delivered_shows m n x ch s r t h = shows_of n (delivered m n ch s (delivery.Set 
 topmost : (m : Mark) (n : ℕ) (s : Core) → Taken m n s → IsTopmost n s
 topmost m n s q = record { place = place.Ready m (why_of n s); stand = q.stands; apart = λ p e. absurd (cc) }
 
-pub taken_strikes : (m : Mark) (r : OpResult) (id : TableId ThreadKey) (s t : StateView) → Taken m (thread_of s id) s.core → StaysAfter r s t → CanUnwind r (thread_of t id) t.core
-taken_strikes m (op_result.Continues l k said) id s t q e = tt
-taken_strikes m (op_result.Stops l) id s t q e = tt
-taken_strikes m (op_result.Traps why) id s t q e = subst (λ (v : StateView). (0 < thread_of v id) × IsTopmost (thread_of v id) v.core) (sym e) (q.live, topmost m (thread_of s id) s.core q)
-taken_strikes m (op_result.Fails i) id s t q e = subst (λ (v : StateView). (0 < thread_of v id) × IsTopmost (thread_of v id) v.core) (sym e) (q.live, topmost m (thread_of s id) s.core q)
+pub taken_unwinds : (m : Mark) (r : OpResult) (id : TableId ThreadKey) (s t : StateView) → Taken m (thread_of s id) s.core → StaysAfter r s t → CanUnwind r (thread_of t id) t.core
+taken_unwinds m (op_result.Continues l k said) id s t q e = tt
+taken_unwinds m (op_result.Stops l) id s t q e = tt
+taken_unwinds m (op_result.Traps why) id s t q e = subst (λ (v : StateView). (0 < thread_of v id) × IsTopmost (thread_of v id) v.core) (sym e) (q.live, topmost m (thread_of s id) s.core q)
+taken_unwinds m (op_result.Fails i) id s t q e = subst (λ (v : StateView). (0 < thread_of v id) × IsTopmost (thread_of v id) v.core) (sym e) (q.live, topmost m (thread_of s id) s.core q)

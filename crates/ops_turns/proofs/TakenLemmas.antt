@@ -21,8 +21,8 @@ use Rattle.machine_data.specs.declared.records.Thread.{Thread}
 use Rattle.machine_data.specs.declared.records.Turn.TheVariants as turn
 use Rattle.machine_data.specs.declared.records.Why.{Why}
 use Rattle.machine_data.specs.declared.records.Why.TheVariants as why
-use Rattle.machine_data.specs.declared.words.Mark.{Mark}
-use Rattle.machine_data.specs.declared.words.Mark.TheVariants as mark
+use Rattle.machine_data.specs.declared.statuses.Mark.{Mark}
+use Rattle.machine_data.specs.declared.statuses.Mark.TheVariants as mark
 use Rattle.ops_moves.specs.Idle.{IsJoinThere}
 use Rattle.laws_states.proofs.MemberLemmas.{members_named}
 use Rattle.ops_guests.proofs.TellingLemmas.{none_under}

@@ -6,8 +6,8 @@ use Rattle.machine_data.specs.Read.{next_entry}
 use Rattle.machine_data.specs.Write.{set_high, set_low, set_switch}
 use Rattle.machine_data.specs.declared.records.Entry.{Entry}
 use Rattle.machine_data.specs.declared.records.Entry.TheVariants as entry
-use Rattle.machine_data.specs.declared.words.Mark.{Mark}
-use Rattle.machine_data.specs.declared.words.Mark.TheVariants as mark
+use Rattle.machine_data.specs.declared.statuses.Mark.{Mark}
+use Rattle.machine_data.specs.declared.statuses.Mark.TheVariants as mark
 use Rattle.machine_rules.specs.Calls.{work_group}
 use Rattle.machine_rules.specs.Takes.{popped}
 use Rattle.task_table.specs.declared.id.TableId.{TableId}

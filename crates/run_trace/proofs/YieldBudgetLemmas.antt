@@ -5,7 +5,7 @@ use Rattle.std.proofs.Common.{ap, arith, drop, refl, suc, sym, take, zero, ◌<�
 use Rattle.std.proofs.lemmas.List.{drop-map, get_or-drop}
 use Rattle.std.specs.Prelude.{Bool, List, None, Option, Some, [], false, length, map, not, slice_index_or, true, ℕ, ◌&&◌, ◌++◌, ◌+◌, ◌∷◌, ◌≡◌}
 use Rattle.machine_data.specs.declared.label.Label.{Label}
-use Rattle.machine_data.specs.declared.words.Mark.{Mark}
+use Rattle.machine_data.specs.declared.statuses.Mark.{Mark}
 
 -- where it doesn't yield before it, an entry is counted
 pub past_stays : (b : Bool) (k : ℕ) (o : Option Mark) → yields_before b k o ≡ false → counted_past b k o ≡ counted k o

@@ -2,7 +2,7 @@
 use Rattle.std.specs.Prelude.{None, Option, Some}
 use Rattle.run_trace.specs.declared.kinds.LabelKind.{LabelKind}
 use Rattle.run_trace.specs.declared.kinds.LabelKind.TheVariants as kind
-use Rattle.machine_data.specs.declared.words.Mark.{Mark}
+use Rattle.machine_data.specs.declared.statuses.Mark.{Mark}
 
 -- that of the entry that was taken, where it is the kind of a taking
 abbrev pub mark_in : LabelKind → Option Mark

@@ -18,9 +18,9 @@ use Rattle.machine_data.specs.declared.label.SetLabel.TheVariants as set_label
 use Rattle.machine_data.specs.declared.label.TakeLabel.TheVariants as take
 use Rattle.machine_data.specs.declared.label.TaskLabel.TheVariants as task_label
 use Rattle.machine_data.specs.declared.label.ThreadLabel.TheVariants as thread_label
-use Rattle.machine_data.specs.declared.words.Mark.{Mark}
-use Rattle.machine_data.specs.declared.words.Given.TheVariants as given
-use Rattle.machine_data.specs.declared.words.TaskEvent.TheVariants as own
+use Rattle.machine_data.specs.declared.statuses.Mark.{Mark}
+use Rattle.machine_data.specs.declared.statuses.Given.TheVariants as given
+use Rattle.machine_data.specs.declared.statuses.TaskEvent.TheVariants as own
 use Rattle.run_trace.specs.declared.kinds.LabelKind.{LabelKind}
 use Rattle.run_trace.specs.declared.kinds.LabelKind.TheVariants as kind
 use Rattle.run_trace.specs.declared.kinds.MainKind.{MainKind}

@@ -2,8 +2,8 @@
 use Rattle.laws_labels.specs.Own.{mark_taken}
 use Rattle.std.specs.Prelude.{Bool, List, None, Option, Some, [], false, nat_le, not, true, ℕ, ◌&&◌, ◌+◌, ◌||◌, ◌∷◌}
 use Rattle.machine_data.specs.declared.label.Label.{Label}
-use Rattle.machine_data.specs.declared.words.Mark.{Mark}
-use Rattle.machine_data.specs.declared.words.Mark.TheVariants as mark
+use Rattle.machine_data.specs.declared.statuses.Mark.{Mark}
+use Rattle.machine_data.specs.declared.statuses.Mark.TheVariants as mark
 
 abbrev pub is_low : Mark → Bool
 is_low mark.Low = true

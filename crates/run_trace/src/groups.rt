@@ -103,17 +103,17 @@ impl PackedLabels {
             TakeLabel::Again(mark, thread) => (mark, TakeKind::Again, thread),
             TakeLabel::Push(mark, work) => (mark, TakeKind::Push, work),
             TakeLabel::Host(mark, work) => (mark, TakeKind::Host, work),
-            TakeLabel::ThreadWakes(mark, thread, woken) => return self.two_apart(
+            TakeLabel::ThreadWakes(mark, thread, woken) => return self.two_outlined(
                 LabelKind::Take(mark, TakeKind::ThreadWakes),
                 thread,
                 woken,
             ),
-            TakeLabel::HeldWakes(mark, thread, woken) => return self.two_apart(
+            TakeLabel::HeldWakes(mark, thread, woken) => return self.two_outlined(
                 LabelKind::Take(mark, TakeKind::HeldWakes),
                 thread,
                 woken,
             ),
-            TakeLabel::HostWakes(mark, work, woken) => return self.two_apart(
+            TakeLabel::HostWakes(mark, work, woken) => return self.two_outlined(
                 LabelKind::Take(mark, TakeKind::HostWakes),
                 work,
                 woken,
@@ -123,7 +123,7 @@ impl PackedLabels {
                     TaskEvent::None => OwnKind::NothingWakes,
                     TaskEvent::Cancelled => OwnKind::CancelledWakes,
                 };
-                return self.two_apart(LabelKind::Own(mark, kind), thread, woken);
+                return self.two_outlined(LabelKind::Own(mark, kind), thread, woken);
             }
         };
         self.one(LabelKind::Take(mark, kind), number)
@@ -158,7 +158,7 @@ impl PackedLabels {
                 thread,
                 value,
             ),
-            TaskLabel::TaskCancelWakes(thread, woken) => return self.two_apart(
+            TaskLabel::TaskCancelWakes(thread, woken) => return self.two_outlined(
                 LabelKind::Task(TaskKind::TaskCancelWakes),
                 thread,
                 woken,
@@ -229,7 +229,7 @@ impl PackedLabels {
             ),
             SetLabel::Wait(given, thread) => return self.push_wait(given, thread),
             SetLabel::Poll(given, thread) => return self.push_poll(given, thread),
-            SetLabel::WaitWakes(event, thread, woken) => return self.two_apart(
+            SetLabel::WaitWakes(event, thread, woken) => return self.two_outlined(
                 LabelKind::Set(SetKind::WaitWakes(event)),
                 thread,
                 woken,

@@ -18,5 +18,5 @@ pub use kinds::{
 };
 pub use open::{Labels, first, later, listed};
 pub use packed::PackedLabels;
-pub use policy::{Driven, Policy, Polled, ended_by, paced_by, rests_with, yields_by};
+pub use policy::{Driven, Policy, Polled, ended_by, rests_with, spent_by, yields_by};
 pub use yield_budget::{YieldBudget, rests};

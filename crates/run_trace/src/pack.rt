@@ -185,7 +185,7 @@ impl PackedLabels {
 
     // Packs a label of two numbers, in a function of its own, for labels that are seldom.
     #[inline(never)]
-    pub(crate) fn two_apart(
+    pub(crate) fn two_outlined(
         &mut self,
         kind: LabelKind,
         first: u64,
@@ -221,7 +221,7 @@ impl PackedLabels {
 
     // Packs a label of three numbers, in a function of its own.
     #[inline(never)]
-    pub(crate) fn three_apart(
+    pub(crate) fn three_outlined(
         &mut self,
         kind: LabelKind,
         first: u64,

@@ -76,7 +76,7 @@ impl PackedLabels {
                 self.three(LabelKind::Call(CallKind::RetWakes), thread, value, woken)
             }
             Label::CallSyncPolls(thread, value, work) => {
-                self.three_apart(
+                self.three_outlined(
                     LabelKind::Call(CallKind::CallSyncPolls),
                     thread,
                     value,

@@ -51,7 +51,7 @@ pub fn rests_with<P: Policy>(turn: Turn, next: Option<Mark>) -> bool
 
 /// Counts a step that took an entry of this mark, or none, before which the turns didn't stop. Nothing is counted if they never do.
 #[inline(always)]
-pub fn paced_by<P: Policy>(yield_budget: YieldBudget, mark: Option<Mark>) -> YieldBudget
+pub fn spent_by<P: Policy>(yield_budget: YieldBudget, mark: Option<Mark>) -> YieldBudget
     requires { (P.YIELDS && yields_before yield_budget.passes yield_budget.since mark) ≡ false }
     ensures kept { P.YIELDS ≡ false → result ≡ yield_budget }
     ensures since { P.YIELDS ≡ true → result.since ≡ counted yield_budget.since mark }
@@ -63,7 +63,7 @@ pub fn paced_by<P: Policy>(yield_budget: YieldBudget, mark: Option<Mark>) -> Yie
     yield_budget
 }
 
-/// Ends the count if the turns stop for want of steps, and keeps it if the run ends or nothing can go on. No turn was made by that.
+/// Ends the count if the turns stop because no steps are left, and keeps it if the run ends or nothing can go on. No turn was made by that.
 /// Nothing is counted if they never stop.
 #[inline(always)]
 pub fn ended_by<P: Policy>(yield_budget: YieldBudget, used_up: bool) -> YieldBudget

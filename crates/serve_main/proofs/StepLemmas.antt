@@ -39,7 +39,7 @@ use Rattle.std.proofs.lemmas.Bool.{and_from}
 use Rattle.task_group.specs.Listeners.{errors_of, ToldListeners, AnsweredErr, Listeners}
 use Rattle.task_loop.proofs.MainToldLemmas.{told_step, refused_notices, started_notices}
 use Rattle.task_loop.proofs.ToldLemmas.{running_asked}
-use Rattle.task_loop.specs.Standing.{standing}
+use Rattle.task_loop.specs.Constants.{constants}
 use Rattle.machine_data.specs.Write.{take_result, set_trapped}
 use Rattle.machine_data.specs.declared.component.HostDef.{HostDef}
 use Rattle.machine_data.specs.declared.label.Label.TheVariants as label
@@ -277,7 +277,7 @@ module _ {T H G : Type 0} (course : H → HostDef) (c : Component) (m n : Server
       let steps = did_finish c s.state t.state e.call.thread k v (returned, taken) in
       let still : t.listeners ≡ s.listeners = ap (λ (q : Store T H G). q.listeners) rest in
       record {
-        stands = ap standing rest;
+        stands = ap constants rest;
         requests = requests;
         limit = ap (λ (q : Scope). q.limit) scope;
         knows = knows_left m n s.state t.state _ _ _ _ _ _
@@ -306,7 +306,7 @@ module _ {T H G : Type 0} (course : H → HostDef) (c : Component) (m n : Server
   refusal_stepped p why same trapped last stage refusal nursery requests stages started replied due declined =
       let steps = subst (λ (q : Store T H G). Did c [] Unscripted s.state.core (label.Main (main_label.FinishRefused why m.started)) Unscripted q.state.core) (sym same) (did_finish_refused c s.state.core m.started why trapped refusal) in
       record {
-        stands = ap standing same;
+        stands = ap constants same;
         requests = requests;
         limit = ap (λ (q : Scope). q.limit) nursery;
         knows = knows_left m n s.state t.state _ _ _ _ _ _
@@ -338,7 +338,7 @@ module _ {T H G : Type 0} (course : H → HostDef) (c : Component) (m n : Server
       let made = started_call c r s.state t.state (start_refusal s.state.core) call.thread starts in
       let notices = started_notices c (callee_named r) r.params s.state t.state k (start_refusal s.state.core) call.thread starts in
       record {
-        stands = ap standing rest;
+        stands = ap constants rest;
         requests = requests;
         limit = ap (λ (q : Scope). q.limit) scope;
         knows = knows_left m n s.state t.state _ _ _ _ _ _
@@ -376,7 +376,7 @@ module _ {T H G : Type 0} (course : H → HostDef) (c : Component) (m n : Server
       let notices = ap finishes may.groups ∙ (refused_notices c (callee_named r) r.params s.state u k (start_refusal s.state.core) why starts
       ∙ sym (ap (λ (v : StateView). main_notices (step.Did (label.Main (main_label.StartRefused why k))) s.state.core v.core) left)) in
       record {
-        stands = ap standing rest;
+        stands = ap constants rest;
         requests = requests;
         limit = ap (λ (q : Scope). q.limit) nursery;
         knows = knows_left m n s.state t.state _ _ _ _ _ _
@@ -401,7 +401,7 @@ module _ {T H G : Type 0} (course : H → HostDef) (c : Component) (m n : Server
       let counts = keeps.counts in
       let steps = subst (λ (q : Core). Answers c [] Unscripted s.state.core m.replied Unscripted q) (ap (λ (q : Store T H G). q.state.core) (sym store)) (answers_now c s.state.core m.replied) in
       record {
-        stands = ap standing store;
+        stands = ap constants store;
         requests = ap (λ (q : ServerMain). q.requests) same;
         limit = ap (λ (q : ServerMain). q.nursery.limit) same;
         knows = rw (same, store) may.knows;
@@ -426,7 +426,7 @@ module _ {T H G : Type 0} (course : H → HostDef) (c : Component) (m n : Server
       let many = as_many_calls m.nursery.children m.stages.items keeps.pairs in
       let left = some_not is_replied m.stages.items (λ every. some (counts ∙ (every ∙ size))) in
       record {
-        stands = ap standing store;
+        stands = ap constants store;
         requests = ap (λ (q : ServerMain). q.requests) same;
         limit = ap (λ (q : ServerMain). q.nursery.limit) same;
         knows = rw (same, store) may.knows;
@@ -451,7 +451,7 @@ module _ {T H G : Type 0} (course : H → HostDef) (c : Component) (m n : Server
 module _ {T H G : Type 0} (course : H → HostDef) (c : Component) (m : ServerMain) (s : Store T H G) where
   -- ---- Nothing was done yet
 
-  pub waited_by : (n : ServerMain) (t : Store T H G) → n ≡ m → t.state ≡ s.state → t.listeners ≡ s.listeners → standing t ≡ standing s → HoldsHosts course t → MayStep course c m s → HasWaited course c m s n t
+  pub waited_by : (n : ServerMain) (t : Store T H G) → n ≡ m → t.state ≡ s.state → t.listeners ≡ s.listeners → constants t ≡ constants s → HoldsHosts course t → MayStep course c m s → HasWaited course c m s n t
   waited_by n t same state told stands hosts may = record {
     may = record {
       covered = may.covered;

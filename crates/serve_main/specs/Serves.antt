@@ -38,7 +38,7 @@ pub record IsServedBy (x : Scenario) (rs : List Request) (limit steps : ℕ) (se
   pub ends : IsOutcome (server_setting x) last served.trace steps served.outcome
   pub served_is : IsServed (record { limit = limit; requests = rs }) served.replies.items (history (server_setting x) (server_opening x) served.trace last run)
 
--- the same of the scenario of a text
+-- this of the scenario of a text
 pub record IsServedOf (text : List ℕ) (rs : List Request) (limit steps : ℕ) (served : Served) : Type 0 where
   pub scenario : Scenario
   pub reads : Reads text scenario

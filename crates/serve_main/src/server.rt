@@ -48,7 +48,7 @@ fn replies_of(alloc: Global, stages: &[Stage]) -> Result<Vec<Reply>, AllocError>
 }
 
 impl<'a> ServerMain<'a> {
-    /// Main before its first start, with at most so many calls open at once.
+    /// Makes a main before its first start, with at most so many calls open at once.
     pub(crate) fn new(
         alloc: Global,
         requests: &'a [Request],

@@ -5,7 +5,7 @@ ghost use Rattle.serve_main.specs.Steps.{FinishesNext, HasStepResult, IsBusy, Ma
 ghost use Rattle.std.specs.Prelude.{◌≡◌, IfErr, IfOk, false, true};
 ghost use Rattle.ops_state.specs.declared.error.TaskError.TheVariants as task_error;
 ghost use Rattle.task_loop.specs.Says.{unscripted};
-ghost use Rattle.task_loop.specs.Standing.{standing};
+ghost use Rattle.task_loop.specs.Constants.{constants};
 
 use crate::server::ServerMain;
 use machine_data::MainLabel;
@@ -90,7 +90,7 @@ fn start_next<T, H: HostWork>(
     ensures same { access.new.store.ghost_name ≡ access.old.store.ghost_name }
     ensures step { IfOk result (λ next.
         StartsNext H.course component.now main.old access.old.store.now next main.new access.new.store.now) }
-    ensures stands { standing access.new.store.now ≡ standing access.old.store.now }
+    ensures stands { constants access.new.store.now ≡ constants access.old.store.now }
     ensures err { IfErr result (λ e. e ≡ task_error.NoMemory) }
 {
     let Some(request) = main.requests.get(main.started) else {

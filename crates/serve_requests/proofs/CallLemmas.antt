@@ -32,7 +32,7 @@ module _ (c : Component) (r : Request) (s : Core) where
   pub call_made_of : IsCallOf r (next_thread s) (main_started c (callee_named r) r.params s)
   call_made_of = record {
     callee = ap (λ (k : ℕ). callee_of k (main_started c (callee_named r) r.params s)) task_is ∙ callee_is;
-    words = ap (λ (ws : List ℕ). take (length r.params) ws) registers_are ∙ take_at r.params (replicate (16 - length r.params) 0) (length r.params) refl;
+    values = ap (λ (ws : List ℕ). take (length r.params) ws) registers_are ∙ take_at r.params (replicate (16 - length r.params) 0) (length r.params) refl;
   }
 
 pub call_is_made : CallIsMade

@@ -1,6 +1,6 @@
 -- An input is cut in one way, and says requests or has a bad line.
 use Rattle.serve_requests.specs.Input.{Ends, IsBadIn, IsCut, IsLine, NoneEnds, Whole, fed}
-use Rattle.serve_requests.specs.RequestLines.{AreRequests, EachSuits, IsBadRequest, request_words}
+use Rattle.serve_requests.specs.RequestLines.{AreRequests, EachSuits, IsBadRequest, request_tokens}
 use Rattle.serve_requests.specs.declared.request.Request.{Request}
 use Rattle.text_scenario.proofs.Verdicts.{one_tree}
 use Rattle.text_scenario.specs.Grammar.{IsTextOf, spelled}
@@ -113,17 +113,17 @@ front_suits is [] (suc n) each = tt
 front_suits is (r ∷ rs) zero each = tt
 front_suits is (r ∷ rs) (suc n) each = (each.0, front_suits is rs n each.1)
 
-front_words : (is : List InstanceText) (rs : List Request) (n : ℕ) → take n (map (request_words is) rs) ≡ map (request_words is) (take n rs)
-front_words is [] zero = refl
-front_words is [] (suc n) = refl
-front_words is (r ∷ rs) zero = refl
-front_words is (r ∷ rs) (suc n) = ap (λ (ls : Lines). request_words is r ∷ ls) (front_words is rs n)
+front_tokens : (is : List InstanceText) (rs : List Request) (n : ℕ) → take n (map (request_tokens is) rs) ≡ map (request_tokens is) (take n rs)
+front_tokens is [] zero = refl
+front_tokens is [] (suc n) = refl
+front_tokens is (r ∷ rs) zero = refl
+front_tokens is (r ∷ rs) (suc n) = ap (λ (ls : Lines). request_tokens is r ∷ ls) (front_tokens is rs n)
 
 front_requests : (is : List InstanceText) (ls : Lines) (rs : List Request) (n : ℕ) → AreRequests is ls rs → AreRequests is (take n ls) (take n rs)
 front_requests is ls rs n are = record {
   few = let short = front_few rs n in let few = are.few in omega (arith, short, few);
   suited = front_suits is rs n are.suited;
-  lines = ap (λ (xs : Lines). take n xs) are.lines ∙ front_words is rs n;
+  lines = ap (λ (xs : Lines). take n xs) are.lines ∙ front_tokens is rs n;
 }
 
 -- an input of a scenario and requests has no bad line

@@ -5,7 +5,7 @@ use Rattle.std.proofs.lemmas.List.{append-nil, drop_all, drop_more}
 use Rattle.std.specs.Prelude.{List, None, Option, Some, [], drop, length, ℕ, ◌++◌, ◌+◌, ◌<◌, ◌∷◌, ◌≡◌, ◌≤◌}
 use Rattle.machine_data.specs.declared.op.Operand.{Operand}
 use Rattle.text_lines.proofs.Each.{and_more}
-use Rattle.text_lines.specs.Words.{◌>>=◌}
+use Rattle.text_lines.specs.Tokens.{◌>>=◌}
 
 one_moves : (front : List ℕ) (n : ℕ) (read : Option (List ℕ)) → and_more front (read >>= λ ns. Some (n ∷ ns)) ≡ and_more (front ++ n ∷ []) read
 one_moves front n None = refl

@@ -19,6 +19,6 @@ at_first x = replicate (length x.requests) Waits
 abbrev pub ServingServes : Type 0
 ServingServes = (x : Asked) (h : List Moment) (b : List Stage) → Serving x (at_first x) h b → IsServed x (map reply_of b) h
 
--- a call that main starts is one of the request's export, with its words in r0 and up
+-- a call that main starts is one of the request's export, with its tokens in r0 and up
 abbrev pub CallIsMade : Type 0
 CallIsMade = (c : Component) (r : Request) (s : Core) → IsCallOf r (next_thread s) (main_started c (callee_named r) r.params s)

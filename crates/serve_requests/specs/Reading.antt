@@ -1,6 +1,6 @@
--- What the words of a line are read as. RequestLines has the words of each request.
+-- What the tokens of a line are read as. RequestLines has the tokens of each request.
 use Rattle.serve_requests.specs.declared.request.Request.{Request}
-use Rattle.text_scenario.specs.Grammar.{words}
+use Rattle.text_scenario.specs.Grammar.{tokens}
 use Rattle.text_scenario.specs.State.{fitting_export}
 use Rattle.text_scenario.specs.declared.tree.InstanceText.{InstanceText}
 use Rattle.std.specs.Prelude.{List, None, Option, Some, [], codes, if◌then◌else◌, length, ℕ, ◌++◌, ◌<◌, ◌∷◌, ◌≡◌}
@@ -8,7 +8,7 @@ use Rattle.std.specs.Str.{bytes_eq}
 use Rattle.machine_data.specs.declared.op.Operand.{Operand}
 use Rattle.machine_data.specs.declared.op.Operand.TheVariants.{Number, Register}
 use Rattle.text_lines.specs.Line.{start_after}
-use Rattle.text_lines.specs.Words.{◌>>=◌}
+use Rattle.text_lines.specs.Tokens.{◌>>=◌}
 use Rattle.text_lines.specs.declared.line.NamedOp.{NamedOp}
 use Rattle.text_lines.specs.declared.line.NamedOp.TheVariants as named
 
@@ -32,14 +32,14 @@ request_named is (named.Start instance export xs) = do
 request_named is _ = None
 
 unfoldable pub request_after : List InstanceText → List (List ℕ) → Option Request
-request_after is words = do
-  o ← start_after words
+request_after is tokens = do
+  o ← start_after tokens
   request_named is o
 
 unfoldable pub request_of : List InstanceText → List (List ℕ) → Option Request
 request_of is [] = None
-request_of is (word ∷ words) = if bytes_eq word (codes "call") then request_after is words else None
+request_of is (token ∷ tokens) = if bytes_eq token (codes "call") then request_after is tokens else None
 
 -- the request of a line is one more, and there was room for it
 abbrev pub Takes : List InstanceText → List ℕ → List Request → List Request → Type 0
-Takes is line before after = (length before < 10000) × (r : Request) × (after ≡ before ++ r ∷ []) × (request_of is (words line) ≡ Some r)
+Takes is line before after = (length before < 10000) × (r : Request) × (after ≡ before ++ r ∷ []) × (request_of is (tokens line) ≡ Some r)

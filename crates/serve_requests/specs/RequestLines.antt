@@ -13,8 +13,8 @@ use Rattle.std.specs.Prelude.{Err, List, Ok, Result, Some, [], codes, decimal, l
 use Rattle.text_lines.specs.Fits.{number_fits}
 
 -- `call INSTANCE.EXPORT X*`
-abbrev pub request_words : List InstanceText → Request → List (List ℕ)
-request_words is r = codes "call" ∷ name_of is (callee_named r) ∷ map decimal r.params
+abbrev pub request_tokens : List InstanceText → Request → List (List ℕ)
+request_tokens is r = codes "call" ∷ name_of is (callee_named r) ∷ map decimal r.params
 
 -- it names an export, and has a number below 2^64 for each of its parameters
 pub record Suits (is : List InstanceText) (r : Request) : Type 0 where
@@ -29,7 +29,7 @@ EachSuits is (r ∷ rs) = Suits is r × EachSuits is rs
 pub record AreRequests (is : List InstanceText) (ls : Lines) (rs : List Request) : Type 0 where
   pub few : length rs ≤ 10000
   pub suited : EachSuits is rs
-  pub lines : ls ≡ map (request_words is) rs
+  pub lines : ls ≡ map (request_tokens is) rs
 
 -- Line n, from 1, is the bad one: the lines before it say requests, and with it they say none.
 pub record IsBadRequest (is : List InstanceText) (text : List ℕ) (n : ℕ) : Type 0 where

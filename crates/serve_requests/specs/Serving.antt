@@ -40,10 +40,10 @@ reply_of _ = replies.None
 abbrev pub callee_named : Request → Callee
 callee_named r = record { instance = r.instance; export = r.export }
 
--- the call of the thread is one of the request's export, with its words in r0 and up
+-- the call of the thread is one of the request's export, with its tokens in r0 and up
 pub record IsCallOf (r : Request) (n : ℕ) (s : Core) : Type 0 where
   pub callee : callee_of (task_of n s) s ≡ callee_named r
-  pub words : take (length r.params) (registers_of n s) ≡ r.params
+  pub values : take (length r.params) (registers_of n s) ≡ r.params
 
 -- the request at this place, from 0, whose number is one more, has come from this stage to that one, and no other has
 pub record Moves (a : List Stage) (k place : ℕ) (old new : Stage) (b : List Stage) : Type 0 where

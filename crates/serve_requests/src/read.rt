@@ -1,7 +1,7 @@
 //! The lines of requests, one after another.
 ghost use Rattle.serve_requests.specs.Reading.{Takes, request_of};
 ghost use Rattle.serve_requests.specs.RequestLines.{ReadsRequests};
-ghost use Rattle.text_scenario.specs.Grammar.{words};
+ghost use Rattle.text_scenario.specs.Grammar.{tokens};
 ghost use Rattle.text_scenario.specs.Placement.{IsWellFormed};
 ghost use Rattle.std.specs.Prelude.{◌≡◌, ◌⊎◌, ◌+◌, ◌<◌, ◌≤◌, ◌++◌, ◌∷◌, [], None, Some, IsErrOf, OnOk, length};
 
@@ -9,7 +9,7 @@ use crate::Request;
 use crate::request_lines::request_of;
 use std::alloc::Global;
 use text_lines::LineError;
-use text_scenario::{InstanceText, ScenarioText, TextError, first_line, split_words};
+use text_scenario::{InstanceText, ScenarioText, TextError, first_line, split_tokens};
 
 // How many requests there may be.
 const MOST: usize = 10_000;
@@ -23,12 +23,12 @@ fn add_line<'a>(
     line: &'a [u8],
 ) -> Result<(), LineError>
     ensures ok { OnOk result (Takes instances.now line.now requests.old.items requests.new.items) }
-    ensures bad { IsErrOf result LineError.Bad → (10000 ≤ length requests.old.items) ⊎ (request_of instances.now (words line.now) ≡ None) }
+    ensures bad { IsErrOf result LineError.Bad → (10000 ≤ length requests.old.items) ⊎ (request_of instances.now (tokens line.now) ≡ None) }
 {
     if requests.len() >= MOST {
         return Err(LineError::Bad);
     }
-    split_words(list, line)?;
+    split_tokens(list, line)?;
     let request = request_of(alloc, instances, list)?;
     match requests.push(request) {
         Ok(()) => Ok(()),

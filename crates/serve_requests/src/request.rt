@@ -1,6 +1,6 @@
 use machine_data::{Seq, Trap};
 
-/// A call of an export that is asked for: the instance and the export by their places, from 0, and a word for each parameter.
+/// A call of an export that is asked for: the instance and the export by their places, from 0, and a value for each parameter.
 #[derive(Drop)]
 pub struct Request {
     pub instance: u32,

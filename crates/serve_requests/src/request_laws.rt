@@ -6,7 +6,7 @@ pub fn serving_serves()
     ensures { ServingServes }
 {}
 
-/// A call that main has started is one of the export, with these words.
+/// A call that main has started is one of the export, with these tokens.
 pub fn call_is_made()
     ensures { CallIsMade }
 {}

@@ -6,7 +6,7 @@ ghost use Rattle.text_lines.specs.Gives.{Gives};
 use crate::Request;
 use machine_data::{Operand, Seq};
 use std::alloc::Global;
-use text_lines::{LineError, start_words};
+use text_lines::{LineError, start_tokens};
 use text_scenario::{InstanceText, fitting_export};
 
 // The number that an operand is, if it isn't a register.
@@ -34,16 +34,16 @@ fn numbers_in(alloc: Global, operands: &[Operand]) -> Result<Seq<u64>, LineError
     Ok(numbers)
 }
 
-// The request that the words after `call` say.
+// The request that the tokens after `call` say.
 #[tactic(auto, unfolding(crate::specs::Reading::request_after, crate::specs::Reading::request_named))]
 fn request_after(
     alloc: Global,
     instances: &[InstanceText],
-    words: &[&[u8]],
+    tokens: &[&[u8]],
 ) -> Result<Request, LineError>
-    ensures { Gives result (request_after instances.now (map (λ w. w.now) words.now)) }
+    ensures { Gives result (request_after instances.now (map (λ w. w.now) tokens.now)) }
 {
-    let (instance, export, operands) = start_words(alloc, words)?;
+    let (instance, export, operands) = start_tokens(alloc, tokens)?;
     let callee = fitting_export(instances, instance, export, operands.as_slice()).ok_or(
         LineError::Bad,
     )?;
@@ -54,18 +54,18 @@ fn request_after(
     })
 }
 
-/// Returns the request that the words of a line say.
+/// Returns the request that the tokens of a line say.
 #[tactic(auto, unfolding(crate::specs::Reading::request_of))]
 pub(crate) fn request_of(
     alloc: Global,
     instances: &[InstanceText],
-    words: &[&[u8]],
+    tokens: &[&[u8]],
 ) -> Result<Request, LineError>
-    ensures { Gives result (request_of instances.now (map (λ w. w.now) words.now)) }
+    ensures { Gives result (request_of instances.now (map (λ w. w.now) tokens.now)) }
 {
-    let (word, words) = words.split_first().ok_or(LineError::Bad)?;
-    if *word != b"call".as_slice() {
+    let (token, tokens) = tokens.split_first().ok_or(LineError::Bad)?;
+    if *token != b"call".as_slice() {
         return Err(LineError::Bad);
     }
-    request_after(alloc, instances, words)
+    request_after(alloc, instances, tokens)
 }

@@ -23,7 +23,7 @@ with_hook_ok ns a b told hook_is_ok = record { told = told; hook_is_ok = hook_is
 pub none_told : (a : Listeners) → ToldWithHookOk [] a a
 none_told a = with_hook_ok [] a a (told-none a) refl
 
--- one calm part after another
+-- one part after another in which the hook answers no error
 pub hook_is_ok_then : (xs ys : List Notice) (a b c : Listeners) → ToldWithHookOk xs a b → ToldWithHookOk ys b c → ToldWithHookOk (xs ++ ys) a c
 hook_is_ok_then xs ys a b c p q = with_hook_ok (xs ++ ys) a c (told-append xs ys a b c p.told q.told) (ap₂-hook_is_ok p.hook_is_ok q.hook_is_ok)
   where

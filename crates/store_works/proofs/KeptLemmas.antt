@@ -14,12 +14,12 @@ use Rattle.store_works.specs.Joined.{joined_phase, joined_work}
 use Rattle.store_works.specs.KeptWorks.{Found, HeldWork, after_abort, after_poll, MayAnswer, MayAnswerIn, found_phase, held, is_over, unless_over}
 use Rattle.store_works.specs.declared.joined.JoinedWork.{JoinedWork}
 use Rattle.store_works.specs.declared.kept.HostWorks.{HostWorks}
-use Rattle.machine_data.specs.declared.words.HostPoll.{HostPoll}
+use Rattle.machine_data.specs.declared.statuses.HostPoll.{HostPoll}
 use Rattle.task_abort.specs.PhaseLog.{after}
 use Rattle.task_abort.specs.declared.log.PhaseCall.TheVariants.{Abort}
 use Rattle.machine_data.specs.declared.component.HostDef.{HostDef}
-use Rattle.machine_data.specs.declared.words.Phase.{Phase}
-use Rattle.machine_data.specs.declared.words.Phase.TheVariants as phases
+use Rattle.machine_data.specs.declared.statuses.Phase.{Phase}
+use Rattle.machine_data.specs.declared.statuses.Phase.TheVariants as phases
 
 -- a key that is found by a number is that number
 pub key_is : {X : Type 0} (n k : ℕ) (es : List (ℕ × X)) → Some k ≡ lookup_key (nat_eq n) es → n ≡ k

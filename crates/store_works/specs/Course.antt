@@ -2,8 +2,8 @@
 use Rattle.std.specs.Prelude.{None, Option, Some, suc, zero, ℕ, ◌≡◌}
 use Rattle.machine_data.specs.declared.component.HostDef.{HostDef}
 use Rattle.machine_data.specs.declared.component.HostDef.TheVariants as host_def
-use Rattle.machine_data.specs.declared.words.HostPoll.{HostPoll}
-use Rattle.machine_data.specs.declared.words.HostPoll.TheVariants as polls
+use Rattle.machine_data.specs.declared.statuses.HostPoll.{HostPoll}
+use Rattle.machine_data.specs.declared.statuses.HostPoll.TheVariants as polls
 
 abbrev pub told_at_end : Option ℕ → HostPoll
 told_at_end None = polls.Failed

@@ -2,7 +2,7 @@
 use Rattle.store_works.specs.declared.joined.JoinedWork.{JoinedWork}
 use Rattle.task_abort.specs.Cells.{own_view}
 use Rattle.task_abort.specs.PhaseLog.{phase}
-use Rattle.machine_data.specs.declared.words.Phase.{Phase}
+use Rattle.machine_data.specs.declared.statuses.Phase.{Phase}
 
 abbrev pub joined_work : {H : Type 0} → JoinedWork H → H
 joined_work joined = joined.work

@@ -2,16 +2,16 @@
 use Rattle.store_works.specs.Course.{MayTell, one_fewer}
 use Rattle.store_works.specs.Joined.{joined_phase, joined_work}
 use Rattle.store_works.specs.declared.kept.HostWorks.{HostWorks}
-use Rattle.machine_data.specs.declared.words.HostPoll.{HostPoll}
-use Rattle.machine_data.specs.declared.words.HostPoll.TheVariants as polls
+use Rattle.machine_data.specs.declared.statuses.HostPoll.{HostPoll}
+use Rattle.machine_data.specs.declared.statuses.HostPoll.TheVariants as polls
 use Rattle.std.specs.HashMap.{get}
 use Rattle.std.specs.Option.{option_and_then, option_map, option_map_or}
 use Rattle.std.specs.Prelude.{[], Bool, None, Option, Some, false, nat_eq, true, ℕ, ◌≡◌}
 use Rattle.task_abort.specs.PhaseLog.{after}
 use Rattle.task_abort.specs.declared.log.PhaseCall.TheVariants.{Abort}
 use Rattle.machine_data.specs.declared.component.HostDef.{HostDef}
-use Rattle.machine_data.specs.declared.words.Phase.{Phase}
-use Rattle.machine_data.specs.declared.words.Phase.TheVariants as phases
+use Rattle.machine_data.specs.declared.statuses.Phase.{Phase}
+use Rattle.machine_data.specs.declared.statuses.Phase.TheVariants as phases
 
 -- What a work that is held is still to do, and the phase of its cell.
 pub record HeldWork : Type 0 where

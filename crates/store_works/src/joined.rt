@@ -18,7 +18,7 @@ pub struct JoinedWork<H> {
 impl<H: Drop> JoinedWork<H> {
     ghost use Rattle.std.specs.Prelude.{IfOk};
     ghost use Rattle.store_works.specs.Joined.{joined_phase, joined_work};
-    ghost use Rattle.machine_data.specs.declared.words.Phase.TheVariants as phases;
+    ghost use Rattle.machine_data.specs.declared.statuses.Phase.TheVariants as phases;
 
     /// Makes a cell for the work, in phase `Running`.
     pub fn new(alloc: Global, work: H) -> Result<JoinedWork<H>, NoMemory>
@@ -44,7 +44,7 @@ impl<H> JoinedWork<H> {
     ghost use Rattle.store_works.specs.Joined.{joined_phase, joined_work};
     ghost use Rattle.task_abort.specs.PhaseLog.{after};
     ghost use Rattle.task_abort.specs.declared.log.PhaseCall.TheVariants.{Abort};
-    ghost use Rattle.machine_data.specs.declared.words.Phase.TheVariants as phases;
+    ghost use Rattle.machine_data.specs.declared.statuses.Phase.TheVariants as phases;
 
     /// Asks that the work end, and answers the phase that it found.
     pub fn abort(&mut self) -> Phase

@@ -2,7 +2,7 @@
 ghost use Rattle.std.specs.Prelude.{◌≡◌, ◌↔◌, ◌==◌, ℕ, IfNone, IfSome, None, OnErr, OnOk, Some, cond, nat_eq, slice_get};
 ghost use Rattle.indexmap.specs.IndexMap.{get};
 ghost use Rattle.store_works.specs.KeptWorks.{Found, HoldsNone, after_abort, after_poll, MayAnswer, found_phase, held, is_over};
-ghost use Rattle.machine_data.specs.declared.words.Phase.TheVariants as phases;
+ghost use Rattle.machine_data.specs.declared.statuses.Phase.TheVariants as phases;
 
 use crate::joined::JoinedWork;
 use crate::work::{AccessorTask, HostWork};

@@ -4,7 +4,7 @@ ghost use Rattle.table_links.specs.Links.{ChangesOnly, is_made, linked, list_of,
 
 use crate::links::{Links, Node};
 
-/// The law that a node which is put into a live chain, or taken out of it, changes that chain and its own link alone:
+/// States that a node which is put into a live chain, or taken out of it, changes that chain and its own link alone:
 /// every other chain keeps its list, and every other node its link, or stays free.
 pub fn others_stay<P: Copy>(links: &Links<P>, chain: usize, node: Node)
     requires chain { IsSome (list_of links.now chain) }

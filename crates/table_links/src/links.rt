@@ -346,7 +346,7 @@ impl<P: Copy> Links<P> {
         self.unused = index;
     }
 
-    /// Returns a new empty chain. Where there is no memory for it, all is as before.
+    /// Makes a new empty chain. Where there is no memory for it, all is as before.
     #[inline(always)]
     pub fn make_chain(&mut self) -> Result<usize, NoMemory>
         ensures made { IfOk result (λ chain. Renames self.old self.new chain Unmade (ChainOf [])) }
@@ -369,7 +369,7 @@ impl<P: Copy> Links<P> {
         self.drop_name(chain);
     }
 
-    /// Returns a new node, which is free. Where there is no memory for it, all is as before.
+    /// Makes a new node, which is free. Where there is no memory for it, all is as before.
     #[inline(always)]
     pub fn make_node(&mut self) -> Result<Node, NoMemory>
         ensures made { IfOk result (λ node. Renames self.old self.new node.index Unmade FreeNode) }
@@ -448,7 +448,7 @@ impl<P: Copy> Links<P> {
         }
     }
 
-    /// The law that no node is twice in the chains, and that a node's link is to the chain whose list it is in. It does nothing.
+    /// States that no node is twice in the chains, and that a node's link is to the chain whose list it is in. It does nothing.
     pub fn no_node_is_twice(&self)
         ensures { IsLinks self.now }
     {
@@ -456,7 +456,7 @@ impl<P: Copy> Links<P> {
         let _names = self.cells.len();
     }
 
-    /// The law that each node of a chain has its value there. It does nothing.
+    /// States that each node of a chain has its value there. It does nothing.
     pub fn nodes_have_values(&self, chain: usize)
         ensures { AreLinked self.now chain (entries self.now chain) }
     {

@@ -1,4 +1,4 @@
--- The machine's words of its queues, in the words of rows.
+-- The machine's primitives on its queues, said of rows.
 use Rattle.std.proofs.Common.{◌≡◌, ◌||◌, ℕ, Bool, true, false, cond, List, [], ◌∷◌, refl, sym, ap, ap₂}
 use Rattle.std.specs.List.{list_any}
 use Rattle.table_lists.specs.Rows.{less_by}

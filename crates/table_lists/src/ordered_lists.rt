@@ -263,7 +263,7 @@ impl OrderedLists {
         }
     }
 
-    /// Returns a new empty chain. Where there is no memory for it, all is as before.
+    /// Makes a new empty chain. Where there is no memory for it, all is as before.
     #[inline(always)]
     pub fn make_chain(&mut self) -> Result<usize, NoMemory>
         ensures made { IfOk result (λ chain. Renames self.old self.new chain Unmade (ChainOf [])) }
@@ -272,7 +272,7 @@ impl OrderedLists {
         self.links.make_chain()
     }
 
-    /// Returns a new node, which is free. Where there is no memory for it, all is as before.
+    /// Makes a new node, which is free. Where there is no memory for it, all is as before.
     #[inline(always)]
     pub fn make_node(&mut self) -> Result<Node, NoMemory>
         ensures made { IfOk result (λ node. Renames self.old self.new node.index Unmade FreeNode) }
@@ -306,14 +306,14 @@ impl OrderedLists {
         self.links.drop_node(node);
     }
 
-    /// The law that no node is twice in the chains, and that a node's link is to the chain whose list it is in. It does nothing.
+    /// States that no node is twice in the chains, and that a node's link is to the chain whose list it is in. It does nothing.
     pub fn no_node_is_twice(&self)
         ensures { IsLinks self.now }
     {
         self.links.no_node_is_twice();
     }
 
-    /// The law that each chain is in the order of order keys. It does nothing.
+    /// States that each chain is in the order of order keys. It does nothing.
     pub fn chains_are_ordered(&self)
         ensures { AreOrdered self.now }
     {

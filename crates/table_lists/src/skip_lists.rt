@@ -1,12 +1,12 @@
-//! Guides: from where an order key's place is looked for in a long chain.
+//! Skip lists: from where an order key's place is looked for in a long chain.
 //!
-//! One node in 64 has a stop in a lane over all chains, one in 1,024 also in a second lane, one in 16,384 in a third, and each lane
-//! is in the order of chains and order keys. So among up to 262,144 nodes a place is found past some fifty nodes and stops, however
-//! many of them are in its chain. Above that the third lane grows by a stop for each 16,384 nodes, and is passed stop by stop:
-//! among 1,000,000 nodes some 60 at most. A lane is left after 1,024 stops, and a place that is further on is looked for from the
-//! end of its chain. Few nodes have stops since threads that are held in their order need none, and each of them would enter and
-//! leave its lanes. Nothing rests on the guides: who asks them tests the answer, and if it is out of memory a node has no stop. The
-//! first 64 names have none, as short chains need no guide.
+//! One node in 64 has a skip node in a level over all chains, one in 1,024 also in a second level, one in 16,384 in a third. Each
+//! level is in the order of chains and order keys. So among up to 262,144 nodes a place is found past some fifty nodes and skip
+//! nodes, however many of them are in its chain. Above that the third level grows by a skip node for each 16,384 nodes, and is
+//! passed one by one: among 1,000,000 nodes some 60 at most. A level is left after 1,024 skip nodes, and a place that is further on
+//! is looked for from the end of its chain. Few nodes have skip nodes since threads that are held in their order need none, and each of them would enter and
+//! leave its levels. Nothing rests on the skip lists: who asks them tests the answer, and if it is out of memory a node has no skip
+//! node. The first 64 names have none, as short chains need no skip list.
 ghost use Rattle.std.specs.Prelude.{IfSome, IsSome};
 ghost use Rattle.table_links.specs.Links.{link_of};
 
@@ -15,7 +15,7 @@ use std::alloc::Global;
 use std::collections::BTreeMap;
 use table_links::{Links, Node};
 
-/// Where a node is: its chain, its order key there, itself, and its stop in the lane below.
+/// Where a node is: its chain, its order key there, itself, and its skip node in the level below.
 #[derive(Clone, Copy)]
 struct SkipNode {
     chain: usize,
@@ -31,7 +31,7 @@ const NO_STOP: SkipNode = SkipNode {
     below: Node { index: 0 },
 };
 
-/// A node's stops, of which the upper ones are there as its name wants.
+/// A node's skip nodes, of which the upper ones are there as its name wants.
 #[derive(Clone, Copy)]
 struct Levels {
     low: Node,
@@ -39,7 +39,7 @@ struct Levels {
     high: Option<Node>,
 }
 
-/// The lanes' chains.
+/// The levels' chains.
 #[derive(Clone, Copy)]
 struct SkipLevels {
     low: usize,
@@ -47,7 +47,7 @@ struct SkipLevels {
     high: usize,
 }
 
-/// The last stop of each lane that comes before an order key.
+/// The last skip node of each level that comes before an order key.
 #[derive(Clone, Copy)]
 struct Trail {
     low: Option<Node>,
@@ -55,16 +55,16 @@ struct Trail {
     high: Option<Node>,
 }
 
-/// The guides of all chains.
+/// The skip lists of all chains.
 #[derive(Drop)]
 pub(crate) struct SkipLists {
     stops: Links<SkipNode>,
     skip_levels: Option<SkipLevels>,
-    // The towers, by the names of their nodes.
+    // The skip nodes of each node, by its name.
     towers: BTreeMap<usize, Levels>,
 }
 
-// The most stops that are passed in one lane.
+// The most skip nodes that are passed in one level.
 const MOST_PASSED: usize = 1024;
 
 // A name's number, whose bits below the 32nd are spread, so that names that follow one another have unlike heights.
@@ -72,12 +72,12 @@ fn spread(name: usize) -> usize {
     name.wrapping_mul(0x61C8_8647)
 }
 
-// Whether a node of this name has a tower: one in 64, as its six highest bits tell. They are so for none of the first 64.
+// Whether a node of this name has skip nodes: one in 64, as its six highest bits tell. They are so for none of the first 64.
 fn has_levels(name: usize) -> bool {
     spread(name) & 0xFC00_0000 == 0x9C00_0000
 }
 
-// Whether its tower has a middle stop, and a high one: the four bits below tell each.
+// Whether it has a middle skip node, and a high one: the four bits below tell each.
 fn has_middle(name: usize) -> bool {
     spread(name) & 0xFFC0_0000 == 0x9C00_0000
 }
@@ -86,7 +86,7 @@ fn has_high(name: usize) -> bool {
     spread(name) & 0xFFFC_0000 == 0x9C00_0000
 }
 
-// The stop that is here, if one does.
+// The skip node that is here, if there is one.
 fn skip_node_at(stops: &Links<SkipNode>, at: Node) -> Option<SkipNode>
     ensures { IfSome result (λ _. IsSome (link_of stops.now at.index)) }
 {
@@ -99,7 +99,7 @@ fn skip_node_at(stops: &Links<SkipNode>, at: Node) -> Option<SkipNode>
     }
 }
 
-// The stop after one, or the first of a lane.
+// The skip node after one, or the first of a level.
 fn next(stops: &Links<SkipNode>, skip_level: usize, at: Option<Node>) -> Option<(Node, SkipNode)> {
     match at {
         Some(node) => match skip_node_at(stops, node) {
@@ -116,12 +116,12 @@ fn next(stops: &Links<SkipNode>, skip_level: usize, at: Option<Node>) -> Option<
     }
 }
 
-// Whether a stop comes before an order key of a chain.
+// Whether a skip node comes before an order key of a chain.
 fn comes_before(stop: SkipNode, chain: usize, order_key: OrderKey) -> bool {
     stop.chain < chain || stop.chain == chain && stop.order_key < order_key
 }
 
-// The last stop of a lane, from one on, that comes before an order key.
+// The last skip node of a level, from one on, that comes before an order key.
 fn pass(
     stops: &Links<SkipNode>,
     skip_level: usize,
@@ -143,7 +143,7 @@ fn pass(
     at
 }
 
-// The stop below one.
+// The skip node below one.
 fn below(stops: &Links<SkipNode>, at: Option<Node>) -> Option<Node> {
     match at {
         Some(node) => match skip_node_at(stops, node) {
@@ -154,7 +154,7 @@ fn below(stops: &Links<SkipNode>, at: Option<Node>) -> Option<Node> {
     }
 }
 
-// The stops before an order key.
+// The skip nodes before an order key.
 fn find(
     stops: &Links<SkipNode>,
     skip_levels: SkipLevels,
@@ -179,7 +179,7 @@ fn find(
     Trail { low, middle, high }
 }
 
-// Puts a stop into a lane, after one, or first.
+// Puts a skip node into a level, after one, or first.
 fn put(
     stops: &mut Links<SkipNode>,
     skip_level: usize,
@@ -199,14 +199,14 @@ fn put(
     }
 }
 
-// Takes a stop out of its lane.
+// Takes a skip node out of its level.
 fn take_out(stops: &mut Links<SkipNode>, at: Node) {
     if stops.is_made(at) {
         stops.remove(at);
     }
 }
 
-// Drops a stop.
+// Drops a skip node.
 fn drop_skip_node(stops: &mut Links<SkipNode>, at: Node) {
     take_out(stops, at);
     if stops.is_free(at) {
@@ -214,14 +214,14 @@ fn drop_skip_node(stops: &mut Links<SkipNode>, at: Node) {
     }
 }
 
-// Drops a stop, if there is one.
+// Drops a skip node, if there is one.
 fn drop_upper(stops: &mut Links<SkipNode>, at: Option<Node>) {
     if let Some(node) = at {
         drop_skip_node(stops, node);
     }
 }
 
-// A stop in no lane, where one is wanted and there is memory for it.
+// A skip node in no level, where one is wanted and there is memory for it.
 fn make_upper(stops: &mut Links<SkipNode>, wanted: bool) -> Option<Node> {
     if wanted {
         match stops.make_node() {
@@ -233,7 +233,7 @@ fn make_upper(stops: &mut Links<SkipNode>, wanted: bool) -> Option<Node> {
     }
 }
 
-// A chain for a lane, if there is memory for it.
+// A chain for a level, if there is memory for it.
 fn make_skip_level(stops: &mut Links<SkipNode>) -> Option<usize> {
     match stops.make_chain() {
         Ok(chain) => Some(chain),
@@ -241,7 +241,7 @@ fn make_skip_level(stops: &mut Links<SkipNode>) -> Option<usize> {
     }
 }
 
-// The lanes, if there is memory for them.
+// The levels, if there is memory for them.
 fn make_skip_levels(stops: &mut Links<SkipNode>) -> Option<SkipLevels> {
     let low = make_skip_level(stops)?;
     let middle = make_skip_level(stops)?;
@@ -259,7 +259,7 @@ impl SkipLists {
         }
     }
 
-    // The stops of a node, in no lane.
+    // The skip nodes of a node, in no level.
     #[cold]
     fn add_levels(&mut self, name: usize) {
         if self.skip_levels.is_none() {
@@ -324,7 +324,7 @@ impl SkipLists {
         }
     }
 
-    // It takes the order key's numbers, so that an order key of a node without a tower isn't in memory for it.
+    // It takes the order key's numbers, so that an order key of a node without skip nodes isn't in memory for it.
     #[cold]
     fn enter_skip_levels(&mut self, node: Node, chain: usize, task: u32, thread: u32, place: u32) {
         let order_key = OrderKey {
@@ -386,7 +386,7 @@ impl SkipLists {
         }
     }
 
-    /// Returns a node near the place of an order key in its chain that doesn't come before it, if there is a stop there.
+    /// Returns a node near the place of an order key in its chain that doesn't come before it, if there is a skip node there.
     #[cold]
     pub(crate) fn near(&self, chain: usize, order_key: OrderKey) -> Option<Node> {
         let Some(skip_levels) = self.skip_levels else {

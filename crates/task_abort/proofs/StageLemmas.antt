@@ -1,8 +1,8 @@
 -- Entries put into stages are a legal log, where at most one call ended the phase Running, at most one finish found AbortRequested, and
 -- what found a later phase has its cause among them.
 use Rattle.std.proofs.Common.{◌≡◌, ℕ, ◌+◌, ◌≤◌, ◌<◌, ◌⊎◌, ◌&&◌, ◌==◌, Bool, true, false, cond, List, [], ◌∷◌, ◌++◌, length, refl, sym, ap, subst, ◌∙◌, inl, inr, ⊎_elim, eqb-true, arith}
-use Rattle.machine_data.specs.declared.words.Phase.{Phase}
-use Rattle.machine_data.specs.declared.words.Phase.TheVariants.{Running, AbortRequested, Complete}
+use Rattle.machine_data.specs.declared.statuses.Phase.{Phase}
+use Rattle.machine_data.specs.declared.statuses.Phase.TheVariants.{Running, AbortRequested, Complete}
 use Rattle.task_abort.specs.declared.log.PhaseCall.{PhaseCall}
 use Rattle.task_abort.specs.declared.log.PhaseCall.TheVariants.{Abort, PollFuture, PollHandle, Finish}
 use Rattle.task_abort.specs.declared.log.LogEntry.{LogEntry}

@@ -3,8 +3,8 @@ ghost use Rattle.std.specs.Prelude.{◌≡◌, IfOk, IsOkAnd};
 ghost use Rattle.task_abort.specs.Cells.{handle_cell, pass_cell, view_of, TellsComplete};
 ghost use Rattle.task_abort.specs.PhaseLog.{phase_of_code, phase, split_left, split_right};
 ghost use Rattle.task_abort.specs.Rule.{Calls, Meets};
-ghost use Rattle.machine_data.specs.declared.words.Phase.{Phase};
-ghost use Rattle.machine_data.specs.declared.words.Phase.TheVariants.{Complete};
+ghost use Rattle.machine_data.specs.declared.statuses.Phase.{Phase};
+ghost use Rattle.machine_data.specs.declared.statuses.Phase.TheVariants.{Complete};
 ghost use Rattle.task_abort.specs.declared.log.PhaseCall.TheVariants.{Abort, PollHandle};
 
 use crate::cell::{JoinHandle, JoinPass};
@@ -40,7 +40,7 @@ impl JoinHandle {
         phase_of_word(word)
     }
 
-    /// Is ready exactly where it found `Complete`. It is one atomic step, which reads the word, registers no waker, and
+    /// Polls the handle, and is ready exactly if it found `Complete`. It is one atomic step, which reads the word, registers no waker, and
     /// takes no lock and no memory.
     pub fn poll_handle(&self, pass: &mut JoinPass) -> Poll<()>
         requires { pass_cell pass.old ≡ handle_cell self.now }

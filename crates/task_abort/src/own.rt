@@ -3,8 +3,8 @@ ghost use Rattle.std.specs.Prelude.{◌≡◌, ◌↔◌, IfOk, true};
 ghost use Rattle.task_abort.specs.Cells.{own_view, TellsComplete};
 ghost use Rattle.task_abort.specs.PhaseLog.{first_view};
 ghost use Rattle.task_abort.specs.Rule.{Calls};
-ghost use Rattle.machine_data.specs.declared.words.Phase.{Phase};
-ghost use Rattle.machine_data.specs.declared.words.Phase.TheVariants.{Complete, Running};
+ghost use Rattle.machine_data.specs.declared.statuses.Phase.{Phase};
+ghost use Rattle.machine_data.specs.declared.statuses.Phase.TheVariants.{Complete, Running};
 ghost use Rattle.task_abort.specs.declared.log.PhaseCall.TheVariants.{Abort, Finish, PollFuture, PollHandle};
 
 use crate::cell::{JoinPass, OwnCell};
@@ -53,7 +53,7 @@ impl OwnCell {
         }
     }
 
-    /// Returns the step of `Abortable::running`: whether it found `Running`, so that the work may be polled.
+    /// Takes the step of `Abortable::running`, and answers whether it found `Running`, so that the work may be polled.
     #[inline(always)]
     pub fn running(&mut self) -> bool
         ensures call { (found : Phase) × Calls PollFuture (own_view self.old) found (own_view self.new) × ((result ≡ true) ↔ (found ≡ Running)) }

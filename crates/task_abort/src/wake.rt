@@ -5,8 +5,8 @@ ghost use Rattle.futures.specs.Task.{Covers, Keeps};
 ghost use Rattle.task_abort.specs.Cells.{handle_cell, work_cell, pass_cell, abort_source, end_source, work_of, view_of, TellsComplete, TellsRunning};
 ghost use Rattle.task_abort.specs.PhaseLog.{phase};
 ghost use Rattle.task_abort.specs.Rule.{Calls};
-ghost use Rattle.machine_data.specs.declared.words.Phase.{Phase};
-ghost use Rattle.machine_data.specs.declared.words.Phase.TheVariants.{Running, Complete};
+ghost use Rattle.machine_data.specs.declared.statuses.Phase.{Phase};
+ghost use Rattle.machine_data.specs.declared.statuses.Phase.TheVariants.{Running, Complete};
 ghost use Rattle.task_abort.specs.declared.log.PhaseCall.TheVariants.{Abort, PollFuture, PollHandle, Finish};
 
 use crate::cell::{Abortable, JoinHandle, JoinPass, PhaseCell};

@@ -6,8 +6,8 @@ ghost use Rattle.futures.specs.Task.{Covers, Keeps};
 ghost use Rattle.task_abort.specs.Cells.{handle_cell, work_cell, pass_cell, abort_source, work_of, view_of, TellsRunning};
 ghost use Rattle.task_abort.specs.PhaseLog.{first_view, phase};
 ghost use Rattle.task_abort.specs.Rule.{Calls};
-ghost use Rattle.machine_data.specs.declared.words.Phase.{Phase};
-ghost use Rattle.machine_data.specs.declared.words.Phase.TheVariants.{Running};
+ghost use Rattle.machine_data.specs.declared.statuses.Phase.{Phase};
+ghost use Rattle.machine_data.specs.declared.statuses.Phase.TheVariants.{Running};
 ghost use Rattle.task_abort.specs.declared.log.PhaseCall.TheVariants.{PollFuture, Finish};
 
 use crate::cell::{Abortable, JoinHandle, JoinPass, PhaseCell, Wakers};
@@ -63,7 +63,7 @@ impl<F> Abortable<F> {
     ghost use Rattle.std.specs.Borrow.{sem};
     ghost use Rattle.task_abort.specs.Lends.{LendsWork};
 
-    /// Returns the poll of a work that isn't a `Future`: none exactly where it found another phase than `Running`, else the work,
+    /// Polls a work that isn't a `Future`: none exactly where it found another phase than `Running`, else the work,
     /// which the caller polls. It is the step of `poll`, which reads the word, and takes no lock and no memory.
     pub fn running(&mut self, pass: &mut JoinPass) -> Option<&mut F>
         requires { pass_cell pass.old ≡ work_cell self.old }
@@ -86,7 +86,7 @@ impl<F> Abortable<F> {
 }
 
 impl<F> Abortable<F> {
-    /// Returns the step of `running`, told as the phase that it found: the work may be polled where that is `Running`.
+    /// Takes the step of `running`, and answers the phase that it found: the work may be polled where that is `Running`.
     pub fn phase(&self, pass: &mut JoinPass) -> Phase
         requires { pass_cell pass.old ≡ work_cell self.now }
         ensures same { pass_cell pass.new ≡ pass_cell pass.old }

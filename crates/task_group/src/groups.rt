@@ -16,7 +16,7 @@ use std::marker::Model;
 
 /// The live groups of a store, with the number of tasks in each, and who is told of them.
 ///
-/// A group is live from `make` until its count comes to 0. Then it is finished, and each later call passes it over. The calls take time that grows with the logarithm of the number of live groups, `clean_up` with that number.
+/// A group is live from `make` until its count is 0. Then it is finished, and each later call passes it over. The calls take time that grows with the logarithm of the number of live groups, `clean_up` with that number.
 ///
 /// `H` is the hook's type. Groups without a hook are `Groups`, and those with a boxed one `Groups<Box<MyHook>>`.
 #[derive(Drop)]

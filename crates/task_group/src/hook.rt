@@ -17,19 +17,19 @@ pub trait TaskGroupHook: Drop {
     fn listens() -> bool
         ensures { result ≡ listens };
 
-    /// Is told that the group is made.
+    /// Hears that the group is made.
     fn handle_start(&mut self, id: TaskGroupId) -> Result<(), HookError>
         ensures { Tells (start_of id) (heard self.old) (heard self.new) (is_ok result) };
 
-    /// Is told that a thread of the group begins to run, or goes on.
+    /// Hears that a thread of the group begins to run, or goes on.
     fn handle_enter(&mut self, id: TaskGroupId) -> Result<(), HookError>
         ensures { Tells (enter_of id) (heard self.old) (heard self.new) (is_ok result) };
 
-    /// Is told that the thread of the group that ran has stopped.
+    /// Hears that the thread of the group that ran has stopped.
     fn handle_exit(&mut self, id: TaskGroupId) -> Result<(), HookError>
         ensures { Tells (exit_of id) (heard self.old) (heard self.new) (is_ok result) };
 
-    /// Is told that the last task of the group has ended.
+    /// Hears that the last task of the group has ended.
     fn handle_finish(&mut self, id: TaskGroupId) -> Result<(), HookError>
         ensures { Tells (finish_of id) (heard self.old) (heard self.new) (is_ok result) };
 }

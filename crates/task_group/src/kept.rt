@@ -91,7 +91,7 @@ impl Kept {
         }
     }
 
-    /// Keeps one notice more if it takes a word at most. Answers whether it did; if not, nothing was kept.
+    /// Keeps one notice more if that takes 4 bytes at most. Answers whether it did; if not, nothing was kept.
     #[inline(always)]
     pub fn push_word(&mut self, notice: Notice) -> bool
         ensures kept { result ≡ true → self.new ≡ record self.old { notices = self.old.notices ++ take (self.old.room - length self.old.notices) (notice ∷ []) } }

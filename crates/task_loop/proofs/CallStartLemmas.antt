@@ -11,12 +11,12 @@ use Rattle.ops_calls.specs.Untrapped.{StartsUntrapped}
 use Rattle.task_group.proofs.GroupLemmas.{still_hook_is_ok}
 use Rattle.task_group.specs.Listeners.{AnsweredErr, Listeners, ToldListeners, ToldWithHookOk, errors_of}
 use Rattle.task_loop.proofs.HookLemmas.{answered_after}
-use Rattle.task_loop.proofs.HookStartLemmas.{heard_or_not, unfailed_always, unfailed_map, unfailed_on, unheard_at, unhooked_always, unhooked_map}
+use Rattle.task_loop.proofs.HookStartLemmas.{heard_or_not, unfailed_always, unfailed_map, unfailed_on, if_hook_ok_at, unhooked_always, unhooked_map}
 use Rattle.task_loop.proofs.StartLemmas.{refused_starts, start_groups, trapped_hosts, untrapped_holds}
 use Rattle.task_loop.proofs.UnmadeLemmas.{unmade_untold}
 use Rattle.task_loop.specs.Begun.{TellsStopped}
 use Rattle.task_loop.specs.CallStarts.{HasStarted, IsReason, KeepsStore, LeavesUnmade, StopsUnmade}
-use Rattle.task_loop.specs.Hooked.{Unfailed, Unheard, Unhooked}
+use Rattle.task_loop.specs.Hooked.{Unfailed, IfHookOk, Unhooked}
 use Rattle.task_loop.specs.Told.{StartFails}
 use Rattle.task_loop.specs.declared.call.FuncCallConcurrent.{FuncCallConcurrent}
 use Rattle.machine_data.specs.Core.{Core}
@@ -107,11 +107,11 @@ reason_hook listens o why a b is hears err hook = subst (λ (x : Option Trap). I
 
 -- it was out of memory after the new group was told of, and the hook answered an error to its finish, or none
 pub reason_back : (listens : Bool) (o : Option Trap) (why r : TaskError) (a b d : Listeners) {ns : List Notice} → o ≡ None → listens ≡ true →
-    why ≡ task_error.NoMemory → errors_of a ≤ errors_of b → ToldListeners ns b d → Unheard listens b d (r ≡ why) →
+    why ≡ task_error.NoMemory → errors_of a ≤ errors_of b → ToldListeners ns b d → IfHookOk listens b d (r ≡ why) →
     (AnsweredErr b d → r ≡ task_error.Trap trap.HookFailed) → IsReason listens o r a d
 reason_back listens o why r a b d is hears wants first last answer failed = elim (heard_or_not b d last.errors) [
   | inl err ↦ reason_hook listens o r a d is hears (answered_after a b d first err) (failed err)
-  | inr same ↦ reason_out_of_memory listens o r a d is (unheard_at listens b d (r ≡ why) answer (λ err. omega (arith, err, same)) ∙ wants)
+  | inr same ↦ reason_out_of_memory listens o r a d is (if_hook_ok_at listens b d (r ≡ why) answer (λ err. omega (arith, err, same)) ∙ wants)
 ]
 
 -- if it is refused by the hook, that listens, and answered an error

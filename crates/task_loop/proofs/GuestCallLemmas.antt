@@ -7,11 +7,11 @@ use Rattle.task_group.specs.Listeners.{AnsweredErr, Listeners, errors_of}
 use Rattle.task_loop.proofs.HookLemmas.{must_listen, unanswered}
 use Rattle.ops_state.specs.declared.error.TaskError.TheVariants as task_error
 use Rattle.ops_calls.specs.Tasks.{Begins}
-use Rattle.task_loop.proofs.HookStartLemmas.{heard_or_not, ok_or_err, unheard_at}
+use Rattle.task_loop.proofs.HookStartLemmas.{heard_or_not, ok_or_err, if_hook_ok_at}
 use Rattle.task_loop.specs.Begun.{MakesTold}
 use Rattle.task_loop.specs.CallStarts.{IsReason}
 use Rattle.task_loop.specs.GuestCalls.{MakesOn, has_room, table_refusal}
-use Rattle.task_loop.specs.Hooked.{Unheard, Unhooked}
+use Rattle.task_loop.specs.Hooked.{IfHookOk, Unhooked}
 use Rattle.task_loop.specs.Told.{refused_by_hook}
 use Rattle.machine_data.specs.declared.component.ExportKind.{ExportKind}
 use Rattle.machine_data.specs.declared.trap.Trap.TheVariants as trap
@@ -32,7 +32,7 @@ ran_of P (Ok a) never is = (a, (refl, is))
 ran_of P (Err e) never is = absurd never
 
 -- where this isn't so, a hook listens
-pub hears_of : (b : Bool) (x y : Listeners) (P : Type 0) → Unheard b x y P → (P → ⊥) → b ≡ true
+pub hears_of : (b : Bool) (x y : Listeners) (P : Type 0) → IfHookOk b x y P → (P → ⊥) → b ≡ true
 hears_of false x y P so not = absurd (not so)
 hears_of true x y P so not = refl
 
@@ -42,7 +42,7 @@ on_ok_of {A} {E} P r x is = subst (λ (q : Result A E). OnErr q P) (sym is) tt
 
 -- where there is no hook it is an Ok
 pub settled_ok : {A : Type 0} (b : Bool) (old between new : Listeners) (P : Type 0) (r : Result A TaskError) (x : A) → is_some between.hook ≡ is_some old.hook → is_some new.hook ≡ is_some between.hook →
-    Unheard b between new (r ≡ Ok x) → Unhooked b old (OnErr r P)
+    IfHookOk b between new (r ≡ Ok x) → Unhooked b old (OnErr r P)
 settled_ok false old between new P r x first last answer = on_ok_of P r x answer
 settled_ok true old between new P r x first last answer = λ none. on_ok_of P r x (answer (unanswered between new (first ∙ none) (last ∙ (first ∙ none))))
 
@@ -54,7 +54,7 @@ room_of x i f s t false id begins = absurd (let refused = begins.0 in cc)
 -- the task was made, and settled
 module _ {T H G : Type 0} (x : ExportKind) (i : ℕ) (f : Option QualifiedThreadId) (s t : Store T H G) (id : QualifiedThreadId)
     (made : MakesTold x i f (has_room f s.state) s.state id t.state s.listeners t.listeners) (told : errors_of made.between ≤ errors_of t.listeners) where
-  pub makes_on : (listens : Bool) (r : Result QualifiedThreadId TaskError) → Unheard listens made.between t.listeners (r ≡ Ok id) → (AnsweredErr made.between t.listeners → r ≡ refused_by_hook) → MakesOn listens x i f s r t
+  pub makes_on : (listens : Bool) (r : Result QualifiedThreadId TaskError) → IfHookOk listens made.between t.listeners (r ≡ Ok id) → (AnsweredErr made.between t.listeners → r ≡ refused_by_hook) → MakesOn listens x i f s r t
   makes_on listens r answer failed = by (heard_or_not made.between t.listeners told)
     where
       by : AnsweredErr made.between t.listeners ⊎ (errors_of t.listeners ≡ errors_of made.between) → MakesOn listens x i f s r t
@@ -67,7 +67,7 @@ module _ {T H G : Type 0} (x : ExportKind) (i : ℕ) (f : Option QualifiedThread
             inr (refl, ((id, made), answered)),
           )
       by (inr same) =
-          let is = unheard_at listens made.between t.listeners (r ≡ Ok id) answer (λ err. omega (arith, err, same)) in
+          let is = if_hook_ok_at listens made.between t.listeners (r ≡ Ok id) answer (λ err. omega (arith, err, same)) in
           subst (λ (q : Result QualifiedThreadId TaskError). MakesOn listens x i f s q t) (sym is) (made, λ err. let hook_is_ok = made.begun.hook_is_ok in omega (arith, hook_is_ok, err, same))
 
 -- another state and other listeners in a store that differs in these alone

@@ -1,12 +1,12 @@
 -- Where a hook answers an error, and where it can't.
-use Rattle.std.proofs.Common.{ap, arith, inl, inr, le_refl, refl, subst, sym, ◌∙◌, ◌≡◌}
+use Rattle.std.proofs.Common.{ap, arith, inl, inr, refl, subst, sym, ◌∙◌, ◌≡◌}
 use Rattle.ops_state.specs.declared.error.TaskError.{TaskError}
 use Rattle.ops_state.specs.declared.error.TaskError.TheVariants as task_error
 use Rattle.std.specs.Option.{option_map_or}
 use Rattle.std.specs.Prelude.{Bool, Err, List, None, Option, Result, Some, false, is_some, true, ◌≤◌}
 use Rattle.task_group.specs.Heard.{Heard}
 use Rattle.task_group.specs.Listeners.{AnsweredErr, Listeners, errors_of}
-use Rattle.task_loop.specs.Hooked.{MainFails, StopsTurn, TellsInPart, Unfailed, Unheard}
+use Rattle.task_loop.specs.Hooked.{MainFails, StopsTurn, TellsInPart, Unfailed, IfHookOk}
 use Rattle.machine_data.specs.Core.{Main}
 use Rattle.machine_data.specs.declared.component.Component.{Component}
 use Rattle.machine_data.specs.Write.{set_trapped}
@@ -90,18 +90,18 @@ stops_same c ops ops' b b' same idle p m s before after old new n t stops =
 
 -- ---- What is so unless the hook answered an error
 
-pub always_hook_is_ok : (b : Bool) (x y : Listeners) (P : Type 0) → P → Unheard b x y P
+pub always_hook_is_ok : (b : Bool) (x y : Listeners) (P : Type 0) → P → IfHookOk b x y P
 always_hook_is_ok false x y P p = p
 always_hook_is_ok true x y P p = λ none. p
 
-pub unheard_map : (b : Bool) (x y : Listeners) (P Q : Type 0) → (P → Q) → Unheard b x y P → Unheard b x y Q
-unheard_map false x y P Q f p = f p
-unheard_map true x y P Q f p = λ none. f (p none)
+pub if_hook_ok_map : (b : Bool) (x y : Listeners) (P Q : Type 0) → (P → Q) → IfHookOk b x y P → IfHookOk b x y Q
+if_hook_ok_map false x y P Q f p = f p
+if_hook_ok_map true x y P Q f p = λ none. f (p none)
 
 -- where it answered one, and nobody answers one that doesn't listen
-pub unheard_failed : (b : Bool) (x y : Listeners) (P : Type 0) → (b ≡ false → AnsweredErr x y → ⊥) → AnsweredErr x y → Unheard b x y P
-unheard_failed false x y P never err = absurd (never refl err)
-unheard_failed true x y P never err = λ none. absurd (none err)
+pub if_hook_ok_failed : (b : Bool) (x y : Listeners) (P : Type 0) → (b ≡ false → AnsweredErr x y → ⊥) → AnsweredErr x y → IfHookOk b x y P
+if_hook_ok_failed false x y P never err = absurd (never refl err)
+if_hook_ok_failed true x y P never err = λ none. absurd (none err)
 
 -- where nobody listens there is no hook
 pub silent : (listens hooked : Bool) (x y : Listeners) → (hooked ≡ true → listens ≡ true) → hooked ≡ is_some x.hook → is_some y.hook ≡ is_some x.hook → listens ≡ false → AnsweredErr x y → ⊥
@@ -110,9 +110,9 @@ silent listens false x y hears is same quiet = unanswered x y (sym is) (same ∙
 
 -- ---- The store is trapped then
 
-works_trapped : (t : StateView) → WorksLast t (asked (on_core set_trapped t))
+pub works_trapped : (t : StateView) → WorksLast t (asked (on_core set_trapped t))
 unfolding set_trapped work_number
-works_trapped t = record { names = λ id live. inl refl; made = le_refl _; gone = λ i le none. none; callers = λ i le spawn. spawn }
+works_trapped t = record { names = λ id live. inl refl; spawns = λ i spawn. spawn }
 
 -- what main knew, it knows where its op was refused
 pub knows_trapped : {M : Type 0} (K : M → StateView → Type 0) (m n : M) (s t : StateView) → n ≡ m → t ≡ asked (on_core set_trapped s) → ((u : StateView) → WorksLast s u → K m s → K m u) → K m s → K n t

@@ -5,7 +5,7 @@ use Rattle.std.proofs.Common.{arith, inl, inr, refl}
 use Rattle.std.proofs.lemmas.Bool.{cases_lt}
 use Rattle.std.specs.Prelude.{Bool, Err, IsErr, Ok, Result, Some, false, is_err, true, ◌↔◌, ◌≡◌, ◌≤◌, ◌⊎◌}
 use Rattle.task_group.specs.Listeners.{AnsweredErr, Listeners, errors_of}
-use Rattle.task_loop.specs.Hooked.{Unfailed, Unheard, Unhooked}
+use Rattle.task_loop.specs.Hooked.{Unfailed, IfHookOk, Unhooked}
 use Rattle.machine_data.specs.Core.{Core}
 use Rattle.machine_data.specs.declared.trap.Trap.{Trap}
 use Rattle.machine_data.specs.declared.trap.Trap.TheVariants as trap
@@ -26,9 +26,9 @@ pub unhooked_always : (b : Bool) (l : Listeners) (P : Type 0) → P → Unhooked
 unhooked_always false l P p = p
 unhooked_always true l P p = λ none. p
 
-pub unheard_at : (b : Bool) (x y : Listeners) (P : Type 0) → Unheard b x y P → (AnsweredErr x y → ⊥) → P
-unheard_at false x y P h none = h
-unheard_at true x y P h none = h none
+pub if_hook_ok_at : (b : Bool) (x y : Listeners) (P : Type 0) → IfHookOk b x y P → (AnsweredErr x y → ⊥) → P
+if_hook_ok_at false x y P h none = h
+if_hook_ok_at true x y P h none = h none
 
 pub unhooked_map : (b : Bool) (l : Listeners) (P Q : Type 0) → (P → Q) → Unhooked b l P → Unhooked b l Q
 unhooked_map false l P Q f p = f p

@@ -8,7 +8,7 @@ use Rattle.ops_dispatch.proofs.CallLemmas.{host_makes_none, sync_host_makes_none
 use Rattle.ops_state.specs.declared.error.TaskError.{TaskError}
 use Rattle.ops_state.specs.declared.error.TaskError.TheVariants as task_error
 use Rattle.ops_calls.specs.OpAnswers.{answered, at_once, number_answered, value_answered}
-use Rattle.ops_calls.specs.Asks.{Answers, Did, Does}
+use Rattle.ops_calls.specs.HostOps.{Answers, Did, Does}
 use Rattle.ops_calls.specs.PolledCalls.{blocks_rule, polls_rule}
 use Rattle.ops_calls.specs.declared.answer_calls.Step.{Step}
 use Rattle.ops_calls.specs.declared.answer_calls.Step.TheVariants as step
@@ -25,8 +25,8 @@ use Rattle.store_works.specs.KeptWorks.{MayAnswer}
 use Rattle.ops_subtasks.specs.First.{first_heard}
 use Rattle.machine_data.specs.declared.component.HostDef.{HostDef}
 use Rattle.machine_data.specs.declared.component.HostDef.TheVariants as host_def
-use Rattle.machine_data.specs.declared.words.HostPoll.{HostPoll}
-use Rattle.machine_data.specs.declared.words.HostPoll.TheVariants as host_poll
+use Rattle.machine_data.specs.declared.statuses.HostPoll.{HostPoll}
+use Rattle.machine_data.specs.declared.statuses.HostPoll.TheVariants as host_poll
 use Rattle.task_store.specs.declared.store.Store.{Store}
 use Rattle.machine_data.specs.declared.label.CallLabel.TheVariants as call_label
 use Rattle.machine_data.specs.declared.label.Label.TheVariants as label
@@ -37,7 +37,7 @@ use Rattle.machine_data.specs.declared.records.Subtask.TheVariants as subtask
 use Rattle.machine_data.specs.declared.records.WorkCaller.TheVariants as callers
 use Rattle.machine_data.specs.declared.trap.Trap.{Trap}
 use Rattle.machine_data.specs.declared.trap.Trap.TheVariants as trap
-use Rattle.machine_data.specs.declared.words.Status.TheVariants as status
+use Rattle.machine_data.specs.declared.statuses.Status.TheVariants as status
 use Rattle.ops_guests.specs.OpResult.{Implements}
 use Rattle.ops_guests.specs.Stays.{StaysAfter}
 use Rattle.ops_guests.specs.declared.op_result.OpResult.{OpResult}
@@ -47,7 +47,7 @@ use Rattle.machine_rules.proofs.WalkMoves.{checked_shifts}
 use Rattle.machine_rules.specs.Calls.{AtOnce, Failing, FirstPoll, Later, call_host_by, call_stops, call_sync_host_by, call_sync_host_stops, host_with_handle, next_work, with_handle, work_queued}
 use Rattle.machine_rules.specs.Finish.{SomeHost}
 use Rattle.machine_rules.specs.Progress.{Continues, Progress, Stops, trap_if}
-use Rattle.machine_rules.specs.Words.{Stop}
+use Rattle.machine_rules.specs.Primitives.{Stop}
 use Rattle.task_store.proofs.HostLemmas.{holds_below, holds_queued, holds_same, holds_told, says}
 use Rattle.task_store.specs.Hosts.{HoldsWorks, WorksNumbered, running, settled}
 use Rattle.ops_turns.specs.Turn.{running_of}
@@ -175,14 +175,14 @@ module _ (host : HostDef) (told : HostPoll) (tells : MayTell host told) (s t : S
 
   -- what is held after a call that goes on
   pub polled_holds : (q : ℕ) (a : Result ℕ TaskError) → Answers true (polls_rule q (first_heard host told) s.core) number_answered s (at_once a) t → ((i : ℕ) → right i ≡ cond (next_work s.core == i) (settled (is_ok a) told (running host)) (left i)) → HoldsWorks right t.core
-  polled_holds q (Ok v) answers is = let did = answers.1.0 in polled is q (step.Done v) answers.0 answers.1.1 (first_heard host told) refl (does_of (polls_rule q (first_heard host told) s.core) answers.0 did).meets
+  polled_holds q (Ok v) answers is = let did = answers.1.0 in polled is q (step.Done v) answers.0 answers.1.1 (first_heard host told) refl (does_of (polls_rule q (first_heard host told) s.core) answers.0 did).implements
   polled_holds q (Err task_error.NoMemory) answers is = as_before answers.1 is
   polled_holds q (Err (task_error.Trap w)) answers is = refused number_answered (polls_rule q (first_heard host told) s.core) (task_error.Trap w) answers.0 answers.1.0 answers.1.1 is
   polled_holds q (Err (task_error.HostFailed i)) answers is = refused number_answered (polls_rule q (first_heard host told) s.core) (task_error.HostFailed i) answers.0 answers.1.0 answers.1.1 is
 
   -- and after one that waits for its value
   pub blocked_holds : (a : Result (Step ℕ) TaskError) → Answers true (blocks_rule (first_heard host told) s.core) value_answered s a t → ((i : ℕ) → right i ≡ cond (next_work s.core == i) (settled (is_ok a) told (running host)) (left i)) → HoldsWorks right t.core
-  blocked_holds (Ok v) answers is = let did = answers.1.0 in blocked is v answers.0 answers.1.1 (first_heard host told) refl (does_of (blocks_rule (first_heard host told) s.core) answers.0 did).meets
+  blocked_holds (Ok v) answers is = let did = answers.1.0 in blocked is v answers.0 answers.1.1 (first_heard host told) refl (does_of (blocks_rule (first_heard host told) s.core) answers.0 did).implements
   blocked_holds (Err task_error.NoMemory) answers is = as_before answers.1 is
   blocked_holds (Err (task_error.Trap w)) answers is = refused value_answered (blocks_rule (first_heard host told) s.core) (task_error.Trap w) answers.0 answers.1.0 answers.1.1 is
   blocked_holds (Err (task_error.HostFailed i)) answers is = refused value_answered (blocks_rule (first_heard host told) s.core) (task_error.HostFailed i) answers.0 answers.1.0 answers.1.1 is

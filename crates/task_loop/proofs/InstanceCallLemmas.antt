@@ -4,11 +4,11 @@ use Rattle.store_works.specs.KeptWorks.{HeldWork}
 use Rattle.ops_state.specs.declared.error.TaskError.{TaskError}
 use Rattle.std.proofs.Common.{ap, inl, inr, refl, subst, sym, ⊎_elim, ◌∙◌}
 use Rattle.std.specs.Prelude.{Bool, Option, Result, false, true, ℕ, ◌≡◌, ◌⊎◌}
-use Rattle.ops_calls.specs.Asks.{AnswersOp, IsRunningIn, is_apart, scripted_rule_of}
+use Rattle.ops_calls.specs.HostOps.{AnswersOp, IsRunningIn, is_apart, scripted_rule_of}
 use Rattle.ops_dispatch.specs.Makes.{takes_memory}
 use Rattle.ops_calls.specs.declared.answer_calls.Step.{Step}
 use Rattle.task_group.specs.Listeners.{Listeners}
-use Rattle.task_loop.proofs.AskHoldLemmas.{asked_holds}
+use Rattle.task_loop.proofs.HostOpHoldLemmas.{asked_holds}
 use Rattle.task_loop.proofs.TrackedLemmas.{TracksSame, answers_known}
 use Rattle.task_loop.proofs.RuleTrapLemmas.{asked_not}
 use Rattle.task_loop.proofs.ToldLemmas.{told_core}
@@ -110,8 +110,8 @@ unheld_rest {T} {H} {G} s t holds v l =
 -- ---- Without a hook that listens
 
 -- the answer is that to which the call came, and the state is what it left, once it was asked which groups have ended
-pub comes_to : {A T H G : Type 0} (comes : ComesOf A) (P : StateView → Type 0) (s : Store T H G) (r : Result A TaskError) (t : Store T H G) → IsTold false comes s r t →
+pub results_in : {A T H G : Type 0} (comes : ComesOf A) (P : StateView → Type 0) (s : Store T H G) (r : Result A TaskError) (t : Store T H G) → IsTold false comes s r t →
     ((v : StateView) → t.state ≡ asked v → comes r v → P (asked v)) → P t.state
-comes_to comes P s r t told gives = ⊎_elim
+results_in comes P s r t told gives = ⊎_elim
     (λ answers_ok. subst P (sym answers_ok.told.asked) (gives told.left answers_ok.told.asked (subst (λ a. comes a told.left) (sym answers_ok.answers) told.op_result)))
     (λ refuses. absurd (let hears = refuses.hears in cc)) told.heard

@@ -1,4 +1,4 @@
--- What a run comes to is of the machine's rows: it is no trap 22.
+-- What a run results in is of the machine's rules: it is no trap 22.
 use Rattle.laws_labels.proofs.TrapLemmas.{ends_are_of_rules}
 use Rattle.laws_labels.specs.Own.{is_of_rules, is_rule_trap}
 use Rattle.ops_state.specs.declared.error.TaskError.{TaskError}

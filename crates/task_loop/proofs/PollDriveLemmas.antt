@@ -1,4 +1,4 @@
--- A drive leaves the pace that its polls leave, one after another.
+-- A drive leaves the yield budget that its polls leave, one after another.
 use Rattle.laws_labels.proofs.GoingLemmas.{goings_show_next}
 use Rattle.laws_labels.specs.Own.{mark_taken, next_mark}
 use Rattle.run_trace.proofs.YieldBudgetLemmas.{driven_both, driven_unyielded, past_yielded}
@@ -21,7 +21,7 @@ use Rattle.machine_data.specs.declared.component.HostDef.{HostDef}
 use Rattle.machine_data.specs.declared.label.Label.{Label}
 use Rattle.machine_data.specs.declared.outcome.Outcome.{Outcome}
 use Rattle.machine_data.specs.declared.outcome.Outcome.TheVariants as outcome
-use Rattle.machine_data.specs.declared.words.Mark.{Mark}
+use Rattle.machine_data.specs.declared.statuses.Mark.{Mark}
 use Rattle.machine_rules.proofs.LawLemmas.{step_ends, step_over}
 use Rattle.machine_rules.specs.Outcome.{IsOutcome, is_at_rest, open_outcome, or_open, outcome_of, outcome_of_label}
 use Rattle.machine_rules.specs.Run.{Run}

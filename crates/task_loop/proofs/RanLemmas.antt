@@ -5,7 +5,7 @@ use Rattle.std.proofs.lemmas.List.{append_cancel_left}
 use Rattle.std.specs.List.{list_all}
 use Rattle.std.specs.Prelude.{List, None, Option, Some, [], true, ℕ, ◌++◌, ◌∷◌, ◌≡◌}
 use Rattle.task_group.specs.Listeners.{Listeners, ToldListeners}
-use Rattle.task_loop.proofs.HeedLemmas.{all_told, answers_ok_data, answers_ok_late, answers_ok_nothing}
+use Rattle.task_loop.proofs.AnswersOkLemmas.{all_told, answers_ok_data, answers_ok_late, answers_ok_nothing}
 use Rattle.task_loop.proofs.TakenLemmas.{stands_adds}
 use Rattle.task_loop.proofs.ToldLemmas.{nothing_computed, stands_turn}
 use Rattle.task_loop.specs.AnswersOk.{AnswersOkAll, AnswersOkMoment}

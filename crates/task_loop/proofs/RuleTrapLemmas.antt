@@ -1,4 +1,4 @@
--- No row of the machine traps with 22, so a call that answers it has it of the hook.
+-- No rule of the machine traps with 22, so a call that answers it has it of the hook.
 use Rattle.laws_labels.proofs.OwnLemmas.{IsDone, IsOwn, direct_exit_own, enter_own, host_own, op_own, ret_bad_own, ret_own, sync_host_polled_own}
 use Rattle.laws_labels.proofs.ShowLemmas.{wider}
 use Rattle.laws_labels.specs.Own.{Shows, is_data, is_own, is_rule_trap}
@@ -9,7 +9,7 @@ use Rattle.std.proofs.Common.{ap, refl, subst}
 use Rattle.std.specs.Prelude.{Bool, Err, IfSome, List, None, Ok, OnErr, Option, Result, Some, false, true, ℕ, ◌==◌, ◌≡◌, not}
 use Rattle.ops_calls.specs.OpAnswers.{answered}
 use Rattle.ops_dispatch.specs.Makes.{takes_memory}
-use Rattle.ops_calls.specs.Asks.{Answers, AnswersHere, AnswersOp, Does, IsRunningIn, row_at, scripted_rule_of, takes_here}
+use Rattle.ops_calls.specs.HostOps.{Answers, AnswersHere, AnswersOp, Does, IsRunningIn, op_rule_at, scripted_rule_of, takes_here}
 use Rattle.ops_calls.specs.MainCalls.{Returned, Returns}
 use Rattle.ops_calls.specs.Directs.{enters_rule, exits_rule}
 use Rattle.ops_calls.specs.PolledCalls.{blocks_rule, polls_rule}
@@ -56,7 +56,7 @@ by_hook = trap.HookFailed
 abbrev Failed : {A : Type 0} → Result A TaskError → Type 0
 Failed r = r ≡ Err (task_error.Trap by_hook)
 
--- 22 isn't a row's
+-- 22 isn't a rule's
 not_of_rule : (w : Trap) → is_rule_trap w ≡ true → w ≡ by_hook → ⊥
 not_of_rule w row is = let off : is_rule_trap w ≡ false = ap is_rule_trap is in absurd (cc)
 
@@ -90,7 +90,7 @@ trapped_as f (op_result.Traps why) w e = cc
 trapped_as f (op_result.Fails i) w e = absurd (cc)
 
 module _ (s t : StateView) where
-  -- what a row's call answers
+  -- what a rule's call answers
   pub answers_not : {A : Type 0} (takes : Bool) (row : ℕ → Choice → Progress) (f : OpAnswer → A) (a : Result (Step A) TaskError) (n : ℕ) → running_of s ≡ Some n → ((ch : Choice) → Shows IsOwn (row n ch)) →
       Answers takes row f s a t → Failed a → ⊥
   answers_not takes row f (Ok x) n runs shows answers failed = absurd (cc)
@@ -99,7 +99,7 @@ module _ (s t : StateView) where
   answers_not takes row f (Err (task_error.Trap w)) n runs shows answers failed =
       let r : OpResult = answers.0 in
       let did : Does (row n) n s r t = subst (λ (o : Option ℕ). IfSome o (λ k. Does (row k) k s r t)) runs answers.1.0 in
-      not_of_rule w (met_trap (row n (choice_of (label_of n r))) (shows (choice_of (label_of n r))) s.core r t.core did.meets w (trapped_as f r w answers.1.1)) (cc)
+      not_of_rule w (met_trap (row n (choice_of (label_of n r))) (shows (choice_of (label_of n r))) s.core r t.core did.implements w (trapped_as f r w answers.1.1)) (cc)
 
   module _ (c : Component) (running : IsRunningIn c s) where
     -- an op's
@@ -108,7 +108,7 @@ module _ (s t : StateView) where
 
     -- that of the op at the place, as a host has it done
     pub here_not : {A : Type 0} (f : OpAnswer → A) (a : Result (Step A) TaskError) → AnswersHere c f s a t → Failed a → ⊥
-    here_not f a answers = answers_not (takes_here c s) (row_at c s.core) f a running.number running.runs (λ ch. op_own SomeHost c running.number s.core ch (op_of c running.number s.core)) answers
+    here_not f a answers = answers_not (takes_here c s) (op_rule_at c s.core) f a running.number running.runs (λ ch. op_own SomeHost c running.number s.core ch (op_of c running.number s.core)) answers
 
     -- those of a direct call
     pub entered_not : {A : Type 0} (e : Callee) (words : List ℕ) (f : OpAnswer → A) (a : Result (Step A) TaskError) → Answers true (enters_rule c e words s.core) f s a t → Failed a → ⊥

@@ -4,7 +4,7 @@ use Rattle.ops_state.specs.declared.error.TaskError.TheVariants as task_error
 use Rattle.ops_state.specs.declared.name_calls.QualifiedThreadId.{QualifiedThreadId}
 use Rattle.std.proofs.Common.{ap, subst}
 use Rattle.std.specs.Prelude.{Bool, Err, IfSome, IsSome, List, None, Ok, Option, Result, Some, false, true, ℕ, ◌≡◌}
-use Rattle.ops_calls.specs.Asks.{Answers, Does}
+use Rattle.ops_calls.specs.HostOps.{Answers, Does}
 use Rattle.ops_calls.specs.MainCalls.{Returned, Returns}
 use Rattle.ops_calls.specs.Prepared.{Prepares, starts_in}
 use Rattle.ops_calls.specs.Resumes.{Resumed}

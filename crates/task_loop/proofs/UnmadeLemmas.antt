@@ -5,9 +5,9 @@ use Rattle.ops_state.specs.declared.error.TaskError.TheVariants as task_error
 use Rattle.std.proofs.Common.{ap, arith, inl, inr, refl, subst, ◌∙◌}
 use Rattle.std.specs.Prelude.{Bool, [], ℕ, ◌+◌, ◌∷◌, ◌≡◌, ◌⊎◌}
 use Rattle.task_group.specs.Listeners.{AnsweredErr, Listeners, ToldListeners, ToldWithHookOk, errors_of}
-use Rattle.task_loop.proofs.HookStartLemmas.{heard_or_not, unheard_at}
+use Rattle.task_loop.proofs.HookStartLemmas.{heard_or_not, if_hook_ok_at}
 use Rattle.task_loop.specs.Begun.{HookIsReason, TellsUnmade}
-use Rattle.task_loop.specs.Hooked.{Unheard}
+use Rattle.task_loop.specs.Hooked.{IfHookOk}
 use Rattle.task_loop.specs.Told.{finish_of_group, start_of_group}
 use Rattle.machine_data.specs.Core.{Core}
 use Rattle.machine_data.specs.declared.records.Notice.{Notice}
@@ -47,7 +47,7 @@ module _ (s : Core) (n : ℕ) (number : n ≡ s.made.groups + 1) (old between : 
 
   -- it was out of memory then, and it finished again
   pub unmade_back : (AnsweredErr old between → ⊥) → (why r : TaskError) (new : Listeners) → why ≡ task_error.NoMemory → ToldListeners (finish_notice n ∷ []) between new → (listens : Bool) →
-      Unheard listens between new (r ≡ why) → (AnsweredErr between new → r ≡ task_error.Trap trap.HookFailed) → TellsUnmade r s old new
+      IfHookOk listens between new (r ≡ why) → (AnsweredErr between new → r ≡ task_error.Trap trap.HookFailed) → TellsUnmade r s old new
   unmade_back none why r new memory last listens answer failed = by (heard_or_not between new last.errors)
     where
       hook_is_ok : ToldWithHookOk (start_of_group s ∷ []) old between
@@ -67,7 +67,7 @@ module _ (s : Core) (n : ℕ) (number : n ≡ s.made.groups + 1) (old between : 
         refused = λ other memory. absurd (other (failed err));
       }
       by (inr same) =
-          let is = unheard_at listens between new (r ≡ why) answer (λ err. omega (arith, err, same)) in
+          let is = if_hook_ok_at listens between new (r ≡ why) answer (λ err. omega (arith, err, same)) in
           record {
             hooked = λ e. absurd (let f = is ∙ memory in cc);
             out_of_memory = λ e. inr (hook_is_ok_then (start_of_group s ∷ []) (finish_of_group s ∷ []) old between new hook_is_ok (with_hook_ok (finish_of_group s ∷ []) between new ends same));

@@ -25,7 +25,7 @@ use Rattle.ops_turns.specs.Turn.{CoreInOrder}
 use Rattle.core_primitives.specs.Groups.{IsAsked, asked}
 use Rattle.core_primitives.specs.StateView.{on_core}
 
--- What stays of a store, whatever a call by the host comes to.
+-- What stays of a store, whatever a call by the host results in.
 pub record KeepsStore {T H G : Type 0} (c : Component) (s t : Store T H G) : Type 0 where
   -- it is in order at each turn at which it was
   pub order : (p : Turn) → CoreInOrder c p s.state.core → CoreInOrder c p t.state.core

@@ -1,4 +1,4 @@
--- What the calls of a store come to that have another thread run, end a thread or begin a task, of which its groups are told.
+-- What the calls of a store result in that have another thread run, end a thread or begin a task, of which its groups are told.
 use Rattle.store_notices.specs.Moves.{StopsAt, moved}
 use Rattle.laws_order.specs.KeptOrder.{LeavesInOrder, TurnsInOrder}
 use Rattle.ops_state.specs.Currents.{IsCurrent, LosesNoWake, now_runs, number_in, runner}

@@ -41,9 +41,9 @@ Unfailed false r P = P
 Unfailed true r P = (r ≡ Err (task_error.Trap trap.HookFailed) → ⊥) → P
 
 -- unless the hook answered an error, which it can't where none listens
-abbrev pub Unheard : (listens : Bool) → Listeners → Listeners → Type 0 → Type 0
-Unheard false old new P = P
-Unheard true old new P = (AnsweredErr old new → ⊥) → P
+abbrev pub IfHookOk : (listens : Bool) → Listeners → Listeners → Type 0 → Type 0
+IfHookOk false old new P = P
+IfHookOk true old new P = (AnsweredErr old new → ⊥) → P
 
 -- where there is no hook, which is so where none listens
 abbrev pub Unhooked : (listens : Bool) → Listeners → Type 0 → Type 0
@@ -52,7 +52,7 @@ Unhooked true l P = is_some l.hook ≡ false → P
 
 -- unless the hook answered an error in a call on a store
 abbrev pub HookIsOk : {T H G : Type 0} → (listens : Bool) → Store T H G → Store T H G → Type 0 → Type 0
-HookIsOk listens s t P = Unheard listens s.listeners t.listeners P
+HookIsOk listens s t P = IfHookOk listens s.listeners t.listeners P
 
 -- where it answered one, the call is refused
 abbrev pub HookFails : {T H G A : Type 0} → Store T H G → Store T H G → Result A TaskError → Type 0

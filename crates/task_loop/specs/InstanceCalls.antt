@@ -1,4 +1,4 @@
--- What a call between runs comes to on a store, which is told of its groups, and what a method of an instance does: it has the running
+-- What a call between runs results in on a store, which is told of its groups, and what a method of an instance does: it has the running
 -- thread do an op in place of the one at its place, or a part of one.
 use Rattle.ops_state.specs.declared.error.TaskError.{TaskError}
 use Rattle.ops_state.specs.declared.error.TaskError.TheVariants as task_error
@@ -6,7 +6,7 @@ use Rattle.ops_state.specs.Named.{IsLive}
 use Rattle.ops_state.specs.declared.name_calls.QualifiedThreadId.{QualifiedThreadId}
 use Rattle.std.specs.Prelude.{Bool, IfOk, IfSome, IsSome, List, None, Ok, Result, Some, cond, length, min, true, ℕ, ◌<◌, ◌==◌, ◌≡◌, ◌≢◌, ◌⊎◌}
 use Rattle.ops_calls.specs.OpAnswers.{whole_answer, at_once, number_answered, value_answered}
-use Rattle.ops_calls.specs.Asks.{Answers, AnswersHere, AnswersOp, scripted_rule_of, turn_in}
+use Rattle.ops_calls.specs.HostOps.{Answers, AnswersHere, AnswersOp, scripted_rule_of, turn_in}
 use Rattle.ops_calls.specs.MainCalls.{Returns}
 use Rattle.ops_calls.specs.Directs.{entered, enters_rule, exits_rule, thread_entered}
 use Rattle.ops_calls.specs.PolledCalls.{blocks_rule, polls_rule}
@@ -17,7 +17,7 @@ use Rattle.ops_calls.specs.declared.answer_calls.Step.{Step}
 use Rattle.ops_calls.specs.declared.answer_calls.Step.TheVariants as step
 use Rattle.ops_calls.specs.declared.intrinsics.ResumeThread.{ResumeThread}
 use Rattle.ops_calls.specs.declared.intrinsics.ResumeThread.TheVariants as resume
-use Rattle.task_store.specs.HeldBorrows.{Comes, UnlessLent, cancel_holds_borrows, exit_holds_borrows, return_holds_borrows}
+use Rattle.task_store.specs.HeldBorrows.{Comes, UnlessBorrowed, cancel_holds_borrows, exit_holds_borrows, return_holds_borrows}
 use Rattle.task_loop.specs.Lent.{RuleAnswers}
 use Rattle.task_loop.specs.Told.{TellsCall, groups_before_call, refused_by_hook}
 use Rattle.machine_data.specs.Core.{Core}
@@ -28,7 +28,7 @@ use Rattle.machine_data.specs.declared.component.Component.{Component}
 use Rattle.store_works.specs.Course.{MayTell}
 use Rattle.ops_subtasks.specs.First.{first_heard}
 use Rattle.machine_data.specs.declared.component.HostDef.{HostDef}
-use Rattle.machine_data.specs.declared.words.HostPoll.{HostPoll}
+use Rattle.machine_data.specs.declared.statuses.HostPoll.{HostPoll}
 use Rattle.machine_data.specs.declared.op.CallOp.TheVariants as call_op
 use Rattle.machine_data.specs.declared.op.Op.{Op}
 use Rattle.machine_data.specs.declared.op.Op.TheVariants as op
@@ -128,10 +128,10 @@ new_thread_op x v = op.Thread (thread_op.New 0 (min x 255) (operand.Number v))
 abbrev pub resume_later_op : (thread : ℕ) → Op
 resume_later_op h = op.Thread (thread_op.ResumeLater (operand.Number h))
 
--- ---- Methods that end a task, unless it still lends something
+-- ---- Methods that end a task, unless it still holds borrows
 
 abbrev pub UnlessHoldsBorrows : (ℕ → Core → Bool) → (ℕ → Comes) → StateView → ComesOf (Unit {0})
-UnlessHoldsBorrows lends comes s a t = IfSome (running_of s) (λ n. UnlessLent (lends n s.core) (comes n) s a t)
+UnlessHoldsBorrows lends comes s a t = IfSome (running_of s) (λ n. UnlessBorrowed (lends n s.core) (comes n) s a t)
 
 -- the running thread's task returned the value, of its own type or not
 abbrev pub DoesReturn : {T H G : Type 0} → Bool → (own_type : Bool) → (value : ℕ) → DoesOn (Unit {0}) T H G
@@ -196,7 +196,7 @@ GoesOn listens c s r t =
 
 -- ---- Methods that call a host
 
--- The running thread called a host whose work the store holds until it ends, by this row, and what that resulted in is answered as
+-- The running thread called a host whose work the store holds until it ends, by this rule, and what that resulted in is answered as
 -- its label is read. Nothing but the host's value, the state, the listeners and the works is changed.
 pub record CallsHost {A R T H G : Type 0} (listens : Bool) (course : H → HostDef) (c : Component) (row : ℕ → Choice → Progress)
     (to : Result R TaskError → Result (Step A) TaskError) (read : OpAnswer → A) (s : Store T H G) (r : Result R TaskError) (t : Store T H G) :

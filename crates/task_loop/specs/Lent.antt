@@ -1,7 +1,7 @@
--- What comes of an end of a task that lends nothing.
+-- What comes of an end of a task that holds no borrows.
 use Rattle.std.specs.Prelude.{false, ℕ}
 use Rattle.ops_calls.specs.OpAnswers.{at_once, nothing_answered}
-use Rattle.ops_calls.specs.Asks.{Answers}
+use Rattle.ops_calls.specs.HostOps.{Answers}
 use Rattle.task_store.specs.HeldBorrows.{Comes}
 use Rattle.machine_data.specs.Labels.{Choice}
 use Rattle.machine_rules.specs.Progress.{Progress}

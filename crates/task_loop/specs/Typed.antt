@@ -21,7 +21,7 @@ abbrev pub untyped : {P R : Type 0} → Result (TypedFuncCallConcurrent P R) Tas
 untyped (Ok call) = Ok call.call
 untyped (Err why) = Err why
 
--- the same of the one that a poll keeps
+-- this of the one that a poll keeps
 abbrev pub untyped_in : {P R : Type 0} → TypedCallConcurrent P R → Option FuncCallConcurrent
 untyped_in m = option_map (λ call. call.call) m.call
 

@@ -180,8 +180,8 @@ impl Func {
         }
     }
 
-    /// Returns the result of a call that has returned; pending where it hasn't, and then nothing is changed. A call is finished
-    /// once.
+    /// Takes the result of a call that has returned. It is pending if the call hasn't, and then nothing is changed. A call is
+    /// finished once.
     pub fn finish_call_concurrent<T, H, G: TaskGroupHook>(
         self,
         store: &mut Store<T, H, G>,

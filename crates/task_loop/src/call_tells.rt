@@ -2,7 +2,7 @@
 ghost use Rattle.std.specs.Prelude.{Err, [], ◌≡◌, ◌∷◌};
 ghost use Rattle.task_group.specs.Heard.{finish_of};
 ghost use Rattle.task_group.specs.Listeners.{AnsweredErr, ToldListeners};
-ghost use Rattle.task_loop.specs.Hooked.{Unheard};
+ghost use Rattle.task_loop.specs.Hooked.{IfHookOk};
 ghost use Rattle.task_loop.specs.Told.{TellsCall, groups_before_call};
 
 use crate::tells::{group_now, tell_all};
@@ -41,7 +41,7 @@ pub(crate) fn tell_call<G: TaskGroupHook, A: Drop>(
     answer
 }
 
-/// Returns the same of a call that is refused.
+/// Tells the groups of a call that is refused, and returns its refusal.
 pub(crate) fn tell_refused<G: TaskGroupHook, A: Drop>(
     core: &mut TaskCore,
     listeners: &mut Listeners<G>,
@@ -61,7 +61,7 @@ pub(crate) fn take_back<G: TaskGroupHook>(
     why: TaskError,
 ) -> TaskError
     ensures told { ToldListeners (finish_of group ∷ []) listeners.old listeners.new }
-    ensures answer { Unheard G.listens listeners.old listeners.new (result ≡ why) }
+    ensures answer { IfHookOk G.listens listeners.old listeners.new (result ≡ why) }
     ensures failed { AnsweredErr listeners.old listeners.new → result ≡ TaskError.Trap Trap.HookFailed }
 {
     // read so that the proof knows the invariant of `listeners`

@@ -7,7 +7,7 @@ ghost use Rattle.task_group.specs.Listeners.{AnsweredErr};
 ghost use Rattle.task_loop.specs.Begun.{SettlesGroups};
 ghost use Rattle.task_loop.specs.Ended.{group_left};
 ghost use Rattle.task_loop.specs.GuestCalls.{EndsThread, MakesTask, SetsThread};
-ghost use Rattle.task_loop.specs.Hooked.{Unheard};
+ghost use Rattle.task_loop.specs.Hooked.{IfHookOk};
 ghost use Rattle.task_loop.specs.NewTasks.{MakesCall};
 ghost use Rattle.task_loop.specs.Told.{current_group};
 ghost use Rattle.machine_data.specs.Maps.{get};
@@ -122,7 +122,7 @@ fn settle<G: TaskGroupHook>(
     listeners: &mut Listeners<G>,
     id: QualifiedThreadId,
 ) -> Result<QualifiedThreadId, TaskError>
-    ensures answer { Unheard G.listens listeners.old listeners.new (result ≡ Ok id) }
+    ensures answer { IfHookOk G.listens listeners.old listeners.new (result ≡ Ok id) }
     ensures failed { AnsweredErr listeners.old listeners.new → result ≡ Err (TaskError.Trap Trap.HookFailed) }
     ensures settles { SettlesGroups core.old.core.trapped core.old core.new listeners.old listeners.new }
 {

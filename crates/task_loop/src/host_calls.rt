@@ -1,6 +1,6 @@
 //! Calls of hosts by an instance, of works that the host makes.
 ghost use Rattle.std.specs.Prelude.{◌≡◌, ◌<◌, is_ok, ◌^◌};
-ghost use Rattle.ops_calls.specs.Asks.{CanAsk, IsRunningIn};
+ghost use Rattle.ops_calls.specs.HostOps.{MayDoHostOp, IsRunningIn};
 ghost use Rattle.task_store.specs.Hosts.{HoldsHosts};
 ghost use Rattle.ops_turns.specs.Turn.{given};
 ghost use Rattle.task_loop.specs.InstanceCalls.{PollsHost, SettlesWork, WaitsForHost};
@@ -42,7 +42,7 @@ impl Instance {
     ) -> Result<u32, TaskError>
         requires running { IsRunningIn component.now store.old.state }
         requires few { given store.old.state.core < 2 ^ 61 }
-        requires asks { CanAsk self.index store.old.state }
+        requires asks { MayDoHostOp self.index store.old.state }
         requires register { register < 16 }
         requires hosts { HoldsHosts H.course store.old }
         ensures does { PollsHost G.listens H.course component.now register (H.course work) store.old result store.new }
@@ -71,7 +71,7 @@ impl Instance {
     ) -> Result<Step<u64>, TaskError>
         requires running { IsRunningIn component.now store.old.state }
         requires few { given store.old.state.core < 2 ^ 61 }
-        requires asks { CanAsk self.index store.old.state }
+        requires asks { MayDoHostOp self.index store.old.state }
         requires hosts { HoldsHosts H.course store.old }
         ensures does { WaitsForHost G.listens H.course component.now (H.course work) store.old result store.new }
     {

@@ -1,6 +1,6 @@
 ghost use Rattle.std.specs.Prelude.{◌≡◌, IfSome, IsSome};
 ghost use Rattle.ops_calls.specs.OpAnswers.{at_once, nothing_answered};
-ghost use Rattle.ops_calls.specs.Asks.{CanAsk, IsRunningIn};
+ghost use Rattle.ops_calls.specs.HostOps.{MayDoHostOp, IsRunningIn};
 ghost use Rattle.ops_calls.specs.MainCalls.{is_own_type};
 ghost use Rattle.ops_calls.specs.Intrinsics.{pressure_op};
 ghost use Rattle.machine_data.specs.Read.{instance_of};
@@ -11,7 +11,7 @@ ghost use Rattle.task_loop.specs.InstanceCalls.{DoesCancel, DoesHostOp, DoesRetu
 use crate::call_tells::{asked, tell_call, tell_refused};
 use core_primitives::{ThreadPrimitives, View};
 use machine_data::{Component, Op, TaskOp, Trap, Turn};
-use ops_calls::{TaskError, ask_nothing, is_own_type, pressure_op, task_return};
+use ops_calls::{TaskError, host_op_nothing, is_own_type, pressure_op, task_return};
 use task_group::TaskGroupHook;
 use task_store::{Store, cancel_holds_borrows, return_holds_borrows};
 
@@ -25,7 +25,7 @@ impl Instance {
     /// Does `task.return`: the task of the current thread, which is of this instance, ends as returned with the value, and the
     /// thread goes on after its op. The type, the encoding and the memory are those of the lifted function where all three are 0.
     /// Refused with trap 1 exactly where the task has ended, and else with trap 3 where they aren't 0 or the function isn't
-    /// async-lifted, and else with trap 19 if the task still lends something (`call_context` of the state). Nothing is changed
+    /// async-lifted, and else with trap 19 if the task still holds borrows (`call_context` of the state). Nothing is changed
     /// then.
     pub fn task_return<T, H, G: TaskGroupHook>(
         self,
@@ -65,14 +65,14 @@ impl Instance {
     }
 
     /// Ends the task as cancelled, once a cancel request was delivered to it. Refused with trap 2 if none was, else with trap 1 if
-    /// the task has ended, and else with trap 19 if it still lends something. Nothing is changed then.
+    /// the task has ended, and else with trap 19 if it still holds borrows. Nothing is changed then.
     pub fn task_cancel<T, H, G: TaskGroupHook>(
         self,
         component: &Component,
         store: &mut Store<T, H, G>,
     ) -> Result<(), TaskError>
         requires running { IsRunningIn component.now store.old.state }
-        requires asks { CanAsk self.index store.old.state }
+        requires asks { MayDoHostOp self.index store.old.state }
         ensures does { DoesCancel G.listens component.now store.old result store.new }
     {
         let Some(thread) = store.state.current() else {
@@ -83,7 +83,7 @@ impl Instance {
             let why = TaskError::Trap(Trap::ScopeExit);
             return tell_refused(&mut store.state, &mut store.listeners, &before, why);
         }
-        let answer = ask_nothing(component, &mut store.state, Op::Task(TaskOp::TaskCancel));
+        let answer = host_op_nothing(component, &mut store.state, Op::Task(TaskOp::TaskCancel));
         tell_call(&mut store.state, &mut store.listeners, &before, answer)
     }
 
@@ -97,14 +97,14 @@ impl Instance {
         up: bool,
     ) -> Result<(), TaskError>
         requires running { IsRunningIn component.now store.old.state }
-        requires asks { CanAsk self.index store.old.state }
+        requires asks { MayDoHostOp self.index store.old.state }
         requires caller { caller ≡ self.index }
         ensures does { DoesHostOp G.listens component.now (pressure_op up) at_once nothing_answered store.old result store.new }
     {
         // only the contract speaks of `caller`
         let _caller = caller;
         let before = asked(&store.state);
-        let answer = ask_nothing(component, &mut store.state, pressure_op(up));
+        let answer = host_op_nothing(component, &mut store.state, pressure_op(up));
         tell_call(&mut store.state, &mut store.listeners, &before, answer)
     }
 }

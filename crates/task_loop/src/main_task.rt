@@ -1,7 +1,7 @@
 ghost use Rattle.std.specs.Prelude.{◌≡◌};
 ghost use Rattle.task_loop.specs.HasRun.{MayStep, StepsTo};
 ghost use Rattle.task_loop.specs.Says.{Says};
-ghost use Rattle.task_loop.specs.Standing.{standing};
+ghost use Rattle.task_loop.specs.Constants.{constants};
 ghost use Rattle.ops_turns.specs.Later.{WorksLast};
 ghost use Rattle.core_primitives.specs.StateView.{StateView};
 
@@ -31,7 +31,7 @@ pub trait MainTask<T, H: HostWork, G: TaskGroupHook> {
     ) -> Result<MainStep, TaskError>
         requires may { MayStep says H.course component.now self.old access.old.store.now }
         ensures same { access.new.store.ghost_name ≡ access.old.store.ghost_name }
-        ensures stands { standing access.new.store.now ≡ standing access.old.store.now }
+        ensures stands { constants access.new.store.now ≡ constants access.old.store.now }
         ensures script { says.script self.new ≡ says.script self.old }
         ensures steps { StepsTo says H.course component.now result self.old access.old.store.now self.new access.new.store.now };
 

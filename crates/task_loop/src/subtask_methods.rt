@@ -1,7 +1,7 @@
 //! Calls of other instances and their subtasks, as an instance's calls begin, cancel and drop them.
 ghost use Rattle.std.specs.Prelude.{◌≡◌, ◌<◌, IfSome, IsSome, false, true, ◌^◌};
 ghost use Rattle.ops_calls.specs.OpAnswers.{at_once, nothing_answered, number_answered};
-ghost use Rattle.ops_calls.specs.Asks.{CanAsk, IsRunningIn};
+ghost use Rattle.ops_calls.specs.HostOps.{MayDoHostOp, IsRunningIn};
 ghost use Rattle.ops_calls.specs.Directs.{IsDirect};
 ghost use Rattle.ops_calls.specs.Intrinsics.{cancel_op};
 ghost use Rattle.ops_calls.specs.Prepared.{CanStart};
@@ -17,8 +17,8 @@ use crate::instance::Instance;
 use core_primitives::View;
 use machine_data::{CallOp, Component, Op, Operand, Trap};
 use ops_calls::{
-    QualifiedThreadId, Step, TaskError, ask_nothing, begin_number, cancel_op, enter_call,
-    exit_call, prepare_call, start_prepared,
+    QualifiedThreadId, Step, TaskError, begin_number, cancel_op, enter_call, exit_call,
+    host_op_nothing, prepare_call, start_prepared,
 };
 use task_group::TaskGroupHook;
 use task_store::{Store, exit_holds_borrows};
@@ -36,7 +36,7 @@ impl Instance {
         subtask: u32,
     ) -> Result<Step<u32>, TaskError>
         requires running { IsRunningIn component.now store.old.state }
-        requires asks { CanAsk self.index store.old.state }
+        requires asks { MayDoHostOp self.index store.old.state }
         requires caller { caller ≡ self.index }
         ensures does { DoesHostOp G.listens component.now (cancel_op async_ subtask) may_pause number_answered store.old result store.new }
     {
@@ -57,7 +57,7 @@ impl Instance {
         subtask: u32,
     ) -> Result<(), TaskError>
         requires running { IsRunningIn component.now store.old.state }
-        requires asks { CanAsk self.index store.old.state }
+        requires asks { MayDoHostOp self.index store.old.state }
         requires caller { caller ≡ self.index }
         ensures does { DoesHostOp G.listens component.now (drop_subtask_op subtask) at_once nothing_answered store.old result store.new }
     {
@@ -67,11 +67,11 @@ impl Instance {
             subtask: Operand::Number(u64::from(subtask)),
         });
         let before = asked(&store.state);
-        let answer = ask_nothing(component, &mut store.state, op);
+        let answer = host_op_nothing(component, &mut store.state, op);
         tell_call(&mut store.state, &mut store.listeners, &before, answer)
     }
 
-    /// Returns a direct call's first half: the callee, of a sync or blocking export of an earlier instance, is made with as many
+    /// Begins a direct call: the callee, of a sync or blocking export of an earlier instance, is made with as many
     /// words as it takes, and its thread, which is answered, runs on top of the current one. Refused with trap 18 where its three
     /// entries don't fit into the table, and else with trap 17 if no handle may be given.
     pub fn enter_guest_sync_call<T, H, G: TaskGroupHook>(
@@ -83,7 +83,7 @@ impl Instance {
     ) -> Result<QualifiedThreadId, TaskError>
         requires running { IsRunningIn component.now store.old.state }
         requires few { given store.old.state.core < 2 ^ 61 }
-        requires asks { CanAsk self.index store.old.state }
+        requires asks { MayDoHostOp self.index store.old.state }
         requires callee { CanCall component.now self.index (callee_of callee) params.now }
         requires direct { is_async_lifted (export_kind component.now (callee_of callee)) ≡ false }
         ensures does { EntersCall G.listens component.now (callee_of callee) params.now store.old result store.new }
@@ -96,7 +96,7 @@ impl Instance {
 
     /// Does a direct call's second half, by its first thread: its task ends as returned with the value, the thread ends, and the
     /// one under it runs; the caller's op is under way, and `go_on` takes it to its answer. Refused with trap 9 if the export is
-    /// blocking and a check of its instance fails, and else with trap 19 if the task still lends something (`call_context` of the
+    /// blocking and a check of its instance fails, and else with trap 19 if the task still holds borrows (`call_context` of the
     /// state). Nothing is changed then.
     pub fn exit_guest_sync_call<T, H, G: TaskGroupHook>(
         self,
@@ -105,7 +105,7 @@ impl Instance {
         value: u64,
     ) -> Result<(), TaskError>
         requires running { IsRunningIn component.now store.old.state }
-        requires asks { CanAsk self.index store.old.state }
+        requires asks { MayDoHostOp self.index store.old.state }
         requires direct { IfSome (running_of store.old.state) (λ n. IsDirect n store.old.state.core) }
         ensures does { ExitsCall G.listens component.now value store.old result store.new }
     {
@@ -121,7 +121,7 @@ impl Instance {
         tell_call(&mut store.state, &mut store.listeners, &before, answer)
     }
 
-    /// Returns a call's first half, of an export of an earlier instance: it is made with as many words as the callee takes, and its
+    /// Prepares a call of an export of an earlier instance: it is made with as many words as the callee takes, and its
     /// first thread, which is New, is answered. The result of an async caller's call goes to the register, 0 to 15. Refused with
     /// trap 18 exactly where its three entries don't fit into the table. Where it is refused, or it is out of memory, nothing is
     /// changed.
@@ -136,7 +136,7 @@ impl Instance {
     ) -> Result<QualifiedThreadId, TaskError>
         requires running { IsRunningIn component.now store.old.state }
         requires few { given store.old.state.core < 2 ^ 61 }
-        requires asks { CanAsk self.index store.old.state }
+        requires asks { MayDoHostOp self.index store.old.state }
         requires callee { CanCall component.now self.index (callee_of callee) params.now }
         requires register { register < 16 }
         requires queued { async_caller ≡ false → is_async_lifted (export_kind component.now (callee_of callee)) ≡ true }
@@ -155,7 +155,7 @@ impl Instance {
         tell_call(&mut store.state, &mut store.listeners, &before, answer)
     }
 
-    /// Returns a call's second half, of a call that the current thread has prepared: its start becomes the switch entry, and the
+    /// Starts a call that the current thread has prepared: its start becomes the switch entry, and the
     /// current thread goes behind the callee's, as `call` does where it begins. The strand has stopped, which is answered; `go_on`
     /// takes the call further once the current thread is resumed.
     pub fn start_call<T, H, G: TaskGroupHook>(
@@ -164,7 +164,7 @@ impl Instance {
         store: &mut Store<T, H, G>,
         callee: QualifiedThreadId,
     ) -> Result<Step<u64>, TaskError>
-        requires asks { CanAsk self.index store.old.state }
+        requires asks { MayDoHostOp self.index store.old.state }
         requires runs { IsSome (running_of store.old.state) }
         requires prepared { IfSome (running_of store.old.state) (λ n. CanStart n callee store.old.state) }
         ensures does { StartsCall G.listens callee store.old result store.new }

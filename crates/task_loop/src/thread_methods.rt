@@ -1,7 +1,7 @@
 //! Threads, as an instance's calls make, suspend and resume them.
 ghost use Rattle.std.specs.Prelude.{◌≡◌, ◌<◌, ◌^◌};
 ghost use Rattle.ops_calls.specs.OpAnswers.{at_once, nothing_answered, number_answered};
-ghost use Rattle.ops_calls.specs.Asks.{CanAsk, HasPaused, IsRunningIn};
+ghost use Rattle.ops_calls.specs.HostOps.{MayDoHostOp, HasPaused, IsRunningIn};
 ghost use Rattle.ops_calls.specs.Intrinsics.{suspension_op};
 ghost use Rattle.ops_turns.specs.Turn.{given};
 ghost use Rattle.task_loop.specs.InstanceCalls.{DoesHostOp, GoesOn, ResumesThread, index_op, may_pause, new_thread_op};
@@ -10,7 +10,7 @@ use crate::call_tells::{asked, tell_call};
 use crate::instance::Instance;
 use machine_data::{Component, Op, Operand, ThreadOp};
 use ops_calls::{
-    Answer, ResumeThread, Step, SuspensionTarget, TaskError, ask_number, begin_nothing, go_on,
+    Answer, ResumeThread, Step, SuspensionTarget, TaskError, begin_nothing, go_on, host_op_number,
     resume_thread, suspension_op,
 };
 use task_group::TaskGroupHook;
@@ -24,11 +24,11 @@ impl Instance {
         store: &mut Store<T, H, G>,
     ) -> Result<u32, TaskError>
         requires running { IsRunningIn component.now store.old.state }
-        requires asks { CanAsk self.index store.old.state }
+        requires asks { MayDoHostOp self.index store.old.state }
         ensures does { DoesHostOp G.listens component.now index_op at_once number_answered store.old result store.new }
     {
         let before = asked(&store.state);
-        let answer = ask_number(
+        let answer = host_op_number(
             component,
             &mut store.state,
             Op::Thread(ThreadOp::Index { to: 0 }),
@@ -36,7 +36,7 @@ impl Instance {
         tell_call(&mut store.state, &mut store.listeners, &before, answer)
     }
 
-    /// Returns a thread more of the task, which isn't started, with the context in r0; answers its handle. Refused with trap 13 if
+    /// Makes a further thread of the task, which isn't started, with the context in r0, and answers its handle. Refused with trap 13 if
     /// the slot has no line, with trap 14 if it is a bad one, with trap 18 where its two entries don't fit into the table, and with
     /// trap 17 if no handle may be given, in this order. A slot above 255 is as 255.
     pub fn thread_new_indirect<T, H, G: TaskGroupHook>(
@@ -49,14 +49,14 @@ impl Instance {
     ) -> Result<u32, TaskError>
         requires running { IsRunningIn component.now store.old.state }
         requires few { given store.old.state.core < 2 ^ 61 }
-        requires asks { CanAsk self.index store.old.state }
+        requires asks { MayDoHostOp self.index store.old.state }
         requires caller { caller ≡ self.index }
         ensures does { DoesHostOp G.listens component.now (new_thread_op slot context) at_once number_answered store.old result store.new }
     {
         // only the contract speaks of `caller`
         let _caller = caller;
         let before = asked(&store.state);
-        let answer = ask_number(
+        let answer = host_op_number(
             component,
             &mut store.state,
             Op::Thread(ThreadOp::New {
@@ -81,7 +81,7 @@ impl Instance {
         target: SuspensionTarget,
     ) -> Result<Step<()>, TaskError>
         requires running { IsRunningIn component.now store.old.state }
-        requires asks { CanAsk self.index store.old.state }
+        requires asks { MayDoHostOp self.index store.old.state }
         requires caller { caller ≡ self.index }
         ensures does { DoesHostOp G.listens component.now (suspension_op yielding target) may_pause nothing_answered store.old result store.new }
     {
@@ -106,7 +106,7 @@ impl Instance {
         how: ResumeThread,
     ) -> Result<bool, TaskError>
         requires running { IsRunningIn component.now store.old.state }
-        requires asks { CanAsk self.index store.old.state }
+        requires asks { MayDoHostOp self.index store.old.state }
         requires caller { caller ≡ self.index }
         ensures does { ResumesThread G.listens component.now how thread store.old result store.new }
     {

@@ -144,8 +144,8 @@ impl<P: Words, R: FromWord> TypedFunc<P, R> {
         self.start_with(component, store, &params)
     }
 
-    /// Returns the result of a call that has returned; pending where it hasn't, and then nothing is changed. A call is finished
-    /// once.
+    /// Takes the result of a call that has returned. It is pending if the call hasn't, and then nothing is changed. A call is
+    /// finished once.
     pub fn finish_call_concurrent<T, H, G: TaskGroupHook>(
         &self,
         store: &mut Store<T, H, G>,

@@ -1,19 +1,19 @@
 //! Waitable sets, as an instance's calls change them.
 ghost use Rattle.std.specs.Prelude.{◌≡◌, ◌<◌, ◌^◌};
 ghost use Rattle.ops_calls.specs.OpAnswers.{at_once, event_answered, nothing_answered, number_answered};
-ghost use Rattle.ops_calls.specs.Asks.{CanAsk, IsRunningIn};
+ghost use Rattle.ops_calls.specs.HostOps.{MayDoHostOp, IsRunningIn};
 ghost use Rattle.ops_turns.specs.Turn.{given};
 ghost use Rattle.task_loop.specs.InstanceCalls.{DoesHostOp, drop_set_op, join_op, may_pause, new_set_op, poll_set_op, wait_set_op};
 
 use crate::call_tells::{asked, tell_call};
 use crate::instance::Instance;
 use machine_data::{Component, Op, Operand, SetOp};
-use ops_calls::{Step, TaskError, ask_event, ask_nothing, ask_number, begin_event};
+use ops_calls::{Step, TaskError, begin_event, host_op_event, host_op_nothing, host_op_number};
 use task_group::TaskGroupHook;
 use task_store::Store;
 
 impl Instance {
-    /// Returns a new set of the instance; answers its handle. Refused with trap 18 where its entry doesn't fit into the table, and
+    /// Makes a new set of the instance, and answers its handle. Refused with trap 18 where its entry doesn't fit into the table, and
     /// else with trap 17 if no handle may be given.
     pub fn waitable_set_new<T, H, G: TaskGroupHook>(
         self,
@@ -23,14 +23,14 @@ impl Instance {
     ) -> Result<u32, TaskError>
         requires running { IsRunningIn component.now store.old.state }
         requires few { given store.old.state.core < 2 ^ 61 }
-        requires asks { CanAsk self.index store.old.state }
+        requires asks { MayDoHostOp self.index store.old.state }
         requires caller { caller ≡ self.index }
         ensures does { DoesHostOp G.listens component.now new_set_op at_once number_answered store.old result store.new }
     {
         // only the contract speaks of `caller`
         let _caller = caller;
         let before = asked(&store.state);
-        let answer = ask_number(component, &mut store.state, Op::Set(SetOp::New { to: 0 }));
+        let answer = host_op_number(component, &mut store.state, Op::Set(SetOp::New { to: 0 }));
         tell_call(&mut store.state, &mut store.listeners, &before, answer)
     }
 
@@ -44,14 +44,14 @@ impl Instance {
         set: u32,
     ) -> Result<(), TaskError>
         requires running { IsRunningIn component.now store.old.state }
-        requires asks { CanAsk self.index store.old.state }
+        requires asks { MayDoHostOp self.index store.old.state }
         requires caller { caller ≡ self.index }
         ensures does { DoesHostOp G.listens component.now (drop_set_op set) at_once nothing_answered store.old result store.new }
     {
         // only the contract speaks of `caller`
         let _caller = caller;
         let before = asked(&store.state);
-        let answer = ask_nothing(
+        let answer = host_op_nothing(
             component,
             &mut store.state,
             Op::Set(SetOp::Drop {
@@ -61,8 +61,8 @@ impl Instance {
         tell_call(&mut store.state, &mut store.listeners, &before, answer)
     }
 
-    /// Returns the task event, else that of a ready member of the set (the least one, as `first_ready` of `core_places` picks it),
-    /// is taken: its code, handle and result; 0, 0, 0 where nothing is there. Refused with trap 16 if the handle names no set.
+    /// Takes the task event, else that of a ready member of the set (the least one, as `first_ready` of `core_places` picks it), and
+    /// answers its code, handle and result; 0, 0, 0 if nothing is there. Refused with trap 16 if the handle names no set.
     pub fn waitable_set_poll<T, H, G: TaskGroupHook>(
         self,
         component: &Component,
@@ -71,14 +71,14 @@ impl Instance {
         set: u32,
     ) -> Result<(u32, u32, u32), TaskError>
         requires running { IsRunningIn component.now store.old.state }
-        requires asks { CanAsk self.index store.old.state }
+        requires asks { MayDoHostOp self.index store.old.state }
         requires caller { caller ≡ self.index }
         ensures does { DoesHostOp G.listens component.now (poll_set_op set) at_once event_answered store.old result store.new }
     {
         // only the contract speaks of `caller`
         let _caller = caller;
         let before = asked(&store.state);
-        let answer = ask_event(
+        let answer = host_op_event(
             component,
             &mut store.state,
             Op::Set(SetOp::Poll {
@@ -99,7 +99,7 @@ impl Instance {
         set: u32,
     ) -> Result<Step<(u32, u32, u32)>, TaskError>
         requires running { IsRunningIn component.now store.old.state }
-        requires asks { CanAsk self.index store.old.state }
+        requires asks { MayDoHostOp self.index store.old.state }
         requires caller { caller ≡ self.index }
         ensures does { DoesHostOp G.listens component.now (wait_set_op set) may_pause event_answered store.old result store.new }
     {
@@ -129,14 +129,14 @@ impl Instance {
         set: u32,
     ) -> Result<(), TaskError>
         requires running { IsRunningIn component.now store.old.state }
-        requires asks { CanAsk self.index store.old.state }
+        requires asks { MayDoHostOp self.index store.old.state }
         requires caller { caller ≡ self.index }
         ensures does { DoesHostOp G.listens component.now (join_op waitable set) at_once nothing_answered store.old result store.new }
     {
         // only the contract speaks of `caller`
         let _caller = caller;
         let before = asked(&store.state);
-        let answer = ask_nothing(
+        let answer = host_op_nothing(
             component,
             &mut store.state,
             Op::Set(SetOp::Join {

@@ -10,7 +10,7 @@ use Rattle.task_nursery.specs.declared.children.Kept.{Kept}
 use Rattle.task_nursery.specs.declared.children.Kept.TheVariants as kept
 use Rattle.ops_turns.specs.Later.{WorksLast}
 use Rattle.core_primitives.specs.StateView.{StateView, on_core}
-use Rattle.task_nursery.proofs.LastLemmas.{abort_last, finish_last}
+use Rattle.task_loop.proofs.LastLemmas.{abort_last, finish_last, one_more}
 use Rattle.task_nursery.proofs.NumberLemmas.{numbered_from}
 use Rattle.ops_turns.proofs.LaterLemmas.{last_same}
 
@@ -34,12 +34,6 @@ ended_is_no_call s kept.Ended = refl
 
 pub are_later : (ks : List Kept) (s t : StateView) → WorksLast s t → AreOf ks s → AreOf ks t
 are_later ks s t last are i k at = was_later k s t last (are i k at)
-
-one_more : {A : Type 0} (xs : List A) (x y : A) (i : ℕ) → slice_get (xs ++ x ∷ []) i ≡ Some y → (slice_get xs i ≡ Some y) ⊎ (x ≡ y)
-one_more [] x y zero at = inr (cc)
-one_more [] x y (suc i) at = absurd (cc)
-one_more (z ∷ zs) x y zero at = inl at
-one_more (z ∷ zs) x y (suc i) at = one_more zs x y i at
 
 pub are_more : (ks : List Kept) (k : Kept) (s t : StateView) → WorksLast s t → AreOf ks s → WasSpawned k t → AreOf (ks ++ k ∷ []) t
 are_more ks k s t last are was i q at =

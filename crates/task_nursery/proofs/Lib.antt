@@ -1,6 +1,5 @@
 pub mod GroupLemmas
 pub mod KeptLemmas
-pub mod LastLemmas
 pub mod NumberLemmas
 pub mod StartLemmas
 pub mod TallyLemmas

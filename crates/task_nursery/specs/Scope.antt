@@ -160,7 +160,7 @@ abbrev pub all_aborted : List Kept → Core → Core
 all_aborted [] s = s
 all_aborted (k ∷ ks) s = all_aborted ks (aborted_by k s)
 
--- the same of the children of these numbers
+-- this of the children of these numbers
 abbrev pub those_aborted : (ℕ → Option Kept) → List ℕ → Core → Core
 those_aborted at [] s = s
 those_aborted at (n ∷ ns) s = those_aborted at ns (aborted_at (at n) s)

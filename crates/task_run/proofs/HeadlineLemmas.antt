@@ -8,7 +8,7 @@ use Rattle.machine_data.specs.declared.scenario.ScenarioDef.{ScenarioDef}
 use Rattle.machine_data.specs.Core.{Core, State, Scripted, fresh}
 use Rattle.machine_rules.specs.History.{history}
 use Rattle.task_group.specs.Listeners.{Listeners, nobody}
-use Rattle.task_loop.proofs.HeedLemmas.{all_told}
+use Rattle.task_loop.proofs.AnswersOkLemmas.{all_told}
 use Rattle.task_loop.specs.AnswersOk.{AnswersOkAll}
 use Rattle.machine_rules.specs.Notices.{notices}
 use Rattle.machine_rules.specs.Once.{EndsOnce, OneHolder}

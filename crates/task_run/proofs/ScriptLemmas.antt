@@ -1,4 +1,4 @@
--- The steps of a main that is a script, by the rows of its ops.
+-- The steps of a main that is a script, by the rules of its ops.
 use Rattle.std.proofs.Common.{◌≡◌, ℕ, List, Option, Some, None, refl, sym, ap, subst, ◌∙◌}
 use Rattle.std.specs.Prelude.{slice_get}
 use Rattle.ops_guests.specs.Works.{KeepsWorks}

@@ -3,6 +3,7 @@ use Rattle.std.proofs.Common.{IfSome, ap, ap₂, inl, inr, refl, subst, sym, ⊎
 use Rattle.std.specs.Option.{unwrap_or}
 use Rattle.std.specs.Prelude.{[], Err, List, None, Ok, OnOk, IfOk, Option, Result, Some, map, slice_get, suc, zero, ℕ, ◌+◌, ◌++◌, ◌∷◌, ◌≡◌, ◌⊎◌}
 use Rattle.ops_calls.specs.MainCalls.{Starts}
+use Rattle.task_loop.proofs.LastLemmas.{one_more}
 use Rattle.ops_state.specs.declared.error.TaskError.{TaskError}
 use Rattle.machine_data.specs.Core.{Core, Main}
 use Rattle.machine_data.specs.Read.{phase_of}
@@ -13,7 +14,7 @@ use Rattle.machine_data.specs.declared.label.MainLabel.TheVariants as main_label
 use Rattle.machine_data.specs.declared.records.Turn.TheVariants as turn
 use Rattle.machine_data.specs.declared.scenario.MainOpDef.{MainOpDef}
 use Rattle.machine_data.specs.declared.trap.Trap.{Trap}
-use Rattle.machine_data.specs.declared.words.Phase.{Phase}
+use Rattle.machine_data.specs.declared.statuses.Phase.{Phase}
 use Rattle.ops_guests.specs.Works.{KeepsWorks}
 use Rattle.machine_rules.specs.MainOps.{Does, main_aborted}
 use Rattle.machine_rules.specs.Step.{Step}
@@ -26,6 +27,7 @@ use Rattle.task_store.specs.declared.spawn.SpawnHandle.{SpawnHandle}
 use Rattle.ops_turns.proofs.LaterLemmas.{last_by_core, last_by_step}
 use Rattle.ops_turns.specs.Later.{WorksLast}
 use Rattle.ops_turns.specs.Main.{Steps, main_setting}
+use Rattle.ops_turns.specs.Turn.{CoreInOrder}
 use Rattle.ops_turns.specs.declared.mains.MainStep.{MainStep}
 use Rattle.ops_turns.specs.declared.mains.MainStep.TheVariants as step
 use Rattle.core_primitives.specs.StateView.{StateView}
@@ -49,19 +51,19 @@ spawn_known m s k (Some h) is knows = knows k h (sym is)
 
 -- ---- What main knows
 
-steps_last : (c : Component) (ops : List MainOpDef) (m n : Main) (s t : StateView) (r : MainStep) → Steps c ops m s.core r n t.core → KeepsWorks s t → WorksLast s t
+steps_last : (c : Component) (ops : List MainOpDef) (m n : Main) (s t : StateView) (r : MainStep) → CoreInOrder c turn.Main s.core → Steps c ops m s.core r n t.core → KeepsWorks s t → WorksLast s t
 unfolding Step
-steps_last c ops m n s t (step.Did l) h names = last_by_step (main_setting c ops) turn.Main turn.Main m n l s t h.step names
-steps_last c ops m n s t step.Pends h names = last_by_core s t h.core names
-steps_last c ops m n s t (step.Answer v) h names = last_by_core s t h.core names
+steps_last c ops m n s t (step.Did l) sits h names = last_by_step (main_setting c ops) turn.Main turn.Main m n l s t sits h.step names
+steps_last c ops m n s t step.Pends sits h names = last_by_core s t h.core names
+steps_last c ops m n s t (step.Answer v) sits h names = last_by_core s t h.core names
 
-pub knows_still : (c : Component) (ops : List MainOpDef) (m n : ScriptMain) (s t : StateView) (r : MainStep) → n.spawns ≡ m.spawns → Steps c ops (part_of m) s.core r (part_of n) t.core → KeepsWorks s t → KnowsSpawns m s → KnowsSpawns n t
-knows_still c ops m n s t r same steps names knows k h at =
-    knows_later m s t (steps_last c ops (part_of m) (part_of n) s t r steps names) knows k h (sym (ap (λ v. slice_get v.items k) same) ∙ at)
+pub knows_still : (c : Component) (ops : List MainOpDef) (m n : ScriptMain) (s t : StateView) (r : MainStep) → n.spawns ≡ m.spawns → CoreInOrder c turn.Main s.core → Steps c ops (part_of m) s.core r (part_of n) t.core → KeepsWorks s t → KnowsSpawns m s → KnowsSpawns n t
+knows_still c ops m n s t r same sits steps names knows k h at =
+    knows_later m s t (steps_last c ops (part_of m) (part_of n) s t r sits steps names) knows k h (sym (ap (λ v. slice_get v.items k) same) ∙ at)
 
-pub knows_result : (c : Component) (ops : List MainOpDef) (m n : ScriptMain) (s t : StateView) (r : Result MainStep TaskError) → n.spawns ≡ m.spawns → IfOk r (λ q. Steps c ops (part_of m) s.core q (part_of n) t.core) → KeepsWorks s t → KnowsSpawns m s → OnOk r (KnowsSpawns n t)
-knows_result c ops m n s t (Ok q) same steps names knows = knows_still c ops m n s t q same steps names knows
-knows_result c ops m n s t (Err e) same steps names knows = tt
+pub knows_result : (c : Component) (ops : List MainOpDef) (m n : ScriptMain) (s t : StateView) (r : Result MainStep TaskError) → n.spawns ≡ m.spawns → CoreInOrder c turn.Main s.core → IfOk r (λ q. Steps c ops (part_of m) s.core q (part_of n) t.core) → KeepsWorks s t → KnowsSpawns m s → OnOk r (KnowsSpawns n t)
+knows_result c ops m n s t (Ok q) same sits steps names knows = knows_still c ops m n s t q same sits steps names knows
+knows_result c ops m n s t (Err e) same sits steps names knows = tt
 
 -- ---- Ids over calls by the host
 
@@ -72,16 +74,10 @@ start_names c e words s t None (Err why) h id live = h.1.tags.works id live
 
 -- ---- A spawn
 
-one_more : (xs : List SpawnHandle) (h g : SpawnHandle) (k : ℕ) → slice_get (xs ++ h ∷ []) k ≡ Some g → (slice_get xs k ≡ Some g) ⊎ (h ≡ g)
-one_more [] h g zero at = inr (cc)
-one_more [] h g (suc k) at = absurd (cc)
-one_more (x ∷ xs) h g zero at = inl at
-one_more (x ∷ xs) h g (suc k) at = one_more xs h g k at
-
 -- the work that was spawned is known, as the others are
 pub knows_more : (c : Component) (ops : List MainOpDef) (a b : Main) (l : Label) (m n : ScriptMain) (s t : StateView) (h : SpawnHandle) → n.spawns.items ≡ m.spawns.items ++ h ∷ [] →
-    IsSpawnedIn h t → Steps c ops a s.core (step.Did l) b t.core → KeepsWorks s t → KnowsSpawns m s → KnowsSpawns n t
-knows_more c ops a b l m n s t h grown spawned steps names knows k g at =
-    ⊎_elim (λ old. knows_later m s t (steps_last c ops a b s t (step.Did l) steps names) knows k g old)
+    IsSpawnedIn h t → CoreInOrder c turn.Main s.core → Steps c ops a s.core (step.Did l) b t.core → KeepsWorks s t → KnowsSpawns m s → KnowsSpawns n t
+knows_more c ops a b l m n s t h grown spawned sits steps names knows k g at =
+    ⊎_elim (λ old. knows_later m s t (steps_last c ops a b s t (step.Did l) sits steps names) knows k g old)
     (λ same. subst (λ (q : SpawnHandle). IsSpawnedIn q t) same spawned)
     (one_more m.spawns.items h g k (sym (ap (λ (xs : List SpawnHandle). slice_get xs k) grown) ∙ at))

@@ -28,4 +28,4 @@ pub script_stepped : {T H G : Type 0} (course : H → HostDef) (c : Component) (
     n.ops ≡ m.ops → n.spawns ≡ m.spawns → t.listeners ≡ s.listeners → t.state.tags.tracked ≡ s.state.tags.tracked → Steps c (script_of m) (part_of m) s.state.core q (part_of n) t.state.core → is_start (label_of_step q) ≡ false →
     running_of t.state ≡ running_of s.state → KeepsWorks s.state t.state → HoldsHosts course t → HasStepResult script_says course c q m s n t
 script_stepped course c m s may q n t ops spawns same known steps quiet idle names works =
-    stepped_quietly script_says course c q m s n t same known steps quiet may.asked idle tt (suits_still c m n ops may.suits) (knows_still c (script_of m) m n s.state t.state q spawns steps names may.knows) works
+    stepped_quietly script_says course c q m s n t same known steps quiet may.asked idle tt (suits_still c m n ops may.suits) (knows_still c (script_of m) m n s.state t.state q spawns may.order steps names may.knows) works

@@ -1,6 +1,6 @@
 ghost use Rattle.std.specs.Prelude.{◌≡◌, ◌+◌, ◌<◌, ◌^◌, ◌-◌, ◌++◌, ◌∷◌, [], length, option_copied, IfOk, IfSome, None, OnOk, Some, slice_get, slice_set};
 ghost use Rattle.task_loop.specs.HasRun.{HasStepResult, MayStep, StepsTo};
-ghost use Rattle.task_loop.specs.Standing.{standing};
+ghost use Rattle.task_loop.specs.Constants.{constants};
 ghost use Rattle.machine_data.specs.Read.{phase_of};
 ghost use Rattle.machine_rules.specs.MainOps.{is_complete, is_ready_for_call, main_aborted, spawned_at, started_at};
 ghost use Rattle.machine_rules.specs.Run.{main_opening};
@@ -64,6 +64,7 @@ impl<'a> ScriptMain<'a> {
         requires few { length self.now.ops.now < 2 ^ 32 }
         ensures { result ≡ length self.now.starts.items + 1 }
     {
+        // read so that the proof knows the invariant of `self`
         let _before = self.at;
         self.starts.len() as u32 + 1
     }
@@ -99,6 +100,7 @@ impl<'a> ScriptMain<'a> {
         requires few { length self.now.ops.now < 2 ^ 32 }
         ensures { result ≡ length self.now.spawns.items + 1 }
     {
+        // read so that the proof knows the invariant of `self`
         let _before = self.at;
         self.spawns.len() as u32 + 1
     }
@@ -164,7 +166,7 @@ fn make_start<T, H: HostWork, G: TaskGroupHook>(
     requires may { MayStep script_says H.course component.now main.old access.old.store.now }
     requires op { slice_get main.old.ops.now main.old.at ≡ Some (main_op.Start func params.now) }
     ensures same { access.new.store.ghost_name ≡ access.old.store.ghost_name }
-    ensures stands { standing access.new.store.now ≡ standing access.old.store.now }
+    ensures stands { constants access.new.store.now ≡ constants access.old.store.now }
     ensures ops { main.new.ops ≡ main.old.ops }
     ensures steps { StepsTo script_says H.course component.now result main.old access.old.store.now main.new access.new.store.now }
 {
@@ -201,7 +203,7 @@ fn finish_call<T, H: HostWork, G: TaskGroupHook>(
     requires may { MayStep script_says H.course component.now main.old access.old.store.now }
     requires op { slice_get main.old.ops.now main.old.at ≡ Some (main_op.Finish start register) }
     ensures same { access.new.store.ghost_name ≡ access.old.store.ghost_name }
-    ensures stands { standing access.new.store.now ≡ standing access.old.store.now }
+    ensures stands { constants access.new.store.now ≡ constants access.old.store.now }
     ensures ops { main.new.ops ≡ main.old.ops }
     ensures steps { StepsTo script_says H.course component.now result main.old access.old.store.now main.new access.new.store.now }
 {
@@ -242,7 +244,7 @@ fn spawn_work<T, H: AccessorTask<T> + FromHost, G: TaskGroupHook>(
     requires may { MayStep script_says H.course component.now main.old access.old.store.now }
     requires op { slice_get main.old.ops.now main.old.at ≡ Some (main_op.Spawn host) }
     ensures same { access.new.store.ghost_name ≡ access.old.store.ghost_name }
-    ensures stands { standing access.new.store.now ≡ standing access.old.store.now }
+    ensures stands { constants access.new.store.now ≡ constants access.old.store.now }
     ensures ops { main.new.ops ≡ main.old.ops }
     ensures steps { StepsTo script_says H.course component.now result main.old access.old.store.now main.new access.new.store.now }
 {
@@ -288,7 +290,7 @@ fn abort_work<T, H: HostWork, G: TaskGroupHook>(
     requires may { MayStep script_says H.course component.now main.old access.old.store.now }
     requires op { slice_get main.old.ops.now main.old.at ≡ Some (main_op.Abort spawn) }
     ensures same { access.new.store.ghost_name ≡ access.old.store.ghost_name }
-    ensures stands { standing access.new.store.now ≡ standing access.old.store.now }
+    ensures stands { constants access.new.store.now ≡ constants access.old.store.now }
     ensures ops { main.new.ops ≡ main.old.ops }
     ensures step { HasStepResult script_says H.course component.now result main.old access.old.store.now main.new access.new.store.now }
 {
@@ -331,7 +333,7 @@ fn await_work<T, H: HostWork, G: TaskGroupHook>(
     requires may { MayStep script_says H.course component.now main.old access.old.store.now }
     requires op { slice_get main.old.ops.now main.old.at ≡ Some (main_op.Await spawn) }
     ensures same { access.new.store.ghost_name ≡ access.old.store.ghost_name }
-    ensures stands { standing access.new.store.now ≡ standing access.old.store.now }
+    ensures stands { constants access.new.store.now ≡ constants access.old.store.now }
     ensures ops { main.new.ops ≡ main.old.ops }
     ensures step { HasStepResult script_says H.course component.now result main.old access.old.store.now main.new access.new.store.now }
 {

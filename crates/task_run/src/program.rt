@@ -168,7 +168,7 @@ fn write_report<K: Sink>(alloc: Global, sink: &mut K, report: &Report) -> Result
     let mut labels = report.trace.labels();
     'pages: while page.fill(&mut labels) {
         write(sink, page.full())?;
-        page.turn();
+        page.take_full();
     }
     page.add_outcome(report.outcome);
     write(sink, page.as_slice())

@@ -8,8 +8,8 @@ use Rattle.laws_order.specs.Cells.{IsInside, Runs, RunsWorks, SpawnedNothing, St
 use Rattle.store_works.specs.Course.{MayTell}
 use Rattle.store_works.specs.KeptWorks.{Found, HeldWork, HoldsNone, MayAnswer, after_abort, after_poll, found_phase, held}
 use Rattle.store_works.specs.declared.kept.HostWorks.{HostWorks}
-use Rattle.machine_data.specs.declared.words.HostPoll.{HostPoll}
-use Rattle.machine_data.specs.declared.words.HostPoll.TheVariants as host_poll
+use Rattle.machine_data.specs.declared.statuses.HostPoll.{HostPoll}
+use Rattle.machine_data.specs.declared.statuses.HostPoll.TheVariants as host_poll
 use Rattle.laws_states.proofs.CourseLemmas.{courses_stay, works_are_called}
 use Rattle.laws_states.specs.Courses.{CoursesStay, MakesWork, SameCourse, WorksAreCalled}
 use Rattle.laws_states.specs.Order.{InOrder}
@@ -34,8 +34,8 @@ use Rattle.machine_data.specs.declared.records.Turn.TheVariants as turn
 use Rattle.machine_data.specs.declared.records.Work.{Work}
 use Rattle.machine_data.specs.declared.records.WorkCaller.{WorkCaller}
 use Rattle.machine_data.specs.declared.records.WorkCaller.TheVariants as callers
-use Rattle.machine_data.specs.declared.words.Phase.{Phase}
-use Rattle.machine_data.specs.declared.words.Phase.TheVariants as phases
+use Rattle.machine_data.specs.declared.statuses.Phase.{Phase}
+use Rattle.machine_data.specs.declared.statuses.Phase.TheVariants as phases
 use Rattle.ops_guests.specs.PolledWorks.{PolledTo, TellsPoll}
 use Rattle.ops_guests.specs.declared.work_ops.PollNews.{PollNews}
 use Rattle.machine_rules.specs.Calls.{new_work, work_queued}

@@ -1,4 +1,4 @@
--- The end of a task that still lends something.
+-- The end of a task that still holds borrows.
 use Rattle.ops_state.specs.declared.error.TaskError.{TaskError}
 use Rattle.ops_state.specs.declared.error.TaskError.TheVariants as task_error
 use Rattle.std.specs.Option.{option_map_or}
@@ -26,7 +26,7 @@ ends_by_cancel n s = cancel_was_delivered (task_of n s) s && not (has_ended (tas
 abbrev pub ends_by_exit : ℕ → Core → Bool
 ends_by_exit n s = is_sync (kind_of (task_of n s) s) || passes_check (instance_of n s) s
 
--- such an end of a task that still lends something
+-- such an end of a task that still holds borrows
 abbrev pub return_holds_borrows : ℕ → (own_type : Bool) → Core → Bool
 return_holds_borrows n own s = ends_by_return n own s && holds_borrows (task_of n s) s
 
@@ -40,7 +40,7 @@ exit_holds_borrows n s = ends_by_exit n s && holds_borrows (task_of n s) s
 abbrev pub Comes : Type 1
 Comes = StateView → Result (Unit {0}) TaskError → StateView → Type 0
 
--- where the task still lends, the end is refused with trap 19, and nothing is changed; else this comes of it
-abbrev pub UnlessLent : Bool → Comes → Comes
-UnlessLent true comes s r t = (r ≡ Err (task_error.Trap trap.ScopeExit)) × (t ≡ s)
-UnlessLent false comes s r t = comes s r t
+-- where the task still holds borrows, the end is refused with trap 19, and nothing is changed; else this comes of it
+abbrev pub UnlessBorrowed : Bool → Comes → Comes
+UnlessBorrowed true comes s r t = (r ≡ Err (task_error.Trap trap.ScopeExit)) × (t ≡ s)
+UnlessBorrowed false comes s r t = comes s r t

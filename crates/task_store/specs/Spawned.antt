@@ -1,23 +1,23 @@
 -- The works that a host spawns.
 use Rattle.futures.specs.declared.task.Poll.{Poll}
 use Rattle.futures.specs.declared.task.Poll.TheVariants as polls
-use Rattle.std.proofs.Common.{inl, inr, le_trans, subst, sym, ⊎_elim, ◌∙◌}
-use Rattle.std.specs.Prelude.{◌≡◌, ◌<◌, ◌≤◌, ◌⊎◌, ℕ, None}
+use Rattle.std.proofs.Common.{ap, subst, sym, ⊎_elim, ◌∙◌}
+use Rattle.std.specs.Option.{option_map_or}
+use Rattle.std.specs.Prelude.{◌≡◌, ◌<◌, ℕ, Bool, None, Option, false, true}
 use Rattle.machine_data.specs.Maps.{get}
-use Rattle.machine_data.specs.Read.{work_caller_of}
-use Rattle.machine_data.specs.declared.records.WorkCaller.TheVariants as callers
-use Rattle.machine_data.specs.declared.words.Phase.{Phase}
-use Rattle.machine_data.specs.declared.words.Phase.TheVariants as phases
+use Rattle.machine_data.specs.declared.records.Work.{Work}
+use Rattle.machine_data.specs.declared.statuses.Phase.{Phase}
+use Rattle.machine_data.specs.declared.statuses.Phase.TheVariants as phases
+use Rattle.machine_rules.specs.MainOps.{is_spawn, is_spawn_caller}
 use Rattle.task_store.specs.declared.spawn.SpawnHandle.{SpawnHandle}
 use Rattle.ops_turns.specs.Later.{WorksLast}
 use Rattle.core_primitives.specs.StateView.{StateView, work_of}
 
--- The spawn was made in the state: its number is that of a spawned work, and its id names that, or it is gone.
+-- The spawn was made in the state: its number is that of a spawned work, which is there, and which its id names.
 pub record IsSpawnedIn (h : SpawnHandle) (s : StateView) : Type 0 where
   pub some : 0 < h.number
-  pub made : h.number ≤ s.core.made.works
-  pub caller : work_caller_of h.number s.core ≡ callers.Spawn
-  pub named : (work_of s h.work ≡ h.number) ⊎ (get s.core.works h.number ≡ None)
+  pub there : is_spawn h.number s.core ≡ true
+  pub named : work_of s h.work ≡ h.number
 
 -- what a poll of a spawn answers
 abbrev pub poll_of_phase : Phase → Poll (Unit {0})
@@ -28,12 +28,16 @@ poll_of_phase _ = polls.Pending
 pub spawned_later : (h : SpawnHandle) (s t : StateView) → WorksLast s t → IsSpawnedIn h s → IsSpawnedIn h t
 spawned_later h s t last q = record {
   some = q.some;
-  made = le_trans q.made last.made;
-  caller = last.callers h.number q.made q.caller;
-  named = ⊎_elim by_name (λ none. inr (last.gone h.number q.made none)) q.named;
+  there = last.spawns h.number q.there;
+  named = ⊎_elim (λ same. same ∙ q.named) (λ gone. absurd (lost gone)) (last.names h.work (subst (λ (i : ℕ). 0 < i) (sym q.named) q.some));
 }
   where
-    by_name : work_of s h.work ≡ h.number → (work_of t h.work ≡ h.number) ⊎ (get t.core.works h.number ≡ None)
-    by_name is =
-        let live : 0 < work_of s h.work = subst (λ (i : ℕ). 0 < i) (sym is) q.some in
-        ⊎_elim (λ same. inl (same ∙ is)) (λ gone. inr (subst (λ (i : ℕ). get t.core.works i ≡ None) is gone)) (last.names h.work live)
+    is_false : Bool → Type 0
+    is_false false = Unit {0}
+    is_false true = ⊥
+
+    lost : get t.core.works (work_of s h.work) ≡ None → ⊥
+    lost gone =
+        let none : get t.core.works h.number ≡ None = subst (λ (i : ℕ). get t.core.works i ≡ None) q.named gone in
+        let there : false ≡ true = ap (λ (o : Option Work). option_map_or (λ (w : Work). is_spawn_caller w.caller) o false) (sym none) ∙ last.spawns h.number q.there in
+        subst is_false there tt

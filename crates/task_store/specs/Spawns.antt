@@ -41,7 +41,7 @@ module _ {T H G : Type 0} (course : H → HostDef) (work : H) where
     pub err : OnErr result (t.state ≡ s.state)
 
 module _ {T H : Type 0} (course : H → HostDef) (work : H) where
-  -- the same in the store of a slot; where that has none, or it is taken, the work comes back
+  -- a spawn in the store of a slot; where that has none, or it is taken, the work comes back
   abbrev pub SpawnsIn : Held T H → Result SpawnHandle (SpawnError H) → Held T H → Type 0
   SpawnsIn helds.Absent result new = (result ≡ Err (refusals.Slot errors.Absent work)) × (new ≡ helds.Absent)
   SpawnsIn helds.Taken result new = (result ≡ Err (refusals.Slot errors.Taken work)) × (new ≡ helds.Taken)

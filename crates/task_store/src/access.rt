@@ -51,7 +51,7 @@ pub struct Access<'a, T, P, H, G: TaskGroupHook = NoHook> {
 }
 
 impl<'a, T, P, H, G: TaskGroupHook> Access<'a, T, P, H, G> {
-    /// Access to the store.
+    /// Makes an access to the store.
     pub fn new(store: &'a mut Store<T, H, G>) -> Self
         ensures { result.store ≡ store.entry }
     {

@@ -7,7 +7,7 @@ use core_state::{Scope, TaskCore};
 use machine_data::ExportKind;
 use ops_moves::passes_check;
 
-// Whether the call lends something.
+// Whether the call holds borrows.
 fn holds_borrows(core: &TaskCore, call: CallId) -> bool
     ensures { result ≡ holds_borrows (call_of core.now call) core.now.core }
 {
@@ -17,7 +17,7 @@ fn holds_borrows(core: &TaskCore, call: CallId) -> bool
     }
 }
 
-/// Returns whether the thread's task still lends something and would end by a return, of its own type or not: neither trap 1 nor
+/// Returns whether the thread's task still holds borrows and would end by a return, of its own type or not: neither trap 1 nor
 /// trap 3 comes before that.
 pub fn return_holds_borrows(core: &TaskCore, thread: ThreadId, own_type: bool) -> bool
     ensures { result ≡ return_holds_borrows (thread_of core.now thread) own_type core.now.core }
@@ -30,7 +30,7 @@ pub fn return_holds_borrows(core: &TaskCore, thread: ThreadId, own_type: bool) -
     lifted && holds_borrows(core, call)
 }
 
-/// Returns whether it still lends something and would end by its answer to a cancel: neither trap 2 nor trap 1 comes before.
+/// Returns whether it still holds borrows and would end by its answer to a cancel: neither trap 2 nor trap 1 comes before.
 pub fn cancel_holds_borrows(core: &TaskCore, thread: ThreadId) -> bool
     ensures { result ≡ cancel_holds_borrows (thread_of core.now thread) core.now.core }
 {
@@ -41,7 +41,7 @@ pub fn cancel_holds_borrows(core: &TaskCore, thread: ThreadId) -> bool
     holds_borrows(core, call)
 }
 
-/// Returns whether the direct call whose first thread it is still lends something and would end by its exit: trap 9 isn't before
+/// Returns whether the direct call whose first thread it is still holds borrows and would end by its exit: trap 9 isn't before
 /// that.
 pub fn exit_holds_borrows(core: &TaskCore, thread: ThreadId) -> bool
     ensures { result ≡ exit_holds_borrows (thread_of core.now thread) core.now.core }

@@ -1,6 +1,5 @@
 //! Works that a host spawns: they run beside its calls, and can be aborted and waited for.
-ghost use Rattle.std.specs.Prelude.{◌≡◌, IfNone, IfSome, None};
-ghost use Rattle.machine_data.specs.Maps.{get};
+ghost use Rattle.std.specs.Prelude.{◌≡◌};
 ghost use Rattle.machine_data.specs.Read.{phase_of};
 ghost use Rattle.machine_data.specs.declared.component.Component.{Component};
 ghost use Rattle.machine_data.specs.declared.records.Turn.{Turn};
@@ -9,7 +8,7 @@ ghost use Rattle.machine_rules.specs.MainOps.{main_aborted};
 ghost use Rattle.task_store.specs.Hosts.{HoldsHosts};
 ghost use Rattle.task_store.specs.Spawned.{IsSpawnedIn, poll_of_phase};
 ghost use Rattle.ops_turns.specs.Turn.{CoreInOrder};
-ghost use Rattle.core_primitives.specs.StateView.{on_core, work_of};
+ghost use Rattle.core_primitives.specs.StateView.{on_core};
 
 use crate::store::Store;
 use core_primitives::{WorkId, WorkPrimitives};
@@ -43,19 +42,6 @@ impl SpawnHandle {
         self.number
     }
 
-    // The id of the work, none if it is gone.
-    fn work<T, H, G: TaskGroupHook>(&self, store: &Store<T, H, G>) -> Option<WorkId>
-        requires { IsSpawnedIn self.now store.now.state }
-        ensures some { IfSome result (λ id. work_of store.now.state id ≡ self.now.number) }
-        ensures none { IfNone result (get store.now.state.core.works self.now.number ≡ None) }
-    {
-        if store.state.work_number(self.work) == self.number {
-            Some(self.work)
-        } else {
-            None
-        }
-    }
-
     /// Asks that the work end, and answers the phase that it found: `Running` becomes
     /// `AbortRequested`, and the others stay. The work ends when its next poll is due, without a
     /// value, and isn't polled again. A core in order stays so, whosever turn it is.
@@ -67,11 +53,8 @@ impl SpawnHandle {
         ensures phase { result ≡ phase_of self.now.number store.old.state.core }
         ensures state { store.new ≡ record store.old { works = store.new.works; state = on_core (main_aborted self.now.number) store.old.state } }
     {
-        let Some(work) = self.work(store) else {
-            return Phase::Complete;
-        };
         let phase = store.works.abort(self.number);
-        store.state.set_phase(work, after_abort(phase));
+        store.state.set_phase(self.work, after_abort(phase));
         phase
     }
 

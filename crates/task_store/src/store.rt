@@ -50,7 +50,7 @@ pub fn finish_ended<G: TaskGroupHook>(
     told
 }
 
-/// A run that rests on a store. Only `Store::begin_run` makes one.
+/// A run that is active on a store. Only `Store::begin_run` makes one.
 #[derive(Drop)]
 pub struct ActiveRun {
     begun: (),

@@ -10,6 +10,6 @@ module _ (E : RattleType) (t : MutBor (Table E.Denot)) (rep : ℕ) where
   abbrev pub lends_entry : MutBor E.Denot → Fml
   lends_entry r = Lends (the_row E) E t r (λ entry. with_entry rep entry t.now)
 
-  -- the same through an item of a kind, and after a refusal the table stays as it was
+  -- once the borrow ends, the entry at the place is of the last item written through it, and after a refusal the table stays as it was
   abbrev pub lends_item : (I : RattleType) → (I.Denot → E.Denot) → {Error : Type 0} → Result (MutBor I.Denot) Error → Fml
   lends_item I entry_of r = LendsIfOk (the_row E) I t r (λ item. with_entry rep (entry_of item) t.now) t.now

@@ -27,7 +27,7 @@ module _ {E Item : Type 0} where
   abbrev pub item_at : (E → Option Item) → Table E → ℕ → ℕ → Result Item ResourceTableError
   item_at item_of t rep serial = item_in item_of (found t rep serial)
 
-  -- the same, then `HasChildren` where children are left
+  -- the item of the entry with this place and serial, but `HasChildren` where children are left
   abbrev pub deletion : (E → Option Item) → Table E → ℕ → ℕ → Result Item ResourceTableError
   deletion item_of t rep serial = unless_children (children_of t rep) (item_at item_of t rep serial)
 

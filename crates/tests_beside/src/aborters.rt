@@ -99,7 +99,7 @@ fn each_abort_of_a_line_is_in_the_log_once(rt: HostRuntime) {
     }
 }
 
-/// Which of two aborters has come to its first abort, and whether one has waited too long for the other.
+/// Which of two aborters has reached its first abort, and whether one has waited too long for the other.
 #[derive(Drop)]
 struct Meeting {
     first: CachePadded<AtomicBool>,
@@ -134,7 +134,7 @@ impl Gate for Meeting {
     fn pends(&self, _number: u32) {}
 }
 
-// Whether both aborters came to their first aborts before either had made one.
+// Whether both aborters reached their first aborts before either had made one.
 fn both_meet<R: Threads + Sync>(rt: &R, alloc: Global) -> Result<bool, NoMemory> {
     let meeting = Meeting {
         first: CachePadded::new(AtomicBool::new(false)),

@@ -24,13 +24,13 @@ use Rattle.machine_data.specs.declared.records.Turn.TheVariants as turn
 use Rattle.machine_data.specs.declared.records.Turn.{Turn}
 use Rattle.machine_data.specs.declared.records.Why.{Why}
 use Rattle.machine_data.specs.declared.records.Work.{Work}
-use Rattle.machine_data.specs.declared.words.Status.TheVariants as status
-use Rattle.machine_data.specs.declared.words.Status.{Status}
+use Rattle.machine_data.specs.declared.statuses.Status.TheVariants as status
+use Rattle.machine_data.specs.declared.statuses.Status.{Status}
 use Rattle.ops_moves.specs.Idle.{IsJoinThere}
 use Rattle.machine_rules.specs.Outcome.{is_at_rest, last_outcome, open_outcome, or_open, outcome_of}
 use Rattle.machine_rules.specs.Places.{Placed}
 use Rattle.machine_rules.specs.Stalled.{Setting, is_idle, is_stalled, is_unended_take}
-use Rattle.machine_rules.specs.Words.{status_of_end}
+use Rattle.machine_rules.specs.Primitives.{status_of_end}
 use Rattle.core_records.specs.Seen.{nothing}
 use Rattle.task_store.proofs.FreshLemmas.{fresh_more, size_fresh}
 use Rattle.ops_turns.proofs.FreshLemmas.{given_fresh}

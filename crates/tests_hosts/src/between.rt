@@ -48,8 +48,8 @@ fn begins_and_runs(store: &mut Watched<'_>) -> Begun
     }
 }
 
-// A hook that fails at this notice lets it come to this, and is told just that.
-fn comes_to(rt: &impl Abort, alloc: Global, fails: u64, want: Begun, wanted: u64) {
+// A hook that fails at this notice lets it result in this, and is told just that.
+fn results_in(rt: &impl Abort, alloc: Global, fails: u64, want: Begun, wanted: u64) {
     let told = Cell::new(0);
     let mut store = watched(rt, alloc, &told, 100, fails);
     let begun = begins_and_runs(&mut store);
@@ -58,7 +58,7 @@ fn comes_to(rt: &impl Abort, alloc: Global, fails: u64, want: Begun, wanted: u64
 
 #[test]
 fn a_hook_may_refuse_a_task_and_its_turn(rt: HostRuntime) {
-    comes_to(&rt, rt.alloc(), 0, Begun::Runs, 11_21);
-    comes_to(&rt, rt.alloc(), START + 1, Begun::NotMade, 11);
-    comes_to(&rt, rt.alloc(), ENTER + 1, Begun::NotRun, 11_21);
+    results_in(&rt, rt.alloc(), 0, Begun::Runs, 11_21);
+    results_in(&rt, rt.alloc(), START + 1, Begun::NotMade, 11);
+    results_in(&rt, rt.alloc(), ENTER + 1, Begun::NotRun, 11_21);
 }

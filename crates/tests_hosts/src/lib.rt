@@ -1,10 +1,8 @@
-//! Tests of what a host hands in and holds: stores with a hook, small values, and hosts without proofs.
+//! Tests of what a host hands in and holds: stores with a hook, and small values.
 #![tactic(auto)]
 
 #[cfg(test)]
 mod answers;
-#[cfg(test)]
-mod asks;
 #[cfg(test)]
 mod between;
 #[cfg(test)]
@@ -15,8 +13,6 @@ mod crosses;
 mod driven;
 #[cfg(test)]
 mod midway;
-#[cfg(test)]
-mod opens;
 #[cfg(test)]
 mod refused;
 #[cfg(test)]

@@ -3,7 +3,7 @@ ghost use Rattle.store_works.specs.KeptWorks.{HoldsNone};
 ghost use Rattle.std.specs.Prelude.{◌≡◌, [], IfSome, IsSome, None, Some, false, length, true};
 ghost use Rattle.ops_state.specs.Ends.{MayEnd};
 ghost use Rattle.ops_state.specs.Named.{IsLive};
-ghost use Rattle.ops_calls.specs.Asks.{CanAsk, IsRunningIn};
+ghost use Rattle.ops_calls.specs.HostOps.{MayDoHostOp, IsRunningIn};
 ghost use Rattle.machine_data.specs.Core.{fresh};
 ghost use Rattle.machine_data.specs.Read.{callers_of, place_of, under_of};
 ghost use Rattle.machine_data.specs.declared.records.Place.TheVariants as places;
@@ -73,7 +73,7 @@ fn drive(rt: &impl Abort, alloc: Global, scenario: &Scenario, store: &mut Watche
 // A thread of the instance runs, and no op of it is under way.
 fn is_asking(store: &Watched<'_>, instance: Instance) -> bool
     ensures runs { result ≡ true → IsSome (running_of store.now.state) }
-    ensures fresh { result ≡ true → CanAsk instance.index store.now.state }
+    ensures fresh { result ≡ true → MayDoHostOp instance.index store.now.state }
 {
     let Some(thread) = store.state.current() else {
         return false;
@@ -93,7 +93,7 @@ fn running<'a>(
     steps: u32,
 ) -> Midway<'a>
     ensures running { IsRunningIn result.scenario.component result.store.state }
-    ensures fresh { CanAsk A.index result.store.state }
+    ensures fresh { MayDoHostOp A.index result.store.state }
 {
     let Ok(scenario) = read_scenario(alloc, RETURNS) else {
         panic!(rt; "a scenario")
@@ -114,7 +114,7 @@ fn is_refused<X: Drop>(answer: Result<X, TaskError>) -> bool {
 // The hook refuses a suspension of the thread, which has stopped then; its group has its task still.
 fn stops(at: &mut Midway<'_>) -> bool
     requires running { IsRunningIn at.old.scenario.component at.old.store.state }
-    requires fresh { CanAsk A.index at.old.store.state }
+    requires fresh { MayDoHostOp A.index at.old.store.state }
 {
     let store = &mut at.store;
     let answer = A.suspension_intrinsic(

@@ -2,7 +2,7 @@ ghost use Rattle.std.specs.Prelude.{◌≡◌, [], ◌∷◌, Some, None};
 ghost use Rattle.task_abort.specs.Cells.{handle_cell, pass_cell, work_cell};
 ghost use Rattle.task_abort.specs.PhaseLog.{entry};
 ghost use Rattle.task_abort.specs.Staged.{made, staged};
-ghost use Rattle.machine_data.specs.declared.words.Phase.TheVariants.{Running, AbortRequested};
+ghost use Rattle.machine_data.specs.declared.statuses.Phase.TheVariants.{Running, AbortRequested};
 ghost use Rattle.task_abort.specs.declared.log.PhaseCall.TheVariants.{Abort, PollFuture, PollHandle, Finish};
 
 use futures::Future;

@@ -200,7 +200,7 @@ fn names_the_first_bad_line(rt: HostRuntime) {
 }
 
 #[test]
-fn names_the_first_line_that_cannot_stand(rt: HostRuntime) {
+fn names_the_first_line_that_cannot_be_there(rt: HostRuntime) {
     is_bad_below(&rt, rt.alloc(), b"instance 1a\n", 5);
     is_bad_below(&rt, rt.alloc(), b"instance a\nmain\n", 7);
     is_bad_below(&rt, rt.alloc(), b"instance a\nthread 3\ncb_yield\n", 7);

@@ -2,7 +2,7 @@ use core_primitives::{QueuePrimitives, ResultPrimitives, View};
 use core_state::TaskCore;
 
 #[test]
-fn nothing_stands_in_a_new_core_which_has_its_limits(rt: HostRuntime) {
+fn nothing_is_in_a_new_core_which_has_its_limits(rt: HostRuntime) {
     let mut core = TaskCore::new(rt.alloc());
     assert!(rt; core.next_entry().is_none() && core.used() == 0);
     core.set_capacity(4);

@@ -7,7 +7,7 @@ use machine_data::Operand;
 use serve_requests::{Input, Reply, print_replies, read_parts, read_requests, scenario_end};
 use std::alloc::Global;
 use std::process::Abort;
-use text_scenario::{ScenarioText, TextError, first_line, fitting_export, read_text, split_words};
+use text_scenario::{ScenarioText, TextError, first_line, fitting_export, read_text, split_tokens};
 
 // Returns its parameter.
 const ONE_CALL: &[u8] =
@@ -76,13 +76,13 @@ fn replies_are_printed_by_their_numbers(rt: HostRuntime) {
 }
 
 #[test]
-fn a_text_has_lines_and_words(rt: HostRuntime) {
+fn a_text_has_lines_and_tokens(rt: HostRuntime) {
     let Some((line, rest)) = first_line(b"call a.f\nend") else {
         panic!(rt; "a line")
     };
     assert!(rt; rest == b"end".as_slice());
     let mut words = Vec::new(rt.alloc());
-    assert!(rt; split_words(&mut words, line).is_ok());
+    assert!(rt; split_tokens(&mut words, line).is_ok());
     assert!(rt; words.len() == 2);
     assert!(rt; words[1] == b"a.f".as_slice());
 }

@@ -37,7 +37,7 @@ fn with_one_call(
     Scoped { scope }
 }
 
-// What a start comes to in a scope that takes no call.
+// What a start results in in a scope that takes no call.
 fn refused(
     component: &Component,
     store: &mut Store<(), ScriptedHost>,

@@ -194,7 +194,7 @@ fn instances(rt: &impl Abort, alloc: Global, text: &[u8]) -> usize
 }
 
 #[test]
-fn a_tree_is_lowered_and_words_are_counted(rt: HostRuntime) {
+fn a_tree_is_lowered_and_values_are_counted(rt: HostRuntime) {
     let text =
         b"scenario 1\nhandles 1\ntable 3\nidle trap\ninstance a\nexport f callback 1\nret r0\nexit\nmain\nanswer 0\nend\n";
     assert!(rt; text.len() <= 1_000);

@@ -8,7 +8,7 @@ fn write(rooms: &mut ResultRooms, call: u64, given: Option<u64>, lives: bool) {
 }
 
 #[test]
-fn a_result_stands_until_it_is_taken(rt: HostRuntime) {
+fn a_result_is_kept_until_it_is_taken(rt: HostRuntime) {
     let mut rooms = ResultRooms::new(rt.alloc());
     assert!(rt; rooms.result(4).is_none());
     assert!(rt; rooms.make(4).is_ok());

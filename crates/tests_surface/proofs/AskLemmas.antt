@@ -3,7 +3,7 @@ use Rattle.core_primitives.specs.Groups.{asked}
 use Rattle.std.proofs.Common.{ap, refl, subst, sym, ◌∙◌}
 use Rattle.std.specs.Prelude.{Bool, IfSome, List, None, Ok, Option, Some, false, is_some, length, option_map, true, ℕ, ◌<◌, ◌≡◌, ◌≢◌}
 use Rattle.ops_state.specs.declared.name_calls.QualifiedThreadId.{QualifiedThreadId}
-use Rattle.ops_calls.specs.Asks.{CanAsk, HasPaused, IsRunningIn}
+use Rattle.ops_calls.specs.HostOps.{MayDoHostOp, HasPaused, IsRunningIn}
 use Rattle.ops_calls.specs.Prepared.{CanStart, Prepared, Prepares}
 use Rattle.machine_data.specs.Maps.{get}
 use Rattle.machine_data.specs.Read.{op_progress_of, instance_of}
@@ -29,7 +29,7 @@ pub of_running : (s : StateView) (n : ℕ) (P : ℕ → Type 0) → running_of s
 of_running s n P runs p = subst (λ (o : Option ℕ). IfSome o P) runs p
 
 -- a thread that is about to ask, or has paused, is of the instance
-pub home_of : (i : ℕ) (s : StateView) (paused : Bool) → (paused ≡ false → CanAsk i s) → (paused ≡ true → HasPaused i s) → IfSome (running_of s) (λ n. instance_of n s.core ≡ i)
+pub home_of : (i : ℕ) (s : StateView) (paused : Bool) → (paused ≡ false → MayDoHostOp i s) → (paused ≡ true → HasPaused i s) → IfSome (running_of s) (λ n. instance_of n s.core ≡ i)
 home_of i s paused fresh stopped = go (running_of s) paused fresh stopped
   where
     go : (o : Option ℕ) (b : Bool) → (b ≡ false → IfSome o (λ n. (instance_of n s.core ≡ i) × (op_progress_of n s.core ≡ op_progress.Fresh))) →

@@ -1,9 +1,9 @@
--- A thread runs on where its task lends something.
+-- A thread runs on where its task holds borrows.
 use Rattle.laws_order.proofs.BorrowLemmas.{borrows_keep_order, same_instance}
 use Rattle.laws_order.specs.Borrows.{BorrowsKeepOrder, borrowing}
 use Rattle.std.proofs.Common.{subst, sym}
 use Rattle.std.specs.Prelude.{length, ℕ, ◌<◌}
-use Rattle.ops_calls.specs.Asks.{IsRunningIn}
+use Rattle.ops_calls.specs.HostOps.{IsRunningIn}
 use Rattle.machine_data.specs.Write.{on_call}
 use Rattle.machine_data.specs.declared.component.Component.{Component}
 use Rattle.machine_data.specs.declared.records.Turn.TheVariants as turn

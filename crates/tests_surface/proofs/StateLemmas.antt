@@ -15,7 +15,7 @@ use Rattle.machine_data.specs.declared.records.Set.{Set}
 use Rattle.machine_data.specs.declared.records.Subtask.{Subtask}
 use Rattle.machine_data.specs.declared.records.Subtask.TheVariants as subtask
 use Rattle.machine_data.specs.declared.records.Turn.{Turn}
-use Rattle.machine_data.specs.declared.words.Status.{Status}
+use Rattle.machine_data.specs.declared.statuses.Status.{Status}
 use Rattle.ops_moves.specs.Idle.{AreIdleUnqueued, IsJoinThere}
 use Rattle.ops_moves.specs.Stops.{MayStop}
 use Rattle.machine_rules.specs.Places.{Placed}

@@ -46,10 +46,10 @@ fn script(alloc: Global) -> Result<Seq<Op>, AllocError>
         Op::Data(DataOp::Handle { to: 2, value }),
         Op::Data(DataOp::Add { to: 0, value }),
         Op::Data(DataOp::Store {
-            word: 3,
+            cell: 3,
             value: left,
         }),
-        Op::Data(DataOp::Load { to: 1, word: 3 }),
+        Op::Data(DataOp::Load { to: 1, cell: 3 }),
         Op::Data(DataOp::SkipEq {
             left,
             right,

@@ -2,7 +2,7 @@
 ghost use Rattle.store_works.specs.KeptWorks.{HoldsNone};
 ghost use Rattle.std.specs.Prelude.{◌≡◌, ◌<◌, ◌≤◌, IfSome, IsSome, None, Some, [], false, length, true, ◌^◌};
 ghost use Rattle.ops_state.specs.Named.{IsLive};
-ghost use Rattle.ops_calls.specs.Asks.{CanAsk, HasPaused, IsRunningIn};
+ghost use Rattle.ops_calls.specs.HostOps.{MayDoHostOp, HasPaused, IsRunningIn};
 ghost use Rattle.ops_calls.specs.Directs.{IsDirect};
 ghost use Rattle.task_loop.specs.LoopCalls.{callee_of};
 ghost use Rattle.machine_data.specs.Read.{callers_of, is_async_lifted, place_of, under_of};
@@ -128,7 +128,7 @@ fn drive(
 // The thread that runs is of the instance, and an op of it is under way or none is.
 fn is_asking(store: &Store<(), ScriptedHost>, instance: Instance, paused: bool) -> bool
     ensures runs { result ≡ true → IsSome (running_of store.now.state) }
-    ensures fresh { result ≡ true → paused ≡ false → CanAsk instance.index store.now.state }
+    ensures fresh { result ≡ true → paused ≡ false → MayDoHostOp instance.index store.now.state }
     ensures paused { result ≡ true → paused ≡ true → HasPaused instance.index store.now.state }
 {
     let Some(thread) = store.state.current() else {
@@ -155,7 +155,7 @@ fn running(
     ensures running { IsRunningIn result.scenario.component result.store.state }
     ensures few { given result.store.state.core < 2 ^ 61 }
     ensures hosts { HoldsHosts ⟦<ScriptedHost as HostWork>⟧.course result.store }
-    ensures fresh { paused ≡ false → CanAsk instance.index result.store.state }
+    ensures fresh { paused ≡ false → MayDoHostOp instance.index result.store.state }
     ensures paused { paused ≡ true → HasPaused instance.index result.store.state }
 {
     let Ok(scenario) = read_scenario(alloc, text) else {
@@ -176,7 +176,7 @@ trait Asks {
     fn asks(&self, at: &mut Midway, instance: Instance) -> bool
         requires running { IsRunningIn at.old.scenario.component at.old.store.state }
         requires few { given at.old.store.state.core < 2 ^ 61 }
-        requires fresh { CanAsk instance.index at.old.store.state };
+        requires fresh { MayDoHostOp instance.index at.old.store.state };
 }
 
 // Sets the stage after so many labels of the text's scenario.
@@ -443,7 +443,7 @@ fn finishes_a_group(rt: &impl Abort, alloc: Global) -> bool {
     dropped.is_ok() && live > 0 && at.store.state.groups() == live - 1
 }
 
-// The running thread's task lends so many things.
+// The running thread's task holds so many borrows.
 fn lend(store: &mut Store<(), ScriptedHost>, borrows: u32) -> bool
     ensures running { (c : Component) → IsRunningIn c store.old.state → IsRunningIn c store.new.state }
 {
@@ -469,7 +469,7 @@ fn a_task_that_lends_is_not_ended(rt: HostRuntime) {
     assert!(rt; matches!(cancelled, Err(TaskError::Trap(Trap::ScopeExit))));
 }
 
-// What the return of a task comes to that lends so many things.
+// What the return of a task results in that holds so many borrows.
 fn returns_lending(rt: &impl Abort, alloc: Global, borrows: u32) -> Result<(), TaskError> {
     let mut at = running(rt, alloc, CALLER, 29, A, false);
     assert!(rt; lend(&mut at.store, borrows));

@@ -46,7 +46,7 @@ fn polled(
 }
 
 #[test]
-fn a_poll_answers_what_the_run_came_to(rt: HostRuntime) {
+fn a_poll_answers_what_the_run_resulted_in(rt: HostRuntime) {
     let done = polled(&rt, rt.alloc(), Some(5), 9);
     assert!(rt; matches!(done, Ok(RunPoll::Done(5))));
     let yielded = polled(&rt, rt.alloc(), None, 1);

@@ -46,7 +46,7 @@ fn an_instance_belongs_to_its_store(rt: HostRuntime) {
 }
 
 #[test]
-fn scopes_stand_one_above_the_other(rt: HostRuntime) {
+fn scopes_are_one_above_the_other(rt: HostRuntime) {
     let mut tasks = ComponentTasksNotConcurrent::new(rt.alloc());
     assert!(rt; tasks.enter_call().is_ok() && tasks.enter_call().is_ok());
     assert!(rt; tasks.set_call_context(1, CallContext { borrows: 4 }));

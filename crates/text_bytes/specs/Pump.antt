@@ -29,7 +29,7 @@ ReadsUpTo limit all left (Err fault.TooLong) = IsBeyond limit all left
 ReadsUpTo limit all left (Err fault.NoMemory) = (taken : List ℕ) × IsTaken all taken left
 ReadsUpTo limit all left (Err fault.Failed) = (taken : List ℕ) × IsTaken all taken left
 
--- the same of a text, of at most 1,048,576 bytes
+-- this of a text, of at most 1,048,576 bytes
 abbrev pub IsWhole : List ℕ → Option (List ℕ) → Type 0
 IsWhole all left = IsWithin 1048576 all left
 

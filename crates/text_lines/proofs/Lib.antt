@@ -1,8 +1,8 @@
 pub mod Numbers
-pub mod WordCounts
+pub mod TokenCounts
 pub mod Each
 pub mod Position
-pub mod WordLaws
+pub mod TokenLaws
 pub mod LineForms
 pub mod OpLaws
 pub mod CallLaws

@@ -1,4 +1,4 @@
--- How a keyword and the words after it spell a value, by how many words there are.
+-- How a keyword and the tokens after it spell a value, by how many tokens there are.
 use Rattle.std.proofs.Common.{◌≡◌, ℕ, Bool, true, ◌&&◌, cond, eqb, List, [], ◌∷◌, length, map, Option, Some, None, refl, sym, ap, subst, ◌∙◌, lit<}
 use Rattle.std.specs.Prelude.{nat_le}
 use Rattle.std.specs.List.{list_all}
@@ -7,14 +7,14 @@ use Rattle.std.proofs.lemmas.Bool.{and_parts, and_from, eqb-true}
 use Rattle.std.proofs.lemmas.List.{nil_from_length}
 use Rattle.std.proofs.lemmas.Slice.Eq.{bytes_eq-Decides}
 use Rattle.machine_data.specs.declared.op.Operand.{Operand}
-use Rattle.text_lines.specs.Words.{◌>>=◌, one_of, two_of, three_of, four_of, each_at}
-use Rattle.text_lines.specs.LineWords.{register_word, operand_word}
+use Rattle.text_lines.specs.Tokens.{◌>>=◌, one_of, two_of, three_of, four_of, each_at}
+use Rattle.text_lines.specs.LineTokens.{register_token, operand_token}
 use Rattle.text_lines.specs.Fits.{register_fits, operand_fits}
 use Rattle.text_lines.specs.Line.{alone, register_after, operand_after, target_after, event_after}
 use Rattle.text_lines.proofs.Numbers.{guarded}
-use Rattle.text_lines.proofs.WordLaws.{bind_some, some_is, Reads, registers, registers_up_to, operands}
+use Rattle.text_lines.proofs.TokenLaws.{bind_some, some_is, Reads, registers, registers_up_to, operands}
 
--- ---- How many words
+-- ---- How many tokens
 
 pub one_takes : (ws : List (List ℕ)) (w : List ℕ) → one_of ws ≡ Some w → ws ≡ w ∷ []
 unfolding one_of
@@ -48,68 +48,68 @@ four_take (a ∷ b ∷ c ∷ d ∷ f ∷ more) p e = absurd cc
 
 -- ---- What was read is its own spelling
 
--- the keyword and the words after it spell l, which fits
+-- the keyword and the tokens after it spell l, which fits
 abbrev pub Spells : {L : Type 0} → (L → List (List ℕ)) → (L → Bool) → List ℕ → List (List ℕ) → L → Type 0
-Spells words fits kw ws l = (kw ∷ ws ≡ words l) × (fits l ≡ true)
+Spells tokens fits kw ws l = (kw ∷ ws ≡ tokens l) × (fits l ≡ true)
 
 pub same_cons : {X : Type 0} (x y : X) (xs ys : List X) → x ≡ y → xs ≡ ys → x ∷ xs ≡ y ∷ ys
 same_cons x y xs ys e f = cc
 
-two_words : (ws : List (List ℕ)) (a b u v : List ℕ) → ws ≡ a ∷ b ∷ [] → a ≡ u → b ≡ v → ws ≡ u ∷ v ∷ []
-two_words ws a b u v e f g = cc
+two_tokens : (ws : List (List ℕ)) (a b u v : List ℕ) → ws ≡ a ∷ b ∷ [] → a ≡ u → b ≡ v → ws ≡ u ∷ v ∷ []
+two_tokens ws a b u v e f g = cc
 
-pub three_words : (kw : List ℕ) (ws : List (List ℕ)) (a b c u v w : List ℕ) → ws ≡ a ∷ b ∷ c ∷ [] → a ≡ u → b ≡ v → c ≡ w → kw ∷ ws ≡ kw ∷ u ∷ v ∷ w ∷ []
-three_words kw ws a b c u v w e f g h = cc
+pub three_tokens : (kw : List ℕ) (ws : List (List ℕ)) (a b c u v w : List ℕ) → ws ≡ a ∷ b ∷ c ∷ [] → a ≡ u → b ≡ v → c ≡ w → kw ∷ ws ≡ kw ∷ u ∷ v ∷ w ∷ []
+three_tokens kw ws a b c u v w e f g h = cc
 
 -- the keyword alone
-pub no_words : {L : Type 0} (words : L → List (List ℕ)) (fits : L → Bool) (kw : List ℕ) (x : L) → words x ≡ kw ∷ [] → fits x ≡ true
-    → (ws : List (List ℕ)) (l : L) → alone x ws ≡ Some l → Spells words fits kw ws l
-no_words words fits kw x spelled fit ws l e =
+pub no_tokens : {L : Type 0} (tokens : L → List (List ℕ)) (fits : L → Bool) (kw : List ℕ) (x : L) → tokens x ≡ kw ∷ [] → fits x ≡ true
+    → (ws : List (List ℕ)) (l : L) → alone x ws ≡ Some l → Spells tokens fits kw ws l
+no_tokens tokens fits kw x spelled fit ws l e =
     let g = guarded (eqb (length ws) 0) x l e in
     let none : ws ≡ [] = nil_from_length ws (eqb-true _ _ g.0) in
-    subst (Spells words fits kw ws) g.1 (rw none (sym spelled), fit)
+    subst (Spells tokens fits kw ws) g.1 (rw none (sym spelled), fit)
 
--- one fixed word, as `1`
-pub fixed_word : {L : Type 0} (words : L → List (List ℕ)) (fits : L → Bool) (kw text : List ℕ) (x : L) → words x ≡ kw ∷ text ∷ [] → fits x ≡ true
-    → (ws : List (List ℕ)) (l : L) → (one_of ws >>= λ a. cond (bytes_eq a text) (Some x) None) ≡ Some l → Spells words fits kw ws l
-fixed_word words fits kw text x spelled fit ws l e =
+-- one fixed token, as `1`
+pub fixed_token : {L : Type 0} (tokens : L → List (List ℕ)) (fits : L → Bool) (kw text : List ℕ) (x : L) → tokens x ≡ kw ∷ text ∷ [] → fits x ≡ true
+    → (ws : List (List ℕ)) (l : L) → (one_of ws >>= λ a. cond (bytes_eq a text) (Some x) None) ≡ Some l → Spells tokens fits kw ws l
+fixed_token tokens fits kw text x spelled fit ws l e =
     let p = bind_some (one_of ws) (λ a. cond (bytes_eq a text) (Some x) None) l e in
     let g = guarded (bytes_eq p.0 text) x l p.2 in
     let same : p.0 ≡ text = (bytes_eq-Decides p.0 text).0 g.0 in
-    subst (Spells words fits kw ws) g.1 (ap (λ (v : List (List ℕ)). kw ∷ v) (one_takes ws p.0 p.1 ∙ ap (λ (w : List ℕ). w ∷ []) same) ∙ sym spelled, fit)
+    subst (Spells tokens fits kw ws) g.1 (ap (λ (v : List (List ℕ)). kw ∷ v) (one_takes ws p.0 p.1 ∙ ap (λ (w : List ℕ). w ∷ []) same) ∙ sym spelled, fit)
 
--- one word of a kind
-pub one_word : {L A : Type 0} (words : L → List (List ℕ)) (fits : L → Bool) (kw : List ℕ) {a : List ℕ → Option A} {wa : A → List ℕ} {fa : A → Bool} (ra : Reads a wa fa)
-    (f : A → L) → ((x : A) → words (f x) ≡ kw ∷ wa x ∷ []) → ((x : A) → fits (f x) ≡ fa x)
-    → (ws : List (List ℕ)) (l : L) → (one_of ws >>= λ w. a w >>= λ x. Some (f x)) ≡ Some l → Spells words fits kw ws l
-one_word words fits kw {a = a} ra f spelled fit ws l e =
+-- one token of a kind
+pub one_token : {L A : Type 0} (tokens : L → List (List ℕ)) (fits : L → Bool) (kw : List ℕ) {a : List ℕ → Option A} {wa : A → List ℕ} {fa : A → Bool} (ra : Reads a wa fa)
+    (f : A → L) → ((x : A) → tokens (f x) ≡ kw ∷ wa x ∷ []) → ((x : A) → fits (f x) ≡ fa x)
+    → (ws : List (List ℕ)) (l : L) → (one_of ws >>= λ w. a w >>= λ x. Some (f x)) ≡ Some l → Spells tokens fits kw ws l
+one_token tokens fits kw {a = a} ra f spelled fit ws l e =
     let p = bind_some (one_of ws) (λ w. a w >>= λ x. Some (f x)) l e in
     let x = bind_some (a p.0) (λ x. Some (f x)) l p.2 in
     let tx = ra.takes p.0 x.0 x.1 in
-    subst (Spells words fits kw ws) (some_is (f x.0) l x.2)
+    subst (Spells tokens fits kw ws) (some_is (f x.0) l x.2)
     (ap (λ (v : List (List ℕ)). kw ∷ v) (one_takes ws p.0 p.1 ∙ ap (λ (w : List ℕ). w ∷ []) tx.0) ∙ sym (spelled x.0), fit x.0 ∙ tx.1)
 
--- a word of each of two kinds
-pub word_of_each : {L A B : Type 0} (words : L → List (List ℕ)) (fits : L → Bool) (kw : List ℕ)
+-- a token of each of two kinds
+pub token_of_each : {L A B : Type 0} (tokens : L → List (List ℕ)) (fits : L → Bool) (kw : List ℕ)
     {a : List ℕ → Option A} {wa : A → List ℕ} {fa : A → Bool} (ra : Reads a wa fa) {b : List ℕ → Option B} {wb : B → List ℕ} {fb : B → Bool} (rb : Reads b wb fb)
-    (f : A → B → L) → ((x : A) (y : B) → words (f x y) ≡ kw ∷ wa x ∷ wb y ∷ []) → ((x : A) (y : B) → fits (f x y) ≡ (fa x && fb y))
-    → (ws : List (List ℕ)) (l : L) → (two_of ws >>= λ p. a p.0 >>= λ x. b p.1 >>= λ y. Some (f x y)) ≡ Some l → Spells words fits kw ws l
-word_of_each words fits kw {a = a} {wa = wa} ra {b = b} {wb = wb} rb f spelled fit ws l e =
+    (f : A → B → L) → ((x : A) (y : B) → tokens (f x y) ≡ kw ∷ wa x ∷ wb y ∷ []) → ((x : A) (y : B) → fits (f x y) ≡ (fa x && fb y))
+    → (ws : List (List ℕ)) (l : L) → (two_of ws >>= λ p. a p.0 >>= λ x. b p.1 >>= λ y. Some (f x y)) ≡ Some l → Spells tokens fits kw ws l
+token_of_each tokens fits kw {a = a} {wa = wa} ra {b = b} {wb = wb} rb f spelled fit ws l e =
     let p = bind_some (two_of ws) (λ p. a p.0 >>= λ x. b p.1 >>= λ y. Some (f x y)) l e in
     let x = bind_some (a p.0.0) (λ x. b p.0.1 >>= λ y. Some (f x y)) l p.2 in
     let y = bind_some (b p.0.1) (λ y. Some (f x.0 y)) l x.2 in
     let tx = ra.takes p.0.0 x.0 x.1 in
     let ty = rb.takes p.0.1 y.0 y.1 in
-    subst (Spells words fits kw ws) (some_is (f x.0 y.0) l y.2)
-    (ap (λ (v : List (List ℕ)). kw ∷ v) (two_words ws p.0.0 p.0.1 (wa x.0) (wb y.0) (two_take ws p.0 p.1) tx.0 ty.0) ∙ sym (spelled x.0 y.0), fit x.0 y.0 ∙ and_from _ _ tx.1 ty.1)
+    subst (Spells tokens fits kw ws) (some_is (f x.0 y.0) l y.2)
+    (ap (λ (v : List (List ℕ)). kw ∷ v) (two_tokens ws p.0.0 p.0.1 (wa x.0) (wb y.0) (two_take ws p.0 p.1) tx.0 ty.0) ∙ sym (spelled x.0 y.0), fit x.0 y.0 ∙ and_from _ _ tx.1 ty.1)
 
--- a word of each of three kinds
-pub word_of_three : {L A B C : Type 0} (words : L → List (List ℕ)) (fits : L → Bool) (kw : List ℕ)
+-- a token of each of three kinds
+pub token_of_three : {L A B C : Type 0} (tokens : L → List (List ℕ)) (fits : L → Bool) (kw : List ℕ)
     {a : List ℕ → Option A} {wa : A → List ℕ} {fa : A → Bool} (ra : Reads a wa fa) {b : List ℕ → Option B} {wb : B → List ℕ} {fb : B → Bool} (rb : Reads b wb fb)
     {c : List ℕ → Option C} {wc : C → List ℕ} {fc : C → Bool} (rc : Reads c wc fc)
-    (f : A → B → C → L) → ((x : A) (y : B) (z : C) → words (f x y z) ≡ kw ∷ wa x ∷ wb y ∷ wc z ∷ []) → ((x : A) (y : B) (z : C) → fits (f x y z) ≡ (fa x && fb y && fc z))
-    → (ws : List (List ℕ)) (l : L) → (three_of ws >>= λ p. a p.0 >>= λ x. b p.1 >>= λ y. c p.2 >>= λ z. Some (f x y z)) ≡ Some l → Spells words fits kw ws l
-word_of_three words fits kw {a = a} {wa = wa} ra {b = b} {wb = wb} rb {c = c} {wc = wc} rc f spelled fit ws l e =
+    (f : A → B → C → L) → ((x : A) (y : B) (z : C) → tokens (f x y z) ≡ kw ∷ wa x ∷ wb y ∷ wc z ∷ []) → ((x : A) (y : B) (z : C) → fits (f x y z) ≡ (fa x && fb y && fc z))
+    → (ws : List (List ℕ)) (l : L) → (three_of ws >>= λ p. a p.0 >>= λ x. b p.1 >>= λ y. c p.2 >>= λ z. Some (f x y z)) ≡ Some l → Spells tokens fits kw ws l
+token_of_three tokens fits kw {a = a} {wa = wa} ra {b = b} {wb = wb} rb {c = c} {wc = wc} rc f spelled fit ws l e =
     let p = bind_some (three_of ws) (λ p. a p.0 >>= λ x. b p.1 >>= λ y. c p.2 >>= λ z. Some (f x y z)) l e in
     let x = bind_some (a p.0.0) (λ x. b p.0.1 >>= λ y. c p.0.2 >>= λ z. Some (f x y z)) l p.2 in
     let y = bind_some (b p.0.1) (λ y. c p.0.2 >>= λ z. Some (f x.0 y z)) l x.2 in
@@ -117,31 +117,31 @@ word_of_three words fits kw {a = a} {wa = wa} ra {b = b} {wb = wb} rb {c = c} {w
     let tx = ra.takes p.0.0 x.0 x.1 in
     let ty = rb.takes p.0.1 y.0 y.1 in
     let tz = rc.takes p.0.2 z.0 z.1 in
-    subst (Spells words fits kw ws) (some_is (f x.0 y.0 z.0) l z.2)
-    (three_words kw ws p.0.0 p.0.1 p.0.2 (wa x.0) (wb y.0) (wc z.0) (three_take ws p.0 p.1) tx.0 ty.0 tz.0 ∙ sym (spelled x.0 y.0 z.0), fit x.0 y.0 z.0 ∙ and_from _ _ (and_from _ _ tx.1 ty.1) tz.1)
+    subst (Spells tokens fits kw ws) (some_is (f x.0 y.0 z.0) l z.2)
+    (three_tokens kw ws p.0.0 p.0.1 p.0.2 (wa x.0) (wb y.0) (wc z.0) (three_take ws p.0 p.1) tx.0 ty.0 tz.0 ∙ sym (spelled x.0 y.0 z.0), fit x.0 y.0 z.0 ∙ and_from _ _ (and_from _ _ tx.1 ty.1) tz.1)
 
 -- what was read of a kind of lines, as a line
-pub as_line : {A L : Type 0} (words : A → List (List ℕ)) (fits : A → Bool) (whole : L → List (List ℕ)) (all : L → Bool) (f : A → L) → ((x : A) → whole (f x) ≡ words x) → ((x : A) → all (f x) ≡ fits x)
-    → (kw : List ℕ) (ws : List (List ℕ)) (o : Option A) (l : L) → (o >>= λ x. Some (f x)) ≡ Some l → ((x : A) → o ≡ Some x → Spells words fits kw ws x) → Spells whole all kw ws l
-as_line words fits whole all f spelled fit kw ws o l e takes =
+pub as_line : {A L : Type 0} (tokens : A → List (List ℕ)) (fits : A → Bool) (whole : L → List (List ℕ)) (all : L → Bool) (f : A → L) → ((x : A) → whole (f x) ≡ tokens x) → ((x : A) → all (f x) ≡ fits x)
+    → (kw : List ℕ) (ws : List (List ℕ)) (o : Option A) (l : L) → (o >>= λ x. Some (f x)) ≡ Some l → ((x : A) → o ≡ Some x → Spells tokens fits kw ws x) → Spells whole all kw ws l
+as_line tokens fits whole all f spelled fit kw ws o l e takes =
     let x = bind_some o (λ x. Some (f x)) l e in
     let t = takes x.0 x.1 in
     subst (Spells whole all kw ws) (some_is (f x.0) l x.2) (t.0 ∙ sym (spelled x.0), fit x.0 ∙ t.1)
 
--- ---- Words after a keyword
+-- ---- Tokens after a keyword
 
--- `after` reads words as the value that they spell, apart from a keyword
-pub record Tails {A : Type 0} (after : List (List ℕ) → Option A) (words : A → List (List ℕ)) (fits : A → Bool) : Type 0 where
-  pub takes : (ws : List (List ℕ)) (x : A) → after ws ≡ Some x → (ws ≡ words x) × (fits x ≡ true)
+-- `after` reads tokens as the value that they spell, apart from a keyword
+pub record Tails {A : Type 0} (after : List (List ℕ) → Option A) (tokens : A → List (List ℕ)) (fits : A → Bool) : Type 0 where
+  pub takes : (ws : List (List ℕ)) (x : A) → after ws ≡ Some x → (ws ≡ tokens x) × (fits x ≡ true)
 
--- a value of words, with its keyword
-pub with_tail : {A L : Type 0} {after : List (List ℕ) → Option A} {tail : A → List (List ℕ)} {fa : A → Bool} (r : Tails after tail fa) (words : L → List (List ℕ)) (fits : L → Bool) (kw : List ℕ)
-    (f : A → L) → ((x : A) → words (f x) ≡ kw ∷ tail x) → ((x : A) → fits (f x) ≡ fa x)
-    → (ws : List (List ℕ)) (l : L) → (after ws >>= λ x. Some (f x)) ≡ Some l → Spells words fits kw ws l
-with_tail {after = after} r words fits kw f spelled fit ws l e =
+-- a value of tokens, with its keyword
+pub with_tail : {A L : Type 0} {after : List (List ℕ) → Option A} {tail : A → List (List ℕ)} {fa : A → Bool} (r : Tails after tail fa) (tokens : L → List (List ℕ)) (fits : L → Bool) (kw : List ℕ)
+    (f : A → L) → ((x : A) → tokens (f x) ≡ kw ∷ tail x) → ((x : A) → fits (f x) ≡ fa x)
+    → (ws : List (List ℕ)) (l : L) → (after ws >>= λ x. Some (f x)) ≡ Some l → Spells tokens fits kw ws l
+with_tail {after = after} r tokens fits kw f spelled fit ws l e =
     let x = bind_some (after ws) (λ x. Some (f x)) l e in
     let t = r.takes ws x.0 x.1 in
-    subst (Spells words fits kw ws) (some_is (f x.0) l x.2) (ap (λ (v : List (List ℕ)). kw ∷ v) t.0 ∙ sym (spelled x.0), fit x.0 ∙ t.1)
+    subst (Spells tokens fits kw ws) (some_is (f x.0) l x.2) (ap (λ (v : List (List ℕ)). kw ∷ v) t.0 ∙ sym (spelled x.0), fit x.0 ∙ t.1)
 
 pub one_tail : {A : Type 0} {a : List ℕ → Option A} {wa : A → List ℕ} {fa : A → Bool} → Reads a wa fa → Tails (λ ws. one_of ws >>= a) (λ x. wa x ∷ []) fa
 one_tail {a = a} ra = record {
@@ -161,31 +161,31 @@ pair_takes {A} {B} {a = a} {wa = wa} {fa = fa} ra {b = b} {wb = wb} {fb = fb} rb
     let tx = ra.takes p.0.0 x.0 x.1 in
     let ty = rb.takes p.0.1 y.0 y.1 in
     subst (λ (r : A × B). (ws ≡ wa r.0 ∷ wb r.1 ∷ []) × ((fa r.0 && fb r.1) ≡ true)) (sym (same x.0 y.0) ∙ some_is (pair x.0 y.0) q y.2)
-    (two_words ws p.0.0 p.0.1 (wa x.0) (wb y.0) (two_take ws p.0 p.1) tx.0 ty.0, and_from _ _ tx.1 ty.1)
+    (two_tokens ws p.0.0 p.0.1 (wa x.0) (wb y.0) (two_take ws p.0 p.1) tx.0 ty.0, and_from _ _ tx.1 ty.1)
 
-pub register_tail : Tails register_after (λ r. register_word r ∷ []) register_fits
+pub register_tail : Tails register_after (λ r. register_token r ∷ []) register_fits
 unfolding register_after
 register_tail = one_tail registers
 
-pub operand_tail : Tails operand_after (λ x. operand_word x ∷ []) operand_fits
+pub operand_tail : Tails operand_after (λ x. operand_token x ∷ []) operand_fits
 unfolding operand_after
 operand_tail = one_tail operands
 
-abbrev pub target_words : ℕ × Operand → List (List ℕ)
-target_words p = register_word p.0 ∷ operand_word p.1 ∷ []
+abbrev pub target_tokens : ℕ × Operand → List (List ℕ)
+target_tokens p = register_token p.0 ∷ operand_token p.1 ∷ []
 
 abbrev pub target_fits : ℕ → ℕ × Operand → Bool
 target_fits most p = nat_le p.0 most && operand_fits p.1
 
-pub target_tail : Tails target_after target_words (target_fits 15)
+pub target_tail : Tails target_after target_tokens (target_fits 15)
 unfolding target_after
 target_tail = record { takes = pair_takes registers operands (λ r x. (r, x)) (λ r x. refl) }
 
-pub event_tail : Tails event_after target_words (target_fits 13)
+pub event_tail : Tails event_after target_tokens (target_fits 13)
 unfolding event_after
 event_tail = record { takes = pair_takes (registers_up_to 13 (lit< tt)) operands (λ r x. (r, x)) (λ r x. refl) }
 
--- ---- Any number of words of one kind
+-- ---- Any number of tokens of one kind
 
 pub each_take : {A : Type 0} {a : List ℕ → Option A} {wa : A → List ℕ} {fa : A → Bool} (ra : Reads a wa fa) (ws : List (List ℕ)) (xs : List A) → each_at a ws ≡ Some xs → (ws ≡ map wa xs) × (list_all fa xs ≡ true)
 unfolding each_at

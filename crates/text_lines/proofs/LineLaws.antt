@@ -10,14 +10,14 @@ use Rattle.machine_data.specs.declared.op.Operand.TheVariants.{Number}
 use Rattle.machine_data.specs.declared.op.Op.TheVariants as op
 use Rattle.machine_data.specs.declared.op.CallOp.TheVariants as call_op
 use Rattle.machine_data.specs.declared.component.ExportKind.{ExportKind}
-use Rattle.text_lines.specs.declared.keyword.HeadWord.{HeadWord}
-use Rattle.text_lines.specs.declared.keyword.HeadWord.TheVariants as head
-use Rattle.text_lines.specs.declared.keyword.PartWord.{PartWord}
-use Rattle.text_lines.specs.declared.keyword.PartWord.TheVariants as part
-use Rattle.text_lines.specs.declared.keyword.CallWord.{CallWord}
-use Rattle.text_lines.specs.declared.keyword.CallWord.TheVariants as call
-use Rattle.text_lines.specs.declared.keyword.FrameWord.{FrameWord}
-use Rattle.text_lines.specs.declared.keyword.FrameWord.TheVariants as frame
+use Rattle.text_lines.specs.declared.keyword.HeadKeyword.{HeadKeyword}
+use Rattle.text_lines.specs.declared.keyword.HeadKeyword.TheVariants as head
+use Rattle.text_lines.specs.declared.keyword.PartKeyword.{PartKeyword}
+use Rattle.text_lines.specs.declared.keyword.PartKeyword.TheVariants as part
+use Rattle.text_lines.specs.declared.keyword.CallKeyword.{CallKeyword}
+use Rattle.text_lines.specs.declared.keyword.CallKeyword.TheVariants as call
+use Rattle.text_lines.specs.declared.keyword.FrameKeyword.{FrameKeyword}
+use Rattle.text_lines.specs.declared.keyword.FrameKeyword.TheVariants as frame
 use Rattle.text_lines.specs.declared.keyword.Keyword.{Keyword}
 use Rattle.text_lines.specs.declared.keyword.Keyword.TheVariants as keyword
 use Rattle.text_lines.specs.declared.line.HeadLine.{HeadLine}
@@ -28,16 +28,16 @@ use Rattle.text_lines.specs.declared.line.PartLine.{PartLine}
 use Rattle.text_lines.specs.declared.line.PartLine.TheVariants as part_line
 use Rattle.text_lines.specs.declared.line.Line.{Line}
 use Rattle.text_lines.specs.declared.line.Line.TheVariants as line
-use Rattle.text_lines.specs.Words.{◌>>=◌, number_at, bounded_at, kind_at, is_name, one_of, three_of, four_of}
-use Rattle.text_lines.specs.Keyword.{head_word, part_word, data_word, task_word, set_word, call_word, thread_word, main_word, frame_word, keyword_text, keywords_of, keyword_at}
+use Rattle.text_lines.specs.Tokens.{◌>>=◌, number_at, bounded_at, kind_at, is_name, one_of, three_of, four_of}
+use Rattle.text_lines.specs.Keyword.{head_keyword, part_keyword, data_keyword, task_keyword, set_keyword, call_keyword, thread_keyword, main_keyword, frame_keyword, keyword_text, keywords_of, keyword_at}
 use Rattle.text_lines.specs.Line.{head_after, never_after, fail_after, value_after, else_read, work_after, host_after, instance_after, export_after, slot_after, part_after, data_op_after, task_op_after, set_op_after, thread_op_after, operand_after, numbers_at, call_after, call_sync_after, call_line_after, main_op_after, frame_after, line_after, line_at}
-use Rattle.text_lines.specs.LineWords.{kind_word, title_words, handles_words, table_words, idle_words, work_words, host_words, instance_words, export_words, react_words, thread_words, bad_words, data_op_words, task_op_words, set_op_words, thread_op_words, plain_op_words, main_words, answer_words, aborter_words, end_words}
+use Rattle.text_lines.specs.LineTokens.{kind_token, title_tokens, handles_tokens, table_tokens, idle_tokens, work_tokens, host_tokens, instance_tokens, export_tokens, react_tokens, thread_tokens, bad_tokens, data_op_tokens, task_op_tokens, set_op_tokens, thread_op_tokens, plain_op_tokens, main_tokens, answer_tokens, aborter_tokens, end_tokens}
 use Rattle.text_lines.specs.Fits.{operand_fits, handles_fit, table_fits, work_fits, slot_fits, data_op_fits, task_op_fits, set_op_fits, thread_op_fits, plain_op_fits}
 use Rattle.text_lines.proofs.Numbers.{guarded}
-use Rattle.text_lines.proofs.WordLaws.{bind_some, some_is, numbers, bounded, idles, kinds, operands}
-use Rattle.text_lines.proofs.LineForms.{Spells, Tails, one_takes, three_take, four_take, three_words, no_words, fixed_word, one_word, as_line, with_tail, one_tail, operand_tail, target_tail, each_take, each_again}
+use Rattle.text_lines.proofs.TokenLaws.{bind_some, some_is, numbers, bounded, idles, kinds, operands}
+use Rattle.text_lines.proofs.LineForms.{Spells, Tails, one_takes, three_take, four_take, three_tokens, no_tokens, fixed_token, one_token, as_line, with_tail, one_tail, operand_tail, target_tail, each_take, each_again}
 use Rattle.text_lines.proofs.OpLaws.{data_op_takes, task_op_takes, set_op_takes, thread_op_takes, op_again}
-use Rattle.text_lines.proofs.CallLaws.{named_call_words, named_call_fits, call_takes, call_sync_takes, call_again, named_words, named_fits, main_op_takes, named_again}
+use Rattle.text_lines.proofs.CallLaws.{named_call_tokens, named_call_fits, call_takes, call_sync_takes, call_again, named_tokens, named_fits, main_op_takes, named_again}
 
 -- ---- Keywords
 
@@ -54,11 +54,11 @@ keyword_takes w k e = sym ((bytes_eq-Decides (keyword_text k) w).0 (find_passes 
 
 -- ---- The head
 
-abbrev pub head_line_words : HeadLine → List (List ℕ)
-head_line_words head_line.Title = title_words
-head_line_words (head_line.Handles n) = handles_words n
-head_line_words (head_line.Table n) = table_words n
-head_line_words (head_line.Idle i) = idle_words i
+abbrev pub head_line_tokens : HeadLine → List (List ℕ)
+head_line_tokens head_line.Title = title_tokens
+head_line_tokens (head_line.Handles n) = handles_tokens n
+head_line_tokens (head_line.Table n) = table_tokens n
+head_line_tokens (head_line.Idle i) = idle_tokens i
 
 abbrev pub head_line_fits : HeadLine → Bool
 head_line_fits head_line.Title = true
@@ -66,14 +66,14 @@ head_line_fits (head_line.Handles n) = handles_fit n
 head_line_fits (head_line.Table n) = table_fits n
 head_line_fits (head_line.Idle i) = true
 
-head_takes : (k : HeadWord) (ws : List (List ℕ)) (l : HeadLine) → head_after k ws ≡ Some l → Spells head_line_words head_line_fits (head_word k) ws l
+head_takes : (k : HeadKeyword) (ws : List (List ℕ)) (l : HeadLine) → head_after k ws ≡ Some l → Spells head_line_tokens head_line_fits (head_keyword k) ws l
 unfolding head_after
-head_takes head.Scenario ws l e = fixed_word head_line_words head_line_fits (codes "scenario") (codes "1") head_line.Title refl refl ws l e
-head_takes head.Handles ws l e = one_word head_line_words head_line_fits (codes "handles") (bounded 268435455 (lit< tt)) head_line.Handles (λ x. refl) (λ x. refl) ws l e
-head_takes head.Table ws l e = one_word head_line_words head_line_fits (codes "table") (bounded 1000000 (lit< tt)) head_line.Table (λ x. refl) (λ x. refl) ws l e
-head_takes head.Idle ws l e = one_word head_line_words head_line_fits (codes "idle") idles head_line.Idle (λ x. refl) (λ x. refl) ws l e
+head_takes head.Scenario ws l e = fixed_token head_line_tokens head_line_fits (codes "scenario") (codes "1") head_line.Title refl refl ws l e
+head_takes head.Handles ws l e = one_token head_line_tokens head_line_fits (codes "handles") (bounded 268435455 (lit< tt)) head_line.Handles (λ x. refl) (λ x. refl) ws l e
+head_takes head.Table ws l e = one_token head_line_tokens head_line_fits (codes "table") (bounded 1000000 (lit< tt)) head_line.Table (λ x. refl) (λ x. refl) ws l e
+head_takes head.Idle ws l e = one_token head_line_tokens head_line_fits (codes "idle") idles head_line.Idle (λ x. refl) (λ x. refl) ws l e
 
-head_again : (l : HeadLine) → head_line_fits l ≡ true → line_at (head_line_words l) ≡ Some (line.Head l)
+head_again : (l : HeadLine) → head_line_fits l ≡ true → line_at (head_line_tokens l) ≡ Some (line.Head l)
 unfolding line_at line_after head_after one_of
 head_again head_line.Title fits = refl
 head_again (head_line.Handles n) fits = rw ((bounded 268435455 (lit< tt)).again n fits) refl
@@ -83,7 +83,7 @@ head_again (head_line.Idle i) fits = rw (idles.again i refl) refl
 -- ---- What a host's work does
 
 abbrev IsWork : List (List ℕ) → HostWork → Type 0
-IsWork ws w = (ws ≡ work_words w) × (work_fits w ≡ true)
+IsWork ws w = (ws ≡ work_tokens w) × (work_fits w ≡ true)
 
 one_or_other : {A : Type 0} (G : Type 0) (a b : Option A) (x : A) → else_read a b ≡ Some x → (a ≡ Some x → G) → (b ≡ Some x → G) → G
 one_or_other G (Some y) b x e one other = one e
@@ -137,7 +137,7 @@ work_takes ws w e =
     one_or_other (IsWork ws w) (never_after ws) _ w e (never_takes ws w) (λ e.
     one_or_other (IsWork ws w) (fail_after ws) (value_after ws) w e (fail_takes ws w) (value_takes ws w))
 
-work_again : (w : HostWork) → work_fits w ≡ true → work_after (work_words w) ≡ Some w
+work_again : (w : HostWork) → work_fits w ≡ true → work_after (work_tokens w) ≡ Some w
 unfolding work_after never_after fail_after value_after one_of three_of four_of
 work_again (work.Value n v) fits = let f = and_parts _ _ fits in rw ((bounded 1000000 (lit< tt)).again n f.0, numbers.again v f.1) refl
 work_again (work.Fail n) fits = rw ((bounded 1000000 (lit< tt)).again n fits) refl
@@ -145,13 +145,13 @@ work_again work.Never fits = refl
 
 -- ---- Parts of the component
 
-abbrev pub part_line_words : PartLine → List (List ℕ)
-part_line_words (part_line.Host name w) = host_words name w
-part_line_words (part_line.Instance name) = instance_words name
-part_line_words (part_line.Export name k n) = export_words name k n
-part_line_words part_line.React = react_words
-part_line_words (part_line.Thread s) = thread_words s
-part_line_words (part_line.Bad s) = bad_words s
+abbrev pub part_line_tokens : PartLine → List (List ℕ)
+part_line_tokens (part_line.Host name w) = host_tokens name w
+part_line_tokens (part_line.Instance name) = instance_tokens name
+part_line_tokens (part_line.Export name k n) = export_tokens name k n
+part_line_tokens part_line.React = react_tokens
+part_line_tokens (part_line.Thread s) = thread_tokens s
+part_line_tokens (part_line.Bad s) = bad_tokens s
 
 abbrev pub part_line_fits : PartLine → Bool
 part_line_fits (part_line.Host name w) = is_name name && work_fits w
@@ -161,23 +161,23 @@ part_line_fits part_line.React = true
 part_line_fits (part_line.Thread s) = slot_fits s
 part_line_fits (part_line.Bad s) = slot_fits s
 
-host_takes : (ws : List (List ℕ)) (l : PartLine) → host_after ws ≡ Some l → Spells part_line_words part_line_fits (codes "host") ws l
+host_takes : (ws : List (List ℕ)) (l : PartLine) → host_after ws ≡ Some l → Spells part_line_tokens part_line_fits (codes "host") ws l
 unfolding host_after
 host_takes [] l e = absurd cc
 host_takes (name ∷ ws) l e =
     let w = bind_some (work_after ws) (λ w. cond (is_name name) (Some (part_line.Host name w)) None) l e in
     let g = guarded (is_name name) (part_line.Host name w.0) l w.2 in
     let t = work_takes ws w.0 w.1 in
-    subst (Spells part_line_words part_line_fits (codes "host") (name ∷ ws)) g.1 (ap (λ (v : List (List ℕ)). codes "host" ∷ name ∷ v) t.0, and_from _ _ g.0 t.1)
+    subst (Spells part_line_tokens part_line_fits (codes "host") (name ∷ ws)) g.1 (ap (λ (v : List (List ℕ)). codes "host" ∷ name ∷ v) t.0, and_from _ _ g.0 t.1)
 
-instance_takes : (ws : List (List ℕ)) (l : PartLine) → instance_after ws ≡ Some l → Spells part_line_words part_line_fits (codes "instance") ws l
+instance_takes : (ws : List (List ℕ)) (l : PartLine) → instance_after ws ≡ Some l → Spells part_line_tokens part_line_fits (codes "instance") ws l
 unfolding instance_after
 instance_takes ws l e =
     let p = bind_some (one_of ws) (λ w. cond (is_name w) (Some (part_line.Instance w)) None) l e in
     let g = guarded (is_name p.0) (part_line.Instance p.0) l p.2 in
-    subst (Spells part_line_words part_line_fits (codes "instance") ws) g.1 (ap (λ (v : List (List ℕ)). codes "instance" ∷ v) (one_takes ws p.0 p.1), g.0)
+    subst (Spells part_line_tokens part_line_fits (codes "instance") ws) g.1 (ap (λ (v : List (List ℕ)). codes "instance" ∷ v) (one_takes ws p.0 p.1), g.0)
 
-export_takes : (ws : List (List ℕ)) (l : PartLine) → export_after ws ≡ Some l → Spells part_line_words part_line_fits (codes "export") ws l
+export_takes : (ws : List (List ℕ)) (l : PartLine) → export_after ws ≡ Some l → Spells part_line_tokens part_line_fits (codes "export") ws l
 unfolding export_after
 export_takes ws l e =
     let made = λ (p : List ℕ × List ℕ × List ℕ) (k : ExportKind) (n : ℕ). cond (is_name p.0) (Some (part_line.Export p.0 k n)) None in
@@ -187,23 +187,23 @@ export_takes ws l e =
     let g = guarded (is_name p.0.0) (part_line.Export p.0.0 k.0 n.0) l n.2 in
     let tk = kinds.takes p.0.1 k.0 k.1 in
     let tn = (bounded 16 (lit< tt)).takes p.0.2 n.0 n.1 in
-    subst (Spells part_line_words part_line_fits (codes "export") ws) g.1
-    (three_words (codes "export") ws p.0.0 p.0.1 p.0.2 p.0.0 (kind_word k.0) (decimal n.0) (three_take ws p.0 p.1) refl tk.0 tn.0, and_from _ _ g.0 tn.1)
+    subst (Spells part_line_tokens part_line_fits (codes "export") ws) g.1
+    (three_tokens (codes "export") ws p.0.0 p.0.1 p.0.2 p.0.0 (kind_token k.0) (decimal n.0) (three_take ws p.0 p.1) refl tk.0 tn.0, and_from _ _ g.0 tn.1)
 
 slot_tail : Tails slot_after (λ s. decimal s ∷ []) slot_fits
 unfolding slot_after
 slot_tail = one_tail (bounded 15 (lit< tt))
 
-part_takes : (k : PartWord) (ws : List (List ℕ)) (l : PartLine) → part_after k ws ≡ Some l → Spells part_line_words part_line_fits (part_word k) ws l
+part_takes : (k : PartKeyword) (ws : List (List ℕ)) (l : PartLine) → part_after k ws ≡ Some l → Spells part_line_tokens part_line_fits (part_keyword k) ws l
 unfolding part_after
 part_takes part.Host ws l e = host_takes ws l e
 part_takes part.Instance ws l e = instance_takes ws l e
 part_takes part.Export ws l e = export_takes ws l e
-part_takes part.React ws l e = no_words part_line_words part_line_fits (codes "react") part_line.React refl refl ws l e
-part_takes part.Thread ws l e = with_tail slot_tail part_line_words part_line_fits (codes "thread") part_line.Thread (λ s. refl) (λ s. refl) ws l e
-part_takes part.Bad ws l e = with_tail slot_tail part_line_words part_line_fits (codes "bad") part_line.Bad (λ s. refl) (λ s. refl) ws l e
+part_takes part.React ws l e = no_tokens part_line_tokens part_line_fits (codes "react") part_line.React refl refl ws l e
+part_takes part.Thread ws l e = with_tail slot_tail part_line_tokens part_line_fits (codes "thread") part_line.Thread (λ s. refl) (λ s. refl) ws l e
+part_takes part.Bad ws l e = with_tail slot_tail part_line_tokens part_line_fits (codes "bad") part_line.Bad (λ s. refl) (λ s. refl) ws l e
 
-part_again : (l : PartLine) → part_line_fits l ≡ true → line_at (part_line_words l) ≡ Some (line.Part l)
+part_again : (l : PartLine) → part_line_fits l ≡ true → line_at (part_line_tokens l) ≡ Some (line.Part l)
 unfolding line_at line_after part_after host_after instance_after export_after slot_after one_of three_of
 part_again (part_line.Host name w) fits = let f = and_parts (is_name name) (work_fits w) fits in rw (work_again w f.1, f.0) refl
 part_again (part_line.Instance name) fits = rw fits refl
@@ -220,16 +220,16 @@ part_again (part_line.Bad s) fits = rw ((bounded 15 (lit< tt)).again s fits) ref
 abbrev pub numbers_fit : List ℕ → Bool
 numbers_fit ks = list_all (λ k. nat_le k 4095) ks
 
-abbrev pub line_words : Line → List (List ℕ)
-line_words (line.Head l) = head_line_words l
-line_words (line.Part l) = part_line_words l
-line_words (line.Op o) = plain_op_words o
-line_words (line.Call c) = named_call_words c
-line_words line.Main = main_words
-line_words (line.MainOp o) = named_words o
-line_words (line.Answer x) = answer_words x
-line_words (line.Aborter ks) = aborter_words ks
-line_words line.End = end_words
+abbrev pub line_tokens : Line → List (List ℕ)
+line_tokens (line.Head l) = head_line_tokens l
+line_tokens (line.Part l) = part_line_tokens l
+line_tokens (line.Op o) = plain_op_tokens o
+line_tokens (line.Call c) = named_call_tokens c
+line_tokens line.Main = main_tokens
+line_tokens (line.MainOp o) = named_tokens o
+line_tokens (line.Answer x) = answer_tokens x
+line_tokens (line.Aborter ks) = aborter_tokens ks
+line_tokens line.End = end_tokens
 
 abbrev pub line_fits : Line → Bool
 line_fits (line.Head l) = head_line_fits l
@@ -243,39 +243,39 @@ line_fits (line.Aborter ks) = numbers_fit ks
 line_fits line.End = true
 
 abbrev pub SpellsLine : List ℕ → List (List ℕ) → Line → Type 0
-SpellsLine = Spells line_words line_fits
+SpellsLine = Spells line_tokens line_fits
 
-call_line_takes : (k : CallWord) (ws : List (List ℕ)) (l : Line) → call_line_after k ws ≡ Some l → SpellsLine (call_word k) ws l
+call_line_takes : (k : CallKeyword) (ws : List (List ℕ)) (l : Line) → call_line_after k ws ≡ Some l → SpellsLine (call_keyword k) ws l
 unfolding call_line_after
-call_line_takes call.Call ws l e = as_line named_call_words named_call_fits line_words line_fits line.Call (λ x. refl) (λ x. refl) (codes "call") ws (call_after ws) l e (call_takes ws)
-call_line_takes call.CallSync ws l e = as_line named_call_words named_call_fits line_words line_fits line.Call (λ x. refl) (λ x. refl) (codes "call_sync") ws (call_sync_after ws) l e (call_sync_takes ws)
-call_line_takes call.Cancel ws l e = with_tail target_tail line_words line_fits (codes "cancel") (λ p. line.Op (op.Call (call_op.Cancel p.0 p.1))) (λ p. refl) (λ p. refl) ws l e
-call_line_takes call.CancelSync ws l e = with_tail target_tail line_words line_fits (codes "cancel_sync") (λ p. line.Op (op.Call (call_op.CancelSync p.0 p.1))) (λ p. refl) (λ p. refl) ws l e
-call_line_takes call.Drop ws l e = with_tail operand_tail line_words line_fits (codes "drop") (λ x. line.Op (op.Call (call_op.Drop x))) (λ x. refl) (λ x. refl) ws l e
+call_line_takes call.Call ws l e = as_line named_call_tokens named_call_fits line_tokens line_fits line.Call (λ x. refl) (λ x. refl) (codes "call") ws (call_after ws) l e (call_takes ws)
+call_line_takes call.CallSync ws l e = as_line named_call_tokens named_call_fits line_tokens line_fits line.Call (λ x. refl) (λ x. refl) (codes "call_sync") ws (call_sync_after ws) l e (call_sync_takes ws)
+call_line_takes call.Cancel ws l e = with_tail target_tail line_tokens line_fits (codes "cancel") (λ p. line.Op (op.Call (call_op.Cancel p.0 p.1))) (λ p. refl) (λ p. refl) ws l e
+call_line_takes call.CancelSync ws l e = with_tail target_tail line_tokens line_fits (codes "cancel_sync") (λ p. line.Op (op.Call (call_op.CancelSync p.0 p.1))) (λ p. refl) (λ p. refl) ws l e
+call_line_takes call.Drop ws l e = with_tail operand_tail line_tokens line_fits (codes "drop") (λ x. line.Op (op.Call (call_op.Drop x))) (λ x. refl) (λ x. refl) ws l e
 
 numbers_tail : Tails numbers_at (λ ks. map decimal ks) numbers_fit
 numbers_tail = record { takes = each_take (bounded 4095 (lit< tt)) }
 
-frame_takes : (k : FrameWord) (ws : List (List ℕ)) (l : Line) → frame_after k ws ≡ Some l → SpellsLine (frame_word k) ws l
+frame_takes : (k : FrameKeyword) (ws : List (List ℕ)) (l : Line) → frame_after k ws ≡ Some l → SpellsLine (frame_keyword k) ws l
 unfolding frame_after
-frame_takes frame.Main ws l e = no_words line_words line_fits (codes "main") line.Main refl refl ws l e
-frame_takes frame.Answer ws l e = with_tail operand_tail line_words line_fits (codes "answer") line.Answer (λ x. refl) (λ x. refl) ws l e
-frame_takes frame.Aborter ws l e = with_tail numbers_tail line_words line_fits (codes "aborter") line.Aborter (λ x. refl) (λ x. refl) ws l e
-frame_takes frame.End ws l e = no_words line_words line_fits (codes "end") line.End refl refl ws l e
+frame_takes frame.Main ws l e = no_tokens line_tokens line_fits (codes "main") line.Main refl refl ws l e
+frame_takes frame.Answer ws l e = with_tail operand_tail line_tokens line_fits (codes "answer") line.Answer (λ x. refl) (λ x. refl) ws l e
+frame_takes frame.Aborter ws l e = with_tail numbers_tail line_tokens line_fits (codes "aborter") line.Aborter (λ x. refl) (λ x. refl) ws l e
+frame_takes frame.End ws l e = no_tokens line_tokens line_fits (codes "end") line.End refl refl ws l e
 
 after_takes : (k : Keyword) (ws : List (List ℕ)) (l : Line) → line_after k ws ≡ Some l → SpellsLine (keyword_text k) ws l
 unfolding line_after
-after_takes (keyword.Head k) ws l e = as_line head_line_words head_line_fits line_words line_fits line.Head (λ x. refl) (λ x. refl) (head_word k) ws (head_after k ws) l e (head_takes k ws)
-after_takes (keyword.Part k) ws l e = as_line part_line_words part_line_fits line_words line_fits line.Part (λ x. refl) (λ x. refl) (part_word k) ws (part_after k ws) l e (part_takes k ws)
-after_takes (keyword.Data k) ws l e = as_line data_op_words data_op_fits line_words line_fits (λ o. line.Op (op.Data o)) (λ x. refl) (λ x. refl) (data_word k) ws (data_op_after k ws) l e (data_op_takes k ws)
-after_takes (keyword.Task k) ws l e = as_line task_op_words task_op_fits line_words line_fits (λ o. line.Op (op.Task o)) (λ x. refl) (λ x. refl) (task_word k) ws (task_op_after k ws) l e (task_op_takes k ws)
-after_takes (keyword.Set k) ws l e = as_line set_op_words set_op_fits line_words line_fits (λ o. line.Op (op.Set o)) (λ x. refl) (λ x. refl) (set_word k) ws (set_op_after k ws) l e (set_op_takes k ws)
+after_takes (keyword.Head k) ws l e = as_line head_line_tokens head_line_fits line_tokens line_fits line.Head (λ x. refl) (λ x. refl) (head_keyword k) ws (head_after k ws) l e (head_takes k ws)
+after_takes (keyword.Part k) ws l e = as_line part_line_tokens part_line_fits line_tokens line_fits line.Part (λ x. refl) (λ x. refl) (part_keyword k) ws (part_after k ws) l e (part_takes k ws)
+after_takes (keyword.Data k) ws l e = as_line data_op_tokens data_op_fits line_tokens line_fits (λ o. line.Op (op.Data o)) (λ x. refl) (λ x. refl) (data_keyword k) ws (data_op_after k ws) l e (data_op_takes k ws)
+after_takes (keyword.Task k) ws l e = as_line task_op_tokens task_op_fits line_tokens line_fits (λ o. line.Op (op.Task o)) (λ x. refl) (λ x. refl) (task_keyword k) ws (task_op_after k ws) l e (task_op_takes k ws)
+after_takes (keyword.Set k) ws l e = as_line set_op_tokens set_op_fits line_tokens line_fits (λ o. line.Op (op.Set o)) (λ x. refl) (λ x. refl) (set_keyword k) ws (set_op_after k ws) l e (set_op_takes k ws)
 after_takes (keyword.Call k) ws l e = call_line_takes k ws l e
-after_takes (keyword.Thread k) ws l e = as_line thread_op_words thread_op_fits line_words line_fits (λ o. line.Op (op.Thread o)) (λ x. refl) (λ x. refl) (thread_word k) ws (thread_op_after k ws) l e (thread_op_takes k ws)
-after_takes (keyword.Main k) ws l e = as_line named_words named_fits line_words line_fits line.MainOp (λ x. refl) (λ x. refl) (main_word k) ws (main_op_after k ws) l e (main_op_takes k ws)
+after_takes (keyword.Thread k) ws l e = as_line thread_op_tokens thread_op_fits line_tokens line_fits (λ o. line.Op (op.Thread o)) (λ x. refl) (λ x. refl) (thread_keyword k) ws (thread_op_after k ws) l e (thread_op_takes k ws)
+after_takes (keyword.Main k) ws l e = as_line named_tokens named_fits line_tokens line_fits line.MainOp (λ x. refl) (λ x. refl) (main_keyword k) ws (main_op_after k ws) l e (main_op_takes k ws)
 after_takes (keyword.Frame k) ws l e = frame_takes k ws l e
 
-pub line_takes : (ws : List (List ℕ)) (l : Line) → line_at ws ≡ Some l → (ws ≡ line_words l) × (line_fits l ≡ true)
+pub line_takes : (ws : List (List ℕ)) (l : Line) → line_at ws ≡ Some l → (ws ≡ line_tokens l) × (line_fits l ≡ true)
 unfolding line_at
 line_takes [] l e = absurd cc
 line_takes (w ∷ ws) l e =
@@ -283,11 +283,11 @@ line_takes (w ∷ ws) l e =
     let t = after_takes k.0 ws l k.2 in
     (ap (λ (v : List ℕ). v ∷ ws) (keyword_takes w k.0 k.1) ∙ t.0, t.1)
 
-frame_again : (x : Operand) (ks : List ℕ) → operand_fits x ≡ true → numbers_fit ks ≡ true → (line_at (answer_words x) ≡ Some (line.Answer x)) × (line_at (aborter_words ks) ≡ Some (line.Aborter ks))
+frame_again : (x : Operand) (ks : List ℕ) → operand_fits x ≡ true → numbers_fit ks ≡ true → (line_at (answer_tokens x) ≡ Some (line.Answer x)) × (line_at (aborter_tokens ks) ≡ Some (line.Aborter ks))
 unfolding line_at line_after frame_after operand_after one_of
 frame_again x ks fx fk = (rw (operands.again x fx) refl, rw (each_again (bounded 4095 (lit< tt)) ks fk) refl)
 
-pub line_again : (l : Line) → line_fits l ≡ true → line_at (line_words l) ≡ Some l
+pub line_again : (l : Line) → line_fits l ≡ true → line_at (line_tokens l) ≡ Some l
 unfolding line_at line_after frame_after
 line_again (line.Head l) fits = head_again l fits
 line_again (line.Part l) fits = part_again l fits

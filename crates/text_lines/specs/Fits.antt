@@ -44,9 +44,9 @@ work_fits (work.Value n v) = polls_fit n && number_fits v
 work_fits (work.Fail n) = polls_fit n
 work_fits work.Never = true
 
--- the words of an instance are 0 to 15, and so are its slots
-abbrev pub word_fits : ℕ → Bool
-word_fits w = nat_le w 15
+-- the memory cells of an instance are 0 to 15, and so are its slots
+abbrev pub memory_cell_fits : ℕ → Bool
+memory_cell_fits w = nat_le w 15
 
 abbrev pub slot_fits : ℕ → Bool
 slot_fits s = nat_le s 15
@@ -56,8 +56,8 @@ abbrev pub data_op_fits : DataOp → Bool
 data_op_fits (data_op.Set r x) = register_fits r && operand_fits x
 data_op_fits (data_op.Add r x) = register_fits r && operand_fits x
 data_op_fits (data_op.Handle r x) = register_fits r && operand_fits x
-data_op_fits (data_op.Load r w) = register_fits r && word_fits w
-data_op_fits (data_op.Store w x) = word_fits w && operand_fits x
+data_op_fits (data_op.Load r w) = register_fits r && memory_cell_fits w
+data_op_fits (data_op.Store w x) = memory_cell_fits w && operand_fits x
 data_op_fits (data_op.SkipEq x y n) = operand_fits x && operand_fits y && nat_le n 4096
 
 abbrev pub task_op_fits : TaskOp → Bool

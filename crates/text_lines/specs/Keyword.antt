@@ -1,110 +1,110 @@
--- The words with which lines begin.
+-- The tokens with which lines begin.
 use Rattle.std.specs.Prelude.{ℕ, List, [], ◌∷◌, Option, codes, find, length, ◌==◌, if◌then◌else◌}
 use Rattle.std.specs.Str.{bytes_eq}
-use Rattle.text_lines.specs.declared.keyword.HeadWord.{HeadWord}
-use Rattle.text_lines.specs.declared.keyword.HeadWord.TheVariants as head
-use Rattle.text_lines.specs.declared.keyword.PartWord.{PartWord}
-use Rattle.text_lines.specs.declared.keyword.PartWord.TheVariants as part
-use Rattle.text_lines.specs.declared.keyword.DataWord.{DataWord}
-use Rattle.text_lines.specs.declared.keyword.DataWord.TheVariants as datum
-use Rattle.text_lines.specs.declared.keyword.TaskWord.{TaskWord}
-use Rattle.text_lines.specs.declared.keyword.TaskWord.TheVariants as task
-use Rattle.text_lines.specs.declared.keyword.SetWord.{SetWord}
-use Rattle.text_lines.specs.declared.keyword.SetWord.TheVariants as waitable
-use Rattle.text_lines.specs.declared.keyword.CallWord.{CallWord}
-use Rattle.text_lines.specs.declared.keyword.CallWord.TheVariants as call
-use Rattle.text_lines.specs.declared.keyword.ThreadWord.{ThreadWord}
-use Rattle.text_lines.specs.declared.keyword.ThreadWord.TheVariants as thread
-use Rattle.text_lines.specs.declared.keyword.MainWord.{MainWord}
-use Rattle.text_lines.specs.declared.keyword.MainWord.TheVariants as main
-use Rattle.text_lines.specs.declared.keyword.FrameWord.{FrameWord}
-use Rattle.text_lines.specs.declared.keyword.FrameWord.TheVariants as frame
+use Rattle.text_lines.specs.declared.keyword.HeadKeyword.{HeadKeyword}
+use Rattle.text_lines.specs.declared.keyword.HeadKeyword.TheVariants as head
+use Rattle.text_lines.specs.declared.keyword.PartKeyword.{PartKeyword}
+use Rattle.text_lines.specs.declared.keyword.PartKeyword.TheVariants as part
+use Rattle.text_lines.specs.declared.keyword.DataKeyword.{DataKeyword}
+use Rattle.text_lines.specs.declared.keyword.DataKeyword.TheVariants as datum
+use Rattle.text_lines.specs.declared.keyword.TaskKeyword.{TaskKeyword}
+use Rattle.text_lines.specs.declared.keyword.TaskKeyword.TheVariants as task
+use Rattle.text_lines.specs.declared.keyword.SetKeyword.{SetKeyword}
+use Rattle.text_lines.specs.declared.keyword.SetKeyword.TheVariants as waitable
+use Rattle.text_lines.specs.declared.keyword.CallKeyword.{CallKeyword}
+use Rattle.text_lines.specs.declared.keyword.CallKeyword.TheVariants as call
+use Rattle.text_lines.specs.declared.keyword.ThreadKeyword.{ThreadKeyword}
+use Rattle.text_lines.specs.declared.keyword.ThreadKeyword.TheVariants as thread
+use Rattle.text_lines.specs.declared.keyword.MainKeyword.{MainKeyword}
+use Rattle.text_lines.specs.declared.keyword.MainKeyword.TheVariants as main
+use Rattle.text_lines.specs.declared.keyword.FrameKeyword.{FrameKeyword}
+use Rattle.text_lines.specs.declared.keyword.FrameKeyword.TheVariants as frame
 use Rattle.text_lines.specs.declared.keyword.Keyword.{Keyword}
 use Rattle.text_lines.specs.declared.keyword.Keyword.TheVariants as keyword
 
-abbrev pub head_word : HeadWord → List ℕ
-head_word head.Scenario = codes "scenario"
-head_word head.Handles = codes "handles"
-head_word head.Table = codes "table"
-head_word head.Idle = codes "idle"
+abbrev pub head_keyword : HeadKeyword → List ℕ
+head_keyword head.Scenario = codes "scenario"
+head_keyword head.Handles = codes "handles"
+head_keyword head.Table = codes "table"
+head_keyword head.Idle = codes "idle"
 
-abbrev pub part_word : PartWord → List ℕ
-part_word part.Host = codes "host"
-part_word part.Instance = codes "instance"
-part_word part.Export = codes "export"
-part_word part.React = codes "react"
-part_word part.Thread = codes "thread"
-part_word part.Bad = codes "bad"
+abbrev pub part_keyword : PartKeyword → List ℕ
+part_keyword part.Host = codes "host"
+part_keyword part.Instance = codes "instance"
+part_keyword part.Export = codes "export"
+part_keyword part.React = codes "react"
+part_keyword part.Thread = codes "thread"
+part_keyword part.Bad = codes "bad"
 
-abbrev pub data_word : DataWord → List ℕ
-data_word datum.Set = codes "set"
-data_word datum.Add = codes "add"
-data_word datum.Handle = codes "handle"
-data_word datum.Load = codes "load"
-data_word datum.Store = codes "store"
-data_word datum.SkipEq = codes "skip_eq"
+abbrev pub data_keyword : DataKeyword → List ℕ
+data_keyword datum.Set = codes "set"
+data_keyword datum.Add = codes "add"
+data_keyword datum.Handle = codes "handle"
+data_keyword datum.Load = codes "load"
+data_keyword datum.Store = codes "store"
+data_keyword datum.SkipEq = codes "skip_eq"
 
-abbrev pub task_word : TaskWord → List ℕ
-task_word task.Ret = codes "ret"
-task_word task.RetBad = codes "ret_bad"
-task_word task.TaskCancel = codes "task_cancel"
-task_word task.Exit = codes "exit"
-task_word task.CbYield = codes "cb_yield"
-task_word task.CbWait = codes "cb_wait"
-task_word task.Code = codes "code"
-task_word task.BpInc = codes "bp_inc"
-task_word task.BpDec = codes "bp_dec"
+abbrev pub task_keyword : TaskKeyword → List ℕ
+task_keyword task.Ret = codes "ret"
+task_keyword task.RetBad = codes "ret_bad"
+task_keyword task.TaskCancel = codes "task_cancel"
+task_keyword task.Exit = codes "exit"
+task_keyword task.CbYield = codes "cb_yield"
+task_keyword task.CbWait = codes "cb_wait"
+task_keyword task.Code = codes "code"
+task_keyword task.BpInc = codes "bp_inc"
+task_keyword task.BpDec = codes "bp_dec"
 
-abbrev pub set_word : SetWord → List ℕ
-set_word waitable.New = codes "set_new"
-set_word waitable.Drop = codes "set_drop"
-set_word waitable.Wait = codes "wait"
-set_word waitable.Poll = codes "poll"
-set_word waitable.Join = codes "join"
+abbrev pub set_keyword : SetKeyword → List ℕ
+set_keyword waitable.New = codes "set_new"
+set_keyword waitable.Drop = codes "set_drop"
+set_keyword waitable.Wait = codes "wait"
+set_keyword waitable.Poll = codes "poll"
+set_keyword waitable.Join = codes "join"
 
-abbrev pub call_word : CallWord → List ℕ
-call_word call.Call = codes "call"
-call_word call.CallSync = codes "call_sync"
-call_word call.Cancel = codes "cancel"
-call_word call.CancelSync = codes "cancel_sync"
-call_word call.Drop = codes "drop"
+abbrev pub call_keyword : CallKeyword → List ℕ
+call_keyword call.Call = codes "call"
+call_keyword call.CallSync = codes "call_sync"
+call_keyword call.Cancel = codes "cancel"
+call_keyword call.CancelSync = codes "cancel_sync"
+call_keyword call.Drop = codes "drop"
 
-abbrev pub thread_word : ThreadWord → List ℕ
-thread_word thread.New = codes "thread_new"
-thread_word thread.Index = codes "thread_index"
-thread_word thread.ResumeLater = codes "resume_later"
-thread_word thread.Suspend = codes "suspend"
-thread_word thread.Yield = codes "yield"
-thread_word thread.SuspendThenResume = codes "suspend_then_resume"
-thread_word thread.YieldThenResume = codes "yield_then_resume"
-thread_word thread.SuspendThenPromote = codes "suspend_then_promote"
-thread_word thread.YieldThenPromote = codes "yield_then_promote"
+abbrev pub thread_keyword : ThreadKeyword → List ℕ
+thread_keyword thread.New = codes "thread_new"
+thread_keyword thread.Index = codes "thread_index"
+thread_keyword thread.ResumeLater = codes "resume_later"
+thread_keyword thread.Suspend = codes "suspend"
+thread_keyword thread.Yield = codes "yield"
+thread_keyword thread.SuspendThenResume = codes "suspend_then_resume"
+thread_keyword thread.YieldThenResume = codes "yield_then_resume"
+thread_keyword thread.SuspendThenPromote = codes "suspend_then_promote"
+thread_keyword thread.YieldThenPromote = codes "yield_then_promote"
 
-abbrev pub main_word : MainWord → List ℕ
-main_word main.Start = codes "start"
-main_word main.Finish = codes "finish"
-main_word main.Spawn = codes "spawn"
-main_word main.Abort = codes "abort"
-main_word main.Await = codes "await"
-main_word main.Quiet = codes "quiet"
-main_word main.Ready = codes "ready"
+abbrev pub main_keyword : MainKeyword → List ℕ
+main_keyword main.Start = codes "start"
+main_keyword main.Finish = codes "finish"
+main_keyword main.Spawn = codes "spawn"
+main_keyword main.Abort = codes "abort"
+main_keyword main.Await = codes "await"
+main_keyword main.Quiet = codes "quiet"
+main_keyword main.Ready = codes "ready"
 
-abbrev pub frame_word : FrameWord → List ℕ
-frame_word frame.Main = codes "main"
-frame_word frame.Answer = codes "answer"
-frame_word frame.Aborter = codes "aborter"
-frame_word frame.End = codes "end"
+abbrev pub frame_keyword : FrameKeyword → List ℕ
+frame_keyword frame.Main = codes "main"
+frame_keyword frame.Answer = codes "answer"
+frame_keyword frame.Aborter = codes "aborter"
+frame_keyword frame.End = codes "end"
 
 abbrev pub keyword_text : Keyword → List ℕ
-keyword_text (keyword.Head k) = head_word k
-keyword_text (keyword.Part k) = part_word k
-keyword_text (keyword.Data k) = data_word k
-keyword_text (keyword.Task k) = task_word k
-keyword_text (keyword.Set k) = set_word k
-keyword_text (keyword.Call k) = call_word k
-keyword_text (keyword.Thread k) = thread_word k
-keyword_text (keyword.Main k) = main_word k
-keyword_text (keyword.Frame k) = frame_word k
+keyword_text (keyword.Head k) = head_keyword k
+keyword_text (keyword.Part k) = part_keyword k
+keyword_text (keyword.Data k) = data_keyword k
+keyword_text (keyword.Task k) = task_keyword k
+keyword_text (keyword.Set k) = set_keyword k
+keyword_text (keyword.Call k) = call_keyword k
+keyword_text (keyword.Thread k) = thread_keyword k
+keyword_text (keyword.Main k) = main_keyword k
+keyword_text (keyword.Frame k) = frame_keyword k
 
 abbrev pub keywords_three : List Keyword
 keywords_three =
@@ -142,7 +142,7 @@ keywords_long =
     ∷ keyword.Thread thread.Index ∷ keyword.Thread thread.ResumeLater ∷ keyword.Thread thread.SuspendThenResume
     ∷ keyword.Thread thread.YieldThenResume ∷ keyword.Thread thread.SuspendThenPromote ∷ keyword.Thread thread.YieldThenPromote ∷ []
 
--- the keywords among which a word of this length is
+-- the keywords among which a token of this length is
 abbrev pub keywords_of : ℕ → List Keyword
 keywords_of n =
     if n == 3 then keywords_three
@@ -154,4 +154,4 @@ keywords_of n =
     else keywords_long
 
 abbrev pub keyword_at : List ℕ → Option Keyword
-keyword_at word = find (λ k. bytes_eq (keyword_text k) word) (keywords_of (length word))
+keyword_at token = find (λ k. bytes_eq (keyword_text k) token) (keywords_of (length token))

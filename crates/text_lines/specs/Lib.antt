@@ -1,6 +1,6 @@
 pub mod Keyword
-pub mod Words
-pub mod LineWords
+pub mod Tokens
+pub mod LineTokens
 pub mod Fits
 pub mod Line
 pub mod Gives

@@ -7,154 +7,158 @@ ghost use Rattle.text_lines.specs.Gives.{Gives};
 ghost use Rattle.text_lines.specs.declared.line.NamedOp.TheVariants as named;
 
 use crate::fields::{one, operands, two};
-use crate::keyword::{CallWord, MainWord};
+use crate::keyword::{CallKeyword, MainKeyword};
 use crate::line::{CalleeName, Line, LineError, NamedCall, NamedOp};
 use crate::ops::{operand_after, target};
 use crate::parts::copied;
-use crate::words::{Name, bounded, is_name, register};
+use crate::tokens::{Name, bounded, is_name, register};
 use machine_data::{CallOp, Op, Operand, Seq};
 use std::alloc::Global;
 
-fn dot(word: &[u8]) -> Option<usize>
-    ensures place { result ≡ position (λ b. b == 46) word.now }
-    ensures inside { IfSome result (λ i. i < length word.now) }
+fn dot(token: &[u8]) -> Option<usize>
+    ensures place { result ≡ position (λ b. b == 46) token.now }
+    ensures inside { IfSome result (λ i. i < length token.now) }
 {
-    word.iter().position(|b| *b == b'.')
+    token.iter().position(|b| *b == b'.')
 }
 
 // The two names of `INSTANCE.EXPORT`.
 #[tactic(auto, unfolding(crate::specs::Line::callee_at))]
-fn callee(word: &[u8]) -> Option<(&[u8], &[u8])>
-    ensures { option_map (λ p. (p.0.now, p.1.now)) result ≡ callee_at word.now }
+fn callee(token: &[u8]) -> Option<(&[u8], &[u8])>
+    ensures { option_map (λ p. (p.0.now, p.1.now)) result ≡ callee_at token.now }
 {
-    let dot = dot(word)?;
-    let instance = &word[..dot];
-    let export = &word[dot + 1..];
+    let dot = dot(token)?;
+    let instance = &token[..dot];
+    let export = &token[dot + 1..];
     if !is_name(instance) || !is_name(export) {
         return None;
     }
     Some((instance, export))
 }
 
-// A word with a dot names an export, another one a host.
+// A token with a dot names an export, another one a host.
 #[tactic(auto, unfolding(crate::specs::Line::callee_name_at))]
-fn callee_name(alloc: Global, word: &[u8]) -> Result<CalleeName, LineError>
-    ensures { Gives result (callee_name_at word.now) }
+fn callee_name(alloc: Global, token: &[u8]) -> Result<CalleeName, LineError>
+    ensures { Gives result (callee_name_at token.now) }
 {
-    if is_name(word) {
-        return Ok(CalleeName::Host(copied(alloc, word)?));
+    if is_name(token) {
+        return Ok(CalleeName::Host(copied(alloc, token)?));
     }
-    let (instance, export) = callee(word).ok_or(LineError::Bad)?;
+    let (instance, export) = callee(token).ok_or(LineError::Bad)?;
     let instance = copied(alloc, instance)?;
     Ok(CalleeName::Export(instance, copied(alloc, export)?))
 }
 
 // A callee and its operands.
 #[tactic(auto, unfolding(crate::specs::Line::params_after))]
-fn params_after(alloc: Global, words: &[&[u8]]) -> Result<(CalleeName, Seq<Operand>), LineError>
-    ensures { Gives result (params_after (map (λ w. w.now) words.now)) }
+fn params_after(alloc: Global, tokens: &[&[u8]]) -> Result<(CalleeName, Seq<Operand>), LineError>
+    ensures { Gives result (params_after (map (λ w. w.now) tokens.now)) }
 {
-    let (word, words) = words.split_first().ok_or(LineError::Bad)?;
-    let callee = callee_name(alloc, word)?;
-    Ok((callee, operands(alloc, words)?))
+    let (token, tokens) = tokens.split_first().ok_or(LineError::Bad)?;
+    let callee = callee_name(alloc, token)?;
+    Ok((callee, operands(alloc, tokens)?))
 }
 
 // The rest of `call R Q F X*` after R.
 #[tactic(auto, unfolding(crate::specs::Line::call_from))]
-fn call_from(alloc: Global, to: u8, words: &[&[u8]]) -> Result<NamedCall, LineError>
-    ensures { Gives result (call_from to (map (λ w. w.now) words.now)) }
+fn call_from(alloc: Global, to: u8, tokens: &[&[u8]]) -> Result<NamedCall, LineError>
+    ensures { Gives result (call_from to (map (λ w. w.now) tokens.now)) }
 {
-    let (word, words) = words.split_first().ok_or(LineError::Bad)?;
-    let result = register(word).ok_or(LineError::Bad)?;
-    let (callee, params) = params_after(alloc, words)?;
+    let (token, tokens) = tokens.split_first().ok_or(LineError::Bad)?;
+    let result = register(token).ok_or(LineError::Bad)?;
+    let (callee, params) = params_after(alloc, tokens)?;
     Ok(NamedCall::Call(to, result, callee, params))
 }
 
 #[tactic(auto, unfolding(crate::specs::Line::call_after))]
-fn call_after(alloc: Global, words: &[&[u8]]) -> Result<NamedCall, LineError>
-    ensures { Gives result (call_after (map (λ w. w.now) words.now)) }
+fn call_after(alloc: Global, tokens: &[&[u8]]) -> Result<NamedCall, LineError>
+    ensures { Gives result (call_after (map (λ w. w.now) tokens.now)) }
 {
-    let (word, words) = words.split_first().ok_or(LineError::Bad)?;
-    let to = register(word).ok_or(LineError::Bad)?;
-    call_from(alloc, to, words)
+    let (token, tokens) = tokens.split_first().ok_or(LineError::Bad)?;
+    let to = register(token).ok_or(LineError::Bad)?;
+    call_from(alloc, to, tokens)
 }
 
 #[tactic(auto, unfolding(crate::specs::Line::call_sync_after))]
-fn call_sync_after(alloc: Global, words: &[&[u8]]) -> Result<NamedCall, LineError>
-    ensures { Gives result (call_sync_after (map (λ w. w.now) words.now)) }
+fn call_sync_after(alloc: Global, tokens: &[&[u8]]) -> Result<NamedCall, LineError>
+    ensures { Gives result (call_sync_after (map (λ w. w.now) tokens.now)) }
 {
-    let (word, words) = words.split_first().ok_or(LineError::Bad)?;
-    let to = register(word).ok_or(LineError::Bad)?;
-    let (callee, params) = params_after(alloc, words)?;
+    let (token, tokens) = tokens.split_first().ok_or(LineError::Bad)?;
+    let to = register(token).ok_or(LineError::Bad)?;
+    let (callee, params) = params_after(alloc, tokens)?;
     Ok(NamedCall::CallSync(to, callee, params))
 }
 
-/// Returns the line of an op on subtasks that the words after its first one complete.
+/// Returns the line of an op on subtasks that the tokens after its first one complete.
 #[inline(never)]
 #[tactic(auto, unfolding(crate::specs::Line::call_line_after))]
-pub fn call_line_after(alloc: Global, word: CallWord, words: &[&[u8]]) -> Result<Line, LineError>
-    ensures { Gives result (call_line_after word (map (λ w. w.now) words.now)) }
+pub fn call_line_after(
+    alloc: Global,
+    token: CallKeyword,
+    tokens: &[&[u8]],
+) -> Result<Line, LineError>
+    ensures { Gives result (call_line_after token (map (λ w. w.now) tokens.now)) }
 {
-    match word {
-        CallWord::Call => Ok(Line::Call(call_after(alloc, words)?)),
-        CallWord::CallSync => Ok(Line::Call(call_sync_after(alloc, words)?)),
-        CallWord::Cancel => {
-            let (to, subtask) = target(words).ok_or(LineError::Bad)?;
+    match token {
+        CallKeyword::Call => Ok(Line::Call(call_after(alloc, tokens)?)),
+        CallKeyword::CallSync => Ok(Line::Call(call_sync_after(alloc, tokens)?)),
+        CallKeyword::Cancel => {
+            let (to, subtask) = target(tokens).ok_or(LineError::Bad)?;
             Ok(Line::Op(Op::Call(CallOp::Cancel { to, subtask })))
         }
-        CallWord::CancelSync => {
-            let (to, subtask) = target(words).ok_or(LineError::Bad)?;
+        CallKeyword::CancelSync => {
+            let (to, subtask) = target(tokens).ok_or(LineError::Bad)?;
             Ok(Line::Op(Op::Call(CallOp::CancelSync { to, subtask })))
         }
-        CallWord::Drop => {
-            let subtask = operand_after(words).ok_or(LineError::Bad)?;
+        CallKeyword::Drop => {
+            let subtask = operand_after(tokens).ok_or(LineError::Bad)?;
             Ok(Line::Op(Op::Call(CallOp::Drop { subtask })))
         }
     }
 }
 
-/// Returns the names of the instance and the export that the words after `start` have, and its operands.
+/// Returns the names of the instance and the export that the tokens after `start` have, and its operands.
 #[tactic(auto, unfolding(crate::specs::Line::start_after))]
-pub fn start_words<'a>(
+pub fn start_tokens<'a>(
     alloc: Global,
-    words: &[&'a [u8]],
+    tokens: &[&'a [u8]],
 ) -> Result<(&'a [u8], &'a [u8], Seq<Operand>), LineError>
-    ensures { Gives (result_map_both (λ p. named.Start p.0.now p.1.now p.2) (λ e. e) result) (start_after (map (λ w. w.now) words.now)) }
+    ensures { Gives (result_map_both (λ p. named.Start p.0.now p.1.now p.2) (λ e. e) result) (start_after (map (λ w. w.now) tokens.now)) }
 {
-    let (word, words) = words.split_first().ok_or(LineError::Bad)?;
-    let (instance, export) = callee(word).ok_or(LineError::Bad)?;
-    Ok((instance, export, operands(alloc, words)?))
+    let (token, tokens) = tokens.split_first().ok_or(LineError::Bad)?;
+    let (instance, export) = callee(token).ok_or(LineError::Bad)?;
+    Ok((instance, export, operands(alloc, tokens)?))
 }
 
-fn start_after(alloc: Global, words: &[&[u8]]) -> Result<NamedOp, LineError>
-    ensures { Gives result (start_after (map (λ w. w.now) words.now)) }
+fn start_after(alloc: Global, tokens: &[&[u8]]) -> Result<NamedOp, LineError>
+    ensures { Gives result (start_after (map (λ w. w.now) tokens.now)) }
 {
-    let (instance, export, operands) = start_words(alloc, words)?;
+    let (instance, export, operands) = start_tokens(alloc, tokens)?;
     let instance = copied(alloc, instance)?;
     Ok(NamedOp::Start(instance, copied(alloc, export)?, operands))
 }
 
-/// Returns the start that the words after `finish` name, and the register for its value.
+/// Returns the start that the tokens after `finish` name, and the register for its value.
 #[tactic(auto, unfolding(crate::specs::Line::finish_after))]
-pub fn finish_words(words: &[&[u8]]) -> Option<(u32, u8)>
-    ensures { option_map (λ p. named.Finish p.0 p.1) result ≡ finish_after (map (λ w. w.now) words.now) }
+pub fn finish_tokens(tokens: &[&[u8]]) -> Option<(u32, u8)>
+    ensures { option_map (λ p. named.Finish p.0 p.1) result ≡ finish_after (map (λ w. w.now) tokens.now) }
 {
-    let (start, to) = two(words)?;
+    let (start, to) = two(tokens)?;
     Some((bounded(start, 4095)? as u32, register(to)?))
 }
 
-fn finish_after(words: &[&[u8]]) -> Option<NamedOp>
-    ensures { result ≡ finish_after (map (λ w. w.now) words.now) }
+fn finish_after(tokens: &[&[u8]]) -> Option<NamedOp>
+    ensures { result ≡ finish_after (map (λ w. w.now) tokens.now) }
 {
-    let (start, to) = finish_words(words)?;
+    let (start, to) = finish_tokens(tokens)?;
     Some(NamedOp::Finish(start, to))
 }
 
 #[tactic(auto, unfolding(crate::specs::Line::host_name_after))]
-fn host_name_after(alloc: Global, words: &[&[u8]]) -> Result<Name, LineError>
-    ensures { Gives result (host_name_after (map (λ w. w.now) words.now)) }
+fn host_name_after(alloc: Global, tokens: &[&[u8]]) -> Result<Name, LineError>
+    ensures { Gives result (host_name_after (map (λ w. w.now) tokens.now)) }
 {
-    let name = one(words).ok_or(LineError::Bad)?;
+    let name = one(tokens).ok_or(LineError::Bad)?;
     if !is_name(name) {
         return Err(LineError::Bad);
     }
@@ -163,38 +167,42 @@ fn host_name_after(alloc: Global, words: &[&[u8]]) -> Result<Name, LineError>
 
 // The number of a start or of a spawn.
 #[tactic(auto, unfolding(crate::specs::Line::number_after))]
-fn number_after(words: &[&[u8]]) -> Option<u32>
-    ensures { result ≡ number_after (map (λ w. w.now) words.now) }
+fn number_after(tokens: &[&[u8]]) -> Option<u32>
+    ensures { result ≡ number_after (map (λ w. w.now) tokens.now) }
 {
-    Some(bounded(one(words)?, 4_095)? as u32)
+    Some(bounded(one(tokens)?, 4_095)? as u32)
 }
 
 #[tactic(auto, unfolding(crate::specs::Line::ready_after))]
-fn ready_after(alloc: Global, words: &[&[u8]]) -> Result<NamedOp, LineError>
-    ensures { Gives result (ready_after (map (λ w. w.now) words.now)) }
+fn ready_after(alloc: Global, tokens: &[&[u8]]) -> Result<NamedOp, LineError>
+    ensures { Gives result (ready_after (map (λ w. w.now) tokens.now)) }
 {
-    let word = one(words).ok_or(LineError::Bad)?;
-    let (instance, export) = callee(word).ok_or(LineError::Bad)?;
+    let token = one(tokens).ok_or(LineError::Bad)?;
+    let (instance, export) = callee(token).ok_or(LineError::Bad)?;
     let instance = copied(alloc, instance)?;
     Ok(NamedOp::Ready(instance, copied(alloc, export)?))
 }
 
-/// Returns the op of main that the words after its first one complete.
+/// Returns the op of main that the tokens after its first one complete.
 #[inline(never)]
 #[tactic(auto, unfolding(crate::specs::Line::main_op_after))]
-pub fn main_op_after(alloc: Global, word: MainWord, words: &[&[u8]]) -> Result<NamedOp, LineError>
-    ensures { Gives result (main_op_after word (map (λ w. w.now) words.now)) }
+pub fn main_op_after(
+    alloc: Global,
+    token: MainKeyword,
+    tokens: &[&[u8]],
+) -> Result<NamedOp, LineError>
+    ensures { Gives result (main_op_after token (map (λ w. w.now) tokens.now)) }
 {
-    match word {
-        MainWord::Start => start_after(alloc, words),
-        MainWord::Finish => finish_after(words).ok_or(LineError::Bad),
-        MainWord::Spawn => Ok(NamedOp::Spawn(host_name_after(alloc, words)?)),
-        MainWord::Abort => Ok(NamedOp::Abort(number_after(words).ok_or(LineError::Bad)?)),
-        MainWord::Await => Ok(NamedOp::Await(number_after(words).ok_or(LineError::Bad)?)),
-        MainWord::Quiet => words
+    match token {
+        MainKeyword::Start => start_after(alloc, tokens),
+        MainKeyword::Finish => finish_after(tokens).ok_or(LineError::Bad),
+        MainKeyword::Spawn => Ok(NamedOp::Spawn(host_name_after(alloc, tokens)?)),
+        MainKeyword::Abort => Ok(NamedOp::Abort(number_after(tokens).ok_or(LineError::Bad)?)),
+        MainKeyword::Await => Ok(NamedOp::Await(number_after(tokens).ok_or(LineError::Bad)?)),
+        MainKeyword::Quiet => tokens
             .is_empty()
             .then_some(NamedOp::Quiet)
             .ok_or(LineError::Bad),
-        MainWord::Ready => ready_after(alloc, words),
+        MainKeyword::Ready => ready_after(alloc, tokens),
     }
 }

@@ -1,58 +1,58 @@
-//! So many words, and any number of words of one kind.
+//! So many tokens, and any number of tokens of one kind.
 ghost use Rattle.std.specs.Prelude.{◌≡◌, map};
 ghost use Rattle.std.specs.Option.{option_map};
-ghost use Rattle.text_lines.specs.Words.{one_of, two_of, three_of, four_of};
+ghost use Rattle.text_lines.specs.Tokens.{one_of, two_of, three_of, four_of};
 ghost use Rattle.text_lines.specs.Line.{operands_at, numbers_at};
 ghost use Rattle.text_lines.specs.Gives.{Gives};
 
 use crate::line::LineError;
-use crate::words::{bounded, operand};
+use crate::tokens::{bounded, operand};
 use machine_data::{Operand, Seq};
 use std::alloc::Global;
 
-pub fn one<'a>(words: &[&'a [u8]]) -> Option<&'a [u8]>
-    ensures { option_map (λ a. a.now) result ≡ one_of (map (λ w. w.now) words.now) }
+pub fn one<'a>(tokens: &[&'a [u8]]) -> Option<&'a [u8]>
+    ensures { option_map (λ a. a.now) result ≡ one_of (map (λ w. w.now) tokens.now) }
 {
-    if words.len() != 1 {
+    if tokens.len() != 1 {
         return None;
     }
-    Some(words[0])
+    Some(tokens[0])
 }
 
-pub fn two<'a>(words: &[&'a [u8]]) -> Option<(&'a [u8], &'a [u8])>
-    ensures { option_map (λ p. (p.0.now, p.1.now)) result ≡ two_of (map (λ w. w.now) words.now) }
+pub fn two<'a>(tokens: &[&'a [u8]]) -> Option<(&'a [u8], &'a [u8])>
+    ensures { option_map (λ p. (p.0.now, p.1.now)) result ≡ two_of (map (λ w. w.now) tokens.now) }
 {
-    if words.len() != 2 {
+    if tokens.len() != 2 {
         return None;
     }
-    Some((words[0], words[1]))
+    Some((tokens[0], tokens[1]))
 }
 
-pub fn three<'a>(words: &[&'a [u8]]) -> Option<(&'a [u8], &'a [u8], &'a [u8])>
-    ensures { option_map (λ p. (p.0.now, p.1.now, p.2.now)) result ≡ three_of (map (λ w. w.now) words.now) }
+pub fn three<'a>(tokens: &[&'a [u8]]) -> Option<(&'a [u8], &'a [u8], &'a [u8])>
+    ensures { option_map (λ p. (p.0.now, p.1.now, p.2.now)) result ≡ three_of (map (λ w. w.now) tokens.now) }
 {
-    if words.len() != 3 {
+    if tokens.len() != 3 {
         return None;
     }
-    Some((words[0], words[1], words[2]))
+    Some((tokens[0], tokens[1], tokens[2]))
 }
 
-pub fn four<'a>(words: &[&'a [u8]]) -> Option<(&'a [u8], &'a [u8], &'a [u8], &'a [u8])>
-    ensures { option_map (λ p. (p.0.now, p.1.now, p.2.now, p.3.now)) result ≡ four_of (map (λ w. w.now) words.now) }
+pub fn four<'a>(tokens: &[&'a [u8]]) -> Option<(&'a [u8], &'a [u8], &'a [u8], &'a [u8])>
+    ensures { option_map (λ p. (p.0.now, p.1.now, p.2.now, p.3.now)) result ≡ four_of (map (λ w. w.now) tokens.now) }
 {
-    if words.len() != 4 {
+    if tokens.len() != 4 {
         return None;
     }
-    Some((words[0], words[1], words[2], words[3]))
+    Some((tokens[0], tokens[1], tokens[2], tokens[3]))
 }
 
-/// Returns the operands that words are.
-pub fn operands(alloc: Global, words: &[&[u8]]) -> Result<Seq<Operand>, LineError>
-    ensures { Gives result (operands_at (map (λ w. w.now) words.now)) }
+/// Returns the operands that tokens are.
+pub fn operands(alloc: Global, tokens: &[&[u8]]) -> Result<Seq<Operand>, LineError>
+    ensures { Gives result (operands_at (map (λ w. w.now) tokens.now)) }
 {
     let mut operands = Seq::new(alloc);
-    for word in words {
-        let Some(x) = operand(word) else {
+    for token in tokens {
+        let Some(x) = operand(token) else {
             return Err(LineError::Bad);
         };
         operands.push(x)?;
@@ -60,13 +60,13 @@ pub fn operands(alloc: Global, words: &[&[u8]]) -> Result<Seq<Operand>, LineErro
     Ok(operands)
 }
 
-/// The numbers of starts or spawns that words are.
-pub fn numbers(alloc: Global, words: &[&[u8]]) -> Result<Seq<u32>, LineError>
-    ensures { Gives result (numbers_at (map (λ w. w.now) words.now)) }
+/// Returns the numbers of starts or spawns that the tokens are.
+pub fn numbers(alloc: Global, tokens: &[&[u8]]) -> Result<Seq<u32>, LineError>
+    ensures { Gives result (numbers_at (map (λ w. w.now) tokens.now)) }
 {
     let mut numbers = Seq::new(alloc);
-    for word in words {
-        let Some(k) = bounded(word, 4_095) else {
+    for token in tokens {
+        let Some(k) = bounded(token, 4_095) else {
             return Err(LineError::Bad);
         };
         numbers.push(k as u32)?;

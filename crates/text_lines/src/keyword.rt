@@ -1,20 +1,20 @@
-//! The words with which lines begin, by what they are about.
+//! The tokens with which lines begin, by what they are about.
 ghost use Rattle.std.specs.Prelude.{◌≡◌, find};
 ghost use Rattle.std.specs.Str.{bytes_eq};
-ghost use Rattle.text_lines.specs.Keyword.{head_word, part_word, data_word, task_word, set_word, call_word, thread_word, main_word, frame_word, keyword_text, keywords_three, keywords_four, keywords_five, keywords_six, keywords_seven, keywords_eight, keywords_long, keyword_at};
+ghost use Rattle.text_lines.specs.Keyword.{head_keyword, part_keyword, data_keyword, task_keyword, set_keyword, call_keyword, thread_keyword, main_keyword, frame_keyword, keyword_text, keywords_three, keywords_four, keywords_five, keywords_six, keywords_seven, keywords_eight, keywords_long, keyword_at};
 
-/// A word of the text's head.
+/// A token of the text's head.
 #[derive(Clone, Copy)]
-pub enum HeadWord {
+pub enum HeadKeyword {
     Scenario,
     Handles,
     Table,
     Idle,
 }
 
-/// A word that opens a part of the component.
+/// A token that opens a part of the component.
 #[derive(Clone, Copy)]
-pub enum PartWord {
+pub enum PartKeyword {
     Host,
     Instance,
     Export,
@@ -23,9 +23,9 @@ pub enum PartWord {
     Bad,
 }
 
-/// An op on registers and on the instance's words.
+/// An op on registers and on the instance's memory cells.
 #[derive(Clone, Copy)]
-pub enum DataWord {
+pub enum DataKeyword {
     Set,
     Add,
     Handle,
@@ -36,7 +36,7 @@ pub enum DataWord {
 
 /// An op that ends a task or an activation, or that says whether the instance takes calls.
 #[derive(Clone, Copy)]
-pub enum TaskWord {
+pub enum TaskKeyword {
     Ret,
     RetBad,
     TaskCancel,
@@ -50,7 +50,7 @@ pub enum TaskWord {
 
 /// An op on waitable sets.
 #[derive(Clone, Copy)]
-pub enum SetWord {
+pub enum SetKeyword {
     New,
     Drop,
     Wait,
@@ -60,7 +60,7 @@ pub enum SetWord {
 
 /// An op on subtasks.
 #[derive(Clone, Copy)]
-pub enum CallWord {
+pub enum CallKeyword {
     Call,
     CallSync,
     Cancel,
@@ -70,7 +70,7 @@ pub enum CallWord {
 
 /// An op on the task's own threads.
 #[derive(Clone, Copy)]
-pub enum ThreadWord {
+pub enum ThreadKeyword {
     New,
     Index,
     ResumeLater,
@@ -84,7 +84,7 @@ pub enum ThreadWord {
 
 /// An op of main.
 #[derive(Clone, Copy)]
-pub enum MainWord {
+pub enum MainKeyword {
     Start,
     Finish,
     Spawn,
@@ -94,323 +94,323 @@ pub enum MainWord {
     Ready,
 }
 
-/// A word around the ops of main.
+/// A token around the ops of main.
 #[derive(Clone, Copy)]
-pub enum FrameWord {
+pub enum FrameKeyword {
     Main,
     Answer,
     Aborter,
     End,
 }
 
-/// The word with which a line begins.
+/// The token with which a line begins.
 #[derive(Clone, Copy)]
 pub enum Keyword {
-    Head(HeadWord),
-    Part(PartWord),
-    Data(DataWord),
-    Task(TaskWord),
-    Set(SetWord),
-    Call(CallWord),
-    Thread(ThreadWord),
-    Main(MainWord),
-    Frame(FrameWord),
+    Head(HeadKeyword),
+    Part(PartKeyword),
+    Data(DataKeyword),
+    Task(TaskKeyword),
+    Set(SetKeyword),
+    Call(CallKeyword),
+    Thread(ThreadKeyword),
+    Main(MainKeyword),
+    Frame(FrameKeyword),
 }
 
-impl HeadWord {
-    /// Returns the word itself.
+impl HeadKeyword {
+    /// Returns the token itself.
     pub fn text(self) -> &'static [u8]
-        ensures { result.now ≡ head_word self }
+        ensures { result.now ≡ head_keyword self }
     {
         match self {
-            HeadWord::Scenario => b"scenario",
-            HeadWord::Handles => b"handles",
-            HeadWord::Table => b"table",
-            HeadWord::Idle => b"idle",
+            HeadKeyword::Scenario => b"scenario",
+            HeadKeyword::Handles => b"handles",
+            HeadKeyword::Table => b"table",
+            HeadKeyword::Idle => b"idle",
         }
     }
 }
 
-impl PartWord {
-    /// Returns the word itself.
+impl PartKeyword {
+    /// Returns the token itself.
     pub fn text(self) -> &'static [u8]
-        ensures { result.now ≡ part_word self }
+        ensures { result.now ≡ part_keyword self }
     {
         match self {
-            PartWord::Host => b"host",
-            PartWord::Instance => b"instance",
-            PartWord::Export => b"export",
-            PartWord::React => b"react",
-            PartWord::Thread => b"thread",
-            PartWord::Bad => b"bad",
+            PartKeyword::Host => b"host",
+            PartKeyword::Instance => b"instance",
+            PartKeyword::Export => b"export",
+            PartKeyword::React => b"react",
+            PartKeyword::Thread => b"thread",
+            PartKeyword::Bad => b"bad",
         }
     }
 }
 
-impl DataWord {
-    /// Returns the word itself.
+impl DataKeyword {
+    /// Returns the token itself.
     pub fn text(self) -> &'static [u8]
-        ensures { result.now ≡ data_word self }
+        ensures { result.now ≡ data_keyword self }
     {
         match self {
-            DataWord::Set => b"set",
-            DataWord::Add => b"add",
-            DataWord::Handle => b"handle",
-            DataWord::Load => b"load",
-            DataWord::Store => b"store",
-            DataWord::SkipEq => b"skip_eq",
+            DataKeyword::Set => b"set",
+            DataKeyword::Add => b"add",
+            DataKeyword::Handle => b"handle",
+            DataKeyword::Load => b"load",
+            DataKeyword::Store => b"store",
+            DataKeyword::SkipEq => b"skip_eq",
         }
     }
 }
 
-impl TaskWord {
-    /// Returns the word itself.
+impl TaskKeyword {
+    /// Returns the token itself.
     pub fn text(self) -> &'static [u8]
-        ensures { result.now ≡ task_word self }
+        ensures { result.now ≡ task_keyword self }
     {
         match self {
-            TaskWord::Ret => b"ret",
-            TaskWord::RetBad => b"ret_bad",
-            TaskWord::TaskCancel => b"task_cancel",
-            TaskWord::Exit => b"exit",
-            TaskWord::CbYield => b"cb_yield",
-            TaskWord::CbWait => b"cb_wait",
-            TaskWord::Code => b"code",
-            TaskWord::BpInc => b"bp_inc",
-            TaskWord::BpDec => b"bp_dec",
+            TaskKeyword::Ret => b"ret",
+            TaskKeyword::RetBad => b"ret_bad",
+            TaskKeyword::TaskCancel => b"task_cancel",
+            TaskKeyword::Exit => b"exit",
+            TaskKeyword::CbYield => b"cb_yield",
+            TaskKeyword::CbWait => b"cb_wait",
+            TaskKeyword::Code => b"code",
+            TaskKeyword::BpInc => b"bp_inc",
+            TaskKeyword::BpDec => b"bp_dec",
         }
     }
 }
 
-impl SetWord {
-    /// Returns the word itself.
+impl SetKeyword {
+    /// Returns the token itself.
     pub fn text(self) -> &'static [u8]
-        ensures { result.now ≡ set_word self }
+        ensures { result.now ≡ set_keyword self }
     {
         match self {
-            SetWord::New => b"set_new",
-            SetWord::Drop => b"set_drop",
-            SetWord::Wait => b"wait",
-            SetWord::Poll => b"poll",
-            SetWord::Join => b"join",
+            SetKeyword::New => b"set_new",
+            SetKeyword::Drop => b"set_drop",
+            SetKeyword::Wait => b"wait",
+            SetKeyword::Poll => b"poll",
+            SetKeyword::Join => b"join",
         }
     }
 }
 
-impl CallWord {
-    /// Returns the word itself.
+impl CallKeyword {
+    /// Returns the token itself.
     pub fn text(self) -> &'static [u8]
-        ensures { result.now ≡ call_word self }
+        ensures { result.now ≡ call_keyword self }
     {
         match self {
-            CallWord::Call => b"call",
-            CallWord::CallSync => b"call_sync",
-            CallWord::Cancel => b"cancel",
-            CallWord::CancelSync => b"cancel_sync",
-            CallWord::Drop => b"drop",
+            CallKeyword::Call => b"call",
+            CallKeyword::CallSync => b"call_sync",
+            CallKeyword::Cancel => b"cancel",
+            CallKeyword::CancelSync => b"cancel_sync",
+            CallKeyword::Drop => b"drop",
         }
     }
 }
 
-impl ThreadWord {
-    /// Returns the word itself.
+impl ThreadKeyword {
+    /// Returns the token itself.
     pub fn text(self) -> &'static [u8]
-        ensures { result.now ≡ thread_word self }
+        ensures { result.now ≡ thread_keyword self }
     {
         match self {
-            ThreadWord::New => b"thread_new",
-            ThreadWord::Index => b"thread_index",
-            ThreadWord::ResumeLater => b"resume_later",
-            ThreadWord::Suspend => b"suspend",
-            ThreadWord::Yield => b"yield",
-            ThreadWord::SuspendThenResume => b"suspend_then_resume",
-            ThreadWord::YieldThenResume => b"yield_then_resume",
-            ThreadWord::SuspendThenPromote => b"suspend_then_promote",
-            ThreadWord::YieldThenPromote => b"yield_then_promote",
+            ThreadKeyword::New => b"thread_new",
+            ThreadKeyword::Index => b"thread_index",
+            ThreadKeyword::ResumeLater => b"resume_later",
+            ThreadKeyword::Suspend => b"suspend",
+            ThreadKeyword::Yield => b"yield",
+            ThreadKeyword::SuspendThenResume => b"suspend_then_resume",
+            ThreadKeyword::YieldThenResume => b"yield_then_resume",
+            ThreadKeyword::SuspendThenPromote => b"suspend_then_promote",
+            ThreadKeyword::YieldThenPromote => b"yield_then_promote",
         }
     }
 }
 
-impl MainWord {
-    /// Returns the word itself.
+impl MainKeyword {
+    /// Returns the token itself.
     pub fn text(self) -> &'static [u8]
-        ensures { result.now ≡ main_word self }
+        ensures { result.now ≡ main_keyword self }
     {
         match self {
-            MainWord::Start => b"start",
-            MainWord::Finish => b"finish",
-            MainWord::Spawn => b"spawn",
-            MainWord::Abort => b"abort",
-            MainWord::Await => b"await",
-            MainWord::Quiet => b"quiet",
-            MainWord::Ready => b"ready",
+            MainKeyword::Start => b"start",
+            MainKeyword::Finish => b"finish",
+            MainKeyword::Spawn => b"spawn",
+            MainKeyword::Abort => b"abort",
+            MainKeyword::Await => b"await",
+            MainKeyword::Quiet => b"quiet",
+            MainKeyword::Ready => b"ready",
         }
     }
 }
 
-impl FrameWord {
-    /// Returns the word itself.
+impl FrameKeyword {
+    /// Returns the token itself.
     pub fn text(self) -> &'static [u8]
-        ensures { result.now ≡ frame_word self }
+        ensures { result.now ≡ frame_keyword self }
     {
         match self {
-            FrameWord::Main => b"main",
-            FrameWord::Answer => b"answer",
-            FrameWord::Aborter => b"aborter",
-            FrameWord::End => b"end",
+            FrameKeyword::Main => b"main",
+            FrameKeyword::Answer => b"answer",
+            FrameKeyword::Aborter => b"aborter",
+            FrameKeyword::End => b"end",
         }
     }
 }
 
 const THREE: [Keyword; 5] = [
-    Keyword::Data(DataWord::Set),
-    Keyword::Data(DataWord::Add),
-    Keyword::Task(TaskWord::Ret),
-    Keyword::Part(PartWord::Bad),
-    Keyword::Frame(FrameWord::End),
+    Keyword::Data(DataKeyword::Set),
+    Keyword::Data(DataKeyword::Add),
+    Keyword::Task(TaskKeyword::Ret),
+    Keyword::Part(PartKeyword::Bad),
+    Keyword::Frame(FrameKeyword::End),
 ];
 
 const FOUR: [Keyword; 11] = [
-    Keyword::Data(DataWord::Load),
-    Keyword::Task(TaskWord::Exit),
-    Keyword::Head(HeadWord::Idle),
-    Keyword::Part(PartWord::Host),
-    Keyword::Task(TaskWord::Code),
-    Keyword::Set(SetWord::Wait),
-    Keyword::Set(SetWord::Poll),
-    Keyword::Set(SetWord::Join),
-    Keyword::Call(CallWord::Call),
-    Keyword::Call(CallWord::Drop),
-    Keyword::Frame(FrameWord::Main),
+    Keyword::Data(DataKeyword::Load),
+    Keyword::Task(TaskKeyword::Exit),
+    Keyword::Head(HeadKeyword::Idle),
+    Keyword::Part(PartKeyword::Host),
+    Keyword::Task(TaskKeyword::Code),
+    Keyword::Set(SetKeyword::Wait),
+    Keyword::Set(SetKeyword::Poll),
+    Keyword::Set(SetKeyword::Join),
+    Keyword::Call(CallKeyword::Call),
+    Keyword::Call(CallKeyword::Drop),
+    Keyword::Frame(FrameKeyword::Main),
 ];
 
 const FIVE: [Keyword; 10] = [
-    Keyword::Data(DataWord::Store),
-    Keyword::Main(MainWord::Start),
-    Keyword::Head(HeadWord::Table),
-    Keyword::Part(PartWord::React),
-    Keyword::Thread(ThreadWord::Yield),
-    Keyword::Main(MainWord::Spawn),
-    Keyword::Main(MainWord::Abort),
-    Keyword::Main(MainWord::Await),
-    Keyword::Main(MainWord::Quiet),
-    Keyword::Main(MainWord::Ready),
+    Keyword::Data(DataKeyword::Store),
+    Keyword::Main(MainKeyword::Start),
+    Keyword::Head(HeadKeyword::Table),
+    Keyword::Part(PartKeyword::React),
+    Keyword::Thread(ThreadKeyword::Yield),
+    Keyword::Main(MainKeyword::Spawn),
+    Keyword::Main(MainKeyword::Abort),
+    Keyword::Main(MainKeyword::Await),
+    Keyword::Main(MainKeyword::Quiet),
+    Keyword::Main(MainKeyword::Ready),
 ];
 
 const SIX: [Keyword; 8] = [
-    Keyword::Data(DataWord::Handle),
-    Keyword::Main(MainWord::Finish),
-    Keyword::Part(PartWord::Export),
-    Keyword::Part(PartWord::Thread),
-    Keyword::Task(TaskWord::BpInc),
-    Keyword::Task(TaskWord::BpDec),
-    Keyword::Call(CallWord::Cancel),
-    Keyword::Frame(FrameWord::Answer),
+    Keyword::Data(DataKeyword::Handle),
+    Keyword::Main(MainKeyword::Finish),
+    Keyword::Part(PartKeyword::Export),
+    Keyword::Part(PartKeyword::Thread),
+    Keyword::Task(TaskKeyword::BpInc),
+    Keyword::Task(TaskKeyword::BpDec),
+    Keyword::Call(CallKeyword::Cancel),
+    Keyword::Frame(FrameKeyword::Answer),
 ];
 
 const SEVEN: [Keyword; 7] = [
-    Keyword::Data(DataWord::SkipEq),
-    Keyword::Task(TaskWord::RetBad),
-    Keyword::Head(HeadWord::Handles),
-    Keyword::Task(TaskWord::CbWait),
-    Keyword::Set(SetWord::New),
-    Keyword::Thread(ThreadWord::Suspend),
-    Keyword::Frame(FrameWord::Aborter),
+    Keyword::Data(DataKeyword::SkipEq),
+    Keyword::Task(TaskKeyword::RetBad),
+    Keyword::Head(HeadKeyword::Handles),
+    Keyword::Task(TaskKeyword::CbWait),
+    Keyword::Set(SetKeyword::New),
+    Keyword::Thread(ThreadKeyword::Suspend),
+    Keyword::Frame(FrameKeyword::Aborter),
 ];
 
 const EIGHT: [Keyword; 4] = [
-    Keyword::Head(HeadWord::Scenario),
-    Keyword::Part(PartWord::Instance),
-    Keyword::Task(TaskWord::CbYield),
-    Keyword::Set(SetWord::Drop),
+    Keyword::Head(HeadKeyword::Scenario),
+    Keyword::Part(PartKeyword::Instance),
+    Keyword::Task(TaskKeyword::CbYield),
+    Keyword::Set(SetKeyword::Drop),
 ];
 
 const LONG: [Keyword; 10] = [
-    Keyword::Task(TaskWord::TaskCancel),
-    Keyword::Call(CallWord::CallSync),
-    Keyword::Call(CallWord::CancelSync),
-    Keyword::Thread(ThreadWord::New),
-    Keyword::Thread(ThreadWord::Index),
-    Keyword::Thread(ThreadWord::ResumeLater),
-    Keyword::Thread(ThreadWord::SuspendThenResume),
-    Keyword::Thread(ThreadWord::YieldThenResume),
-    Keyword::Thread(ThreadWord::SuspendThenPromote),
-    Keyword::Thread(ThreadWord::YieldThenPromote),
+    Keyword::Task(TaskKeyword::TaskCancel),
+    Keyword::Call(CallKeyword::CallSync),
+    Keyword::Call(CallKeyword::CancelSync),
+    Keyword::Thread(ThreadKeyword::New),
+    Keyword::Thread(ThreadKeyword::Index),
+    Keyword::Thread(ThreadKeyword::ResumeLater),
+    Keyword::Thread(ThreadKeyword::SuspendThenResume),
+    Keyword::Thread(ThreadKeyword::YieldThenResume),
+    Keyword::Thread(ThreadKeyword::SuspendThenPromote),
+    Keyword::Thread(ThreadKeyword::YieldThenPromote),
 ];
 
 impl Keyword {
-    /// Returns the word itself.
+    /// Returns the token itself.
     pub fn text(self) -> &'static [u8]
         ensures { result.now ≡ keyword_text self }
     {
         match self {
-            Keyword::Head(word) => word.text(),
-            Keyword::Part(word) => word.text(),
-            Keyword::Data(word) => word.text(),
-            Keyword::Task(word) => word.text(),
-            Keyword::Set(word) => word.text(),
-            Keyword::Call(word) => word.text(),
-            Keyword::Thread(word) => word.text(),
-            Keyword::Main(word) => word.text(),
-            Keyword::Frame(word) => word.text(),
+            Keyword::Head(token) => token.text(),
+            Keyword::Part(token) => token.text(),
+            Keyword::Data(token) => token.text(),
+            Keyword::Task(token) => token.text(),
+            Keyword::Set(token) => token.text(),
+            Keyword::Call(token) => token.text(),
+            Keyword::Thread(token) => token.text(),
+            Keyword::Main(token) => token.text(),
+            Keyword::Frame(token) => token.text(),
         }
     }
 
-    /// Returns the keyword that a word is. It is sought among those of the word's length, the frequent ones first.
-    pub fn from_word(word: &[u8]) -> Option<Keyword>
-        ensures { result ≡ keyword_at word.now }
+    /// Returns the keyword that a token is. It is sought among those of the token's length, the frequent ones first.
+    pub fn from_token(token: &[u8]) -> Option<Keyword>
+        ensures { result ≡ keyword_at token.now }
     {
-        match word.len() {
-            3 => of_three(word),
-            4 => of_four(word),
-            5 => of_five(word),
-            6 => of_six(word),
-            7 => of_seven(word),
-            8 => of_eight(word),
-            _ => of_more(word),
+        match token.len() {
+            3 => of_three(token),
+            4 => of_four(token),
+            5 => of_five(token),
+            6 => of_six(token),
+            7 => of_seven(token),
+            8 => of_eight(token),
+            _ => of_more(token),
         }
     }
 }
 
-fn of_three(word: &[u8]) -> Option<Keyword>
-    ensures { result ≡ find (λ k. bytes_eq (keyword_text k) word.now) keywords_three }
+fn of_three(token: &[u8]) -> Option<Keyword>
+    ensures { result ≡ find (λ k. bytes_eq (keyword_text k) token.now) keywords_three }
 {
-    THREE.iter().copied().find(|k| k.text() == word)
+    THREE.iter().copied().find(|k| k.text() == token)
 }
 
-fn of_four(word: &[u8]) -> Option<Keyword>
-    ensures { result ≡ find (λ k. bytes_eq (keyword_text k) word.now) keywords_four }
+fn of_four(token: &[u8]) -> Option<Keyword>
+    ensures { result ≡ find (λ k. bytes_eq (keyword_text k) token.now) keywords_four }
 {
-    FOUR.iter().copied().find(|k| k.text() == word)
+    FOUR.iter().copied().find(|k| k.text() == token)
 }
 
-fn of_five(word: &[u8]) -> Option<Keyword>
-    ensures { result ≡ find (λ k. bytes_eq (keyword_text k) word.now) keywords_five }
+fn of_five(token: &[u8]) -> Option<Keyword>
+    ensures { result ≡ find (λ k. bytes_eq (keyword_text k) token.now) keywords_five }
 {
-    FIVE.iter().copied().find(|k| k.text() == word)
+    FIVE.iter().copied().find(|k| k.text() == token)
 }
 
-fn of_six(word: &[u8]) -> Option<Keyword>
-    ensures { result ≡ find (λ k. bytes_eq (keyword_text k) word.now) keywords_six }
+fn of_six(token: &[u8]) -> Option<Keyword>
+    ensures { result ≡ find (λ k. bytes_eq (keyword_text k) token.now) keywords_six }
 {
-    SIX.iter().copied().find(|k| k.text() == word)
+    SIX.iter().copied().find(|k| k.text() == token)
 }
 
-fn of_seven(word: &[u8]) -> Option<Keyword>
-    ensures { result ≡ find (λ k. bytes_eq (keyword_text k) word.now) keywords_seven }
+fn of_seven(token: &[u8]) -> Option<Keyword>
+    ensures { result ≡ find (λ k. bytes_eq (keyword_text k) token.now) keywords_seven }
 {
-    SEVEN.iter().copied().find(|k| k.text() == word)
+    SEVEN.iter().copied().find(|k| k.text() == token)
 }
 
-fn of_eight(word: &[u8]) -> Option<Keyword>
-    ensures { result ≡ find (λ k. bytes_eq (keyword_text k) word.now) keywords_eight }
+fn of_eight(token: &[u8]) -> Option<Keyword>
+    ensures { result ≡ find (λ k. bytes_eq (keyword_text k) token.now) keywords_eight }
 {
-    EIGHT.iter().copied().find(|k| k.text() == word)
+    EIGHT.iter().copied().find(|k| k.text() == token)
 }
 
 #[inline(never)]
-fn of_more(word: &[u8]) -> Option<Keyword>
-    ensures { result ≡ find (λ k. bytes_eq (keyword_text k) word.now) keywords_long }
+fn of_more(token: &[u8]) -> Option<Keyword>
+    ensures { result ≡ find (λ k. bytes_eq (keyword_text k) token.now) keywords_long }
 {
-    LONG.iter().copied().find(|k| k.text() == word)
+    LONG.iter().copied().find(|k| k.text() == token)
 }

@@ -7,12 +7,12 @@ mod keyword;
 mod line;
 mod ops;
 mod parts;
-mod words;
+mod tokens;
 
-pub use calls::{finish_words, start_words};
-pub use keyword::{DataWord, Keyword, MainWord};
+pub use calls::{finish_tokens, start_tokens};
+pub use keyword::{DataKeyword, Keyword, MainKeyword};
 pub use line::{
     CalleeName, HeadLine, HostWork, Line, LineError, NamedCall, NamedOp, PartLine, line_after,
 };
 pub use ops::{data_op_after, target, task_op_after};
-pub use words::{Name, number_up_to};
+pub use tokens::{Name, number_up_to};

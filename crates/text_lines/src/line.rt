@@ -5,10 +5,10 @@ ghost use Rattle.text_lines.specs.Gives.{Gives};
 
 use crate::calls::{call_line_after, main_op_after};
 use crate::fields::numbers;
-use crate::keyword::{FrameWord, Keyword};
+use crate::keyword::{FrameKeyword, Keyword};
 use crate::ops::{data_op_after, operand_after, set_op_after, task_op_after, thread_op_after};
 use crate::parts::{head_after, part_after};
-use crate::words::Name;
+use crate::tokens::Name;
 use machine_data::{ExportKind, IdleLine, Op, Operand, Seq};
 use std::alloc::{AllocError, Global};
 
@@ -107,47 +107,50 @@ impl From<AllocError> for LineError {
     }
 }
 
-// The line around main's ops that the words after its first one complete.
+// The line around main's ops that the tokens after its first one complete.
 #[inline(never)]
 #[tactic(auto, unfolding(crate::specs::Line::frame_after))]
-fn frame_after(alloc: Global, word: FrameWord, words: &[&[u8]]) -> Result<Line, LineError>
-    ensures { Gives result (frame_after word (map (λ w. w.now) words.now)) }
+fn frame_after(alloc: Global, token: FrameKeyword, tokens: &[&[u8]]) -> Result<Line, LineError>
+    ensures { Gives result (frame_after token (map (λ w. w.now) tokens.now)) }
 {
-    match word {
-        FrameWord::Main => words.is_empty().then_some(Line::Main).ok_or(LineError::Bad),
-        FrameWord::Answer => Ok(Line::Answer(operand_after(words).ok_or(LineError::Bad)?)),
-        FrameWord::Aborter => Ok(Line::Aborter(numbers(alloc, words)?)),
-        FrameWord::End => words.is_empty().then_some(Line::End).ok_or(LineError::Bad),
+    match token {
+        FrameKeyword::Main => tokens
+            .is_empty()
+            .then_some(Line::Main)
+            .ok_or(LineError::Bad),
+        FrameKeyword::Answer => Ok(Line::Answer(operand_after(tokens).ok_or(LineError::Bad)?)),
+        FrameKeyword::Aborter => Ok(Line::Aborter(numbers(alloc, tokens)?)),
+        FrameKeyword::End => tokens.is_empty().then_some(Line::End).ok_or(LineError::Bad),
     }
 }
 
-/// Returns the line that a keyword and the words after it spell, in the one spelling that it has. Numbers that count earlier lines
+/// Returns the line that a keyword and the tokens after it spell, in the one spelling that it has. Numbers that count earlier lines
 /// are at most 4,095 here.
 #[tactic(auto, unfolding(crate::specs::Line::line_after))]
-pub fn line_after(alloc: Global, keyword: Keyword, words: &[&[u8]]) -> Result<Line, LineError>
-    ensures { Gives result (line_after keyword (map (λ w. w.now) words.now)) }
+pub fn line_after(alloc: Global, keyword: Keyword, tokens: &[&[u8]]) -> Result<Line, LineError>
+    ensures { Gives result (line_after keyword (map (λ w. w.now) tokens.now)) }
 {
     match keyword {
-        Keyword::Head(word) => Ok(Line::Head(head_after(word, words).ok_or(LineError::Bad)?)),
-        Keyword::Part(word) => Ok(Line::Part(part_after(alloc, word, words)?)),
-        Keyword::Data(word) => {
-            let op = data_op_after(word, words).ok_or(LineError::Bad)?;
+        Keyword::Head(token) => Ok(Line::Head(head_after(token, tokens).ok_or(LineError::Bad)?)),
+        Keyword::Part(token) => Ok(Line::Part(part_after(alloc, token, tokens)?)),
+        Keyword::Data(token) => {
+            let op = data_op_after(token, tokens).ok_or(LineError::Bad)?;
             Ok(Line::Op(Op::Data(op)))
         }
-        Keyword::Task(word) => {
-            let op = task_op_after(word, words).ok_or(LineError::Bad)?;
+        Keyword::Task(token) => {
+            let op = task_op_after(token, tokens).ok_or(LineError::Bad)?;
             Ok(Line::Op(Op::Task(op)))
         }
-        Keyword::Set(word) => {
-            let op = set_op_after(word, words).ok_or(LineError::Bad)?;
+        Keyword::Set(token) => {
+            let op = set_op_after(token, tokens).ok_or(LineError::Bad)?;
             Ok(Line::Op(Op::Set(op)))
         }
-        Keyword::Call(word) => call_line_after(alloc, word, words),
-        Keyword::Thread(word) => {
-            let op = thread_op_after(word, words).ok_or(LineError::Bad)?;
+        Keyword::Call(token) => call_line_after(alloc, token, tokens),
+        Keyword::Thread(token) => {
+            let op = thread_op_after(token, tokens).ok_or(LineError::Bad)?;
             Ok(Line::Op(Op::Thread(op)))
         }
-        Keyword::Main(word) => Ok(Line::MainOp(main_op_after(alloc, word, words)?)),
-        Keyword::Frame(word) => frame_after(alloc, word, words),
+        Keyword::Main(token) => Ok(Line::MainOp(main_op_after(alloc, token, tokens)?)),
+        Keyword::Frame(token) => frame_after(alloc, token, tokens),
     }
 }

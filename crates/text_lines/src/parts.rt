@@ -4,9 +4,9 @@ ghost use Rattle.text_lines.specs.Line.{head_after, never_after, fail_after, val
 ghost use Rattle.text_lines.specs.Gives.{Gives};
 
 use crate::fields::{four, one, three};
-use crate::keyword::{HeadWord, PartWord};
+use crate::keyword::{HeadKeyword, PartKeyword};
 use crate::line::{HeadLine, HostWork, LineError, PartLine};
-use crate::words::{Name, bounded, export_kind, idle_line, is_name, number};
+use crate::tokens::{Name, bounded, export_kind, idle_line, is_name, number};
 use machine_data::Seq;
 use std::alloc::{AllocError, Global};
 
@@ -16,34 +16,34 @@ pub fn copied(alloc: Global, name: &[u8]) -> Result<Name, AllocError>
     Ok(Seq::from_vec(Vec::from_slice(alloc, name)?))
 }
 
-/// Returns the line of the head that the words after its first one complete.
+/// Returns the line of the head that the tokens after its first one complete.
 #[inline(never)]
 #[tactic(auto, unfolding(crate::specs::Line::head_after))]
-pub fn head_after(word: HeadWord, words: &[&[u8]]) -> Option<HeadLine>
-    ensures { result ≡ head_after word (map (λ w. w.now) words.now) }
+pub fn head_after(token: HeadKeyword, tokens: &[&[u8]]) -> Option<HeadLine>
+    ensures { result ≡ head_after token (map (λ w. w.now) tokens.now) }
 {
-    match word {
-        HeadWord::Scenario => (one(words)? == b"1".as_slice()).then_some(HeadLine::Title),
-        HeadWord::Handles => Some(HeadLine::Handles(bounded(one(words)?, 268_435_455)? as u32)),
-        HeadWord::Table => Some(HeadLine::Table(bounded(one(words)?, 1_000_000)? as u32)),
-        HeadWord::Idle => Some(HeadLine::Idle(idle_line(one(words)?)?)),
+    match token {
+        HeadKeyword::Scenario => (one(tokens)? == b"1".as_slice()).then_some(HeadLine::Title),
+        HeadKeyword::Handles => Some(HeadLine::Handles(bounded(one(tokens)?, 268_435_455)? as u32)),
+        HeadKeyword::Table => Some(HeadLine::Table(bounded(one(tokens)?, 1_000_000)? as u32)),
+        HeadKeyword::Idle => Some(HeadLine::Idle(idle_line(one(tokens)?)?)),
     }
 }
 
 // `never`
 #[tactic(auto, unfolding(crate::specs::Line::never_after))]
-fn never_after(words: &[&[u8]]) -> Option<HostWork>
-    ensures { result ≡ never_after (map (λ w. w.now) words.now) }
+fn never_after(tokens: &[&[u8]]) -> Option<HostWork>
+    ensures { result ≡ never_after (map (λ w. w.now) tokens.now) }
 {
-    (one(words)? == b"never".as_slice()).then_some(HostWork::Never)
+    (one(tokens)? == b"never".as_slice()).then_some(HostWork::Never)
 }
 
 // `polls N fail`
 #[tactic(auto, unfolding(crate::specs::Line::fail_after))]
-fn fail_after(words: &[&[u8]]) -> Option<HostWork>
-    ensures { result ≡ fail_after (map (λ w. w.now) words.now) }
+fn fail_after(tokens: &[&[u8]]) -> Option<HostWork>
+    ensures { result ≡ fail_after (map (λ w. w.now) tokens.now) }
 {
-    let (first, polls, end) = three(words)?;
+    let (first, polls, end) = three(tokens)?;
     let polls = bounded(polls, 1_000_000)? as u32;
     if first != b"polls".as_slice() || end != b"fail".as_slice() {
         return None;
@@ -53,10 +53,10 @@ fn fail_after(words: &[&[u8]]) -> Option<HostWork>
 
 // `polls N value V`
 #[tactic(auto, unfolding(crate::specs::Line::value_after))]
-fn value_after(words: &[&[u8]]) -> Option<HostWork>
-    ensures { result ≡ value_after (map (λ w. w.now) words.now) }
+fn value_after(tokens: &[&[u8]]) -> Option<HostWork>
+    ensures { result ≡ value_after (map (λ w. w.now) tokens.now) }
 {
-    let (first, polls, end, value) = four(words)?;
+    let (first, polls, end, value) = four(tokens)?;
     let polls = bounded(polls, 1_000_000)? as u32;
     let value = number(value)?;
     if first != b"polls".as_slice() || end != b"value".as_slice() {
@@ -66,24 +66,24 @@ fn value_after(words: &[&[u8]]) -> Option<HostWork>
 }
 
 #[tactic(auto, unfolding(crate::specs::Line::work_after))]
-fn work_after(words: &[&[u8]]) -> Option<HostWork>
-    ensures { result ≡ work_after (map (λ w. w.now) words.now) }
+fn work_after(tokens: &[&[u8]]) -> Option<HostWork>
+    ensures { result ≡ work_after (map (λ w. w.now) tokens.now) }
 {
-    if let Some(work) = never_after(words) {
+    if let Some(work) = never_after(tokens) {
         return Some(work);
     }
-    if let Some(work) = fail_after(words) {
+    if let Some(work) = fail_after(tokens) {
         return Some(work);
     }
-    value_after(words)
+    value_after(tokens)
 }
 
 #[tactic(auto, unfolding(crate::specs::Line::host_after))]
-fn host_after(alloc: Global, words: &[&[u8]]) -> Result<PartLine, LineError>
-    ensures { Gives result (host_after (map (λ w. w.now) words.now)) }
+fn host_after(alloc: Global, tokens: &[&[u8]]) -> Result<PartLine, LineError>
+    ensures { Gives result (host_after (map (λ w. w.now) tokens.now)) }
 {
-    let (name, words) = words.split_first().ok_or(LineError::Bad)?;
-    let work = work_after(words).ok_or(LineError::Bad)?;
+    let (name, tokens) = tokens.split_first().ok_or(LineError::Bad)?;
+    let work = work_after(tokens).ok_or(LineError::Bad)?;
     if !is_name(name) {
         return Err(LineError::Bad);
     }
@@ -91,10 +91,10 @@ fn host_after(alloc: Global, words: &[&[u8]]) -> Result<PartLine, LineError>
 }
 
 #[tactic(auto, unfolding(crate::specs::Line::instance_after))]
-fn instance_after(alloc: Global, words: &[&[u8]]) -> Result<PartLine, LineError>
-    ensures { Gives result (instance_after (map (λ w. w.now) words.now)) }
+fn instance_after(alloc: Global, tokens: &[&[u8]]) -> Result<PartLine, LineError>
+    ensures { Gives result (instance_after (map (λ w. w.now) tokens.now)) }
 {
-    let name = one(words).ok_or(LineError::Bad)?;
+    let name = one(tokens).ok_or(LineError::Bad)?;
     if !is_name(name) {
         return Err(LineError::Bad);
     }
@@ -102,10 +102,10 @@ fn instance_after(alloc: Global, words: &[&[u8]]) -> Result<PartLine, LineError>
 }
 
 #[tactic(auto, unfolding(crate::specs::Line::export_after))]
-fn export_after(alloc: Global, words: &[&[u8]]) -> Result<PartLine, LineError>
-    ensures { Gives result (export_after (map (λ w. w.now) words.now)) }
+fn export_after(alloc: Global, tokens: &[&[u8]]) -> Result<PartLine, LineError>
+    ensures { Gives result (export_after (map (λ w. w.now) tokens.now)) }
 {
-    let (name, kind, params) = three(words).ok_or(LineError::Bad)?;
+    let (name, kind, params) = three(tokens).ok_or(LineError::Bad)?;
     let kind = export_kind(kind).ok_or(LineError::Bad)?;
     let params = bounded(params, 16).ok_or(LineError::Bad)? as u32;
     if !is_name(name) {
@@ -115,27 +115,31 @@ fn export_after(alloc: Global, words: &[&[u8]]) -> Result<PartLine, LineError>
 }
 
 #[tactic(auto, unfolding(crate::specs::Line::slot_after))]
-fn slot_after(words: &[&[u8]]) -> Option<u8>
-    ensures { result ≡ slot_after (map (λ w. w.now) words.now) }
+fn slot_after(tokens: &[&[u8]]) -> Option<u8>
+    ensures { result ≡ slot_after (map (λ w. w.now) tokens.now) }
 {
-    Some(bounded(one(words)?, 15)? as u8)
+    Some(bounded(one(tokens)?, 15)? as u8)
 }
 
-/// Returns the line that opens a part, completed by the words after its first one.
+/// Returns the line that opens a part, completed by the tokens after its first one.
 #[inline(never)]
 #[tactic(auto, unfolding(crate::specs::Line::part_after))]
-pub fn part_after(alloc: Global, word: PartWord, words: &[&[u8]]) -> Result<PartLine, LineError>
-    ensures { Gives result (part_after word (map (λ w. w.now) words.now)) }
+pub fn part_after(
+    alloc: Global,
+    token: PartKeyword,
+    tokens: &[&[u8]],
+) -> Result<PartLine, LineError>
+    ensures { Gives result (part_after token (map (λ w. w.now) tokens.now)) }
 {
-    match word {
-        PartWord::Host => host_after(alloc, words),
-        PartWord::Instance => instance_after(alloc, words),
-        PartWord::Export => export_after(alloc, words),
-        PartWord::React => words
+    match token {
+        PartKeyword::Host => host_after(alloc, tokens),
+        PartKeyword::Instance => instance_after(alloc, tokens),
+        PartKeyword::Export => export_after(alloc, tokens),
+        PartKeyword::React => tokens
             .is_empty()
             .then_some(PartLine::React)
             .ok_or(LineError::Bad),
-        PartWord::Thread => Ok(PartLine::Thread(slot_after(words).ok_or(LineError::Bad)?)),
-        PartWord::Bad => Ok(PartLine::Bad(slot_after(words).ok_or(LineError::Bad)?)),
+        PartKeyword::Thread => Ok(PartLine::Thread(slot_after(tokens).ok_or(LineError::Bad)?)),
+        PartKeyword::Bad => Ok(PartLine::Bad(slot_after(tokens).ok_or(LineError::Bad)?)),
     }
 }

@@ -130,7 +130,7 @@ ends old new at end n from to small e =
     let few = decimal_at_most n small in
     omega (arith, long, few)
 
--- ---- Words of which some are written over
+-- ---- Tokens of which some are written over
 
 ahead : (xs ys : List ℕ) (n : ℕ) → take (length xs + n) (xs ++ ys) ≡ xs ++ take n ys
 ahead [] ys n = let e : 0 + n ≡ n = omega arith in rw e refl

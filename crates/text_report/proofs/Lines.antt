@@ -22,7 +22,7 @@ does old mid new what f n e h k = rw (k, of_thread old mid f n e h) (simp append
 pub answers : (old mid new what : List ℕ) (f l n v : ℕ) → f ≡ n → l ≡ v → mid ≡ old ++ (codes "thread " ++ decimal f) → new ≡ mid ++ (what ++ decimal l) → new ≡ old ++ answer_text n what v
 answers old mid new what f l n v e g h k = does_more old mid new what (decimal v) f n e h (k ∙ ap (λ (x : ℕ). mid ++ (what ++ decimal x)) g)
 
--- with a number behind more words
+-- with a number behind more tokens
 pub answers_more : (old mid new what more : List ℕ) (f l n v : ℕ) → f ≡ n → l ≡ v → mid ≡ old ++ (codes "thread " ++ decimal f) → new ≡ mid ++ (what ++ more ++ decimal l) → new ≡ old ++ (op_text n what ++ more ++ decimal v)
 answers_more old mid new what more f l n v e g h k =
     let rest = k ∙ ap (λ (x : ℕ). mid ++ (what ++ more ++ decimal x)) g in
@@ -34,7 +34,7 @@ answers_two old mid new what more f l m n v w e g i h k =
     let rest = k ∙ ap (λ (x : ℕ). mid ++ (what ++ decimal x ++ more ++ decimal m)) g ∙ ap (λ (x : ℕ). mid ++ (what ++ decimal v ++ more ++ decimal x)) i in
     rw (rest, of_thread old mid f n e h) (simp append_assoc)
 
--- more words and a rest behind a text
+-- more tokens and a rest behind a text
 pub then : (old mid new a what more : List ℕ) → mid ≡ old ++ a → new ≡ mid ++ (what ++ more) → new ≡ old ++ (a ++ what ++ more)
 then old mid new a what more e f = rw (f, e) (simp append_assoc)
 

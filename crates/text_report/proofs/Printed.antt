@@ -1,11 +1,11 @@
--- Lines that were printed are read again, and the words of a line.
+-- Lines that were printed are read again, and the tokens of a line.
 use Rattle.std.proofs.Common.{◌≡◌, ℕ, ◌+◌, ◌^◌, ◌%◌, ◌<◌, ◌≤◌, Bool, true, false, not, eqb, List, [], ◌∷◌, ◌++◌, refl, ap, ◌∙◌, append_assoc, arith}
 use Rattle.std.specs.Prelude.{decimal}
 use Rattle.std.specs.List.{flat_map, list_all}
 use Rattle.std.proofs.lemmas.Bool.{and_parts, ne_eqb}
 use Rattle.std.proofs.lemmas.Fmt.{decimal_by_steps}
 use Rattle.std.proofs.lemmas.List.Folds.{list_all-append}
-use Rattle.text_scenario.specs.Grammar.{lines, words}
+use Rattle.text_scenario.specs.Grammar.{lines, tokens}
 use Rattle.machine_rules.specs.Texts.{line_text}
 
 -- no byte of it is c
@@ -29,17 +29,17 @@ lines_again (l ∷ ls) none =
     ap (λ (bs : List ℕ). lines bs) (append_assoc l (10 ∷ []) (flat_map line_text ls)) ∙ line_again l (flat_map line_text ls) both.0
     ∙ ap (λ (more : List (List ℕ)). l ∷ more) (lines_again ls both.1)
 
-pub last_word : (word : List ℕ) → lacks 32 word ≡ true → words word ≡ word ∷ []
-last_word [] none = refl
-last_word (b ∷ bs) none =
+pub last_token : (token : List ℕ) → lacks 32 token ≡ true → tokens token ≡ token ∷ []
+last_token [] none = refl
+last_token (b ∷ bs) none =
     let both = and_parts (not (eqb b 32)) (lacks 32 bs) none in
-    rw (is_false (eqb b 32) both.0, last_word bs both.1) refl
+    rw (is_false (eqb b 32) both.0, last_token bs both.1) refl
 
-pub first_word : (word rest : List ℕ) → lacks 32 word ≡ true → words (word ++ 32 ∷ rest) ≡ word ∷ words rest
-first_word [] rest none = refl
-first_word (b ∷ bs) rest none =
+pub first_token : (token rest : List ℕ) → lacks 32 token ≡ true → tokens (token ++ 32 ∷ rest) ≡ token ∷ tokens rest
+first_token [] rest none = refl
+first_token (b ∷ bs) rest none =
     let both = and_parts (not (eqb b 32)) (lacks 32 bs) none in
-    rw (is_false (eqb b 32) both.0, first_word bs rest both.1) refl
+    rw (is_false (eqb b 32) both.0, first_token bs rest both.1) refl
 
 -- a number's digits are neither spaces nor line feeds
 pub decimal_lacks : (c n : ℕ) → c < 48 → n < 2 ^ 64 → lacks c (decimal n) ≡ true

@@ -5,10 +5,10 @@ ghost use Rattle.run_trace.specs.Labels.{label_of};
 ghost use Rattle.run_trace.specs.Opened.{all, call_of, data_of, handle_of, loop_of, main_of, own_of, set_of, take_of, task_of, thread_of};
 ghost use Rattle.machine_data.specs.Moves.{given_own};
 ghost use Rattle.machine_data.specs.Statuses.{status_code};
-ghost use Rattle.machine_data.specs.declared.words.Given.TheVariants as Given;
+ghost use Rattle.machine_data.specs.declared.statuses.Given.TheVariants as Given;
 ghost use Rattle.machine_rules.specs.Texts.{mark_text, phase_text, given_text, wakes, refused, main_text, future_text, loop_text, taken_text, event_text, take_text, data_text, task_text, set_text, thread_text, label_text, line_text, outcome_text};
 
-use crate::piece::{digits, number, numbers, small_number, thread_number, words, words_over};
+use crate::piece::{digits, literal, literal_over, number, numbers, small_number, thread_number};
 use machine_data::{Mark, Outcome, Phase, Status, TaskEvent, Trap};
 use run_trace::{
     CallKind, DataKind, HandleKind, Head, LabelKind, LoopKind, MainKind, OwnKind, SetKind,
@@ -45,7 +45,7 @@ fn refused(out: &mut [u8], at: usize, before: &[u8], start: u32, trap: Trap) -> 
     )
 }
 
-fn phase_word(phase: Phase) -> &'static [u8]
+fn phase_token(phase: Phase) -> &'static [u8]
     ensures text { result.now ≡ phase_text phase }
     ensures short { length result.now ≤ 9 }
 {
@@ -56,7 +56,7 @@ fn phase_word(phase: Phase) -> &'static [u8]
     }
 }
 
-// `take M`: of words that are known where a line is compiled, a few stores are made.
+// `take M`: of a text that is known where a line is compiled, a few stores are made.
 #[inline(always)]
 fn taken(out: &mut [u8], at: usize, mark: Mark) -> usize
     requires { at + 11 ≤ length out.old }
@@ -65,9 +65,9 @@ fn taken(out: &mut [u8], at: usize, mark: Mark) -> usize
     ensures text { take result out.new ≡ take at out.old ++ (codes "take " ++ mark_text mark) }
 {
     match mark {
-        Mark::Switch => words(out, at, b"take switch"),
-        Mark::High => words(out, at, b"take high"),
-        Mark::Low => words(out, at, b"take low"),
+        Mark::Switch => literal(out, at, b"take switch"),
+        Mark::High => literal(out, at, b"take high"),
+        Mark::Low => literal(out, at, b"take low"),
     }
 }
 
@@ -80,13 +80,13 @@ fn taken_thread(out: &mut [u8], at: usize, mark: Mark) -> usize
     ensures text { take result out.new ≡ take at out.old ++ (codes "take " ++ mark_text mark ++ codes " thread ") }
 {
     match mark {
-        Mark::Switch => words(out, at, b"take switch thread "),
-        Mark::High => words(out, at, b"take high thread "),
-        Mark::Low => words(out, at, b"take low thread "),
+        Mark::Switch => literal(out, at, b"take switch thread "),
+        Mark::High => literal(out, at, b"take high thread "),
+        Mark::Low => literal(out, at, b"take low thread "),
     }
 }
 
-// Words, the handle of a subtask, and its status, which has one digit.
+// A text, the handle of a subtask, and its status, which has one digit.
 #[inline(always)]
 fn handed(out: &mut [u8], at: usize, before: &[u8], handle: u32, status: Status) -> usize
     requires { at + length before.now + 27 ≤ length out.old }
@@ -105,8 +105,8 @@ fn aborts(out: &mut [u8], at: usize, spawn: u32, phase: Phase) -> usize
     ensures text { take result out.new ≡ take at out.old ++ (codes "main abort " ++ decimal spawn ++ codes " " ++ phase_text phase) }
 {
     let end = number(out, at, b"main abort ", spawn.into());
-    let end = words(out, end, b" ");
-    words(out, end, phase_word(phase))
+    let end = literal(out, end, b" ");
+    literal(out, end, phase_token(phase))
 }
 
 #[inline(never)]
@@ -124,8 +124,8 @@ fn main_label(out: &mut [u8], at: usize, kind: MainKind, small: u32, value: u64)
         MainKind::Spawn => numbers(out, at, b"main spawn ", small.into(), b" future ", value),
         MainKind::Abort(phase) => aborts(out, at, small, phase),
         MainKind::Await => number(out, at, b"main await ", small.into()),
-        MainKind::Quiet => words(out, at, b"main quiet"),
-        MainKind::Ready => words(out, at, b"main ready"),
+        MainKind::Quiet => literal(out, at, b"main quiet"),
+        MainKind::Ready => literal(out, at, b"main ready"),
         MainKind::Answer => number(out, at, b"main answer ", value),
     }
 }
@@ -137,9 +137,9 @@ fn polled(out: &mut [u8], at: usize, work: u64, what: &[u8]) -> usize
     ensures room { length out.new ≡ length out.old }
     ensures text { take result out.new ≡ take at out.old ++ future_text work what.now }
 {
-    let end = words_over(out, at, b"future  ", 7);
+    let end = literal_over(out, at, b"future  ", 7);
     let end = digits(out, end, work);
-    words(out, end, what)
+    literal(out, end, what)
 }
 
 // The labels of the loop that are seldom. They have a function of their own, so that all that is common fits into the loop that
@@ -152,12 +152,12 @@ fn seldom_label(out: &mut [u8], at: usize, kind: LoopKind, work: u64) -> usize
     ensures text { take result out.new ≡ take at out.old ++ loop_text (loop_of kind work) }
 {
     match kind {
-        LoopKind::MainPends => words(out, at, b"main pends"),
+        LoopKind::MainPends => literal(out, at, b"main pends"),
         LoopKind::FuturePends => polled(out, at, work, b" pends"),
         LoopKind::FutureEnds => polled(out, at, work, b" ends"),
         LoopKind::FutureFails => polled(out, at, work, b" fails"),
         LoopKind::FutureAborted => polled(out, at, work, b" aborted"),
-        LoopKind::Rest => words(out, at, b"rest"),
+        LoopKind::Rest => literal(out, at, b"rest"),
         LoopKind::Deadlock(trap) => number(out, at, b"deadlock ", trap.number().into()),
         LoopKind::Trap(trap) => {
             numbers(out, at, b"trap thread ", work, b" ", trap.number().into())
@@ -172,9 +172,9 @@ fn loop_label(out: &mut [u8], at: usize, kind: LoopKind, small: u32, xs: &[u64])
     ensures text { take result out.new ≡ take at out.old ++ loop_text (loop_of kind (slice_index (all small xs.now) 0)) }
 {
     match kind {
-        LoopKind::MainPends => words(out, at, b"main pends"),
+        LoopKind::MainPends => literal(out, at, b"main pends"),
         LoopKind::FuturePends => polled(out, at, first(small, xs), b" pends"),
-        LoopKind::Rest => words(out, at, b"rest"),
+        LoopKind::Rest => literal(out, at, b"rest"),
         _ => seldom_label(out, at, kind, first(small, xs)),
     }
 }
@@ -212,7 +212,7 @@ fn takes_and(out: &mut [u8], at: usize, mark: Mark, thread: u64, then: &[u8]) ->
     ensures text { take result out.new ≡ take at out.old ++ (taken_text mark (codes " thread ") thread ++ then.now) }
 {
     let end = takes_thread(out, at, mark, thread);
-    words(out, end, then)
+    literal(out, end, then)
 }
 
 // Takings that are seldom, apart as well.
@@ -289,14 +289,14 @@ fn seldom_own(
 {
     let end = takes_thread(out, at, mark, thread);
     match kind {
-        OwnKind::Nothing => words(out, end, b" event 0 0 0"),
-        OwnKind::Cancelled => words(out, end, b" event 6 0 0"),
+        OwnKind::Nothing => literal(out, end, b" event 0 0 0"),
+        OwnKind::Cancelled => literal(out, end, b" event 6 0 0"),
         OwnKind::NothingWakes => {
-            let end = words(out, end, b" event 0 0 0");
+            let end = literal(out, end, b" event 0 0 0");
             wakes(out, end, woken)
         }
         OwnKind::CancelledWakes => {
-            let end = words(out, end, b" event 6 0 0");
+            let end = literal(out, end, b" event 6 0 0");
             wakes(out, end, woken)
         }
     }
@@ -345,7 +345,7 @@ fn data_label(out: &mut [u8], at: usize, kind: DataKind, small: u32, xs: &[u64])
         DataKind::Handle => number(out, end, b" handle ", later(small, xs, 1)),
         DataKind::Load => number(out, end, b" load ", later(small, xs, 1)),
         DataKind::Store => number(out, end, b" store ", later(small, xs, 1)),
-        DataKind::SkipEq => words(out, end, b" skip_eq"),
+        DataKind::SkipEq => literal(out, end, b" skip_eq"),
     }
 }
 
@@ -358,21 +358,21 @@ fn task_label(out: &mut [u8], at: usize, kind: TaskKind, small: u32, xs: &[u64])
     let end = thread_number(out, at, first(small, xs));
     match kind {
         TaskKind::Ret => number(out, end, b" ret ", later(small, xs, 1)),
-        TaskKind::TaskCancel => words(out, end, b" task_cancel"),
+        TaskKind::TaskCancel => literal(out, end, b" task_cancel"),
         TaskKind::TaskCancelWakes => {
-            let end = words(out, end, b" task_cancel");
+            let end = literal(out, end, b" task_cancel");
             wakes(out, end, later(small, xs, 1))
         }
-        TaskKind::Exit => words(out, end, b" exit"),
+        TaskKind::Exit => literal(out, end, b" exit"),
         TaskKind::ExitWakes => {
-            let end = words(out, end, b" exit");
+            let end = literal(out, end, b" exit");
             wakes(out, end, later(small, xs, 1))
         }
-        TaskKind::CbYield => words(out, end, b" cb_yield"),
-        TaskKind::CbWait => words(out, end, b" cb_wait"),
-        TaskKind::Code => words(out, end, b" code"),
-        TaskKind::BpInc => words(out, end, b" bp_inc"),
-        TaskKind::BpDec => words(out, end, b" bp_dec"),
+        TaskKind::CbYield => literal(out, end, b" cb_yield"),
+        TaskKind::CbWait => literal(out, end, b" cb_wait"),
+        TaskKind::Code => literal(out, end, b" code"),
+        TaskKind::BpInc => literal(out, end, b" bp_inc"),
+        TaskKind::BpDec => literal(out, end, b" bp_dec"),
     }
 }
 
@@ -397,13 +397,13 @@ fn set_label(out: &mut [u8], at: usize, kind: SetKind, small: u32, xs: &[u64]) -
 {
     let end = thread_number(out, at, first(small, xs));
     match kind {
-        SetKind::Drop => words(out, end, b" set_drop"),
-        SetKind::WaitNothing => words(out, end, b" wait 0 0 0"),
-        SetKind::WaitCancelled => words(out, end, b" wait 6 0 0"),
+        SetKind::Drop => literal(out, end, b" set_drop"),
+        SetKind::WaitNothing => literal(out, end, b" wait 0 0 0"),
+        SetKind::WaitCancelled => literal(out, end, b" wait 6 0 0"),
         SetKind::WaitWakes(event) => waits_and_wakes(out, end, event, later(small, xs, 1)),
-        SetKind::PollNothing => words(out, end, b" poll 0 0 0"),
-        SetKind::PollCancelled => words(out, end, b" poll 6 0 0"),
-        SetKind::Join => words(out, end, b" join"),
+        SetKind::PollNothing => literal(out, end, b" poll 0 0 0"),
+        SetKind::PollCancelled => literal(out, end, b" poll 6 0 0"),
+        SetKind::Join => literal(out, end, b" join"),
         SetKind::JoinWakes => number(out, end, b" join wakes ", later(small, xs, 1)),
     }
 }
@@ -429,7 +429,7 @@ fn call_label(out: &mut [u8], at: usize, kind: CallKind, small: u32, xs: &[u64])
         ),
         CallKind::PausesPolls => number(out, end, b" pauses future ", later(small, xs, 1)),
         CallKind::Fails => number(out, end, b" fails ", later(small, xs, 1)),
-        CallKind::Drop => words(out, end, b" drop"),
+        CallKind::Drop => literal(out, end, b" drop"),
         CallKind::RetWakes => numbers(
             out,
             end,
@@ -449,14 +449,14 @@ fn thread_label(out: &mut [u8], at: usize, kind: ThreadKind, thread: u64) -> usi
 {
     let end = thread_number(out, at, thread);
     match kind {
-        ThreadKind::Pauses => words(out, end, b" pauses"),
-        ThreadKind::ResumeLater => words(out, end, b" resume_later"),
-        ThreadKind::Suspend => words(out, end, b" suspend"),
-        ThreadKind::Yield => words(out, end, b" yield"),
-        ThreadKind::SuspendThenResume => words(out, end, b" suspend_then_resume"),
-        ThreadKind::YieldThenResume => words(out, end, b" yield_then_resume"),
-        ThreadKind::SuspendThenPromote => words(out, end, b" suspend_then_promote"),
-        ThreadKind::YieldThenPromote => words(out, end, b" yield_then_promote"),
+        ThreadKind::Pauses => literal(out, end, b" pauses"),
+        ThreadKind::ResumeLater => literal(out, end, b" resume_later"),
+        ThreadKind::Suspend => literal(out, end, b" suspend"),
+        ThreadKind::Yield => literal(out, end, b" yield"),
+        ThreadKind::SuspendThenResume => literal(out, end, b" suspend_then_resume"),
+        ThreadKind::YieldThenResume => literal(out, end, b" yield_then_resume"),
+        ThreadKind::SuspendThenPromote => literal(out, end, b" suspend_then_promote"),
+        ThreadKind::YieldThenPromote => literal(out, end, b" yield_then_promote"),
     }
 }
 
@@ -522,7 +522,7 @@ pub(crate) fn label_line(out: &mut [u8], at: usize, head: &Head, xs: &[u64]) -> 
     ensures text { take result out.new ≡ take at out.old ++ line_text (label_text (label_of head.now xs.now)) }
 {
     let end = any_label(out, at, head, xs);
-    words(out, end, b"\n")
+    literal(out, end, b"\n")
 }
 
 // The text of an outcome, without a line feed.
@@ -537,8 +537,8 @@ fn any_outcome(out: &mut [u8], at: usize, outcome: Outcome) -> usize
         Outcome::Trap(trap) => number(out, at, b"trap ", trap.number().into()),
         Outcome::HostFailed(work) => number(out, at, b"host failed ", work),
         Outcome::Deadlock(trap) => number(out, at, b"deadlock ", trap.number().into()),
-        Outcome::Idle => words(out, at, b"idle"),
-        Outcome::OutOfSteps => words(out, at, b"out of steps"),
+        Outcome::Idle => literal(out, at, b"idle"),
+        Outcome::OutOfSteps => literal(out, at, b"out of steps"),
     }
 }
 
@@ -550,5 +550,5 @@ pub fn outcome_line(out: &mut [u8], at: usize, outcome: Outcome) -> usize
     ensures text { take result out.new ≡ take at out.old ++ line_text (outcome_text outcome) }
 {
     let end = any_outcome(out, at, outcome);
-    words(out, end, b"\n")
+    literal(out, end, b"\n")
 }

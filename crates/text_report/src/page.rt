@@ -42,7 +42,7 @@ impl Page {
     }
 
     /// Adds lines of the labels that are left, up to a full page, and takes these labels away. Answers whether the page is full;
-    /// else no labels are left. It is apart, and goes over labels of its own, so that its loop has all registers and all that it
+    /// else no labels are left. It is a function of its own, and goes over its own labels, so that its loop has all registers and all that it
     /// keeps is in them.
     #[inline(never)]
     pub fn fill(&mut self, labels: &mut Labels<'_>) -> bool
@@ -90,8 +90,8 @@ impl Page {
         &self.bytes[..PAGE]
     }
 
-    /// Takes the page away that is full. What is behind it comes to the front.
-    pub fn turn(&mut self)
+    /// Takes the bytes of a full page away. What is behind them moves to the front.
+    pub fn take_full(&mut self)
         requires { PAGE ≤ length self.old }
         ensures rest { self.new ≡ drop PAGE self.old }
         ensures room { length self.new ≤ PAGE }

@@ -5,30 +5,30 @@ ghost use Rattle.text_report.specs.Digits.{six_text, three_text};
 
 use crate::table::{LEADS, THREES};
 
-// Words, byte by byte: of words that are known where a line is compiled, a few stores are made.
+// A text, byte by byte: of one that is known where a line is compiled, a few stores are made.
 #[inline(always)]
-pub(crate) fn words(out: &mut [u8], at: usize, words: &[u8]) -> usize
-    requires { at + length words.now ≤ length out.old }
-    ensures end { result ≡ at + length words.now }
+pub(crate) fn literal(out: &mut [u8], at: usize, literal: &[u8]) -> usize
+    requires { at + length literal.now ≤ length out.old }
+    ensures end { result ≡ at + length literal.now }
     ensures room { length out.new ≡ length out.old }
-    ensures text { take result out.new ≡ take at out.old ++ words.now }
+    ensures text { take result out.new ≡ take at out.old ++ literal.now }
 {
-    for index in 0..words.len() {
-        out[at + index] = words[index];
+    for index in 0..literal.len() {
+        out[at + index] = literal[index];
     }
-    at + words.len()
+    at + literal.len()
 }
 
-// Words of which so many stay; what comes behind them is written over the others.
+// A text of which so many bytes stay; what comes behind them is written over the others.
 #[inline(always)]
-pub(crate) fn words_over(out: &mut [u8], at: usize, text: &[u8], stay: usize) -> usize
+pub(crate) fn literal_over(out: &mut [u8], at: usize, text: &[u8], stay: usize) -> usize
     requires room { at + length text.now ≤ length out.old }
     requires stay { stay ≤ length text.now }
     ensures end { result ≡ at + stay }
     ensures room { length out.new ≡ length out.old }
     ensures text { take result out.new ≡ take at out.old ++ take stay text.now }
 {
-    words(out, at, text);
+    literal(out, at, text);
     at + stay
 }
 
@@ -41,7 +41,7 @@ fn one_digit(out: &mut [u8], at: usize, number: u64) -> usize
     ensures room { length out.new ≡ length out.old }
     ensures text { take result out.new ≡ take at out.old ++ decimal number }
 {
-    words(out, at, &[b'0' + number as u8])
+    literal(out, at, &[b'0' + number as u8])
 }
 
 // A number below 1,000: four bytes are stored, of which its digits stay.
@@ -61,7 +61,7 @@ fn hundreds(out: &mut [u8], at: usize, number: u64) -> usize
         LEADS[from + 2],
         LEADS[from + 3],
     ];
-    words_over(out, at, &digits, LEADS[from + 3] as usize - 48)
+    literal_over(out, at, &digits, LEADS[from + 3] as usize - 48)
 }
 
 // Three digits, of which the first ones may be 0.
@@ -81,7 +81,7 @@ fn three(out: &mut [u8], at: usize, number: u64) -> usize
         THREES[from + 2],
         THREES[from + 3],
     ];
-    words_over(out, at, &digits, 3)
+    literal_over(out, at, &digits, 3)
 }
 
 // Six digits, of which the first ones may be 0.
@@ -173,7 +173,7 @@ pub(crate) fn digits(out: &mut [u8], at: usize, number: u64) -> usize
     }
 }
 
-// Words and a number of one digit behind them.
+// A text and a number of one digit behind them.
 #[inline(always)]
 pub(crate) fn small_number(out: &mut [u8], at: usize, before: &[u8], number: u64) -> usize
     requires small { number < 10 }
@@ -182,11 +182,11 @@ pub(crate) fn small_number(out: &mut [u8], at: usize, before: &[u8], number: u64
     ensures room { length out.new ≡ length out.old }
     ensures text { take result out.new ≡ take at out.old ++ (before.now ++ decimal number) }
 {
-    let end = words(out, at, before);
+    let end = literal(out, at, before);
     one_digit(out, end, number)
 }
 
-// Words and a number behind them. The words of each call are known where it is compiled.
+// A text and a number behind it. The text of each call is known where it is compiled.
 #[inline(always)]
 pub(crate) fn number(out: &mut [u8], at: usize, before: &[u8], number: u64) -> usize
     requires { at + length before.now + 25 ≤ length out.old }
@@ -194,7 +194,7 @@ pub(crate) fn number(out: &mut [u8], at: usize, before: &[u8], number: u64) -> u
     ensures room { length out.new ≡ length out.old }
     ensures text { take result out.new ≡ take at out.old ++ (before.now ++ decimal number) }
 {
-    let end = words(out, at, before);
+    let end = literal(out, at, before);
     digits(out, end, number)
 }
 
@@ -206,7 +206,7 @@ pub(crate) fn thread_number(out: &mut [u8], at: usize, thread: u64) -> usize
     ensures room { length out.new ≡ length out.old }
     ensures text { take result out.new ≡ take at out.old ++ (codes "thread " ++ decimal thread) }
 {
-    let end = words_over(out, at, b"thread  ", 7);
+    let end = literal_over(out, at, b"thread  ", 7);
     digits(out, end, thread)
 }
 

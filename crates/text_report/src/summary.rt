@@ -82,6 +82,7 @@ fn count(labels: &Labels<'_>) -> Counts
         wakes: 0,
         pauses: 0,
     };
+    // read so that the proof knows how many labels there are at most
     let _total = labels.len();
     let mut left = labels.rest();
     'labels: while let Some((head, _)) = Labels::take(&mut left) {

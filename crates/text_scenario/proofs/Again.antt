@@ -12,10 +12,10 @@ use Rattle.text_lines.specs.declared.line.PartLine.TheVariants as part_line
 use Rattle.text_lines.specs.declared.line.NamedOp.{NamedOp}
 use Rattle.text_lines.specs.declared.line.NamedOp.TheVariants as named
 use Rattle.text_lines.specs.declared.line.Line.TheVariants as line
-use Rattle.text_lines.specs.Words.{◌>>=◌}
-use Rattle.text_lines.specs.LineWords.{title_words, handles_words, table_words, idle_words, instance_words, export_words, react_words, thread_words, main_words, answer_words, aborter_words, end_words}
+use Rattle.text_lines.specs.Tokens.{◌>>=◌}
+use Rattle.text_lines.specs.LineTokens.{title_tokens, handles_tokens, table_tokens, idle_tokens, instance_tokens, export_tokens, react_tokens, thread_tokens, main_tokens, answer_tokens, aborter_tokens, end_tokens}
 use Rattle.text_lines.specs.Fits.{handles_fit, table_fits}
-use Rattle.text_lines.proofs.CallLaws.{named_words, named_fits}
+use Rattle.text_lines.proofs.CallLaws.{named_tokens, named_fits}
 use Rattle.text_lines.proofs.LineLaws.{numbers_fit}
 use Rattle.text_scenario.specs.declared.state.Body.{Body}
 use Rattle.text_scenario.specs.declared.state.Opening.{Opening}
@@ -29,7 +29,7 @@ use Rattle.text_scenario.specs.declared.tree.InstanceText.{InstanceText}
 use Rattle.text_scenario.specs.declared.tree.MainOpText.{MainOpText}
 use Rattle.text_scenario.specs.declared.tree.MainOpText.TheVariants as main
 use Rattle.text_scenario.specs.declared.tree.ScenarioText.{ScenarioText}
-use Rattle.text_scenario.specs.Spelling.{Lines, head_lines, host_line, exports_of, instance_name, export_name, host_name, script_lines, react_lines, export_lines, part_lines, instance_lines, lines_after, body_lines, main_op_words, main_lines, lines_of}
+use Rattle.text_scenario.specs.Spelling.{Lines, head_lines, host_line, exports_of, instance_name, export_name, host_name, script_lines, react_lines, export_lines, part_lines, instance_lines, lines_after, body_lines, main_op_tokens, main_lines, lines_of}
 use Rattle.machine_data.specs.Read.{is_callback}
 use Rattle.text_scenario.specs.Placement.{EachStands, HostStands, ReactStands, ExportStands, PartStands, InstanceStands, main_has_room, is_start, is_spawn, start_count, spawn_count, finish_opens, is_spawned, spawn_named, MainOpStands, AborterStands, IsWellFormed}
 use Rattle.text_scenario.specs.State.{with_host, with_instance, with_part, with_export, script_closed, instance_closed, main_open, after_title, after_handles, after_table, after_idle, after_head, after_host, after_instance, after_export, after_react, after_thread, after_bad, after_part, after_main, start_of, finish_of, spawn_of, ready_of, main_op_of, after_main_op, after_answer, after_aborter, after_end, after, read_from, scenario_of}
@@ -49,13 +49,13 @@ ReadsParts s b ls i = (t : State) × ReadsTo s ls t × (script_closed t ≡ Some
 
 module _ (b : Body) (fits : BodyFits b) where
   export_opened : (s : State) (i : InstanceText) (x : ExportText) → script_closed s ≡ Some (b, i) → ExportStands b.hosts b.instances i.parts x
-      → ReadsTo s (export_words x.name x.kind x.params ∷ script_lines b.hosts b.instances x.start) (state.Script b i (opening_of x) x.start)
+      → ReadsTo s (export_tokens x.name x.kind x.params ∷ script_lines b.hosts b.instances x.start) (state.Script b i (opening_of x) x.start)
   unfolding after after_part after_export
   export_opened s i x closed stands =
       let h : Opening = opening_of x in
       let l = line.Part (part_line.Export x.name x.kind x.params) in
       let one = one_line s (state.Script b i h []) l (and_from _ _ stands.name (le-leb _ _ stands.params)) (rw (closed, stands.opens) refl) in
-      both s (state.Script b i h []) (state.Script b i h x.start) (export_words x.name x.kind x.params ∷ []) (script_lines b.hosts b.instances x.start) one
+      both s (state.Script b i h []) (state.Script b i h x.start) (export_tokens x.name x.kind x.params ∷ []) (script_lines b.hosts b.instances x.start) one
       (ops_read b fits (is_callback x.kind) (λ ops. state.Script b i h ops) (start_takes b i h) [] x.start stands.start)
 
   closes_start : (i : InstanceText) (h : Opening) (start : List Op) → script_closed (state.Script b i h start) ≡ Some (b, with_export i h start None)
@@ -74,7 +74,7 @@ module _ (b : Body) (fits : BodyFits b) where
       let s : State = state.Script b i h start in
       let one = one_line s (state.React b i h start []) (line.Part part_line.React) refl (rw stands.0 refl) in
       let more = ops_read b fits true (λ ops. state.React b i h start ops) (react_takes b i h start) [] ops stands.1 in
-      (state.React b i h start ops, both s (state.React b i h start []) (state.React b i h start ops) (react_words ∷ []) (script_lines b.hosts b.instances ops) one more, closes_react i h start ops)
+      (state.React b i h start ops, both s (state.React b i h start []) (state.React b i h start ops) (react_tokens ∷ []) (script_lines b.hosts b.instances ops) one more, closes_react i h start ops)
 
   export_read : (s : State) (i : InstanceText) (x : ExportText) → script_closed s ≡ Some (b, i) → ExportStands b.hosts b.instances i.parts x
       → ReadsParts s b (export_lines b.hosts b.instances x) (with_part i (part.Export x))
@@ -82,7 +82,7 @@ module _ (b : Body) (fits : BodyFits b) where
       let h : Opening = opening_of x in
       let one = export_opened s i x closed stands in
       let more = react_read i h x.start x.react stands.react in
-      (more.0, both s (state.Script b i h x.start) more.0 (export_words x.name x.kind x.params ∷ script_lines b.hosts b.instances x.start) (react_lines b.hosts b.instances x.react) one more.1, more.2)
+      (more.0, both s (state.Script b i h x.start) more.0 (export_tokens x.name x.kind x.params ∷ script_lines b.hosts b.instances x.start) (react_lines b.hosts b.instances x.react) one more.1, more.2)
 
   closes_thread : (i : InstanceText) (slot : ℕ) (ops : List Op) → script_closed (state.Thread b i slot ops) ≡ Some (b, with_part i (part.Thread slot ops))
   unfolding script_closed
@@ -98,7 +98,7 @@ module _ (b : Body) (fits : BodyFits b) where
   part_read s i (part.Thread slot ops) closed stands =
       let one = one_line s (state.Thread b i slot []) (line.Part (part_line.Thread slot)) stands.0.fits (rw (closed, stands.0.opens) refl) in
       let more = ops_read b fits false (λ ops. state.Thread b i slot ops) (thread_takes b i slot) [] ops stands.1 in
-      (state.Thread b i slot ops, both s (state.Thread b i slot []) (state.Thread b i slot ops) (thread_words slot ∷ []) (script_lines b.hosts b.instances ops) one more, closes_thread i slot ops)
+      (state.Thread b i slot ops, both s (state.Thread b i slot []) (state.Thread b i slot ops) (thread_tokens slot ∷ []) (script_lines b.hosts b.instances ops) one more, closes_thread i slot ops)
   part_read s i (part.Bad slot) closed stands =
       let t : State = state.Instance b (with_part i (part.Bad slot)) in
       (t, one_line s t (line.Part (part_line.Bad slot)) stands.fits (rw (closed, stands.opens) refl), closes_bad (with_part i (part.Bad slot)))
@@ -130,7 +130,7 @@ instance_read s b i fits closed stands =
     let fresh : InstanceText = record { name = i.name; parts = [] } in
     let one = one_line s (state.Instance b fresh) (line.Part (part_line.Instance i.name)) stands.name (rw (closed, stands.opens) refl) in
     let more = parts_read b fits (state.Instance b fresh) fresh i.parts refl stands.parts in
-    (more.0, both s (state.Instance b fresh) more.0 (instance_words i.name ∷ []) (flat_map (part_lines b.hosts b.instances) i.parts) one more.1, closes more.0 (b, i) more.2)
+    (more.0, both s (state.Instance b fresh) more.0 (instance_tokens i.name ∷ []) (flat_map (part_lines b.hosts b.instances) i.parts) one more.1, closes more.0 (b, i) more.2)
 
 instances_read : (s : State) (b : Body) (is : List InstanceText) → BodyFits b → instance_closed s ≡ Some b → EachStands (InstanceStands b.hosts) b.instances is
     → ReadsInstances s (lines_after b.hosts b.instances is) (record b { instances = b.instances ++ is })
@@ -156,7 +156,7 @@ hosts_read b (h ∷ hs) each =
 
 -- ---- Main
 
--- the number of a start or of a spawn fits its word
+-- the number of a start or of a spawn fits its token
 few_starts : (before : List MainOpText) (k : ℕ) → finish_opens before k ≡ true → k ≤ 4095
 few_starts before k h =
     let p = and_parts (main_has_room before && nat_le 1 k && nat_le k (start_count before)) _ h in
@@ -178,7 +178,7 @@ few_named before k h =
 -- the line of an op of main, which is read as it
 record MainLine (b : Body) (before : List MainOpText) (o : MainOpText) : Type 0 where
   of : NamedOp
-  words : named_words of ≡ main_op_words b.hosts b.instances o
+  tokens : named_tokens of ≡ main_op_tokens b.hosts b.instances o
   fits : named_fits of ≡ true
   read : main_op_of b before of ≡ Some o
 
@@ -188,46 +188,46 @@ main_line b before (main.Start f xs) fits stands =
     let names = callee_again b.hosts b.instances fits.instances f (length xs) stands.1 in
     record {
       of = named.Start (instance_name b.instances f.instance) (export_name (exports_of b.instances f.instance) f.export) xs;
-      words = refl;
+      tokens = refl;
       fits = and_from _ _ (and_from _ _ names.instance names.export) stands.2;
       read = rw (fitting_again b.hosts b.instances fits.instances f xs stands.1, stands.0) refl;
     }
 main_line b before (main.Finish k r) fits stands =
     record {
       of = named.Finish k r;
-      words = refl;
+      tokens = refl;
       fits = and_from _ _ (le-leb _ _ (few_starts before k stands.0)) stands.1;
       read = rw stands.0 refl;
     }
 main_line b before (main.Spawn h) fits stands =
     let name = host_again b.hosts h fits.hosts stands.1 in
-    record { of = named.Spawn (host_name b.hosts h); words = refl; fits = name.name; read = rw (name.again, stands.0) refl }
-main_line b before (main.Abort k) fits stands = record { of = named.Abort k; words = refl; fits = few_named before k stands; read = rw stands refl }
-main_line b before (main.Await k) fits stands = record { of = named.Await k; words = refl; fits = few_named before k stands; read = rw stands refl }
-main_line b before main.Quiet fits stands = record { of = named.Quiet; words = refl; fits = refl; read = rw stands refl }
+    record { of = named.Spawn (host_name b.hosts h); tokens = refl; fits = name.name; read = rw (name.again, stands.0) refl }
+main_line b before (main.Abort k) fits stands = record { of = named.Abort k; tokens = refl; fits = few_named before k stands; read = rw stands refl }
+main_line b before (main.Await k) fits stands = record { of = named.Await k; tokens = refl; fits = few_named before k stands; read = rw stands refl }
+main_line b before main.Quiet fits stands = record { of = named.Quiet; tokens = refl; fits = refl; read = rw stands refl }
 main_line b before (main.Ready f) fits stands =
     let names = callee_again b.hosts b.instances fits.instances f stands.1 stands.2 in
     record {
       of = named.Ready (instance_name b.instances f.instance) (export_name (exports_of b.instances f.instance) f.export);
-      words = refl;
+      tokens = refl;
       fits = and_from _ _ names.instance names.export;
       read = rw (names.again, stands.2, stands.0) refl;
     }
 
 main_ops_read : (b : Body) (before ops : List MainOpText) → BodyFits b → EachStands (MainOpStands b.hosts b.instances) before ops
-    → ReadsTo (state.Main b before) (map (main_op_words b.hosts b.instances) ops) (state.Main b (before ++ ops))
+    → ReadsTo (state.Main b before) (map (main_op_tokens b.hosts b.instances) ops) (state.Main b (before ++ ops))
 unfolding after after_main_op main_open
 main_ops_read b before [] fits stand =
     subst (λ (ops : List MainOpText). ReadsTo (state.Main b before) [] (state.Main b ops)) (sym (append-nil before)) (nothing (state.Main b before))
 main_ops_read b before (o ∷ ops) fits stand =
-    let words = main_op_words b.hosts b.instances in
+    let tokens = main_op_tokens b.hosts b.instances in
     let l = main_line b before o fits stand.0 in
     let next : State = state.Main b (before ++ o ∷ []) in
     let one = one_line (state.Main b before) next (line.MainOp l.of) l.fits (rw l.read refl) in
     let more = main_ops_read b (before ++ o ∷ []) ops fits stand.1 in
-    subst (λ (all : List MainOpText). ReadsTo (state.Main b before) (map words (o ∷ ops)) (state.Main b all)) (append_assoc before (o ∷ []) ops)
-    (both (state.Main b before) next (state.Main b (before ++ o ∷ [] ++ ops)) (words o ∷ []) (map words ops)
-    (subst (λ (ws : List (List ℕ)). ReadsTo (state.Main b before) (ws ∷ []) next) l.words one) more)
+    subst (λ (all : List MainOpText). ReadsTo (state.Main b before) (map tokens (o ∷ ops)) (state.Main b all)) (append_assoc before (o ∷ []) ops)
+    (both (state.Main b before) next (state.Main b (before ++ o ∷ [] ++ ops)) (tokens o ∷ []) (map tokens ops)
+    (subst (λ (ws : List (List ℕ)). ReadsTo (state.Main b before) (ws ∷ []) next) l.tokens one) more)
 
 main_room : (hosts : List HostText) (is : List InstanceText) (before : List MainOpText) (o : MainOpText) → MainOpStands hosts is before o → length before < 4095
 main_room hosts is before (main.Start f xs) stands = ltb-true _ _ (and_parts (main_has_room before) _ stands.0).0
@@ -248,7 +248,7 @@ spawns_fit ops [] few all = refl
 spawns_fit ops (k ∷ ks) few all = let p = and_parts (is_spawned ops k) _ all in and_from _ _ (few_spawns ops k few p.0) (spawns_fit ops ks few p.1)
 
 aborters_read : (s : ScenarioText) (b : Body) (before more : List (List ℕ)) → length s.main ≤ 4095 → EachStands (AborterStands s.main) before more
-    → ReadsTo (state.Answered b s.main s.answer before) (map aborter_words more) (state.Answered b s.main s.answer (before ++ more))
+    → ReadsTo (state.Answered b s.main s.answer before) (map aborter_tokens more) (state.Answered b s.main s.answer (before ++ more))
 unfolding after after_aborter
 aborters_read s b before [] few each =
     let at = λ (all : List (List ℕ)). state.Answered b s.main s.answer all in
@@ -258,8 +258,8 @@ aborters_read s b before (ks ∷ more) few each =
     let spawned = (and_parts (ltb (length before) 8 && nat_le 1 (length ks) && nat_le (length ks) 16) (list_all (is_spawned s.main) ks) each.0).1 in
     let one = one_line (at before) (at (before ++ ks ∷ [])) (line.Aborter ks) (spawns_fit s.main ks few spawned) (rw each.0 refl) in
     let rest = aborters_read s b (before ++ ks ∷ []) more few each.1 in
-    subst (λ (all : List (List ℕ)). ReadsTo (at before) (map aborter_words (ks ∷ more)) (at all)) (append_assoc before (ks ∷ []) more)
-    (both (at before) (at (before ++ ks ∷ [])) (at (before ++ ks ∷ [] ++ more)) (aborter_words ks ∷ []) (map aborter_words more) one rest)
+    subst (λ (all : List (List ℕ)). ReadsTo (at before) (map aborter_tokens (ks ∷ more)) (at all)) (append_assoc before (ks ∷ []) more)
+    (both (at before) (at (before ++ ks ∷ [])) (at (before ++ ks ∷ [] ++ more)) (aborter_tokens ks ∷ []) (map aborter_tokens more) one rest)
 
 -- ---- The whole
 
@@ -267,9 +267,9 @@ head_read : (h t : ℕ) (i : IdleLine) → handles_fit h ≡ true → table_fits
 unfolding after after_head after_title after_handles after_table after_idle
 head_read h t i fh ft =
     let b : State = state.Hosts (record { handles = h; table = t; idle = i; hosts = []; instances = [] }) in
-    both state.Empty state.Titled b (title_words ∷ []) (handles_words h ∷ table_words t ∷ idle_words i ∷ []) (one_line state.Empty state.Titled (line.Head head_line.Title) refl refl)
-    (both state.Titled (state.Handles h) b (handles_words h ∷ []) (table_words t ∷ idle_words i ∷ []) (one_line state.Titled (state.Handles h) (line.Head (head_line.Handles h)) fh refl)
-    (both (state.Handles h) (state.Table h t) b (table_words t ∷ []) (idle_words i ∷ []) (one_line (state.Handles h) (state.Table h t) (line.Head (head_line.Table t)) ft refl)
+    both state.Empty state.Titled b (title_tokens ∷ []) (handles_tokens h ∷ table_tokens t ∷ idle_tokens i ∷ []) (one_line state.Empty state.Titled (line.Head head_line.Title) refl refl)
+    (both state.Titled (state.Handles h) b (handles_tokens h ∷ []) (table_tokens t ∷ idle_tokens i ∷ []) (one_line state.Titled (state.Handles h) (line.Head (head_line.Handles h)) fh refl)
+    (both (state.Handles h) (state.Table h t) b (table_tokens t ∷ []) (idle_tokens i ∷ []) (one_line (state.Handles h) (state.Table h t) (line.Head (head_line.Table t)) ft refl)
     (one_line (state.Table h t) b (line.Head (head_line.Idle i)) refl refl)))
 
 abbrev body_of : ScenarioText → Body
@@ -294,14 +294,14 @@ main_read : (s : ScenarioText) → IsWellFormed s → (t : State) → instance_c
 unfolding after after_main
 main_read s fits t closed =
     let b = body_of s in
-    both t (state.Main b []) (state.Main b s.main) (main_words ∷ []) (map (main_op_words s.hosts s.instances) s.main)
+    both t (state.Main b []) (state.Main b s.main) (main_tokens ∷ []) (map (main_op_tokens s.hosts s.instances) s.main)
     (one_line t (state.Main b []) line.Main refl (rw closed refl)) (main_ops_read b [] s.main (body_fits s fits) fits.main)
 
-answer_read : (s : ScenarioText) → IsWellFormed s → ReadsTo (state.Main (body_of s) s.main) (answer_words s.answer ∷ []) (state.Answered (body_of s) s.main s.answer [])
+answer_read : (s : ScenarioText) → IsWellFormed s → ReadsTo (state.Main (body_of s) s.main) (answer_tokens s.answer ∷ []) (state.Answered (body_of s) s.main s.answer [])
 unfolding after after_answer main_open
 answer_read s fits = one_line (state.Main (body_of s) s.main) (state.Answered (body_of s) s.main s.answer []) (line.Answer s.answer) fits.answer refl
 
-end_read : (s : ScenarioText) → ReadsTo (state.Answered (body_of s) s.main s.answer s.aborters) (end_words ∷ []) (state.Ended s)
+end_read : (s : ScenarioText) → ReadsTo (state.Answered (body_of s) s.main s.answer s.aborters) (end_tokens ∷ []) (state.Ended s)
 unfolding after after_end
 end_read s = one_line (state.Answered (body_of s) s.main s.answer s.aborters) (state.Ended s) line.End refl refl
 
@@ -310,14 +310,14 @@ tree_read s fits =
     let b = body_of s in
     let front = head_lines s.handles s.table s.idle ++ body_lines s.hosts s.instances in
     let main_part = main_lines s.hosts s.instances s.main in
-    let aborters = map aborter_words s.aborters in
+    let aborters = map aborter_tokens s.aborters in
     let few : length s.main ≤ 4095 = few_after (MainOpStands s.hosts s.instances) 4095 (main_room s.hosts s.instances) [] s.main (lit≤ tt) fits.main in
     let answered : List (List ℕ) → State = λ all. state.Answered b s.main s.answer all in
     let body = body_read s fits in
     let until_main = both state.Empty body.0 (state.Main b s.main) front main_part body.1 (main_read s fits body.0 body.2) in
-    let until_answer = both state.Empty (state.Main b s.main) (answered []) (front ++ main_part) (answer_words s.answer ∷ []) until_main (answer_read s fits) in
-    let until_end = both state.Empty (answered []) (answered s.aborters) (front ++ main_part ++ answer_words s.answer ∷ []) aborters until_answer (aborters_read s b [] s.aborters few fits.aborters) in
-    both state.Empty (answered s.aborters) (state.Ended s) (front ++ main_part ++ answer_words s.answer ∷ [] ++ aborters) (end_words ∷ []) until_end (end_read s)
+    let until_answer = both state.Empty (state.Main b s.main) (answered []) (front ++ main_part) (answer_tokens s.answer ∷ []) until_main (answer_read s fits) in
+    let until_end = both state.Empty (answered []) (answered s.aborters) (front ++ main_part ++ answer_tokens s.answer ∷ []) aborters until_answer (aborters_read s b [] s.aborters few fits.aborters) in
+    both state.Empty (answered s.aborters) (state.Ended s) (front ++ main_part ++ answer_tokens s.answer ∷ [] ++ aborters) (end_tokens ∷ []) until_end (end_read s)
 
 -- what is well formed is read from its spelling
 pub read_again : (s : ScenarioText) → IsWellFormed s → read_from state.Empty 1 (lines_of s) ≡ Ok s

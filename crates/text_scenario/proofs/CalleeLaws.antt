@@ -15,16 +15,16 @@ use Rattle.text_lines.specs.declared.line.CalleeName.{CalleeName}
 use Rattle.text_lines.specs.declared.line.CalleeName.TheVariants as callee
 use Rattle.text_lines.specs.declared.line.NamedCall.{NamedCall}
 use Rattle.text_lines.specs.declared.line.NamedCall.TheVariants as named_call
-use Rattle.text_lines.specs.Words.{◌>>=◌, is_name}
-use Rattle.text_lines.specs.LineWords.{callee_word, call_words, call_sync_words}
+use Rattle.text_lines.specs.Tokens.{◌>>=◌, is_name}
+use Rattle.text_lines.specs.LineTokens.{callee_token, call_tokens, call_sync_tokens}
 use Rattle.text_lines.specs.Fits.{register_fits, operand_fits}
 use Rattle.text_lines.proofs.Numbers.{guarded}
-use Rattle.text_lines.proofs.WordLaws.{bind_some, some_is}
-use Rattle.text_lines.proofs.CallLaws.{name_fits, params_fit, named_call_words, named_call_fits}
+use Rattle.text_lines.proofs.TokenLaws.{bind_some, some_is}
+use Rattle.text_lines.proofs.CallLaws.{name_fits, params_fit, named_call_tokens, named_call_fits}
 use Rattle.text_scenario.specs.declared.tree.HostText.{HostText}
 use Rattle.text_scenario.specs.declared.tree.ExportText.{ExportText}
 use Rattle.text_scenario.specs.declared.tree.InstanceText.{InstanceText}
-use Rattle.text_scenario.specs.Spelling.{exports_in, exports_of, instance_name, export_name, name_of, host_name, call_op_words}
+use Rattle.text_scenario.specs.Spelling.{exports_in, exports_of, instance_name, export_name, name_of, host_name, call_op_tokens}
 use Rattle.text_scenario.specs.Placement.{EachStands, HostStands, params_of, CallStands, exports_among, export_count, export_opens, InstanceStands}
 use Rattle.text_scenario.specs.State.{small, host_place, instance_place, export_place, callee_of, fitting_export, fitting_host, call_to, call_sync_to, call_of}
 use Rattle.text_scenario.proofs.StandingLaws.{place_takes, place_again, same_bytes, bytes_same, stands_at, some_map, length_before}
@@ -44,7 +44,7 @@ named_place {X} name xs w k e =
 pub host_named : (hosts : List HostText) (w : List ℕ) (k : ℕ) → host_place hosts w ≡ Some k → (host_name hosts k ≡ w) × (k < length hosts)
 host_named hosts w k e = named_place (λ h. h.name) hosts w k e
 
-pub callee_named : (is : List InstanceText) (instance export : List ℕ) (f : Callee) → callee_of is instance export ≡ Some f → name_of is f ≡ callee_word instance export
+pub callee_named : (is : List InstanceText) (instance export : List ℕ) (f : Callee) → callee_of is instance export ≡ Some f → name_of is f ≡ callee_token instance export
 unfolding callee_of
 callee_named is instance export f e =
     let found = λ (k j : ℕ). let made : Callee = record { instance = k; export = j } in made in
@@ -52,12 +52,12 @@ callee_named is instance export f e =
     let j = bind_some (export_place (exports_of is k.0) export) (λ j. Some (found k.0 j)) f k.2 in
     let one = named_place (λ i. i.name) is instance k.0 k.1 in
     let two = named_place (λ x. x.name) (exports_of is k.0) export j.0 j.1 in
-    subst (λ (g : Callee). name_of is g ≡ callee_word instance export) (some_is (found k.0 j.0) f j.2)
-    (ap (λ (v : List ℕ). callee_word v (export_name (exports_of is k.0) j.0)) one.0 ∙ ap (callee_word instance) two.0)
+    subst (λ (g : Callee). name_of is g ≡ callee_token instance export) (some_is (found k.0 j.0) f j.2)
+    (ap (λ (v : List ℕ). callee_token v (export_name (exports_of is k.0) j.0)) one.0 ∙ ap (callee_token instance) two.0)
 
 -- the export of these names, with as many parameters as operands
 pub record Fitting (is : List InstanceText) (instance export : List ℕ) (xs : List Operand) (f : Callee) : Type 0 where
-  pub name : name_of is f ≡ callee_word instance export
+  pub name : name_of is f ≡ callee_token instance export
   pub params : params_of is f ≡ Some (length xs)
 
 pub export_fits : (is : List InstanceText) (instance export : List ℕ) (xs : List Operand) (f : Callee) → fitting_export is instance export xs ≡ Some f → Fitting is instance export xs f
@@ -84,7 +84,7 @@ host_fits hosts name xs h e =
 -- ---- A named call is this call, and its callee is on an earlier line
 
 abbrev pub IsCall : List HostText → List InstanceText → NamedCall → CallOp → Type 0
-IsCall hosts is c o = (named_call_words c ≡ call_op_words hosts is o) × CallStands hosts is o
+IsCall hosts is c o = (named_call_tokens c ≡ call_op_tokens hosts is o) × CallStands hosts is o
 
 call_is : (hosts : List HostText) (is : List InstanceText) (r q : ℕ) (c : CalleeName) (xs : List Operand) (o : CallOp) → call_to hosts is r q c xs ≡ Some o
     → (register_fits r && register_fits q) ≡ true → list_all operand_fits xs ≡ true → IsCall hosts is (named_call.Call r q c xs) o
@@ -93,12 +93,12 @@ call_is hosts is r q (callee.Export instance export) xs o e rs fits =
     let f = bind_some (fitting_export is instance export xs) (λ f. Some (call_op.Call r q f xs)) o e in
     let t = export_fits is instance export xs f.0 f.1 in
     subst (IsCall hosts is (named_call.Call r q (callee.Export instance export) xs)) (some_is (call_op.Call r q f.0 xs) o f.2)
-    (ap (λ (w : List ℕ). call_words r q w xs) (sym t.name), (and_from _ _ rs fits, t.params))
+    (ap (λ (w : List ℕ). call_tokens r q w xs) (sym t.name), (and_from _ _ rs fits, t.params))
 call_is hosts is r q (callee.Host name) xs o e rs fits =
     let h = bind_some (fitting_host hosts name xs) (λ h. Some (call_op.CallHost r q h)) o e in
     let t = host_fits hosts name xs h.0 h.1 in
     subst (IsCall hosts is (named_call.Call r q (callee.Host name) xs)) (some_is (call_op.CallHost r q h.0) o h.2)
-    (ap (λ (ys : List Operand). call_words r q name ys) t.none ∙ ap (λ (w : List ℕ). call_words r q w []) (sym t.named), (rs, t.known))
+    (ap (λ (ys : List Operand). call_tokens r q name ys) t.none ∙ ap (λ (w : List ℕ). call_tokens r q w []) (sym t.named), (rs, t.known))
 
 call_sync_is : (hosts : List HostText) (is : List InstanceText) (r : ℕ) (c : CalleeName) (xs : List Operand) (o : CallOp) → call_sync_to hosts is r c xs ≡ Some o
     → register_fits r ≡ true → list_all operand_fits xs ≡ true → IsCall hosts is (named_call.CallSync r c xs) o
@@ -107,12 +107,12 @@ call_sync_is hosts is r (callee.Export instance export) xs o e rs fits =
     let f = bind_some (fitting_export is instance export xs) (λ f. Some (call_op.CallSync r f xs)) o e in
     let t = export_fits is instance export xs f.0 f.1 in
     subst (IsCall hosts is (named_call.CallSync r (callee.Export instance export) xs)) (some_is (call_op.CallSync r f.0 xs) o f.2)
-    (ap (λ (w : List ℕ). call_sync_words r w xs) (sym t.name), (and_from _ _ rs fits, t.params))
+    (ap (λ (w : List ℕ). call_sync_tokens r w xs) (sym t.name), (and_from _ _ rs fits, t.params))
 call_sync_is hosts is r (callee.Host name) xs o e rs fits =
     let h = bind_some (fitting_host hosts name xs) (λ h. Some (call_op.CallSyncHost r h)) o e in
     let t = host_fits hosts name xs h.0 h.1 in
     subst (IsCall hosts is (named_call.CallSync r (callee.Host name) xs)) (some_is (call_op.CallSyncHost r h.0) o h.2)
-    (ap (λ (ys : List Operand). call_sync_words r name ys) t.none ∙ ap (λ (w : List ℕ). call_sync_words r w []) (sym t.named), (rs, t.known))
+    (ap (λ (ys : List Operand). call_sync_tokens r name ys) t.none ∙ ap (λ (w : List ℕ). call_sync_tokens r w []) (sym t.named), (rs, t.known))
 
 pub named_call_is : (hosts : List HostText) (is : List InstanceText) (c : NamedCall) (o : CallOp) → call_of hosts is c ≡ Some o → named_call_fits c ≡ true → IsCall hosts is c o
 unfolding call_of
@@ -206,7 +206,7 @@ module _ (hosts : List HostText) (is : List InstanceText) (each : EachStands (In
 -- the named call that is read as this one
 pub record CallLine (hosts : List HostText) (is : List InstanceText) (o : CallOp) : Type 0 where
   pub of : NamedCall
-  pub words : named_call_words of ≡ call_op_words hosts is o
+  pub tokens : named_call_tokens of ≡ call_op_tokens hosts is o
   pub fits : named_call_fits of ≡ true
   pub read : call_of hosts is of ≡ Some o
 
@@ -218,7 +218,7 @@ module _ (hosts : List HostText) (is : List InstanceText) (each_host : EachStand
       let p = and_parts (register_fits r && register_fits q) (list_all operand_fits xs) stands.0 in
       record {
         of = named_call.Call r q (callee.Export (instance_name is f.instance) (export_name (exports_of is f.instance) f.export)) xs;
-        words = refl;
+        tokens = refl;
         fits = and_from _ _ p.0 (and_from _ _ (and_from _ _ names.instance names.export) p.1);
         read = rw (fitting_again hosts is each f xs stands.1) refl;
       }
@@ -230,7 +230,7 @@ module _ (hosts : List HostText) (is : List InstanceText) (each_host : EachStand
       let p = and_parts (register_fits r) (list_all operand_fits xs) stands.0 in
       record {
         of = named_call.CallSync r (callee.Export (instance_name is f.instance) (export_name (exports_of is f.instance) f.export)) xs;
-        words = refl;
+        tokens = refl;
         fits = and_from _ _ p.0 (and_from _ _ (and_from _ _ names.instance names.export) p.1);
         read = rw (fitting_again hosts is each f xs stands.1) refl;
       }
@@ -241,7 +241,7 @@ module _ (hosts : List HostText) (is : List InstanceText) (each_host : EachStand
       let name = host_again hosts h each_host stands.1 in
       record {
         of = named_call.Call r q (callee.Host (host_name hosts h)) [];
-        words = refl;
+        tokens = refl;
         fits = and_from _ _ stands.0 (and_from _ _ name.name refl);
         read = rw name.again refl;
       }
@@ -252,7 +252,7 @@ module _ (hosts : List HostText) (is : List InstanceText) (each_host : EachStand
       let name = host_again hosts h each_host stands.1 in
       record {
         of = named_call.CallSync r (callee.Host (host_name hosts h)) [];
-        words = refl;
+        tokens = refl;
         fits = and_from _ _ stands.0 (and_from _ _ name.name refl);
         read = rw name.again refl;
       }

@@ -4,7 +4,7 @@ use Rattle.std.proofs.lemmas.List.{append-nil}
 use Rattle.machine_data.specs.declared.op.Operand.{Operand}
 use Rattle.machine_data.specs.declared.op.Operand.TheVariants.{Number}
 use Rattle.machine_data.specs.declared.scenario.IdleLine.TheVariants as idle
-use Rattle.text_lines.specs.LineWords.{title_words, handles_words, table_words, idle_words, answer_words, aborter_words, end_words}
+use Rattle.text_lines.specs.LineTokens.{title_tokens, handles_tokens, table_tokens, idle_tokens, answer_tokens, aborter_tokens, end_tokens}
 use Rattle.text_lines.specs.Fits.{handles_fit, table_fits}
 use Rattle.text_scenario.specs.declared.state.Body.{Body}
 use Rattle.text_scenario.specs.declared.state.State.{State}
@@ -25,15 +25,15 @@ begins_same xs ys e b = subst PartBegins (sym e) b
 
 -- from the answer on
 begins_answer : (b : Body) (ops : List MainOpText) (x : Operand) (aborters : List (List ℕ)) → AnswerFits b ops x aborters
-    → PartBegins (front b ++ main_lines b.hosts b.instances ops ++ answer_words x ∷ [] ++ map aborter_words aborters)
-begins_answer b ops x aborters fits = (whole b ops x aborters, end_words ∷ [], well_formed b ops x aborters fits, refl)
+    → PartBegins (front b ++ main_lines b.hosts b.instances ops ++ answer_tokens x ∷ [] ++ map aborter_tokens aborters)
+begins_answer b ops x aborters fits = (whole b ops x aborters, end_tokens ∷ [], well_formed b ops x aborters fits, refl)
 
 -- main may answer at any time
 begins_main : (b : Body) (ops : List MainOpText) → MainFits b ops → PartBegins (front b ++ main_lines b.hosts b.instances ops)
 begins_main b ops fits =
     let x : Operand = Number 0 in
     let lines = front b ++ main_lines b.hosts b.instances ops in
-    begins_front lines (answer_words x ∷ []) (begins_front (lines ++ answer_words x ∷ []) [] (begins_answer b ops x [] (record { main = fits; answer = refl; each = tt })))
+    begins_front lines (answer_tokens x ∷ []) (begins_front (lines ++ answer_tokens x ∷ []) [] (begins_answer b ops x [] (record { main = fits; answer = refl; each = tt })))
 
 -- and begin after any instance
 begins_body : (b : Body) → BodyFits b → PartBegins (front b)
@@ -51,9 +51,9 @@ begins_head h t fh ft =
 pub begins : (s : State) → IsSound s → PartBegins (so_far s)
 unfolding script_closed instance_closed
 begins state.Empty sound = begins_front [] (head_lines 100000 1000000 idle.Trap) (begins_head 100000 1000000 refl refl)
-begins state.Titled sound = begins_front (title_words ∷ []) (handles_words 100000 ∷ table_words 1000000 ∷ idle_words idle.Trap ∷ []) (begins_head 100000 1000000 refl refl)
-begins (state.Handles h) sound = begins_front (title_words ∷ handles_words h ∷ []) (table_words 1000000 ∷ idle_words idle.Trap ∷ []) (begins_head h 1000000 sound refl)
-begins (state.Table h t) sound = begins_front (title_words ∷ handles_words h ∷ table_words t ∷ []) (idle_words idle.Trap ∷ []) (begins_head h t sound.0 sound.1)
+begins state.Titled sound = begins_front (title_tokens ∷ []) (handles_tokens 100000 ∷ table_tokens 1000000 ∷ idle_tokens idle.Trap ∷ []) (begins_head 100000 1000000 refl refl)
+begins (state.Handles h) sound = begins_front (title_tokens ∷ handles_tokens h ∷ []) (table_tokens 1000000 ∷ idle_tokens idle.Trap ∷ []) (begins_head h 1000000 sound refl)
+begins (state.Table h t) sound = begins_front (title_tokens ∷ handles_tokens h ∷ table_tokens t ∷ []) (idle_tokens idle.Trap ∷ []) (begins_head h t sound.0 sound.1)
 begins (state.Hosts b) sound = begins_body b sound.0
 begins (state.Instance b i) sound = begins_closed (state.Instance b i) (with_instance b i) refl sound
 begins (state.Script b i h start) sound = begins_closed (state.Script b i h start) (with_instance b (with_export i h start None)) refl sound

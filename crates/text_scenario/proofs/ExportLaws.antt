@@ -6,7 +6,7 @@ use Rattle.std.specs.Option.{option_map}
 use Rattle.std.specs.Str.{bytes_eq}
 use Rattle.std.proofs.lemmas.List.{append-nil}
 use Rattle.std.proofs.lemmas.List.Recursion.{is_count_by}
-use Rattle.text_lines.proofs.WordLaws.{some_is}
+use Rattle.text_lines.proofs.TokenLaws.{some_is}
 use Rattle.text_scenario.specs.declared.tree.HostText.{HostText}
 use Rattle.text_scenario.specs.declared.tree.ExportText.{ExportText}
 use Rattle.text_scenario.specs.declared.tree.InstanceText.{InstanceText}

@@ -1,7 +1,7 @@
 pub mod Splits
 pub mod ReadFrom
 pub mod FirstByte
-pub mod WordEnd
+pub mod TokenEnd
 pub mod MainKept
 pub mod StandingLaws
 pub mod ExportLaws

@@ -10,9 +10,9 @@ use Rattle.machine_data.specs.declared.component.Callee.{Callee}
 use Rattle.machine_data.specs.declared.op.Operand.{Operand}
 use Rattle.text_lines.specs.declared.line.NamedOp.{NamedOp}
 use Rattle.text_lines.specs.declared.line.NamedOp.TheVariants as named
-use Rattle.text_lines.specs.Words.{◌>>=◌}
+use Rattle.text_lines.specs.Tokens.{◌>>=◌}
 use Rattle.text_lines.proofs.Numbers.{guarded}
-use Rattle.text_lines.proofs.WordLaws.{bind_some}
+use Rattle.text_lines.proofs.TokenLaws.{bind_some}
 use Rattle.text_scenario.specs.declared.state.Body.{Body}
 use Rattle.text_scenario.specs.declared.tree.MainOpText.{MainOpText}
 use Rattle.text_scenario.specs.declared.tree.MainOpText.TheVariants as main

@@ -4,14 +4,14 @@ use Rattle.std.specs.Option.{ok_or}
 use Rattle.text_scenario.specs.declared.tree.ScenarioText.{ScenarioText}
 use Rattle.text_scenario.specs.declared.read.TextError.TheVariants as errors
 use Rattle.text_scenario.specs.declared.state.State.{State}
-use Rattle.text_scenario.specs.Grammar.{lines, words, spelled}
-use Rattle.text_scenario.specs.State.{after_words, read_from, end_at, scenario_of, ReadsAs}
+use Rattle.text_scenario.specs.Grammar.{lines, tokens, spelled}
+use Rattle.text_scenario.specs.State.{after_tokens, read_from, end_at, scenario_of, ReadsAs}
 
-pub line_refused : (s : State) (n : ℕ) (rest line more : List ℕ) → lines rest ≡ line ∷ lines more → after_words s (words line) ≡ None → read_from s n (spelled rest) ≡ Err n
+pub line_refused : (s : State) (n : ℕ) (rest line more : List ℕ) → lines rest ≡ line ∷ lines more → after_tokens s (tokens line) ≡ None → read_from s n (spelled rest) ≡ Err n
 unfolding read_from
 line_refused s n rest line more e bad = rw (e, bad) refl
 
-pub line_taken : (s t : State) (n : ℕ) (rest line more : List ℕ) → lines rest ≡ line ∷ lines more → after_words s (words line) ≡ Some t → read_from s n (spelled rest) ≡ read_from t (n + 1) (spelled more)
+pub line_taken : (s t : State) (n : ℕ) (rest line more : List ℕ) → lines rest ≡ line ∷ lines more → after_tokens s (tokens line) ≡ Some t → read_from s n (spelled rest) ≡ read_from t (n + 1) (spelled more)
 unfolding read_from
 line_taken s t n rest line more e good = rw (e, good) refl
 

@@ -8,16 +8,16 @@ use Rattle.machine_data.specs.declared.op.CallOp.TheVariants as call_op
 use Rattle.text_lines.specs.declared.line.Line.{Line}
 use Rattle.text_lines.specs.declared.line.Line.TheVariants as line
 use Rattle.text_lines.specs.Fits.{plain_op_fits}
-use Rattle.text_lines.proofs.LineLaws.{line_words, line_fits, line_again}
+use Rattle.text_lines.proofs.LineLaws.{line_tokens, line_fits, line_again}
 use Rattle.text_scenario.specs.declared.state.Body.{Body}
 use Rattle.text_scenario.specs.declared.state.Opening.{Opening}
 use Rattle.text_scenario.specs.declared.state.State.{State}
 use Rattle.text_scenario.specs.declared.state.State.TheVariants as state
 use Rattle.text_scenario.specs.declared.tree.InstanceText.{InstanceText}
-use Rattle.text_scenario.specs.Spelling.{Lines, op_words, script_lines}
+use Rattle.text_scenario.specs.Spelling.{Lines, op_tokens, script_lines}
 use Rattle.machine_data.specs.Read.{is_callback}
 use Rattle.text_scenario.specs.Placement.{EachStands, CallStands, OpFits, OpStands}
-use Rattle.text_scenario.specs.State.{script_body, with_op, after_op, after_call, after, after_words, read_from}
+use Rattle.text_scenario.specs.State.{script_body, with_op, after_op, after_call, after, after_tokens, read_from}
 use Rattle.text_scenario.proofs.SoFar.{BodyFits}
 use Rattle.text_scenario.proofs.StateLaws.{plain}
 use Rattle.text_scenario.proofs.CalleeLaws.{CallLine, call_line, call_sync_line, call_host_line, call_sync_host_line}
@@ -37,8 +37,8 @@ both s t u ls ms a b n rest =
     let two = b one.0 rest in
     (two.0, ap (read_from s n) (append_assoc ls ms rest) ∙ one.1 ∙ two.1)
 
-pub one_line : (s t : State) (l : Line) → line_fits l ≡ true → after s l ≡ Some t → ReadsTo s (line_words l ∷ []) t
-unfolding read_from after_words
+pub one_line : (s t : State) (l : Line) → line_fits l ≡ true → after s l ≡ Some t → ReadsTo s (line_tokens l ∷ []) t
+unfolding read_from after_tokens
 one_line s t l fits e n rest = (n + 1, rw (line_again l fits, e) refl)
 
 -- ---- Ops
@@ -46,17 +46,17 @@ one_line s t l fits e n rest = (n + 1, rw (line_again l fits, e) refl)
 -- the line that is read as this op in any open script
 record OpLine (b : Body) (o : Op) : Type 0 where
   of : Line
-  words : line_words of ≡ op_words b.hosts b.instances o
+  tokens : line_tokens of ≡ op_tokens b.hosts b.instances o
   fits : line_fits of ≡ true
   takes : (s : State) → script_body s ≡ Some b → after s of ≡ after_op s o
 
 plain_line : (b : Body) (o : Op) → plain_op_fits o ≡ true → OpLine b o
 unfolding after
-plain_line b o fits = record { of = line.Op o; words = (plain b o fits).words; fits = fits; takes = λ s at. refl }
+plain_line b o fits = record { of = line.Op o; tokens = (plain b o fits).tokens; fits = fits; takes = λ s at. refl }
 
 named_line : (b : Body) (o : CallOp) → CallLine b.hosts b.instances o → OpLine b (op.Call o)
 unfolding after after_call
-named_line b o l = record { of = line.Call l.of; words = l.words; fits = l.fits; takes = λ s at. rw (at, l.read) refl }
+named_line b o l = record { of = line.Call l.of; tokens = l.tokens; fits = l.fits; takes = λ s at. rw (at, l.read) refl }
 
 subtask_line : (b : Body) (o : CallOp) → BodyFits b → CallStands b.hosts b.instances o → OpLine b (op.Call o)
 subtask_line b (call_op.Call r q f xs) fits stands = named_line b (call_op.Call r q f xs) (call_line b.hosts b.instances fits.hosts fits.instances r q f xs stands)
@@ -86,11 +86,11 @@ unfolding with_op
 with_op_is b callback ops o stands = rw (stands.room, stands.suits) refl
 
 module _ (b : Body) (fits : BodyFits b) (callback : Bool) (at : List Op → State) (takes : TakesOps b callback at) where
-  op_read : (ops : List Op) (o : Op) → OpStands b.hosts b.instances callback ops o → ReadsTo (at ops) (op_words b.hosts b.instances o ∷ []) (at (ops ++ o ∷ []))
+  op_read : (ops : List Op) (o : Op) → OpStands b.hosts b.instances callback ops o → ReadsTo (at ops) (op_tokens b.hosts b.instances o ∷ []) (at (ops ++ o ∷ []))
   op_read ops o stands =
       let l = op_line b o fits stands.fits in
       let next : after (at ops) l.of ≡ Some (at (ops ++ o ∷ [])) = l.takes (at ops) (takes.body ops) ∙ takes.takes ops o (with_op_is b callback ops o stands) in
-      subst (λ (ws : List (List ℕ)). ReadsTo (at ops) (ws ∷ []) (at (ops ++ o ∷ []))) l.words (one_line (at ops) (at (ops ++ o ∷ [])) l.of l.fits next)
+      subst (λ (ws : List (List ℕ)). ReadsTo (at ops) (ws ∷ []) (at (ops ++ o ∷ []))) l.tokens (one_line (at ops) (at (ops ++ o ∷ [])) l.of l.fits next)
 
   pub ops_read : (before os : List Op) → EachStands (OpStands b.hosts b.instances callback) before os → ReadsTo (at before) (script_lines b.hosts b.instances os) (at (before ++ os))
   ops_read before [] each = subst (λ (os : List Op). ReadsTo (at before) [] (at os)) (sym (append-nil before)) (nothing (at before))
@@ -98,7 +98,7 @@ module _ (b : Body) (fits : BodyFits b) (callback : Bool) (at : List Op → Stat
       let one = op_read before o each.0 in
       let more = ops_read (before ++ o ∷ []) os each.1 in
       subst (λ (all : List Op). ReadsTo (at before) (script_lines b.hosts b.instances (o ∷ os)) (at all)) (append_assoc before (o ∷ []) os)
-      (both (at before) (at (before ++ o ∷ [])) (at (before ++ o ∷ [] ++ os)) (op_words b.hosts b.instances o ∷ []) (script_lines b.hosts b.instances os) one more)
+      (both (at before) (at (before ++ o ∷ [])) (at (before ++ o ∷ [] ++ os)) (op_tokens b.hosts b.instances o ∷ []) (script_lines b.hosts b.instances os) one more)
 
 pub start_takes : (b : Body) (i : InstanceText) (h : Opening) → TakesOps b (is_callback h.kind) (λ ops. state.Script b i h ops)
 unfolding script_body after_op

@@ -6,11 +6,11 @@ use Rattle.std.proofs.lemmas.List.{append-nil, map-append}
 use Rattle.std.proofs.lemmas.List.Concat.{flat_map-append}
 use Rattle.machine_data.specs.declared.op.Operand.{Operand}
 use Rattle.machine_data.specs.declared.op.Op.{Op}
-use Rattle.text_lines.specs.Words.{◌>>=◌}
-use Rattle.text_lines.specs.LineWords.{title_words, handles_words, table_words, export_words, react_words, thread_words, instance_words, answer_words, aborter_words}
+use Rattle.text_lines.specs.Tokens.{◌>>=◌}
+use Rattle.text_lines.specs.LineTokens.{title_tokens, handles_tokens, table_tokens, export_tokens, react_tokens, thread_tokens, instance_tokens, answer_tokens, aborter_tokens}
 use Rattle.text_lines.specs.Fits.{operand_fits, handles_fit, table_fits}
 use Rattle.text_lines.proofs.Numbers.{guarded}
-use Rattle.text_lines.proofs.WordLaws.{bind_some, some_is}
+use Rattle.text_lines.proofs.TokenLaws.{bind_some, some_is}
 use Rattle.text_scenario.specs.declared.state.Body.{Body}
 use Rattle.text_scenario.specs.declared.state.Opening.{Opening}
 use Rattle.text_scenario.specs.declared.state.State.{State}
@@ -20,7 +20,7 @@ use Rattle.text_scenario.specs.declared.tree.InstanceText.{InstanceText}
 use Rattle.text_scenario.specs.declared.tree.PartText.{PartText}
 use Rattle.text_scenario.specs.declared.tree.PartText.TheVariants as part
 use Rattle.text_scenario.specs.declared.tree.MainOpText.{MainOpText}
-use Rattle.text_scenario.specs.Spelling.{Lines, head_lines, host_line, op_words, script_lines, part_lines, instance_lines, lines_after, body_lines, main_lines, lines_of}
+use Rattle.text_scenario.specs.Spelling.{Lines, head_lines, host_line, op_tokens, script_lines, part_lines, instance_lines, lines_after, body_lines, main_lines, lines_of}
 use Rattle.machine_data.specs.Read.{is_callback}
 use Rattle.text_scenario.specs.Placement.{EachStands, HostStands, has_room_for_op, op_suits, OpFits, OpStands, ScriptStands, PartStands, InstanceStands, MainOpStands, AborterStands, IsWellFormed}
 use Rattle.text_scenario.specs.State.{with_host, with_instance, with_part, export_from, script_closed, instance_closed, with_op}
@@ -48,16 +48,16 @@ react_part h start react = part.Export (export_from h start (Some react))
 
 abbrev pub so_far : State → Lines
 so_far state.Empty = []
-so_far state.Titled = title_words ∷ []
-so_far (state.Handles h) = title_words ∷ handles_words h ∷ []
-so_far (state.Table h t) = title_words ∷ handles_words h ∷ table_words t ∷ []
+so_far state.Titled = title_tokens ∷ []
+so_far (state.Handles h) = title_tokens ∷ handles_tokens h ∷ []
+so_far (state.Table h t) = title_tokens ∷ handles_tokens h ∷ table_tokens t ∷ []
 so_far (state.Hosts b) = front b
 so_far (state.Instance b i) = until b i
 so_far (state.Script b i h start) = part_after b i (start_part h start)
 so_far (state.React b i h start react) = part_after b i (react_part h start react)
 so_far (state.Thread b i slot ops) = part_after b i (part.Thread slot ops)
 so_far (state.Main b ops) = front b ++ main_lines b.hosts b.instances ops
-so_far (state.Answered b ops x aborters) = front b ++ main_lines b.hosts b.instances ops ++ answer_words x ∷ [] ++ map aborter_words aborters
+so_far (state.Answered b ops x aborters) = front b ++ main_lines b.hosts b.instances ops ++ answer_tokens x ∷ [] ++ map aborter_tokens aborters
 so_far (state.Ended s) = lines_of s
 
 pub record BodyFits (b : Body) : Type 0 where
@@ -96,8 +96,8 @@ IsSound (state.Answered b ops x aborters) = AnswerFits b ops x aborters
 IsSound (state.Ended s) = IsWellFormed s
 
 -- t has read what s has, and then this line
-pub record Follows (s : State) (words : List (List ℕ)) (t : State) : Type 0 where
-  pub lines : so_far t ≡ so_far s ++ words ∷ []
+pub record Follows (s : State) (tokens : List (List ℕ)) (t : State) : Type 0 where
+  pub lines : so_far t ≡ so_far s ++ tokens ∷ []
   pub sound : IsSound t
 
 -- ---- One host, instance or part more
@@ -126,7 +126,7 @@ with_host_fits b h fits none stands = record {
 pub instance_grows : (hosts : List HostText) (is : List InstanceText) (i : InstanceText) (p : PartText) → instance_lines hosts is (with_part i p) ≡ instance_lines hosts is i ++ part_lines hosts is p
 instance_grows hosts is i p =
     let parts = flat_map (part_lines hosts is) i.parts in
-    ap (λ (ls : Lines). instance_words i.name ∷ ls) (flat_map-append (part_lines hosts is) i.parts (p ∷ []) ∙ ap (λ (ls : Lines). parts ++ ls) (append-nil (part_lines hosts is p)))
+    ap (λ (ls : Lines). instance_tokens i.name ∷ ls) (flat_map-append (part_lines hosts is) i.parts (p ∷ []) ∙ ap (λ (ls : Lines). parts ++ ls) (append-nil (part_lines hosts is p)))
 
 pub lines_grow : (hosts : List HostText) (before is : List InstanceText) (i : InstanceText) → lines_after hosts before (is ++ i ∷ []) ≡ lines_after hosts before is ++ instance_lines hosts (before ++ is) i
 lines_grow hosts before [] i = append-nil (instance_lines hosts before i) ∙ ap (λ (es : List InstanceText). instance_lines hosts es i) (sym (append-nil before))
@@ -209,7 +209,7 @@ pub record OpenAt (b : Body) (callback : Bool) (at : List Op → State) : Type 0
 
 pub start_open : (b : Body) (i : InstanceText) (h : Opening) → OpenAt b (is_callback h.kind) (λ ops. state.Script b i h ops)
 start_open b i h =
-    let opening = export_words h.name h.kind h.params in
+    let opening = export_tokens h.name h.kind h.params in
     let before = until b i in
     record {
       before = before ++ opening ∷ [];
@@ -223,14 +223,14 @@ start_open b i h =
 
 pub react_open : (b : Body) (i : InstanceText) (h : Opening) (start : List Op) → OpenAt b true (λ ops. state.React b i h start ops)
 react_open b i h start =
-    let opening = export_words h.name h.kind h.params in
+    let opening = export_tokens h.name h.kind h.params in
     let before = until b i in
     let scripts = script_lines b.hosts b.instances start in
     record {
-      before = before ++ (opening ∷ scripts ++ react_words ∷ []);
+      before = before ++ (opening ∷ scripts ++ react_tokens ∷ []);
       lines = λ ops.
           let lines = script_lines b.hosts b.instances ops in
-          ap (λ (ls : Lines). before ++ opening ∷ ls) (sym (append_assoc scripts (react_words ∷ []) lines)) ∙ sym (append_assoc before (opening ∷ scripts ++ react_words ∷ []) lines);
+          ap (λ (ls : Lines). before ++ opening ∷ ls) (sym (append_assoc scripts (react_tokens ∷ []) lines)) ∙ sym (append_assoc before (opening ∷ scripts ++ react_tokens ∷ []) lines);
       stands = λ ops sound. sound.part.react.1;
       sound = λ ops more sound each.
           record { body = sound.body; instance = sound.instance; part = record { name = sound.part.name; params = sound.part.params; opens = sound.part.opens; start = sound.part.start; react = (sound.part.react.0, each) } };
@@ -240,26 +240,26 @@ pub thread_open : (b : Body) (i : InstanceText) (slot : ℕ) → OpenAt b false 
 thread_open b i slot =
     let before = until b i in
     record {
-      before = before ++ thread_words slot ∷ [];
-      lines = λ ops. sym (append_assoc before (thread_words slot ∷ []) (script_lines b.hosts b.instances ops));
+      before = before ++ thread_tokens slot ∷ [];
+      lines = λ ops. sym (append_assoc before (thread_tokens slot ∷ []) (script_lines b.hosts b.instances ops));
       stands = λ ops sound. sound.part.1;
       sound = λ ops more sound each. record { body = sound.body; instance = sound.instance; part = (sound.part.0, each) };
     }
 
 -- an op that the open script takes is the next line
 pub takes_op : (b : Body) (callback : Bool) (at : List Op → State) → OpenAt b callback at → (ops : List Op) (o : Op) (t : State) → (with_op callback ops o >>= λ more. Some (at more)) ≡ Some t → OpFits b.hosts b.instances o → IsSound (at ops)
-    → Follows (at ops) (op_words b.hosts b.instances o) t
+    → Follows (at ops) (op_tokens b.hosts b.instances o) t
 unfolding with_op
 takes_op b callback at open_at ops o t e fits sound =
-    let words = op_words b.hosts b.instances in
+    let tokens = op_tokens b.hosts b.instances in
     let m = bind_some (with_op callback ops o) (λ more. Some (at more)) t e in
     let g = guarded (has_room_for_op ops && op_suits callback o) (ops ++ o ∷ []) m.0 m.1 in
     let tests = and_parts (has_room_for_op ops) (op_suits callback o) g.0 in
     let each = each_more (OpStands b.hosts b.instances callback) ops o (open_at.stands ops sound) (record { room = tests.0; suits = tests.1; fits = fits }) in
-    let made : Follows (at ops) (words o) (at (ops ++ o ∷ [])) = record {
+    let made : Follows (at ops) (tokens o) (at (ops ++ o ∷ [])) = record {
       lines =
-          open_at.lines (ops ++ o ∷ []) ∙ ap (λ (ls : Lines). open_at.before ++ ls) (map-append words ops (o ∷ [])) ∙ sym (append_assoc open_at.before (map words ops) (words o ∷ []))
-          ∙ ap (λ (ls : Lines). ls ++ words o ∷ []) (sym (open_at.lines ops));
+          open_at.lines (ops ++ o ∷ []) ∙ ap (λ (ls : Lines). open_at.before ++ ls) (map-append tokens ops (o ∷ [])) ∙ sym (append_assoc open_at.before (map tokens ops) (tokens o ∷ []))
+          ∙ ap (λ (ls : Lines). ls ++ tokens o ∷ []) (sym (open_at.lines ops));
       sound = open_at.sound ops (ops ++ o ∷ []) sound each;
     } in
-    subst (Follows (at ops) (words o)) (ap at g.1 ∙ some_is (at m.0) t m.2) made
+    subst (Follows (at ops) (tokens o)) (ap at g.1 ∙ some_is (at m.0) t m.2) made

@@ -9,7 +9,7 @@ use Rattle.std.proofs.lemmas.List.{append-nil}
 use Rattle.std.proofs.lemmas.Slice.Eq.{bytes_eq-Decides}
 use Rattle.text_scenario.specs.Placement.{EachStands}
 use Rattle.text_lines.proofs.Position.{position_head, position_tail}
-use Rattle.text_lines.proofs.WordLaws.{some_is}
+use Rattle.text_lines.proofs.TokenLaws.{some_is}
 
 -- ---- One item more
 

@@ -10,19 +10,19 @@ use Rattle.text_scenario.specs.declared.state.State.TheVariants as state
 use Rattle.text_lines.specs.Line.{line_at}
 use Rattle.text_scenario.specs.Spelling.{Lines, lines_of}
 use Rattle.text_scenario.specs.Placement.{IsWellFormed}
-use Rattle.text_scenario.specs.Grammar.{lines, words, spelled, IsTextOf, PartBegins, IsBadLine}
-use Rattle.text_scenario.specs.State.{after, after_words, read_from, go_on, end_at, scenario_of, ReadsAs}
+use Rattle.text_scenario.specs.Grammar.{lines, tokens, spelled, IsTextOf, PartBegins, IsBadLine}
+use Rattle.text_scenario.specs.State.{after, after_tokens, read_from, go_on, end_at, scenario_of, ReadsAs}
 use Rattle.text_scenario.specs.AnswersLine.{AnswersLine}
-use Rattle.text_lines.proofs.WordLaws.{bind_some}
+use Rattle.text_lines.proofs.TokenLaws.{bind_some}
 use Rattle.text_lines.proofs.LineLaws.{line_takes}
 use Rattle.text_scenario.proofs.SoFar.{so_far, IsSound, Follows}
 use Rattle.text_scenario.proofs.StateLaws.{after_follows}
 use Rattle.text_scenario.proofs.Completing.{begins, begins_same}
 use Rattle.text_scenario.proofs.Again.{read_again}
 
-words_follow : (s t : State) (ws : List (List ℕ)) → after_words s ws ≡ Some t → IsSound s → Follows s ws t
-unfolding after_words
-words_follow s t ws e sound =
+tokens_follow : (s t : State) (ws : List (List ℕ)) → after_tokens s ws ≡ Some t → IsSound s → Follows s ws t
+unfolding after_tokens
+tokens_follow s t ws e sound =
     let l = bind_some (line_at ws) (after s) t e in
     let spelled = line_takes ws l.0 l.1 in
     subst (λ (v : List (List ℕ)). Follows s v t) (sym spelled.0) (after_follows s t l.0 l.2 spelled.1 sound)
@@ -34,18 +34,18 @@ unfolding scenario_of
 ends_as (state.Ended y) n x e sound = subst (λ (z : ScenarioText). IsWellFormed z × (lines_of y ≡ lines_of z)) (let made : y ≡ x = cc in made) (sound, refl)
 ends_as _ n x e sound = absurd cc
 
-found_on : (s : State) (n : ℕ) (ws : List (List ℕ)) (ls : Lines) (x : ScenarioText) (o : Option State) → after_words s ws ≡ o → go_on n (λ t. read_from t (n + 1) ls) o ≡ Ok x → IsSound s
+found_on : (s : State) (n : ℕ) (ws : List (List ℕ)) (ls : Lines) (x : ScenarioText) (o : Option State) → after_tokens s ws ≡ o → go_on n (λ t. read_from t (n + 1) ls) o ≡ Ok x → IsSound s
     → ((t : State) → read_from t (n + 1) ls ≡ Ok x → IsSound t → IsWellFormed x × (so_far t ++ ls ≡ lines_of x)) → IsWellFormed x × (so_far s ++ ws ∷ ls ≡ lines_of x)
 found_on s n ws ls x None h e sound more = absurd cc
 found_on s n ws ls x (Some t) h e sound more =
-    let f = words_follow s t ws h sound in
+    let f = tokens_follow s t ws h sound in
     let r = more t e f.sound in
     (r.0, sym (append_assoc (so_far s) (ws ∷ []) ls) ∙ ap (λ (front : Lines). front ++ ls) (sym f.lines) ∙ r.1)
 
 found_from : (s : State) (n : ℕ) (ls : Lines) (x : ScenarioText) → read_from s n ls ≡ Ok x → IsSound s → IsWellFormed x × (so_far s ++ ls ≡ lines_of x)
 unfolding read_from
 found_from s n [] x e sound = let r = ends_as s n x e sound in (r.0, append-nil (so_far s) ∙ r.1)
-found_from s n (ws ∷ ls) x e sound = found_on s n ws ls x (after_words s ws) refl e sound (λ t. found_from t (n + 1) ls x)
+found_from s n (ws ∷ ls) x e sound = found_on s n ws ls x (after_tokens s ws) refl e sound (λ t. found_from t (n + 1) ls x)
 
 -- ---- A bad line
 
@@ -64,14 +64,14 @@ stops_here : (s : State) (n : ℕ) (ls : Lines) (m : ℕ) → n ≡ m → IsSoun
 stops_here s n ls m e sound stops =
     record { count = 0; is = omega arith; within = omega arith; begins = begins_same (so_far s ++ []) (so_far s) (append-nil (so_far s)) (begins s sound); stops = stops }
 
-stops_on : (s : State) (n : ℕ) (ws : List (List ℕ)) (ls : Lines) (m : ℕ) (o : Option State) → after_words s ws ≡ o → go_on n (λ t. read_from t (n + 1) ls) o ≡ Err m → IsSound s
+stops_on : (s : State) (n : ℕ) (ws : List (List ℕ)) (ls : Lines) (m : ℕ) (o : Option State) → after_tokens s ws ≡ o → go_on n (λ t. read_from t (n + 1) ls) o ≡ Err m → IsSound s
     → ((t : State) → read_from t (n + 1) ls ≡ Err m → IsSound t → Stops t (n + 1) ls m) → Stops s n (ws ∷ ls) m
 unfolding read_from
 stops_on s n ws ls m None h e sound more =
     let same : n ≡ m = cc in
     stops_here s n (ws ∷ ls) m same sound (λ _ rest. rw h e)
 stops_on s n ws ls m (Some t) h e sound more =
-    let f = words_follow s t ws h sound in
+    let f = tokens_follow s t ws h sound in
     let r = more t e f.sound in
     record {
       count = suc r.count;
@@ -88,7 +88,7 @@ ends_at s n m (Some x) e = absurd cc
 stops_from : (s : State) (n : ℕ) (ls : Lines) (m : ℕ) → read_from s n ls ≡ Err m → IsSound s → Stops s n ls m
 unfolding read_from
 stops_from s n [] m e sound = stops_here s n [] m (ends_at s n m (scenario_of s) e) sound (λ lt rest. absurd (omega arith))
-stops_from s n (ws ∷ ls) m e sound = stops_on s n ws ls m (after_words s ws) refl e sound (λ t. stops_from t (n + 1) ls m)
+stops_from s n (ws ∷ ls) m e sound = stops_on s n ws ls m (after_tokens s ws) refl e sound (λ t. stops_from t (n + 1) ls m)
 
 -- lines that begin a scenario stop no reading
 not_stopped : (front : Lines) (m : ℕ) → ((rest : Lines) → read_from state.Empty 1 (front ++ rest) ≡ Err m) → PartBegins front → ⊥
@@ -101,7 +101,7 @@ not_stopped front m stops b =
 bad_line : (text : List ℕ) (m : ℕ) → read_from state.Empty 1 (spelled text) ≡ Err m → IsBadLine text m
 bad_line text m e =
     let st = stops_from state.Empty 1 (spelled text) m e tt in
-    let len : length (spelled text) ≡ length (lines text) = length-map (lines text) words in
+    let len : length (spelled text) ≡ length (lines text) = length-map (lines text) tokens in
     let before : m - 1 ≡ st.count = omega (arith, st.is) in
     let next : m ≡ suc st.count = omega (arith, st.is) in
     record {

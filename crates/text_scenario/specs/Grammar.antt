@@ -10,13 +10,13 @@ abbrev pub lines : List ℕ → List (List ℕ)
 lines [] = []
 lines (b ∷ bs) = if b == 10 then [] ∷ lines bs else onto_first b (lines bs)
 
--- a line's words, with one space between them
-abbrev pub words : List ℕ → List (List ℕ)
-words line = slice_split (λ b. b == 32) line
+-- a line's tokens, with one space between them
+abbrev pub tokens : List ℕ → List (List ℕ)
+tokens line = slice_split (λ b. b == 32) line
 
--- the words of each line of a text
+-- the tokens of each line of a text
 abbrev pub spelled : List ℕ → Lines
-spelled text = map words (lines text)
+spelled text = map tokens (lines text)
 
 -- the text represents this tree
 pub record IsTextOf (s : ScenarioText) (text : List ℕ) : Type 0 where

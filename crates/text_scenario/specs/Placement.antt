@@ -12,7 +12,7 @@ use Rattle.machine_data.specs.declared.op.CallOp.TheVariants as call_op
 use Rattle.machine_data.specs.declared.op.TaskOp.{TaskOp}
 use Rattle.machine_data.specs.declared.op.TaskOp.TheVariants as task_op
 use Rattle.machine_data.specs.Read.{is_callback}
-use Rattle.text_lines.specs.Words.{is_name}
+use Rattle.text_lines.specs.Tokens.{is_name}
 use Rattle.text_lines.specs.Fits.{register_fits, operand_fits, handles_fit, table_fits, slot_fits, work_fits, subtask_op_fits, plain_op_fits}
 use Rattle.text_scenario.specs.declared.tree.HostText.{HostText}
 use Rattle.text_scenario.specs.declared.tree.ExportText.{ExportText}

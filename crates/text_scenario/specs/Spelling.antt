@@ -1,4 +1,4 @@
--- The lines that spell a scenario's tree, one spelling for each. A line is a list of words.
+-- The lines that spell a scenario's tree, one spelling for each. A line is a list of tokens.
 use Rattle.std.specs.Prelude.{ℕ, List, [], ◌∷◌, ◌++◌, map, slice_get, unwrap_or, Option, Some, None}
 use Rattle.std.specs.List.{flat_map}
 use Rattle.std.specs.Option.{option_map}
@@ -8,7 +8,7 @@ use Rattle.machine_data.specs.declared.op.Op.TheVariants as op
 use Rattle.machine_data.specs.declared.op.CallOp.{CallOp}
 use Rattle.machine_data.specs.declared.op.CallOp.TheVariants as call_op
 use Rattle.machine_data.specs.declared.scenario.IdleLine.{IdleLine}
-use Rattle.text_lines.specs.LineWords.{callee_word, title_words, handles_words, table_words, idle_words, host_words, instance_words, export_words, react_words, thread_words, bad_words, subtask_op_words, plain_op_words, call_words, call_sync_words, main_words, start_words, finish_words, spawn_words, abort_words, await_words, quiet_words, ready_words, answer_words, aborter_words, end_words}
+use Rattle.text_lines.specs.LineTokens.{callee_token, title_tokens, handles_tokens, table_tokens, idle_tokens, host_tokens, instance_tokens, export_tokens, react_tokens, thread_tokens, bad_tokens, subtask_op_tokens, plain_op_tokens, call_tokens, call_sync_tokens, main_tokens, start_tokens, finish_tokens, spawn_tokens, abort_tokens, await_tokens, quiet_tokens, ready_tokens, answer_tokens, aborter_tokens, end_tokens}
 use Rattle.text_scenario.specs.declared.tree.HostText.{HostText}
 use Rattle.text_scenario.specs.declared.tree.ExportText.{ExportText}
 use Rattle.text_scenario.specs.declared.tree.PartText.{PartText}
@@ -24,10 +24,10 @@ Lines = List (List (List ℕ))
 -- ---- The head and the hosts
 
 abbrev pub head_lines : ℕ → ℕ → IdleLine → Lines
-head_lines handles table i = title_words ∷ handles_words handles ∷ table_words table ∷ idle_words i ∷ []
+head_lines handles table i = title_tokens ∷ handles_tokens handles ∷ table_tokens table ∷ idle_tokens i ∷ []
 
 abbrev pub host_line : HostText → List (List ℕ)
-host_line h = host_words h.name h.work
+host_line h = host_tokens h.name h.work
 
 -- ---- Names of callees
 
@@ -48,43 +48,43 @@ abbrev pub export_name : List ExportText → ℕ → List ℕ
 export_name exports k = unwrap_or (option_map (λ e. e.name) (slice_get exports k)) []
 
 abbrev pub name_of : List InstanceText → Callee → List ℕ
-name_of instances f = callee_word (instance_name instances f.instance) (export_name (exports_of instances f.instance) f.export)
+name_of instances f = callee_token (instance_name instances f.instance) (export_name (exports_of instances f.instance) f.export)
 
 abbrev pub host_name : List HostText → ℕ → List ℕ
 host_name hosts k = unwrap_or (option_map (λ h. h.name) (slice_get hosts k)) []
 
 -- ---- Scripts, whose callees are hosts and exports of earlier instances
 
-abbrev pub call_op_words : List HostText → List InstanceText → CallOp → List (List ℕ)
-call_op_words hosts earlier (call_op.Call r q f xs) = call_words r q (name_of earlier f) xs
-call_op_words hosts earlier (call_op.CallSync r f xs) = call_sync_words r (name_of earlier f) xs
-call_op_words hosts earlier (call_op.CallHost r q h) = call_words r q (host_name hosts h) []
-call_op_words hosts earlier (call_op.CallSyncHost r h) = call_sync_words r (host_name hosts h) []
-call_op_words hosts earlier o = subtask_op_words o
+abbrev pub call_op_tokens : List HostText → List InstanceText → CallOp → List (List ℕ)
+call_op_tokens hosts earlier (call_op.Call r q f xs) = call_tokens r q (name_of earlier f) xs
+call_op_tokens hosts earlier (call_op.CallSync r f xs) = call_sync_tokens r (name_of earlier f) xs
+call_op_tokens hosts earlier (call_op.CallHost r q h) = call_tokens r q (host_name hosts h) []
+call_op_tokens hosts earlier (call_op.CallSyncHost r h) = call_sync_tokens r (host_name hosts h) []
+call_op_tokens hosts earlier o = subtask_op_tokens o
 
-abbrev pub op_words : List HostText → List InstanceText → Op → List (List ℕ)
-op_words hosts earlier (op.Call o) = call_op_words hosts earlier o
-op_words hosts earlier o = plain_op_words o
+abbrev pub op_tokens : List HostText → List InstanceText → Op → List (List ℕ)
+op_tokens hosts earlier (op.Call o) = call_op_tokens hosts earlier o
+op_tokens hosts earlier o = plain_op_tokens o
 
 abbrev pub script_lines : List HostText → List InstanceText → List Op → Lines
-script_lines hosts earlier ops = map (op_words hosts earlier) ops
+script_lines hosts earlier ops = map (op_tokens hosts earlier) ops
 
 -- ---- Instances and their parts
 
 abbrev pub react_lines : List HostText → List InstanceText → Option (List Op) → Lines
 react_lines hosts earlier None = []
-react_lines hosts earlier (Some ops) = react_words ∷ script_lines hosts earlier ops
+react_lines hosts earlier (Some ops) = react_tokens ∷ script_lines hosts earlier ops
 
 abbrev pub export_lines : List HostText → List InstanceText → ExportText → Lines
-export_lines hosts earlier e = export_words e.name e.kind e.params ∷ script_lines hosts earlier e.start ++ react_lines hosts earlier e.react
+export_lines hosts earlier e = export_tokens e.name e.kind e.params ∷ script_lines hosts earlier e.start ++ react_lines hosts earlier e.react
 
 abbrev pub part_lines : List HostText → List InstanceText → PartText → Lines
 part_lines hosts earlier (part.Export e) = export_lines hosts earlier e
-part_lines hosts earlier (part.Thread s ops) = thread_words s ∷ script_lines hosts earlier ops
-part_lines hosts earlier (part.Bad s) = bad_words s ∷ []
+part_lines hosts earlier (part.Thread s ops) = thread_tokens s ∷ script_lines hosts earlier ops
+part_lines hosts earlier (part.Bad s) = bad_tokens s ∷ []
 
 abbrev pub instance_lines : List HostText → List InstanceText → InstanceText → Lines
-instance_lines hosts earlier i = instance_words i.name ∷ flat_map (part_lines hosts earlier) i.parts
+instance_lines hosts earlier i = instance_tokens i.name ∷ flat_map (part_lines hosts earlier) i.parts
 
 -- the lines of these instances, which are after earlier ones
 abbrev pub lines_after : List HostText → List InstanceText → List InstanceText → Lines
@@ -96,21 +96,21 @@ body_lines hosts instances = map host_line hosts ++ lines_after hosts [] instanc
 
 -- ---- Main
 
-abbrev pub main_op_words : List HostText → List InstanceText → MainOpText → List (List ℕ)
-main_op_words hosts instances (main.Start f xs) = start_words (name_of instances f) xs
-main_op_words hosts instances (main.Finish k r) = finish_words k r
-main_op_words hosts instances (main.Spawn h) = spawn_words (host_name hosts h)
-main_op_words hosts instances (main.Abort k) = abort_words k
-main_op_words hosts instances (main.Await k) = await_words k
-main_op_words hosts instances main.Quiet = quiet_words
-main_op_words hosts instances (main.Ready f) = ready_words (name_of instances f)
+abbrev pub main_op_tokens : List HostText → List InstanceText → MainOpText → List (List ℕ)
+main_op_tokens hosts instances (main.Start f xs) = start_tokens (name_of instances f) xs
+main_op_tokens hosts instances (main.Finish k r) = finish_tokens k r
+main_op_tokens hosts instances (main.Spawn h) = spawn_tokens (host_name hosts h)
+main_op_tokens hosts instances (main.Abort k) = abort_tokens k
+main_op_tokens hosts instances (main.Await k) = await_tokens k
+main_op_tokens hosts instances main.Quiet = quiet_tokens
+main_op_tokens hosts instances (main.Ready f) = ready_tokens (name_of instances f)
 
 abbrev pub main_lines : List HostText → List InstanceText → List MainOpText → Lines
-main_lines hosts instances ops = main_words ∷ map (main_op_words hosts instances) ops
+main_lines hosts instances ops = main_tokens ∷ map (main_op_tokens hosts instances) ops
 
 -- ---- The whole
 
 abbrev pub lines_of : ScenarioText → Lines
 lines_of s =
     head_lines s.handles s.table s.idle ++ body_lines s.hosts s.instances ++ main_lines s.hosts s.instances s.main
-    ++ answer_words s.answer ∷ [] ++ map aborter_words s.aborters ++ end_words ∷ []
+    ++ answer_tokens s.answer ∷ [] ++ map aborter_tokens s.aborters ++ end_tokens ∷ []

@@ -34,7 +34,7 @@ use Rattle.text_scenario.specs.declared.tree.InstanceText.{InstanceText}
 use Rattle.text_scenario.specs.declared.tree.MainOpText.{MainOpText}
 use Rattle.text_scenario.specs.declared.tree.MainOpText.TheVariants as main
 use Rattle.text_scenario.specs.declared.tree.ScenarioText.{ScenarioText}
-use Rattle.text_lines.specs.Words.{◌>>=◌}
+use Rattle.text_lines.specs.Tokens.{◌>>=◌}
 use Rattle.text_lines.specs.declared.keyword.Keyword.{Keyword}
 use Rattle.text_lines.specs.Line.{line_after, line_at}
 use Rattle.text_scenario.specs.Spelling.{Lines, exports_of}
@@ -180,7 +180,7 @@ callee_of instances instance export = do
   j ← export_place (exports_of instances k) export
   Some (record { instance = k; export = j })
 
--- the same, where it takes these operands
+-- the export of these names, if it takes these operands
 unfoldable pub fitting_export : List InstanceText → List ℕ → List ℕ → List Operand → Option Callee
 fitting_export instances instance export operands = do
   f ← callee_of instances instance export
@@ -294,13 +294,13 @@ after s (line.Answer x) = after_answer s x
 after s (line.Aborter ks) = after_aborter s ks
 after s line.End = after_end s
 
--- what the line of a keyword and the words after it makes of a state
+-- what the line of a keyword and the tokens after it makes of a state
 abbrev pub after_keyword : State → Keyword → List (List ℕ) → Option State
-after_keyword s k words = line_after k words >>= λ l. after s l
+after_keyword s k tokens = line_after k tokens >>= λ l. after s l
 
 -- what one more line makes of a state
-unfoldable pub after_words : State → List (List ℕ) → Option State
-after_words s words = line_at words >>= λ l. after s l
+unfoldable pub after_tokens : State → List (List ℕ) → Option State
+after_tokens s tokens = line_at tokens >>= λ l. after s l
 
 unfoldable pub scenario_of : State → Option ScenarioText
 scenario_of (state.Ended x) = Some x
@@ -318,7 +318,7 @@ go_on n more (Some t) = more t
 -- The scenario, or the number of the first line that may not be where it does. n is the next line's number.
 unfoldable pub read_from : State → ℕ → Lines → Result ScenarioText ℕ
 read_from s n [] = end_at n (scenario_of s)
-read_from s n (words ∷ lines) = go_on n (λ t. read_from t (n + 1) lines) (after_words s words)
+read_from s n (tokens ∷ lines) = go_on n (λ t. read_from t (n + 1) lines) (after_tokens s tokens)
 
 abbrev pub ReadsAs : Result ScenarioText TextError → Result ScenarioText ℕ → Type 0
 ReadsAs (Ok x) read = read ≡ Ok x

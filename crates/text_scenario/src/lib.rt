@@ -9,6 +9,6 @@ mod state;
 mod tree;
 
 pub use callee::fitting_export;
-pub use read::{TextError, first_line, one_tree, read_text, split_words};
+pub use read::{TextError, first_line, one_tree, read_text, split_tokens};
 pub use text_lines::{HostWork, Name, number_up_to};
 pub use tree::{ExportText, HostText, InstanceText, MainOpText, PartText, ScenarioText};

@@ -1,8 +1,8 @@
 //! A text, line by line.
 ghost use Rattle.std.specs.Prelude.{◌≡◌, ◌==◌, ◌<◌, ◌-◌, [], ◌∷◌, ℕ, List, drop, length, map, position, IsOkUnless, IfSome, MatchOption, OnOk};
 ghost use Rattle.text_lines.specs.Gives.{BecomesValue};
-ghost use Rattle.text_scenario.specs.Grammar.{lines, words, spelled, IsTextOf};
-ghost use Rattle.text_scenario.specs.State.{after_words, read_from, ReadsAs};
+ghost use Rattle.text_scenario.specs.Grammar.{lines, tokens, spelled, IsTextOf};
+ghost use Rattle.text_scenario.specs.State.{after_tokens, read_from, ReadsAs};
 ghost use Rattle.text_scenario.specs.AnswersLine.{AnswersLine};
 ghost use Rattle.text_scenario.specs.declared.tree.ScenarioText.{ScenarioText};
 
@@ -45,8 +45,8 @@ pub fn first_line(text: &[u8]) -> Option<(&[u8], &[u8])>
     }
 }
 
-// Where the first word of a line ends. Four bytes are looked at in a turn: most words are short.
-fn word_end(line: &[u8]) -> Option<usize>
+// Where the first token of a line ends. Four bytes are looked at in a turn: most tokens are short.
+fn token_end(line: &[u8]) -> Option<usize>
     ensures place { result ≡ position (λ b. b == 32) line.now }
     ensures inside { IfSome result (λ i. i < length line.now) }
 {
@@ -75,14 +75,14 @@ fn word_end(line: &[u8]) -> Option<usize>
     None
 }
 
-/// Puts the words of a line, which have one space between them, into a list that is used for each line. What was in the list is
+/// Puts the tokens of a line, which have one space between them, into a list that is used for each line. What was in the list is
 /// gone.
-pub fn split_words<'a>(list: &mut Vec<&'a [u8]>, line: &'a [u8]) -> Result<(), AllocError>
-    ensures { OnOk result (map (λ w. w.now) list.new.items ≡ words line.now) }
+pub fn split_tokens<'a>(list: &mut Vec<&'a [u8]>, line: &'a [u8]) -> Result<(), AllocError>
+    ensures { OnOk result (map (λ w. w.now) list.new.items ≡ tokens line.now) }
 {
     list.clear();
     let mut rest = line;
-    while let Some(end) = word_end(rest) {
+    while let Some(end) = token_end(rest) {
         list.push(&rest[..end])?;
         rest = &rest[end + 1..];
     }
@@ -96,9 +96,9 @@ fn add_line<'a>(
     list: &mut Vec<&'a [u8]>,
     line: &'a [u8],
 ) -> Result<(), LineError>
-    ensures { BecomesValue state.new result (after_words state.old (words line.now)) }
+    ensures { BecomesValue state.new result (after_tokens state.old (tokens line.now)) }
 {
-    split_words(list, line)?;
+    split_tokens(list, line)?;
     state.add(alloc, list)
 }
 
@@ -107,11 +107,11 @@ fn read(alloc: Global, text: &[u8]) -> Result<ScenarioText, TextError>
     ensures { ReadsAs result (read_from State.Empty 1 (spelled text.now)) }
 {
     let mut state = State::Empty;
-    let mut words = Vec::new(alloc);
+    let mut tokens = Vec::new(alloc);
     let mut rest = text;
     let mut number = 1;
     while let Some((line, more)) = first_line(rest) {
-        match add_line(alloc, &mut state, &mut words, line) {
+        match add_line(alloc, &mut state, &mut tokens, line) {
             Ok(()) => {}
             Err(LineError::NoMemory) => return Err(TextError::NoMemory),
             Err(LineError::Bad) => return Err(TextError::Bad(number)),

@@ -3,7 +3,7 @@ ghost use Rattle.std.specs.Prelude.{◌≡◌, Some, map};
 ghost use Rattle.std.specs.Option.{option_map};
 ghost use Rattle.text_lines.specs.Gives.{Gives, BecomesValue};
 ghost use Rattle.text_lines.specs.declared.keyword.Keyword.TheVariants as keyword;
-ghost use Rattle.text_lines.specs.declared.keyword.MainWord.TheVariants as main_word;
+ghost use Rattle.text_lines.specs.declared.keyword.MainKeyword.TheVariants as main_keyword;
 ghost use Rattle.text_scenario.specs.State.{with_op, with_part, start_of, finish_of, spawn_of, ready_of, main_op_of};
 
 use crate::callee::{call_of, callee_of, fitting_export, host_place, params_of};
@@ -16,8 +16,8 @@ use machine_data::{DataOp, ExportKind, IdleLine, Op, Operand, Seq};
 use std::alloc::Global;
 use std::mem;
 use text_lines::{
-    DataWord, HeadLine, Keyword, Line, LineError, MainWord, Name, NamedCall, NamedOp, PartLine,
-    data_op_after, finish_words, line_after, start_words, target, task_op_after,
+    DataKeyword, HeadLine, Keyword, Line, LineError, MainKeyword, Name, NamedCall, NamedOp,
+    PartLine, data_op_after, finish_tokens, line_after, start_tokens, target, task_op_after,
 };
 
 /// The head, the hosts, and the instances that are closed.
@@ -239,7 +239,7 @@ impl Drop for State {
 }
 
 impl State {
-    ghost use Rattle.text_scenario.specs.State.{script_closed, instance_closed, main_open, script_body, after_title, after_handles, after_table, after_idle, after_head, after_host, after_instance, after_export, after_react, after_thread, after_bad, after_part, after_op, after_call, after_main, after_main_op, after_answer, after_aborter, after_end, after, after_keyword, after_words, scenario_of};
+    ghost use Rattle.text_scenario.specs.State.{script_closed, instance_closed, main_open, script_body, after_title, after_handles, after_table, after_idle, after_head, after_host, after_instance, after_export, after_react, after_thread, after_bad, after_part, after_op, after_call, after_main, after_main_op, after_answer, after_aborter, after_end, after, after_keyword, after_tokens, scenario_of};
 
     #[tactic(auto, unfolding(crate::specs::State::script_closed))]
     fn close_script(self) -> Result<(Body, InstanceText), LineError>
@@ -507,10 +507,10 @@ impl State {
     // Adds a start in place: its names aren't copied. It stays a function of its own, as `add_line`.
     #[inline(never)]
     #[tactic(auto, unfolding(text_lines::specs::Line::line_after, text_lines::specs::Line::main_op_after, crate::specs::State::after, crate::specs::State::after_main_op, crate::specs::State::main_open, crate::specs::State::main_op_of, crate::specs::State::start_of))]
-    fn add_start(&mut self, alloc: Global, words: &[&[u8]]) -> Result<(), LineError>
-        ensures { BecomesValue self.new result (after_keyword self.old (keyword.Main main_word.Start) (map (λ w. w.now) words.now)) }
+    fn add_start(&mut self, alloc: Global, tokens: &[&[u8]]) -> Result<(), LineError>
+        ensures { BecomesValue self.new result (after_keyword self.old (keyword.Main main_keyword.Start) (map (λ w. w.now) tokens.now)) }
     {
-        let (instance, export, operands) = start_words(alloc, words)?;
+        let (instance, export, operands) = start_tokens(alloc, tokens)?;
         let State::Main(body, ops) = self else {
             return Err(LineError::Bad);
         };
@@ -528,10 +528,10 @@ impl State {
     // Adds a finish in place. It stays a function of its own, as `add_line`.
     #[inline(never)]
     #[tactic(auto, unfolding(text_lines::specs::Line::line_after, text_lines::specs::Line::main_op_after, crate::specs::State::after, crate::specs::State::after_main_op, crate::specs::State::main_open, crate::specs::State::main_op_of))]
-    fn add_finish(&mut self, words: &[&[u8]]) -> Result<(), LineError>
-        ensures { BecomesValue self.new result (after_keyword self.old (keyword.Main main_word.Finish) (map (λ w. w.now) words.now)) }
+    fn add_finish(&mut self, tokens: &[&[u8]]) -> Result<(), LineError>
+        ensures { BecomesValue self.new result (after_keyword self.old (keyword.Main main_keyword.Finish) (map (λ w. w.now) tokens.now)) }
     {
-        let Some((start, to)) = finish_words(words) else {
+        let Some((start, to)) = finish_tokens(tokens) else {
             return Err(LineError::Bad);
         };
         let State::Main(_, ops) = self else {
@@ -622,11 +622,11 @@ impl State {
         &mut self,
         alloc: Global,
         keyword: Keyword,
-        words: &[&[u8]],
+        tokens: &[&[u8]],
     ) -> Result<(), LineError>
-        ensures { BecomesValue self.new result (after_keyword self.old keyword (map (λ w. w.now) words.now)) }
+        ensures { BecomesValue self.new result (after_keyword self.old keyword (map (λ w. w.now) tokens.now)) }
     {
-        match line_after(alloc, keyword, words)? {
+        match line_after(alloc, keyword, tokens)? {
             Line::Op(op) => self.add_op(op),
             Line::Call(call) => self.add_call(call),
             Line::MainOp(op) => self.add_main_op(op),
@@ -640,24 +640,24 @@ impl State {
     // Adds an op on registers. The frequent ones are made where they are added, with no copy in between.
     #[inline(always)]
     #[tactic(auto, unfolding(text_lines::specs::Line::line_after, text_lines::specs::Line::data_op_after, crate::specs::State::after))]
-    fn add_data(&mut self, word: DataWord, words: &[&[u8]]) -> Result<(), LineError>
-        ensures { BecomesValue self.new result (after_keyword self.old (keyword.Data word) (map (λ w. w.now) words.now)) }
+    fn add_data(&mut self, token: DataKeyword, tokens: &[&[u8]]) -> Result<(), LineError>
+        ensures { BecomesValue self.new result (after_keyword self.old (keyword.Data token) (map (λ w. w.now) tokens.now)) }
     {
-        match word {
-            DataWord::Set => {
-                let Some((to, value)) = target(words) else {
+        match token {
+            DataKeyword::Set => {
+                let Some((to, value)) = target(tokens) else {
                     return Err(LineError::Bad);
                 };
                 self.add_op(Op::Data(DataOp::Set { to, value }))
             }
-            DataWord::Add => {
-                let Some((to, value)) = target(words) else {
+            DataKeyword::Add => {
+                let Some((to, value)) = target(tokens) else {
                     return Err(LineError::Bad);
                 };
                 self.add_op(Op::Data(DataOp::Add { to, value }))
             }
-            word => {
-                let Some(op) = data_op_after(word, words) else {
+            token => {
+                let Some(op) = data_op_after(token, tokens) else {
                     return Err(LineError::Bad);
                 };
                 self.add_op(Op::Data(op))
@@ -667,37 +667,42 @@ impl State {
 
     // Adds an op of main. The frequent ones are made where they are added, as those on registers.
     #[inline(always)]
-    fn add_main(&mut self, alloc: Global, word: MainWord, words: &[&[u8]]) -> Result<(), LineError>
-        ensures { BecomesValue self.new result (after_keyword self.old (keyword.Main word) (map (λ w. w.now) words.now)) }
+    fn add_main(
+        &mut self,
+        alloc: Global,
+        token: MainKeyword,
+        tokens: &[&[u8]],
+    ) -> Result<(), LineError>
+        ensures { BecomesValue self.new result (after_keyword self.old (keyword.Main token) (map (λ w. w.now) tokens.now)) }
     {
-        match word {
-            MainWord::Start => self.add_start(alloc, words),
-            MainWord::Finish => self.add_finish(words),
-            word => self.add_line(alloc, Keyword::Main(word), words),
+        match token {
+            MainKeyword::Start => self.add_start(alloc, tokens),
+            MainKeyword::Finish => self.add_finish(tokens),
+            token => self.add_line(alloc, Keyword::Main(token), tokens),
         }
     }
 
-    /// Adds the line that these words spell to what was read. After an error nothing is said of the state.
-    #[tactic(auto, unfolding(crate::specs::State::after_words, crate::specs::State::after, text_lines::specs::Line::line_at, text_lines::specs::Line::line_after))]
-    pub fn add(&mut self, alloc: Global, words: &[&[u8]]) -> Result<(), LineError>
-        ensures { BecomesValue self.new result (after_words self.old (map (λ w. w.now) words.now)) }
+    /// Adds the line that these tokens spell to what was read. After an error nothing is said of the state.
+    #[tactic(auto, unfolding(crate::specs::State::after_tokens, crate::specs::State::after, text_lines::specs::Line::line_at, text_lines::specs::Line::line_after))]
+    pub fn add(&mut self, alloc: Global, tokens: &[&[u8]]) -> Result<(), LineError>
+        ensures { BecomesValue self.new result (after_tokens self.old (map (λ w. w.now) tokens.now)) }
     {
-        let Some((word, words)) = words.split_first() else {
+        let Some((token, tokens)) = tokens.split_first() else {
             return Err(LineError::Bad);
         };
-        let Some(keyword) = Keyword::from_word(word) else {
+        let Some(keyword) = Keyword::from_token(token) else {
             return Err(LineError::Bad);
         };
         match keyword {
-            Keyword::Data(word) => self.add_data(word, words),
-            Keyword::Task(word) => {
-                let Some(op) = task_op_after(word, words) else {
+            Keyword::Data(token) => self.add_data(token, tokens),
+            Keyword::Task(token) => {
+                let Some(op) = task_op_after(token, tokens) else {
                     return Err(LineError::Bad);
                 };
                 self.add_op(Op::Task(op))
             }
-            Keyword::Main(word) => self.add_main(alloc, word, words),
-            keyword => self.add_line(alloc, keyword, words),
+            Keyword::Main(token) => self.add_main(alloc, token, tokens),
+            keyword => self.add_line(alloc, keyword, tokens),
         }
     }
 

@@ -1,9 +1,10 @@
 -- What main said of itself before, or has asked, is of no account for its step.
+use Rattle.vatbramble_host.proofs.SpawnLemmas.{spawns_same}
 use Rattle.vatbramble_host.specs.Asks.{asking_says}
 use Rattle.vatbramble_host.specs.declared.asking.AskingMain.{AskingMain}
 use Rattle.ops_state.specs.declared.error.TaskError.{TaskError}
 use Rattle.ops_state.specs.declared.error.TaskError.TheVariants as task_error
-use Rattle.std.proofs.Common.{inl, refl}
+use Rattle.std.proofs.Common.{ap, inl, refl}
 use Rattle.std.specs.Prelude.{Err, IfErr, IfOk, Ok, Result, [], ◌≡◌}
 use Rattle.task_loop.specs.HasRun.{HasStepResult, MayStep, StepsTo}
 use Rattle.machine_data.specs.Core.{Core, Unscripted}
@@ -17,13 +18,13 @@ pub pends_now : (c : Component) (s : Core) → Pends c [] Unscripted s Unscripte
 pends_now c s = record { part = refl; core = refl; pends = refl }
 
 module _ {D T H G : Type 0} (course : H → HostDef) (c : Component) (m n : AskingMain D) (s : Store T H G) where
-  pub may_after : MayStep asking_says course c m s → MayStep asking_says course c n s
-  may_after may = record {
+  pub may_after : n.spawns ≡ m.spawns → MayStep asking_says course c m s → MayStep asking_says course c n s
+  may_after same may = record {
     covered = may.covered;
     order = may.order;
     idle = may.idle;
     suits = tt;
-    knows = tt;
+    knows = spawns_same m.spawns.items n.spawns.items s.state (ap (λ v. v.items) same) may.knows;
     works = may.works;
     asked = may.asked;
     few = may.few;
@@ -38,7 +39,7 @@ module _ {D T H G : Type 0} (course : H → HostDef) (c : Component) (m n : Aski
     hook_is_ok = did.hook_is_ok;
     idle = did.idle;
     suits = tt;
-    knows = tt;
+    knows = did.knows;
     works = did.works;
     asked = did.asked;
   }

@@ -1,4 +1,5 @@
 pub mod OpenMainLemmas
 pub mod AskLemmas
+mod SpawnLemmas
 mod OpenLemmas
 mod RunLemmas

@@ -1,8 +1,9 @@
 -- The steps of a main that is no script, a lemma for each label that it may show: for the proof of a `MainTask` of one's own, too.
 use Rattle.vatbramble_host.specs.Asks.{TakesWords}
+use Rattle.futures.specs.declared.task.Poll.{Poll}
 use Rattle.futures.specs.declared.task.Poll.TheVariants.{Ready}
 use Rattle.ops_state.specs.declared.error.TaskError.TheVariants as task_error
-use Rattle.std.proofs.Common.{ap, arith, refl, subst, sym}
+use Rattle.std.proofs.Common.{ap, arith, refl, subst, sym, ◌∙◌}
 use Rattle.std.proofs.lemmas.Bool.Decides.{nat_tests}
 use Rattle.std.specs.Option.{option_map_or}
 use Rattle.std.specs.Prelude.{Bool, Err, IfSome, IsSome, List, None, Ok, Option, Some, [], false, is_some, length, not, slice_get, true, ℕ, ◌==◌, ◌≡◌}
@@ -17,18 +18,23 @@ use Rattle.machine_data.specs.declared.component.Callee.{Callee}
 use Rattle.machine_data.specs.declared.component.Component.{Component}
 use Rattle.machine_data.specs.declared.component.ExportDef.{ExportDef}
 use Rattle.machine_data.specs.declared.component.HostDef.{HostDef}
+use Rattle.machine_data.specs.declared.component.HostDef.TheVariants as host_def
 use Rattle.machine_data.specs.declared.component.InstanceDef.{InstanceDef}
 use Rattle.machine_data.specs.declared.label.Label.TheVariants as label
 use Rattle.machine_data.specs.declared.label.MainLabel.TheVariants as main_label
 use Rattle.machine_data.specs.declared.records.Turn.TheVariants as turn
+use Rattle.machine_data.specs.declared.records.WorkCaller.TheVariants as callers
 use Rattle.machine_data.specs.declared.trap.Trap.{Trap}
+use Rattle.machine_data.specs.declared.statuses.Phase.{Phase}
+use Rattle.machine_data.specs.declared.statuses.Phase.TheVariants as phases
 use Rattle.machine_rules.specs.MainOps as row
 use Rattle.machine_rules.specs.MainOps.{finish_result, has_interesting, is_complete, is_ready_for_call, is_spawn, main_aborted, main_spawned, open_spawned, start_act, start_refusal, takes_words, unless_pending}
-use Rattle.machine_rules.specs.Calls.{next_work}
+use Rattle.machine_rules.specs.Calls.{next_work, work_queued}
 use Rattle.machine_rules.specs.Scripts.{export_at}
 use Rattle.machine_rules.specs.Step.{OpenProgresses}
 use Rattle.machine_rules.specs.Turns.{at_turn}
 use Rattle.task_store.specs.Polls.{ready_if}
+use Rattle.task_store.specs.Spawned.{poll_of_phase}
 use Rattle.ops_turns.specs.Main.{Answers, Did}
 use Rattle.ops_turns.specs.Turn.{running_of, state_at}
 use Rattle.core_primitives.specs.StateView.{StateView}
@@ -104,6 +110,15 @@ module _ (c : Component) (s : Core) where
   unfolding at_turn
   did_spawn_open k = record { op = tt; step = (k, (row.SpawnOpen, (refl, (refl, refl)))) }
 
+  -- by what a call of the store says that spawned it
+  pub did_spawn_own : (k i : ℕ) (d : HostDef) (t : Core) → d ≡ host_def.Open → i ≡ next_work s → t ≡ work_queued callers.Spawn d None s →
+      Did c [] Unscripted s (label.Main (main_label.Spawn k i)) Unscripted t
+  unfolding open_spawned
+  did_spawn_own k i d t is_open number core =
+      let is : t ≡ open_spawned s = core ∙ ap (λ (h : HostDef). work_queued callers.Spawn h None s) is_open in
+      subst (λ (j : ℕ). Did c [] Unscripted s (label.Main (main_label.Spawn k j)) Unscripted t) (sym number)
+      (subst (λ (u : Core). Did c [] Unscripted s (label.Main (main_label.Spawn k (next_work s))) Unscripted u) (sym is) (did_spawn_open k))
+
   pub did_abort : (i k : ℕ) → is_spawn i s ≡ true → Did c [] Unscripted s (label.Main (main_label.Abort (phase_of i s) k)) Unscripted (main_aborted i s)
   unfolding at_turn
   did_abort i k spawned = record { op = tt; step = (k, (row.Abort i, (spawned, (refl, refl)))) }
@@ -165,6 +180,11 @@ module _ (c : Component) (s : Core) where
   answers_now v = record { part = refl; core = refl; step = (0, (row.Answer v, (refl, (refl, refl)))) }
 
 -- ---- Polls that are ready
+
+pub has_ended : (p : Phase) → ◌≡◌ {A = Poll (Unit {0})} (Ready tt) (poll_of_phase p) → is_complete p ≡ true
+has_ended phases.Running h = absurd (cc)
+has_ended phases.AbortRequested h = absurd (cc)
+has_ended phases.Complete h = refl
 
 pub is_ready : (b : Bool) → Ready tt ≡ ready_if b → b ≡ true
 is_ready true h = refl

@@ -5,10 +5,11 @@ use Rattle.vatbramble_host.specs.declared.ask.Ask.{Ask}
 use Rattle.vatbramble_host.specs.declared.ask.Ask.TheVariants as ask
 use Rattle.vatbramble_host.specs.declared.ask.CallId.{CallId}
 use Rattle.vatbramble_host.specs.declared.ask.Refusal.{Refusal}
+use Rattle.vatbramble_host.specs.declared.ask.SpawnId.{SpawnId}
 use Rattle.vatbramble_host.specs.declared.ask.Refusal.TheVariants as refusal
 use Rattle.vatbramble_host.specs.declared.asking.AskingMain.{AskingMain}
 use Rattle.vatbramble_host.specs.declared.asking.Begun.{Begun}
-use Rattle.std.specs.Prelude.{IfSome, IsSome, List, None, false, length, slice_get, true, ℕ, ◌-◌, ◌<◌, ◌≡◌, ◌≤◌}
+use Rattle.std.specs.Prelude.{IfSome, IsSome, List, None, Some, false, length, slice_get, true, ℕ, ◌-◌, ◌<◌, ◌≡◌, ◌≤◌}
 use Rattle.task_loop.specs.LoopCalls.{callee_of}
 use Rattle.task_loop.specs.Says.{Says, unscripted}
 use Rattle.task_loop.specs.declared.call.Func.{Func}
@@ -17,7 +18,11 @@ use Rattle.machine_data.specs.declared.label.Label.TheVariants as label
 use Rattle.machine_data.specs.declared.label.MainLabel.{MainLabel}
 use Rattle.machine_data.specs.declared.label.MainLabel.TheVariants as main_label
 use Rattle.machine_rules.specs.Scripts.{export_at}
+use Rattle.task_store.specs.Spawned.{IsSpawnedIn, spawned_later}
+use Rattle.ops_turns.specs.Later.{WorksLast}
+use Rattle.task_store.specs.declared.spawn.SpawnHandle.{SpawnHandle}
 use Rattle.ops_turns.specs.declared.mains.MainStep.{MainStep}
+use Rattle.core_primitives.specs.StateView.{StateView}
 use Rattle.ops_turns.specs.declared.mains.MainStep.TheVariants as step
 
 -- the export is there, and takes as many words
@@ -41,6 +46,9 @@ abbrev pub IsAdmitted : {D : Type 0} → Component → AskingMain D → Ask → 
 IsAdmitted c m (ask.Start f words) = MayStart c m.calls.items f words.count
 IsAdmitted c m (ask.Finish k) = MayFinish m.calls.items k
 IsAdmitted c m (ask.Ready i) = IsSome (slice_get c.instances i.index)
+IsAdmitted c m (ask.Spawn kind) = length m.spawns.items < 4294967295
+IsAdmitted c m (ask.Abort w) = w.place < length m.spawns.items
+IsAdmitted c m (ask.Await w) = w.place < length m.spawns.items
 IsAdmitted c m _ = Unit {0}
 
 -- why a call of the export with so many words may not be started
@@ -61,11 +69,24 @@ abbrev pub IsReadyCause : Component → ℕ → Refusal → Type 0
 IsReadyCause c i refusal.NoInstance = slice_get c.instances i ≡ None
 IsReadyCause c i _ = ⊥
 
+-- why a further work may not be spawned
+abbrev pub IsSpawnCause : List SpawnHandle → Refusal → Type 0
+IsSpawnCause spawns refusal.TooManySpawns = 4294967295 ≤ length spawns
+IsSpawnCause spawns _ = ⊥
+
+-- why a work may not be named
+abbrev pub IsWorkCause : List SpawnHandle → SpawnId → Refusal → Type 0
+IsWorkCause spawns w refusal.NoSpawn = length spawns ≤ w.place
+IsWorkCause spawns w _ = ⊥
+
 -- why the ask is refused
 abbrev pub IsCause : {D : Type 0} → Component → AskingMain D → Ask → Refusal → Type 0
 IsCause c m (ask.Start f words) why = IsStartCause c m.calls.items f words.count why
 IsCause c m (ask.Finish k) why = IsFinishCause m.calls.items k why
 IsCause c m (ask.Ready i) why = IsReadyCause c i.index why
+IsCause c m (ask.Spawn kind) why = IsSpawnCause m.spawns.items why
+IsCause c m (ask.Abort w) why = IsWorkCause m.spawns.items w why
+IsCause c m (ask.Await w) why = IsWorkCause m.spawns.items w why
 IsCause c m _ why = ⊥
 
 -- what is told of the op that this label shows
@@ -73,6 +94,9 @@ abbrev pub answer_to : MainLabel → Answer
 answer_to (main_label.Start k n) = answer.Started (record { place = k - 1 })
 answer_to (main_label.StartRefused why k) = answer.NotStarted why
 answer_to (main_label.Finish k v) = answer.Finished v
+answer_to (main_label.Spawn k i) = answer.Spawned (record { place = k - 1 })
+answer_to (main_label.Abort p k) = answer.Aborted
+answer_to (main_label.Await k) = answer.Ended
 answer_to main_label.Quiet = answer.Quiet
 answer_to main_label.Ready = answer.Ready
 answer_to _ = answer.Pended
@@ -82,6 +106,14 @@ abbrev pub IsTold : MainStep → Answer → Type 0
 IsTold (step.Did (label.Main l)) last = last ≡ answer_to l
 IsTold _ last = Unit {0}
 
+-- main's works were spawned in the store
+abbrev pub KnowsSpawns : List SpawnHandle → StateView → Type 0
+KnowsSpawns spawns s = (k : ℕ) (h : SpawnHandle) → slice_get spawns k ≡ Some h → IsSpawnedIn h s
+
+-- and are so once other steps were made
+pub spawns_later : (spawns : List SpawnHandle) (s t : StateView) → WorksLast s t → KnowsSpawns spawns s → KnowsSpawns spawns t
+spawns_later spawns s t last knows k h at = spawned_later h s t last (knows k h at)
+
 -- that is what such a main says of its steps
 abbrev pub asking_says : {D : Type 0} → Says (AskingMain D)
-asking_says {D} = unscripted (λ m c. Unit {0}) (λ m s. Unit {0}) (λ m s step n t. IsTold step n.last)
+asking_says {D} = unscripted (λ m c. Unit {0}) (λ m s. KnowsSpawns m.spawns.items s) (λ m s step n t. IsTold step n.last)

@@ -5,7 +5,7 @@ use Rattle.std.specs.Prelude.{List, Option, Some, [], position, slice_get, unwra
 use Rattle.std.specs.Str.{bytes_eq}
 use Rattle.task_loop.specs.declared.call.Func.{Func}
 use Rattle.task_run.specs.declared.scenario.InstanceNames.{InstanceNames}
-use Rattle.text_lines.specs.Words.{◌>>=◌}
+use Rattle.text_lines.specs.Tokens.{◌>>=◌}
 
 -- the place of the first instance of this name
 abbrev pub instance_place : List InstanceNames → List ℕ → Option ℕ

@@ -10,6 +10,12 @@ pub struct CallId {
     pub(crate) place: usize,
 }
 
+/// A work that this main has spawned. It is had from `Answer::Spawned` alone.
+#[derive(Clone, Copy)]
+pub struct SpawnId {
+    pub(crate) place: usize,
+}
+
 /// The words that a call is given. An export takes at most 16, and a call with more is refused.
 #[derive(Clone, Copy)]
 pub struct CallWords {
@@ -55,6 +61,12 @@ pub enum Ask {
     Quiet,
     /// Waits until the instance takes calls.
     Ready(Instance),
+    /// Begins a work of the host's own, which runs beside main: the one that its type makes for this number.
+    Spawn(u32),
+    /// Asks that the work end. It isn't polled any more.
+    Abort(SpawnId),
+    /// Waits until the work has ended.
+    Await(SpawnId),
     /// Lets others run.
     Pend,
     /// Ends the run with this value.
@@ -76,6 +88,10 @@ pub enum Refusal {
     NoInstance,
     /// Main has started 4,294,967,295 calls, and there are no further numbers for labels.
     TooManyCalls,
+    /// No work of this main has this id.
+    NoSpawn,
+    /// Main has spawned 4,294,967,295 works, and there are no further numbers for labels.
+    TooManySpawns,
 }
 
 /// What came of the last ask.
@@ -93,6 +109,12 @@ pub enum Answer {
     Quiet,
     /// The instance takes calls.
     Ready,
+    /// The work was begun.
+    Spawned(SpawnId),
+    /// The work was asked to end.
+    Aborted,
+    /// The work has ended.
+    Ended,
     /// Others ran.
     Pended,
     /// The ask was refused, and nothing was done.

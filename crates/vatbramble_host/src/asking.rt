@@ -1,12 +1,13 @@
 //! The main that asks, and which of its asks are admitted.
-ghost use Rattle.std.specs.Prelude.{◌≡◌, IfNone, IfSome, IsSome, slice_get};
-ghost use Rattle.vatbramble_host.specs.Asks.{IsAdmitted, IsCause, IsFinishCause, IsReadyCause, IsStartCause, MayFinish, MayStart};
+ghost use Rattle.std.specs.Prelude.{◌≡◌, ◌<◌, [], IfNone, IfSome, IsSome, length, slice_get};
+ghost use Rattle.vatbramble_host.specs.Asks.{IsAdmitted, IsCause, IsFinishCause, IsReadyCause, IsSpawnCause, IsStartCause, IsWorkCause, MayFinish, MayStart};
 
-use crate::ask::{Answer, Ask, CallId, HostMain, Refusal};
+use crate::ask::{Answer, Ask, CallId, HostMain, Refusal, SpawnId};
 use machine_data::Callee;
 use ops_turns::export_def;
 use std::alloc::Global;
 use task_loop::{Component, Func, FuncCallConcurrent, Instance};
+use task_store::SpawnHandle;
 
 // How often a main may be refused in one step, before others run.
 const MOST_REFUSALS: u32 = 64;
@@ -16,6 +17,7 @@ const MOST_REFUSALS: u32 = 64;
 pub struct AskingMain<D: Drop> {
     pub(crate) host: D,
     pub(crate) calls: Vec<Begun>,
+    pub(crate) spawns: Vec<SpawnHandle>,
     pub(crate) last: Answer,
     pub(crate) waits: Wait,
 }
@@ -35,6 +37,7 @@ pub(crate) enum Wait {
     Call(CallId),
     Quiet,
     Instance(Instance),
+    Work(SpawnId),
 }
 
 // Why an instance may not be waited for; none if it may.
@@ -52,11 +55,13 @@ fn ready_refusal(component: &Component, instance: Instance) -> Option<Refusal>
 impl<D: Drop> AskingMain<D> {
     /// Makes a main that wasn't asked yet.
     pub fn new(alloc: Global, host: D) -> Self
-        ensures { result.host ≡ host }
+        ensures host { result.host ≡ host }
+        ensures spawns { result.spawns.items ≡ [] }
     {
         AskingMain {
             host,
             calls: Vec::new(alloc),
+            spawns: Vec::new(alloc),
             last: Answer::Begun,
             waits: Wait::Nothing,
         }
@@ -100,6 +105,28 @@ impl<D: Drop> AskingMain<D> {
         }
     }
 
+    // Why a further work may not be spawned; none if it may.
+    fn spawn_refusal(&self) -> Option<Refusal>
+        ensures none { IfNone result (length self.now.spawns.items < 4294967295) }
+        ensures some { IfSome result (IsSpawnCause self.now.spawns.items) }
+    {
+        if self.spawns.len() >= u32::MAX as usize {
+            return Some(Refusal::TooManySpawns);
+        }
+        None
+    }
+
+    // Why a work may not be named; none if it may.
+    fn work_refusal(&self, work: SpawnId) -> Option<Refusal>
+        ensures none { IfNone result (work.place < length self.now.spawns.items) }
+        ensures some { IfSome result (IsWorkCause self.now.spawns.items work) }
+    {
+        match self.spawns.get(work.place) {
+            Some(_) => None,
+            None => Some(Refusal::NoSpawn),
+        }
+    }
+
     // Why an ask is refused; none if it is admitted.
     fn refusal(&self, component: &Component, ask: &Ask) -> Option<Refusal>
         ensures none { IfNone result (IsAdmitted component.now self.now ask.now) }
@@ -109,6 +136,8 @@ impl<D: Drop> AskingMain<D> {
             Ask::Start(func, words) => self.start_refusal(component, *func, words.count),
             Ask::Finish(call) => self.finish_refusal(*call),
             Ask::Ready(instance) => ready_refusal(component, *instance),
+            Ask::Spawn(_) => self.spawn_refusal(),
+            Ask::Abort(work) | Ask::Await(work) => self.work_refusal(*work),
             _ => None,
         }
     }
@@ -117,7 +146,8 @@ impl<D: Drop> AskingMain<D> {
 impl<D: HostMain + Drop> AskingMain<D> {
     // What main waits for, or else what the host asks for.
     fn next(&mut self) -> Ask
-        ensures { self.new.calls ≡ self.old.calls }
+        ensures calls { self.new.calls ≡ self.old.calls }
+        ensures spawns { self.new.spawns ≡ self.old.spawns }
     {
         let waits = self.waits;
         self.waits = Wait::Nothing;
@@ -129,6 +159,7 @@ impl<D: HostMain + Drop> AskingMain<D> {
             Wait::Call(call) => Ask::Finish(call),
             Wait::Quiet => Ask::Quiet,
             Wait::Instance(instance) => Ask::Ready(instance),
+            Wait::Work(work) => Ask::Await(work),
         }
     }
 
@@ -136,6 +167,7 @@ impl<D: HostMain + Drop> AskingMain<D> {
     pub(crate) fn admitted(&mut self, component: &Component) -> Option<Ask>
         ensures admitted { IfSome result (IsAdmitted component.now self.new) }
         ensures calls { self.new.calls ≡ self.old.calls }
+        ensures spawns { self.new.spawns ≡ self.old.spawns }
     {
         for _ in 0..MOST_REFUSALS {
             let ask = self.next();

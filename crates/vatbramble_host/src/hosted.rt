@@ -72,7 +72,7 @@ impl Hosted {
         }
     }
 
-    /// Opens the text's host at this place, from 0: a call of it comes to what a work of the host's own answers, and nothing that its
+    /// Opens the text's host at this place, from 0: a call of it results in what a work of the host's own answers, and nothing that its
     /// line says is so any more. It is refused exactly if the text has no such host.
     pub fn with_open_host(self, place: u32) -> Result<Self, HostError>
         ensures opened { IfOk result (λ h. h.scenario ≡ with_open_host place self.scenario) }

@@ -9,7 +9,7 @@ mod hosted;
 mod names;
 mod steps;
 
-pub use ask::{Answer, Ask, CallId, CallWords, HostMain, Refusal};
+pub use ask::{Answer, Ask, CallId, CallWords, HostMain, Refusal, SpawnId};
 pub use asking::AskingMain;
 pub use error::HostError;
 pub use hosted::{HostRun, Hosted};

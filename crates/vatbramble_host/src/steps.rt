@@ -1,17 +1,19 @@
 //! The steps of a main that asks.
-ghost use Rattle.vatbramble_host.specs.Asks.{MayFinish, TakesWords, asking_says};
+ghost use Rattle.vatbramble_host.specs.Asks.{MayFinish, TakesWords, asking_says, spawns_later};
 ghost use Rattle.ops_state.specs.declared.error.TaskError.TheVariants as task_error;
 ghost use Rattle.std.specs.Prelude.{◌≡◌, ◌+◌, ◌<◌, IfErr, IfOk, IsSome, length, slice_get};
 ghost use Rattle.task_loop.specs.HasRun.{HasStepResult, MayStep};
-ghost use Rattle.task_loop.specs.Standing.{standing};
+ghost use Rattle.task_loop.specs.Constants.{constants};
 
-use crate::ask::{Answer, Ask, CallId, HostMain};
+use crate::ask::{Answer, Ask, CallId, HostMain, SpawnId};
 use crate::asking::{AskingMain, Begun, Wait};
 use futures::task::Poll;
-use machine_data::MainLabel;
+use machine_data::{HostDef, MainLabel};
 use task_group::NoHook;
 use task_loop::{Component, Func, Instance, Label, MainStep, MainTask, TaskError};
-use task_store::{Access, ComponentInstanceId, HostWork, RuntimeInstance, Whole};
+use task_store::{
+    Access, AccessorTask, ComponentInstanceId, FromHost, HostWork, RuntimeInstance, Whole,
+};
 
 // Calls the export. Where the store refuses the call, main is told so, and has no call more.
 fn start<T, H: HostWork, D: Drop>(
@@ -25,7 +27,7 @@ fn start<T, H: HostWork, D: Drop>(
     requires takes { TakesWords component.now func (length words.now) }
     requires numbered { length main.old.calls.items < 4294967295 }
     ensures same { access.new.store.ghost_name ≡ access.old.store.ghost_name }
-    ensures stands { standing access.new.store.now ≡ standing access.old.store.now }
+    ensures stands { constants access.new.store.now ≡ constants access.old.store.now }
     ensures step { IfOk result (λ step.
         HasStepResult asking_says H.course component.now step main.old access.old.store.now main.new access.new.store.now) }
     ensures err { IfErr result (λ e. e ≡ task_error.NoMemory) }
@@ -70,7 +72,7 @@ fn finish<T, H: HostWork, D: Drop>(
     requires may { MayStep asking_says H.course component.now main.old access.old.store.now }
     requires untaken { MayFinish main.old.calls.items call }
     ensures same { access.new.store.ghost_name ≡ access.old.store.ghost_name }
-    ensures stands { standing access.new.store.now ≡ standing access.old.store.now }
+    ensures stands { constants access.new.store.now ≡ constants access.old.store.now }
     ensures step { HasStepResult asking_says H.course component.now result main.old access.old.store.now main.new access.new.store.now }
 {
     // only the contract speaks of `component`
@@ -136,10 +138,89 @@ fn ready<T, H: HostWork, D: Drop>(
     MainStep::Did(Label::Main(MainLabel::Ready))
 }
 
-impl<T, H: HostWork, D: HostMain + Drop> MainTask<T, H, NoHook> for AskingMain<D> {
+// Begins a work of the host's own, the one that its type makes for this number.
+fn spawn<T, H: AccessorTask<T> + FromHost, D: Drop>(
+    main: &mut AskingMain<D>,
+    access: &mut Access<'_, T, Whole, H>,
+    component: &Component,
+    kind: u32,
+) -> Result<MainStep, TaskError>
+    requires may { MayStep asking_says H.course component.now main.old access.old.store.now }
+    requires numbered { length main.old.spawns.items < 4294967295 }
+    ensures same { access.new.store.ghost_name ≡ access.old.store.ghost_name }
+    ensures stands { constants access.new.store.now ≡ constants access.old.store.now }
+    ensures step { IfOk result (λ step.
+        HasStepResult asking_says H.course component.now step main.old access.old.store.now main.new access.new.store.now) }
+    ensures err { IfErr result (λ e. e ≡ task_error.NoMemory) }
+{
+    // only the contract speaks of `component`
+    let _component = component;
+    let place = main.spawns.len();
+    let Ok(work) = access.store.spawn(H::from_host(kind, HostDef::Open)) else {
+        return Err(TaskError::NoMemory);
+    };
+    let future = work.number();
+    let Ok(()) = main.spawns.push(work) else {
+        return Err(TaskError::NoMemory);
+    };
+    main.last = Answer::Spawned(SpawnId { place });
+    Ok(MainStep::Did(Label::Main(MainLabel::Spawn(number_of(place), future))))
+}
+
+// Asks that the work end.
+fn abort<T, H: HostWork, D: Drop>(
+    main: &mut AskingMain<D>,
+    access: &mut Access<'_, T, Whole, H>,
+    component: &Component,
+    work: SpawnId,
+) -> MainStep
+    requires may { MayStep asking_says H.course component.now main.old access.old.store.now }
+    requires there { work.place < length main.old.spawns.items }
+    ensures same { access.new.store.ghost_name ≡ access.old.store.ghost_name }
+    ensures stands { constants access.new.store.now ≡ constants access.old.store.now }
+    ensures step { HasStepResult asking_says H.course component.now result main.old access.old.store.now main.new access.new.store.now }
+{
+    // only the contract speaks of `component`
+    let _component = component;
+    let Some(handle) = main.spawns.get(work.place) else {
+        unreachable!()
+    };
+    let phase = handle.abort(access.store);
+    main.last = Answer::Aborted;
+    MainStep::Did(Label::Main(MainLabel::Abort(phase, number_of(work.place))))
+}
+
+// Waits until the work has ended.
+fn wait<T, H: HostWork, D: Drop>(
+    main: &mut AskingMain<D>,
+    access: &mut Access<'_, T, Whole, H>,
+    component: &Component,
+    work: SpawnId,
+) -> MainStep
+    requires may { MayStep asking_says H.course component.now main.old access.old.store.now }
+    requires there { work.place < length main.old.spawns.items }
+    ensures same { access.new.store.ghost_name ≡ access.old.store.ghost_name }
+    ensures stands { constants access.new.store.now ≡ constants access.old.store.now }
+    ensures step { HasStepResult asking_says H.course component.now result main.old access.old.store.now main.new access.new.store.now }
+{
+    // only the contract speaks of `component`
+    let _component = component;
+    let Some(handle) = main.spawns.get(work.place) else {
+        unreachable!()
+    };
+    let Poll::Ready(()) = handle.poll(access.store) else {
+        main.waits = Wait::Work(work);
+        return MainStep::Pends;
+    };
+    main.last = Answer::Ended;
+    MainStep::Did(Label::Main(MainLabel::Await(number_of(work.place))))
+}
+
+impl<T, H: AccessorTask<T> + FromHost, D: HostMain + Drop> MainTask<T, H, NoHook>
+    for AskingMain<D> {
     ghost says = { asking_says };
 
-    ghost stays = { λ main before after last known. tt };
+    ghost stays = { λ main before after last known. spawns_later main.spawns.items before after last known };
 
     fn step(
         &mut self,
@@ -154,6 +235,9 @@ impl<T, H: HostWork, D: HostMain + Drop> MainTask<T, H, NoHook> for AskingMain<D
             Ask::Finish(call) => Ok(finish(self, access, component, call)),
             Ask::Quiet => Ok(quiet(self, access, component)),
             Ask::Ready(instance) => Ok(ready(self, access, component, instance)),
+            Ask::Spawn(kind) => spawn(self, access, component, kind),
+            Ask::Abort(work) => Ok(abort(self, access, component, work)),
+            Ask::Await(work) => Ok(wait(self, access, component, work)),
             Ask::Pend => {
                 self.last = Answer::Pended;
                 Ok(MainStep::Pends)

@@ -5,14 +5,14 @@ use Rattle.core_records.proofs.WriteLemmas.{thread_nowhere, thread_sound, thread
 pub returns-in-Ok-clause-sound : goal.returns-in-Ok-clause-sound
 returns-in-Ok-clause-sound c =
     let g = c.in-Ok.entry.now in
-    thread_sound c.args.parts.now c.requires c.args.thread g c.in-Ok.ensures.value (record g { thread = record g.thread { registers = c.put_word.new.words } }) refl
+    thread_sound c.args.parts.now c.requires c.args.thread g c.in-Ok.ensures.value (record g { thread = record g.thread { registers = c.put_number.new.numbers } }) refl
 
 pub returns-in-Ok-clause-new : goal.returns-in-Ok-clause-new
 unfolding set_register
 returns-in-Ok-clause-new c =
     let g = c.in-Ok.entry.now in
-    thread_writes c.args.parts.now c.requires c.args.thread g c.in-Ok.ensures.value (record g { thread = record g.thread { registers = c.put_word.new.words } }) refl _
-    (ap (λ (ws : List ℕ). record g.thread { registers = ws }) (sym c.put_word.ensures))
+    thread_writes c.args.parts.now c.requires c.args.thread g c.in-Ok.ensures.value (record g { thread = record g.thread { registers = c.put_number.new.numbers } }) refl _
+    (ap (λ (ws : List ℕ). record g.thread { registers = ws }) (sym c.put_number.ensures))
 
 pub returns-in_default-clause-new : goal.returns-in_default-clause-new
 unfolding set_register

@@ -1,7 +1,7 @@
 use Rattle.core_makes.proofs.RestoreLemmas.{image_restored}
 use Rattle.core_records.proofs.Core.{ap, arith, call_made, parts_of, registers_for, seen, ◌+◌, ◌<◌, ◌^◌, ◌∙◌}
 use Rattle.core_records.specs.declared.{call_records.GuestTask.GuestTask, thread_records.GuestThread.GuestThread}
-use Rattle.core_makes.proofs.RequestLemmas.{request_core, request_strand}
+use Rattle.core_makes.proofs.RequestLemmas.{request_core, request_call_thread}
 use Rattle.core_makes.proofs.call_makes.add_call_with_thread.Goals as goal
 
 pub overflow_add-number : goal.overflow_add-number
@@ -12,7 +12,7 @@ pub push_call_with_thread-requires-clause-strand : goal.push_call_with_thread-re
 push_call_with_thread-requires-clause-strand c =
     let call = c.call_record-call.ensures in
     let thread = c.thread_record-thread.ensures in
-    request_strand c.args.parts.now c.args.request c.args.group.number (registers_for c.args.words.now) c.call_record-call.result c.thread_record-thread.result
+    request_call_thread c.args.parts.now c.args.request c.args.group.number (registers_for c.args.words.now) c.call_record-call.result c.thread_record-thread.result
     (ap (λ (d : GuestTask). d.number) call) (ap (λ (d : GuestTask). d.call) call ∙ c.new_call-call.ensures) (ap (λ (d : GuestTask). d.maker) call) (ap (λ (d : GuestTask). d.threads) call)
     (ap (λ (h : GuestThread). h.number) thread) (ap (λ (h : GuestThread). h.thread) thread ∙ c.new_thread-thread.ensures) (ap (λ (h : GuestThread). h.instance) thread) (ap (λ (h : GuestThread). h.barred) thread ∙ c.bars.ensures)
     c.requires.caller c.requires.add.there c.requires.add.result

@@ -3,7 +3,7 @@ use Rattle.core_records.proofs.Core.{add_thread, ap, arith, call_of, IsSoundCore
 use Rattle.core_records.specs.declared.{call_records.GuestTask.GuestTask, single.Single.Single, thread_records.GuestThread.GuestThread}
 use Rattle.core_makes.proofs.MemberAddLemmas.{member_restored, threads_few}
 use Rattle.core_makes.proofs.RequestLemmas.{member_instance, request_member}
-use Rattle.core_makes.proofs.StrandUndoLemmas.{item_written, named_core}
+use Rattle.core_makes.proofs.CallThreadUndoLemmas.{item_written, named_core}
 use Rattle.core_makes.proofs.member_makes.add_member.Goals as goal
 
 pub overflow_add-number : goal.overflow_add-number

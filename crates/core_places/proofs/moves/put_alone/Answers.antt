@@ -11,16 +11,16 @@ pub entry_set-to-requires-clause-op_progress : goal.entry_set-to-requires-clause
 entry_set-to-requires-clause-op_progress c = op_progress_at c.args.parts.now c.requires.sound c.args.id c.in-Some.found.now c.in-Some.ensures.item
 
 pub recount-requires : goal.recount-requires
-recount-requires c = may_recount c.args.parts.now c.requires.sound c.args.id c.in-Some.found.now c.in-Some.ensures.item (placed c.in-Some.found.now c.args.place c.args.beside) refl refl c.no_set-from.result c.entry_set-to.result (alone_unset c.args.parts.now c.no_set-from.result c.in-Some.found.now.thread.place c.in-Some.found.now.thread.op_progress c.no_set-from.ensures (c.requires.alone c.in-Some.found.now c.in-Some.ensures.item)) c.entry_set-to.ensures
+recount-requires c = may_recount c.args.parts.now c.requires.sound c.args.id c.in-Some.found.now c.in-Some.ensures.item (placed c.in-Some.found.now c.args.place c.args.state_target) refl refl c.no_set-from.result c.entry_set-to.result (alone_unset c.args.parts.now c.no_set-from.result c.in-Some.found.now.thread.place c.in-Some.found.now.thread.op_progress c.no_set-from.ensures (c.requires.alone c.in-Some.found.now c.in-Some.ensures.item)) c.entry_set-to.ensures
 
 pub file_in-requires-clause-made : goal.file_in-requires-clause-made
-file_in-requires-clause-made c = node_made c.args.parts.now c.requires.sound c.args.id c.in-Some.found.now c.in-Some.ensures.item (placed c.in-Some.found.now c.args.place c.args.beside) refl refl
+file_in-requires-clause-made c = node_made c.args.parts.now c.requires.sound c.args.id c.in-Some.found.now c.in-Some.ensures.item (placed c.in-Some.found.now c.args.place c.args.state_target) refl refl
 
 pub file_in-requires-clause-live : goal.file_in-requires-clause-live
-file_in-requires-clause-live c = chain_live c.args.parts.now c.requires.sound c.args.id c.in-Some.found.now c.in-Some.ensures.item (placed c.in-Some.found.now c.args.place c.args.beside) refl refl c.in-Some.found.now.instance c.in-Some.found.now.barred c.args.place c.args.chain (c.requires.chain c.in-Some.found.now c.in-Some.ensures.item)
+file_in-requires-clause-live c = chain_live c.args.parts.now c.requires.sound c.args.id c.in-Some.found.now c.in-Some.ensures.item (placed c.in-Some.found.now c.args.place c.args.state_target) refl refl c.in-Some.found.now.instance c.in-Some.found.now.barred c.args.place c.args.chain (c.requires.chain c.in-Some.found.now c.in-Some.ensures.item)
 
 pub file_in-requires-clause-unlinked : goal.file_in-requires-clause-unlinked
-file_in-requires-clause-unlinked c = node_unlinked c.args.parts.now c.requires.sound c.args.id c.in-Some.found.now c.in-Some.ensures.item (placed c.in-Some.found.now c.args.place c.args.beside) refl refl ((c.requires.alone c.in-Some.found.now c.in-Some.ensures.item).1)
+file_in-requires-clause-unlinked c = node_unlinked c.args.parts.now c.requires.sound c.args.id c.in-Some.found.now c.in-Some.ensures.item (placed c.in-Some.found.now c.args.place c.args.state_target) refl refl ((c.requires.alone c.in-Some.found.now c.in-Some.ensures.item).1)
 
 pub returns-in-Some : goal.returns-in-Some
 unfolding set_place
@@ -28,9 +28,9 @@ returns-in-Some c =
     let a = c.args.parts.now in
     let g = c.in-Some.found.now in
     let item = c.in-Some.ensures.item in
-    let moved = placed_becomes a c.requires.sound c.args.id g item (placed g c.args.place c.args.beside) refl refl c.no_set-from.result c.entry_set-to.result (alone_unset a c.no_set-from.result g.thread.place g.thread.op_progress c.no_set-from.ensures (c.requires.alone g item)) c.entry_set-to.ensures c.file_in.new.links
+    let moved = placed_becomes a c.requires.sound c.args.id g item (placed g c.args.place c.args.state_target) refl refl c.no_set-from.result c.entry_set-to.result (alone_unset a c.no_set-from.result g.thread.place g.thread.op_progress c.no_set-from.ensures (c.requires.alone g item)) c.entry_set-to.ensures c.file_in.new.links
     c.requires.place (op_progress_at a c.requires.sound c.args.id g item)
-    (refiled a c.requires.sound c.args.id g item (placed g c.args.place c.args.beside) refl refl c.args.place c.args.chain c.thread_order_key-order_key.result c.file_in.new.links (c.thread_order_key-order_key.ensures ∙ ap (λ r. thread_order_key r g) c.rep.ensures) (c.requires.chain g item) c.file_in.ensures.links)
+    (refiled a c.requires.sound c.args.id g item (placed g c.args.place c.args.state_target) refl refl c.args.place c.args.chain c.thread_order_key-order_key.result c.file_in.new.links (c.thread_order_key-order_key.ensures ∙ ap (λ r. thread_order_key r g) c.rep.ensures) (c.requires.chain g item) c.file_in.ensures.links)
     (λ t. record t { place = c.args.place }) refl _ (c.write_place.ensures g item) _ c.recount.ensures in
     record {
       sound = moved.sound;

@@ -14,22 +14,22 @@ pub entry_set-from-requires-clause-op_progress : goal.entry_set-from-requires-cl
 entry_set-from-requires-clause-op_progress c = op_progress_at c.args.parts.now c.requires.sound c.args.id c.in-Some.found.now c.in-Some.ensures.item
 
 pub recount-requires : goal.recount-requires
-recount-requires c = may_recount c.args.parts.now c.requires.sound c.args.id c.in-Some.found.now c.in-Some.ensures.item (standing c.in-Some.found.now c.args.place c.args.beside c.args.op_progress c.args.awaited) refl refl c.entry_set-from.result c.entry_set-to.result c.entry_set-from.ensures c.entry_set-to.ensures
+recount-requires c = may_recount c.args.parts.now c.requires.sound c.args.id c.in-Some.found.now c.in-Some.ensures.item (standing c.in-Some.found.now c.args.place c.args.state_target c.args.op_progress c.args.op_target) refl refl c.entry_set-from.result c.entry_set-to.result c.entry_set-from.ensures c.entry_set-to.ensures
 
 pub refresh_key-requires-clause-made : goal.refresh_key-requires-clause-made
-refresh_key-requires-clause-made c = node_made c.args.parts.now c.requires.sound c.args.id c.in-Some.found.now c.in-Some.ensures.item (standing c.in-Some.found.now c.args.place c.args.beside c.args.op_progress c.args.awaited) refl refl
+refresh_key-requires-clause-made c = node_made c.args.parts.now c.requires.sound c.args.id c.in-Some.found.now c.in-Some.ensures.item (standing c.in-Some.found.now c.args.place c.args.state_target c.args.op_progress c.args.op_target) refl refl
 
 pub refresh_key-requires-clause-live : goal.refresh_key-requires-clause-live
-refresh_key-requires-clause-live c = chain_live c.args.parts.now c.requires.sound c.args.id c.in-Some.found.now c.in-Some.ensures.item (standing c.in-Some.found.now c.args.place c.args.beside c.args.op_progress c.args.awaited) refl refl c.in-Some.found.now.instance c.in-Some.found.now.barred c.args.place c.args.chain (c.requires.chain c.in-Some.found.now c.in-Some.ensures.item)
+refresh_key-requires-clause-live c = chain_live c.args.parts.now c.requires.sound c.args.id c.in-Some.found.now c.in-Some.ensures.item (standing c.in-Some.found.now c.args.place c.args.state_target c.args.op_progress c.args.op_target) refl refl c.in-Some.found.now.instance c.in-Some.found.now.barred c.args.place c.args.chain (c.requires.chain c.in-Some.found.now c.in-Some.ensures.item)
 
 pub returns-in-Some : goal.returns-in-Some
 returns-in-Some c =
     let a = c.args.parts.now in
     let g = c.in-Some.found.now in
     let item = c.in-Some.ensures.item in
-    placed_becomes a c.requires.sound c.args.id g item (standing g c.args.place c.args.beside c.args.op_progress c.args.awaited) refl refl c.entry_set-from.result c.entry_set-to.result c.entry_set-from.ensures c.entry_set-to.ensures c.refresh_key.new.links
+    placed_becomes a c.requires.sound c.args.id g item (standing g c.args.place c.args.state_target c.args.op_progress c.args.op_target) refl refl c.entry_set-from.result c.entry_set-to.result c.entry_set-from.ensures c.entry_set-to.ensures c.refresh_key.new.links
     c.requires.place c.requires.op_progress
-    (refiled a c.requires.sound c.args.id g item (standing g c.args.place c.args.beside c.args.op_progress c.args.awaited) refl refl c.args.place c.args.chain c.thread_order_key-order_key.result c.refresh_key.new.links (c.thread_order_key-order_key.ensures ∙ ap (λ r. thread_order_key r g) c.rep.ensures) (c.requires.chain g item) c.refresh_key.ensures.links)
+    (refiled a c.requires.sound c.args.id g item (standing g c.args.place c.args.state_target c.args.op_progress c.args.op_target) refl refl c.args.place c.args.chain c.thread_order_key-order_key.result c.refresh_key.new.links (c.thread_order_key-order_key.ensures ∙ ap (λ r. thread_order_key r g) c.rep.ensures) (c.requires.chain g item) c.refresh_key.ensures.links)
     (to_stand c.args.place c.args.op_progress) refl _ (c.write_stand.ensures g item) _ c.recount.ensures
 
 pub returns-in_default : goal.returns-in_default

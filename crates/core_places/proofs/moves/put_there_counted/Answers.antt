@@ -16,7 +16,7 @@ pub entry_set-to-requires-clause-place : goal.entry_set-to-requires-clause-place
 entry_set-to-requires-clause-place c = place_bare c.args.parts.now _ _ (thread_home c.args.parts.now c.requires.sound c.args.id c.in-Some.found.now c.in-Some.ensures.item).place
 
 pub recount-requires : goal.recount-requires
-recount-requires c = may_recount c.args.parts.now c.requires.sound c.args.id c.in-Some.found.now c.in-Some.ensures.item (arrived c.in-Some.found.now c.args.op_progress c.args.awaited) refl refl c.entry_set-from.result c.entry_set-to.result c.entry_set-from.ensures c.entry_set-to.ensures
+recount-requires c = may_recount c.args.parts.now c.requires.sound c.args.id c.in-Some.found.now c.in-Some.ensures.item (arrived c.in-Some.found.now c.args.op_progress c.args.op_target) refl refl c.entry_set-from.result c.entry_set-to.result c.entry_set-from.ensures c.entry_set-to.ensures
 
 pub returns-in-Some : goal.returns-in-Some
 unfolding set_op_progress
@@ -24,9 +24,9 @@ returns-in-Some c =
     let a = c.args.parts.now in
     let g = c.in-Some.found.now in
     let item = c.in-Some.ensures.item in
-    placed_becomes a c.requires.sound c.args.id g item (arrived g c.args.op_progress c.args.awaited) refl refl c.entry_set-from.result c.entry_set-to.result c.entry_set-from.ensures c.entry_set-to.ensures a.places
+    placed_becomes a c.requires.sound c.args.id g item (arrived g c.args.op_progress c.args.op_target) refl refl c.entry_set-from.result c.entry_set-to.result c.entry_set-from.ensures c.entry_set-to.ensures a.places
     (place_bare a _ _ (thread_home a c.requires.sound c.args.id g item).place) c.requires.op_progress
-    (stays_filed a c.requires.sound c.args.id g item (arrived g c.args.op_progress c.args.awaited) refl refl refl)
+    (stays_filed a c.requires.sound c.args.id g item (arrived g c.args.op_progress c.args.op_target) refl refl refl)
     (λ t. record t { op_progress = c.args.op_progress }) refl _ (c.write_point.ensures g item) _ c.recount.ensures
 
 pub returns-in_default : goal.returns-in_default

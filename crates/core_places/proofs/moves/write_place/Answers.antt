@@ -5,4 +5,4 @@ use Rattle.core_places.proofs.moves.write_place.Goals as goal
 use Rattle.core_places.specs.Moved.{placed}
 
 pub returns-in-Ok : goal.returns-in-Ok
-returns-in-Ok c g is = ap (λ (x : GuestThread). with_entry c.args.id.rep (entry_of (placed x c.args.place c.args.beside)) c.args.threads.now) (same_item c.in-Ok.ensures.value is)
+returns-in-Ok c g is = ap (λ (x : GuestThread). with_entry c.args.id.rep (entry_of (placed x c.args.place c.args.state_target)) c.args.threads.now) (same_item c.in-Ok.ensures.value is)

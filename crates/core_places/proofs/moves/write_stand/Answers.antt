@@ -5,4 +5,4 @@ use Rattle.core_places.proofs.moves.write_stand.Goals as goal
 use Rattle.core_places.specs.Moved.{standing}
 
 pub returns-in-Ok : goal.returns-in-Ok
-returns-in-Ok c g is = ap (λ (x : GuestThread). with_entry c.args.id.rep (entry_of (standing x c.args.place c.args.beside c.args.op_progress c.args.awaited)) c.args.threads.now) (same_item c.in-Ok.ensures.value is)
+returns-in-Ok c g is = ap (λ (x : GuestThread). with_entry c.args.id.rep (entry_of (standing x c.args.place c.args.state_target c.args.op_progress c.args.op_target)) c.args.threads.now) (same_item c.in-Ok.ensures.value is)

@@ -8,7 +8,7 @@ pub put_counted-requires-clause-place : goal.put_counted-requires-clause-place
 put_counted-requires-clause-place c =
     let a = c.args.parts.now in
     let g = c.in-Some.found.now in
-    subst (λ p. AtPlace (parts_of a) g.beside (place_target p)) c.in-Held.is (place_bare a _ _ (thread_home a c.requires.sound c.args.thread g c.in-Some.ensures.item).place)
+    subst (λ p. AtPlace (parts_of a) g.state_target (place_target p)) c.in-Held.is (place_bare a _ _ (thread_home a c.requires.sound c.args.thread g c.in-Some.ensures.item).place)
 
 pub returns-clause-new : goal.returns-clause-new
 returns-clause-new c w is =

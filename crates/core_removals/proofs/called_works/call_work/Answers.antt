@@ -1,7 +1,7 @@
 use Rattle.core_makes.proofs.RestoreLemmas.{image_restored, sound_restored}
 use Rattle.core_records.proofs.Core.{add_work, ap, ap₂, arith, cond, Core, count_work, Entry, image, is_host_call, IsSoundCore, item_at, item_of, Keeps, new_handle, CoreImage, parts_of, push_high, seen, Some, StateView, subst, Subtask, sym, Table, with_handle, work_entries, work_of, work_queued, ℕ, ◌+◌, ◌<◌, ◌^◌, ◌∙◌, ◌≡◌}
 use Rattle.core_records.specs.declared.{call_records.TaskGroup.TaskGroup, parts.CoreParts.CoreParts, single.Single.Single, work_records.WorkRecord.WorkRecord}
-use Rattle.core_makes.proofs.StrandUndoLemmas.{item_written}
+use Rattle.core_makes.proofs.CallThreadUndoLemmas.{item_written}
 use Rattle.core_removals.proofs.WorkAddLemmas.{record_next}
 use Rattle.core_removals.proofs.WorkUndoLemmas.{push_after_handle, unqueued_with_handle, work_restored}
 use Rattle.core_removals.proofs.called_works.call_work.Goals as goal

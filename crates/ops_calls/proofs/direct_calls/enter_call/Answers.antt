@@ -5,7 +5,7 @@ use Rattle.ops_calls.proofs.AnswerLemmas.{answers_of, refused_as}
 use Rattle.ops_calls.proofs.CallLemmas.{found_kind}
 use Rattle.ops_calls.proofs.DirectLemmas.{entered_answer, entered_live, enters_did, enters_on}
 use Rattle.ops_calls.proofs.direct_calls.enter_call.Goals as goal
-use Rattle.ops_calls.specs.Asks.{Answers}
+use Rattle.ops_calls.specs.HostOps.{Answers}
 use Rattle.ops_calls.specs.Directs.{entered, enters_rule, thread_entered}
 use Rattle.ops_calls.specs.OpAnswers.{answered, at_once}
 use Rattle.ops_calls.specs.declared.answer_calls.Step.TheVariants as step

@@ -1,9 +1,9 @@
 use Rattle.std.proofs.Common.{inl, refl, subst, sym, ◌∙◌}
 use Rattle.std.specs.Prelude.{◌<◌}
-use Rattle.ops_calls.proofs.AskLemmas.{did_rule}
+use Rattle.ops_calls.proofs.HostOpLemmas.{did_rule}
 use Rattle.ops_calls.proofs.DirectLemmas.{all_back, direct_under, exits_trapped, written_runs}
 use Rattle.ops_calls.proofs.direct_calls.exit_call.Goals as goal
-use Rattle.ops_calls.specs.Asks.{Did}
+use Rattle.ops_calls.specs.HostOps.{Did}
 use Rattle.ops_calls.specs.Directs.{exits_rule}
 use Rattle.machine_data.specs.Write.{set_register}
 use Rattle.ops_guests.specs.OpResult.{Implements}
@@ -52,7 +52,7 @@ returns-in-Traps g c =
           subst (Did (exits_rule c.args.value s.core) s r) (sym back)
               (did_rule c.args.component.now q.number r s s q.runs tt refl (exits_rule c.args.value s.core) (λ id live. inl refl, refl)
               (subst (λ k. Implements (direct_exit_rule k (set_register k 0 c.args.value s.core)) s.core r s.core) number
-              (exits_trapped c.in-Some.thread c.args.value s (v c.set_register.new.self) c.set_register.ensures t.core c.in-Traps.trap e.meets))),
+              (exits_trapped c.in-Some.thread c.args.value s (v c.set_register.new.self) c.set_register.ensures t.core c.in-Traps.trap e.implements))),
           refl,
         ),
       );

@@ -1,9 +1,9 @@
 use Rattle.ops_dispatch.proofs.OpLemmas.{alike_op, tags_told, told_names}
 use Rattle.ops_dispatch.proofs.SubtaskRules.{sync_host_shows}
 use Rattle.std.proofs.Common.{arith, refl, subst, sym, ◌∙◌}
-use Rattle.ops_calls.proofs.AskLemmas.{left_did}
+use Rattle.ops_calls.proofs.HostOpLemmas.{left_did}
 use Rattle.ops_calls.proofs.poll_calls.call_blocked.Goals as goal
-use Rattle.ops_calls.specs.Asks.{Did}
+use Rattle.ops_calls.specs.HostOps.{Did}
 use Rattle.ops_calls.specs.PolledCalls.{blocks_rule}
 use Rattle.ops_guests.specs.Does.{KeepsNames}
 use Rattle.ops_guests.specs.Works.{NamesTold}

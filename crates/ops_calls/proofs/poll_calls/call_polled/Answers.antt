@@ -1,10 +1,10 @@
 use Rattle.ops_dispatch.proofs.OpLemmas.{alike_op, tags_told, told_names}
 use Rattle.ops_dispatch.proofs.SubtaskRules.{host_shows}
 use Rattle.std.proofs.Common.{arith, refl, subst, sym, ◌∙◌}
-use Rattle.ops_calls.proofs.AskLemmas.{left_did}
+use Rattle.ops_calls.proofs.HostOpLemmas.{left_did}
 use Rattle.ops_calls.proofs.PollLemmas.{host_goes_on}
 use Rattle.ops_calls.proofs.poll_calls.call_polled.Goals as goal
-use Rattle.ops_calls.specs.Asks.{Did}
+use Rattle.ops_calls.specs.HostOps.{Did}
 use Rattle.ops_calls.specs.PolledCalls.{polls_rule}
 use Rattle.ops_guests.specs.Does.{KeepsNames}
 use Rattle.ops_guests.specs.Works.{NamesTold}
@@ -42,4 +42,4 @@ returns-clause-did g c =
 pub returns-clause-goes : goal.returns-clause-goes
 returns-clause-goes g c =
     let s = g.W.View.view c.args.w.now in
-    host_goes_on (thread_of s c.in-Some.thread) c.args.register (first_heard c.args.host c.args.answer) s.core c.in-Ok.op_result _ (c.in-Ok.ensures.does.meets SomeHost)
+    host_goes_on (thread_of s c.in-Some.thread) c.args.register (first_heard c.args.host c.args.answer) s.core c.in-Ok.op_result _ (c.in-Ok.ensures.does.implements SomeHost)

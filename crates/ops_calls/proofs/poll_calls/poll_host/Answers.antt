@@ -5,7 +5,7 @@ use Rattle.ops_subtasks.specs.First.{first_heard}
 use Rattle.ops_calls.proofs.AnswerLemmas.{answers_of, refused_as}
 use Rattle.ops_calls.proofs.poll_calls.poll_host.Goals as goal
 use Rattle.ops_calls.specs.OpAnswers.{answered, at_once, number_answered}
-use Rattle.ops_calls.specs.Asks.{Answers}
+use Rattle.ops_calls.specs.HostOps.{Answers}
 use Rattle.ops_calls.specs.PolledCalls.{polls_rule}
 
 pub returns-in_err-answer : goal.returns-in_err-answer

@@ -1,7 +1,7 @@
--- The running thread asks, and a thread that is resumed later gets its entry by the row.
+-- The running thread asks, and a thread that is resumed later gets its entry by the rule.
 use Rattle.std.proofs.Common.{ap, refl, subst, sym, ◌∙◌}
 use Rattle.std.specs.Prelude.{option_map}
-use Rattle.ops_calls.proofs.AskLemmas.{met_same, same_current, same_tags}
+use Rattle.ops_calls.proofs.HostOpLemmas.{met_same, same_current, same_tags}
 use Rattle.ops_calls.proofs.AtOnceLemmas.{never_stops}
 use Rattle.ops_calls.proofs.ResumeLemmas.{later_resumed}
 use Rattle.ops_calls.proofs.resume_calls.resume_thread.Goals as goal
@@ -49,11 +49,11 @@ returns-in-ResumeLater g c =
     let r = c.resume_later-op_result.result in
     let did = c.resume_later-op_result.ensures.does in
     let o = op.Thread (thread_op.ResumeLater (operand.Number c.from-handle.result)) in
-    let going = never_stops c.args.component.now n s.core (choice_of (label_of n r)) o refl r (ended SomeHost n r t.core) (did.meets SomeHost) in
-    let met = met_same id r s t u did.kept going c.leave.ensures (resume_later_rule SomeHost n c.from-handle.result s.core) (did.meets SomeHost) in
-    let meets = subst (λ h. Implements (resume_later_rule SomeHost n h s.core) s.core r u.core) c.from-handle.ensures met in
+    let going = never_stops c.args.component.now n s.core (choice_of (label_of n r)) o refl r (ended SomeHost n r t.core) (did.implements SomeHost) in
+    let met = met_same id r s t u did.kept going c.leave.ensures (resume_later_rule SomeHost n c.from-handle.result s.core) (did.implements SomeHost) in
+    let implements = subst (λ h. Implements (resume_later_rule SomeHost n h s.core) s.core r u.core) c.from-handle.ensures met in
     record {
       resumed = later_resumed n c.args.handle c.args.how s u r _
-          (ap (option_map (λ id. thread_of s id)) (sym c.current.ensures ∙ c.in-Some.is)) c.in-ResumeLater.is (same_tags id r s t u did.kept going c.leave.ensures) (same_current id r s t u did.kept going c.leave.ensures) meets
+          (ap (option_map (λ id. thread_of s id)) (sym c.current.ensures ∙ c.in-Some.is)) c.in-ResumeLater.is (same_tags id r s t u did.kept going c.leave.ensures) (same_current id r s t u did.kept going c.leave.ensures) implements
           (c.or_refused-in-ResumeLater.ensures ∙ ap or_refused c.came_later.ensures);
     }

@@ -1,7 +1,7 @@
 use Rattle.std.proofs.Common.{arith, subst, sym, ◌∙◌}
 use Rattle.std.proofs.lemmas.Bool.Decides.{nat_tests}
 use Rattle.std.specs.Prelude.{true, ◌≡◌}
-use Rattle.ops_calls.proofs.AskLemmas.{met_same, same_current, same_tags}
+use Rattle.ops_calls.proofs.HostOpLemmas.{met_same, same_current, same_tags}
 use Rattle.ops_calls.proofs.ReturnLemmas.{ret_goes_on, returned}
 use Rattle.ops_calls.specs.MainCalls.{Returns, is_own_type}
 use Rattle.ops_turns.proofs.OrderLemmas.{number_at, runner}
@@ -38,8 +38,8 @@ returns g c =
     let did = c.ret-op_result.ensures.does in
     let w = (choice_of (label_of k r)).woken in
     let u = g.W.View.view c.leave.new.w in
-    let going = ret_goes_on k v w s.core r (ended SomeHost k r t.core) (did.meets SomeHost) in
-    let met = met_same id r s t u did.kept going c.leave.ensures (ret_rule SomeHost k v w s.core) (did.meets SomeHost) in
+    let going = ret_goes_on k v w s.core r (ended SomeHost k r t.core) (did.implements SomeHost) in
+    let met = met_same id r s t u did.kept going c.leave.ensures (ret_rule SomeHost k v w s.core) (did.implements SomeHost) in
     record {
       returns = subst (λ k. Returns k v (is_own_type c.args.ty c.args.encoding c.args.memory) s c.answer-2.result u) n
           (subst (λ b. Returns k v b s c.answer-2.result u) (sym own)

@@ -14,12 +14,12 @@ pub returns-in-Ok-Does-Start-clause-starts : goal.returns-in-Ok-Does-Start-claus
 returns-in-Ok-Does-Start-clause-starts g c =
     let e = c.in-Ok-Does-Start.ensures in
     started_untrapped c.args.component.now c.args.callee c.args.words.now (g.W.View.view c.args.w.now) (g.W.View.view c.start.new.w) e.current _ _ _
-    c.in-Ok-Does-Start.field-0-is (e.meets c.args.component.now (found_kind c.args.component.now c.args.callee c.in-Some.def.now c.in-Some.ensures)) e.tags
+    c.in-Ok-Does-Start.field-0-is (e.implements c.args.component.now (found_kind c.args.component.now c.args.callee c.in-Some.def.now c.in-Some.ensures)) e.tags
     _ _ c.in-Ok-Does-Start.field-0-0-is
 
 pub returns-in-Ok-Does-Start-clause-order : goal.returns-in-Ok-Does-Start-clause-order
 returns-in-Ok-Does-Start-clause-order g c =
     let e = c.in-Ok-Does-Start.ensures in
     in_order c.args.component.now c.args.callee c.args.words.now (g.W.View.view c.args.w.now) (g.W.View.view c.start.new.w) e.current _
-    (e.meets c.args.component.now (found_kind c.args.component.now c.args.callee c.in-Some.def.now c.in-Some.ensures))
+    (e.implements c.args.component.now (found_kind c.args.component.now c.args.callee c.in-Some.def.now c.in-Some.ensures))
     (found_words c.args.component.now c.args.callee c.in-Some.def.now c.in-Some.ensures _ c.requires.words)

@@ -34,6 +34,6 @@ returns-clause-does g c =
     let own = begins_call b x c.args.callee words in
     ok_both (λ (r : OpResult). DoesRule KeepsTags own id s r t) (λ (r : OpResult). IsCurrent r t) (λ (r : OpResult). DoesOp NamesTold rule id s r t) c.begin_call_sync.result
     (λ r h current.
-    let goes = quiet_goes _ s.core r (ended SomeHost n r t.core) t (begins_quiet b x c.args.callee words SomeHost n (choice_of (label_of n r)) s.core) (h.meets SomeHost) current in
+    let goes = quiet_goes _ s.core r (ended SomeHost n r t.core) t (begins_quiet b x c.args.callee words SomeHost n (choice_of (label_of n r)) s.core) (h.implements SomeHost) current in
     named_op rule id s t r (scripted_op_rule KeepsTold own rule id s t r (made_op own id s t r c.requires.runner.live goes h)
     (λ d. begins_sync_as comp n d (choice_of (label_of n r)) c.args.callee words given x s.core (op_progress_of n s.core) c.export_kind-kind.ensures c.read_operands.ensures c.requires.unanswered c.requires.uncalled))) e.does e.current

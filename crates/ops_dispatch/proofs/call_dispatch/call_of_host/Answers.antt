@@ -32,11 +32,11 @@ returns-clause-does g c r =
     record {
       does = asked_op (calls_host q p) (rule_of c.args.component.now (op.Call (call_op.CallHost r q c.args.host))) c.args.thread s t op_result (host_shows n s.core SomeHost q p) c.requires.runner.current c.requires.runner.live did
           (λ d. subst (λ (h : HostDef). Implements (first_polled h (call_host_by d n q s.core)) s.core op_result (ended d n op_result t.core)) c.host_def-host.ensures
-          (met_first host c.args.answer (call_host_by d n q s.core) s.core (ended d n op_result t.core) op_result (did.meets d)));
+          (met_first host c.args.answer (call_host_by d n q s.core) s.core (ended d n op_result t.core) op_result (did.implements d)));
       polls = record {
         polled = ap (λ (h : HostDef). Some h) c.host_def-host.ensures;
         work = e.work.work;
         course = e.work.goes_on;
-        none = λ none. inr (sym (ended_works SomeHost n op_result t.core) ∙ host_makes_none s.core (ended SomeHost n op_result t.core) n SomeHost q p op_result (did.meets SomeHost) (sym e.work.work ∙ ap (option_map (λ id. work_of t id)) none));
+        none = λ none. inr (sym (ended_works SomeHost n op_result t.core) ∙ host_makes_none s.core (ended SomeHost n op_result t.core) n SomeHost q p op_result (did.implements SomeHost) (sym e.work.work ∙ ap (option_map (λ id. work_of t id)) none));
       };
     }

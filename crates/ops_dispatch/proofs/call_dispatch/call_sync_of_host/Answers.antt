@@ -62,11 +62,11 @@ returns-clause-does g c r =
       does = asked_op (calls_sync_host p) (rule_of comp (op.Call (call_op.CallSyncHost r c.args.host))) c.args.thread s t op_result (sync_host_shows n s.core SomeHost p) c.requires.runner.current c.requires.runner.live did
           (λ d. subst (λ (x : Progress). Implements x s.core op_result (ended d n op_result t.core)) (sym (sync_host_fresh comp n d s.core c.args.host (op_progress_of n s.core) fresh))
           (subst (λ (h : HostDef). Implements (first_polled h (call_sync_host_by d n s.core)) s.core op_result (ended d n op_result t.core)) c.host_def-host.ensures
-          (met_first host c.args.answer (call_sync_host_by d n s.core) s.core (ended d n op_result t.core) op_result (did.meets d))));
+          (met_first host c.args.answer (call_sync_host_by d n s.core) s.core (ended d n op_result t.core) op_result (did.implements d))));
       polls = record {
         polled = ap (λ (h : HostDef). Some h) c.host_def-host.ensures ∙ sym (polled_fresh comp r c.args.host (op_progress_of n s.core) fresh);
         work = e.work.work;
         course = e.work.goes_on;
-        none = λ none. inr (sym (ended_works SomeHost n op_result t.core) ∙ sync_host_makes_none s.core (ended SomeHost n op_result t.core) n SomeHost p op_result (did.meets SomeHost) (sym e.work.work ∙ ap (option_map (λ id. work_of t id)) none));
+        none = λ none. inr (sym (ended_works SomeHost n op_result t.core) ∙ sync_host_makes_none s.core (ended SomeHost n op_result t.core) n SomeHost p op_result (did.implements SomeHost) (sym e.work.work ∙ ap (option_map (λ id. work_of t id)) none));
       };
     }

@@ -1,5 +1,5 @@
 use Rattle.ops_dispatch.proofs.OpLemmas.{direct_quiet, direct_unanswered, scripted_op_rule, quiet_goes, rule_op, stops_op}
-use Rattle.ops_dispatch.proofs.RowLemmas.{thread_exit_stops}
+use Rattle.ops_dispatch.proofs.RuleLemmas.{thread_exit_stops}
 use Rattle.ops_dispatch.proofs.exit_dispatch.exit.Goals as goal
 use Rattle.ops_dispatch.specs.Rules.{exits, exits_by_kind}
 use Rattle.std.proofs.Common.{ap, rules, sym, ◌∙◌}
@@ -21,7 +21,7 @@ returns-then-explicit_unchecked g c =
     let e = c.exit_thread.ensures in
     let p = thread_exit_rule n s.core in
     record {
-      does = scripted_op_rule KeepsTold (λ d n ch s. p) exits c.args.thread s t r (stops_op p c.args.thread s t r e.meets e.stays e.works (thread_exit_stops n w s.core))
+      does = scripted_op_rule KeepsTold (λ d n ch s. p) exits c.args.thread s t r (stops_op p c.args.thread s t r e.implements e.stays e.works (thread_exit_stops n w s.core))
           (λ d. ap (λ (b : Bool). exit_rule_for n w s.core b) (sym c.explicit_unchecked.ensures ∙ c.if-explicit_unchecked.true));
     }
 
@@ -38,7 +38,7 @@ returns-then-matches g c =
     let direct : is_direct (goal_of (task_of n s.core) s.core) ≡ true = search rules in
     record {
       does = scripted_op_rule KeepsTold (λ d n ch s. p) exits c.args.thread s t r
-          (rule_op p c.args.thread s t r e.meets e.stays e.works (direct_unanswered n x s.core (under_of n s.core)) (quiet_goes p s.core r t.core t (direct_quiet n x s.core (under_of n s.core)) e.meets e.current))
+          (rule_op p c.args.thread s t r e.implements e.stays e.works (direct_unanswered n x s.core (under_of n s.core)) (quiet_goes p s.core r t.core t (direct_quiet n x s.core (under_of n s.core)) e.implements e.current))
           (λ d. ap (λ (b : Bool). exit_rule_for n w s.core b) (sym c.explicit_unchecked.ensures ∙ c.if-explicit_unchecked.false) ∙ ap (λ (b : Bool). implicit_exit_rule n w s.core b) direct);
     }
 

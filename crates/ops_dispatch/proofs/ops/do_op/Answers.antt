@@ -9,7 +9,7 @@ returns-in-Data-clause-did g c =
     let v = g.W.View.view in
     let s = v c.args.w.now in
     let e = c.compute.ensures in
-    rw c.in-Data.is (data_op c.args.answer c.args.component.now c.in-Data.op c.args.thread s (v c.compute.new.w) c.compute.result c.requires.runner.current (e.meets c.args.component.now c.requires.within.1) e.tags e.current)
+    rw c.in-Data.is (data_op c.args.answer c.args.component.now c.in-Data.op c.args.thread s (v c.compute.new.w) c.compute.result c.requires.runner.current (e.implements c.args.component.now c.requires.within.1) e.tags e.current)
 
 pub do_other_op-requires-clause-other : goal.do_other_op-requires-clause-other
 do_other_op-requires-clause-other g c = not_data c.args.op.now c.in_default.not-Data

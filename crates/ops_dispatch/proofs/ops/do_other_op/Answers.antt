@@ -1,4 +1,4 @@
-use Rattle.ops_dispatch.proofs.RowLemmas.{plain_polls}
+use Rattle.ops_dispatch.proofs.RuleLemmas.{plain_polls}
 use Rattle.ops_dispatch.proofs.ops.do_other_op.Goals as goal
 use Rattle.ops_dispatch.specs.Fits.{calls_host}
 use Rattle.ops_dispatch.specs.Polls.{DoesPolled}

@@ -1,5 +1,5 @@
 use Rattle.ops_dispatch.proofs.OpLemmas.{told_as, told_op}
-use Rattle.ops_dispatch.proofs.RowLemmas.{ret_shows, task_shows}
+use Rattle.ops_dispatch.proofs.RuleLemmas.{ret_shows, task_shows}
 use Rattle.ops_dispatch.proofs.task_dispatch.do_task_op.Goals as goal
 use Rattle.std.proofs.Common.{ap, refl, sym}
 use Rattle.std.specs.Prelude.{ℕ}

@@ -1,5 +1,5 @@
 use Rattle.ops_dispatch.proofs.OpLemmas.{names_op, told_as, told_op}
-use Rattle.ops_dispatch.proofs.RowLemmas.{thread_shows}
+use Rattle.ops_dispatch.proofs.RuleLemmas.{thread_shows}
 use Rattle.ops_dispatch.proofs.StayLemmas.{ok_then}
 use Rattle.ops_dispatch.proofs.thread_dispatch.do_thread_op.Goals as goal
 use Rattle.ops_dispatch.specs.ContinuesDispatch.{DoesOp}

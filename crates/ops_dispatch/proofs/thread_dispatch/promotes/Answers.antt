@@ -1,4 +1,4 @@
-use Rattle.ops_dispatch.proofs.HaltLemmas.{begins_rule, resumed_meets}
+use Rattle.ops_dispatch.proofs.HaltLemmas.{begins_rule, resumed_implements}
 use Rattle.ops_dispatch.proofs.thread_dispatch.promotes.Goals as goal
 use Rattle.ops_dispatch.specs.Rules.{promotes_here}
 use Rattle.std.proofs.Common.{ap, refl, sym, ◌∙◌}
@@ -17,7 +17,7 @@ returns-then-is_resumed g c =
     let n = thread_of s c.args.thread in
     record {
       does = does_same (promotes_here c.args.yielding c.args.other c.args.label) c.args.thread s s c.ends.result
-          (λ d. resumed_meets n c.args.label s.core d (op_progress_of n s.core) _ c.ends.result (sym c.is_resumed.ensures ∙ c.if-is_resumed.true) c.requires.shown c.ends.ensures) refl refl;
+          (λ d. resumed_implements n c.args.label s.core d (op_progress_of n s.core) _ c.ends.result (sym c.is_resumed.ensures ∙ c.if-is_resumed.true) c.requires.shown c.ends.ensures) refl refl;
     }
 
 pub returns : goal.returns

@@ -1,5 +1,5 @@
 use Rattle.std.proofs.Common.{refl, true, false}
-use Rattle.ops_guests.proofs.CodeLemmas.{code_waits_meets, finds_core, reopened_unqueued, waits_core}
+use Rattle.ops_guests.proofs.CodeLemmas.{code_waits_implements, finds_core, reopened_unqueued, waits_core}
 use Rattle.ops_guests.proofs.codes.code_waits.Goals as goal
 use Rattle.machine_rules.specs.Ends.{code_finds, code_waits}
 use Rattle.core_primitives.specs.StateView.{thread_of}
@@ -7,16 +7,16 @@ use Rattle.core_primitives.specs.StateView.{thread_of}
 pub put_high-requires-clause-unqueued : goal.put_high-requires-clause-unqueued
 put_high-requires-clause-unqueued g c = let v = g.W.View.view in reopened_unqueued c.args.thread (v c.args.w.now) (v c.stop_reopened.new.w) c.requires.running c.stop_reopened.ensures
 
-pub returns-then-finds-clause-meets : goal.returns-then-finds-clause-meets
-returns-then-finds-clause-meets g c =
+pub returns-then-finds-clause-implements : goal.returns-then-finds-clause-implements
+returns-then-finds-clause-implements g c =
     let v = g.W.View.view in
     let s = v c.args.w.now in
-    code_waits_meets c.args.thread c.task_of.result c.in-Some.set _ c.args.handle _ true c.args.label (code_finds (thread_of s c.args.thread)) s (v c.stop_reopened.new.w) (v c.put_high.new.w) c.instance_of-instance.ensures c.in-Some.ensures.is c.task_of.ensures.is c.has_event_for-finds.ensures c.if-finds.true (λ y held d. refl)
+    code_waits_implements c.args.thread c.task_of.result c.in-Some.set _ c.args.handle _ true c.args.label (code_finds (thread_of s c.args.thread)) s (v c.stop_reopened.new.w) (v c.put_high.new.w) c.instance_of-instance.ensures c.in-Some.ensures.is c.task_of.ensures.is c.has_event_for-finds.ensures c.if-finds.true (λ y held d. refl)
     (finds_core c.args.thread c.in-Some.set s (v c.stop_reopened.new.w) (v c.put_high.new.w) c.put_high.ensures) c.stop_reopened.ensures
 
-pub returns-else-finds-clause-meets : goal.returns-else-finds-clause-meets
-returns-else-finds-clause-meets g c =
+pub returns-else-finds-clause-implements : goal.returns-else-finds-clause-implements
+returns-else-finds-clause-implements g c =
     let v = g.W.View.view in
     let s = v c.args.w.now in
-    code_waits_meets c.args.thread c.task_of.result c.in-Some.set _ c.args.handle _ false c.args.label (code_waits (thread_of s c.args.thread)) s (v c.stop_reopened.new.w) (v c.set_place.new.self) c.instance_of-instance.ensures c.in-Some.ensures.is c.task_of.ensures.is c.has_event_for-finds.ensures c.if-finds.false (λ y held d. refl)
+    code_waits_implements c.args.thread c.task_of.result c.in-Some.set _ c.args.handle _ false c.args.label (code_waits (thread_of s c.args.thread)) s (v c.stop_reopened.new.w) (v c.set_place.new.self) c.instance_of-instance.ensures c.in-Some.ensures.is c.task_of.ensures.is c.has_event_for-finds.ensures c.if-finds.false (λ y held d. refl)
     (waits_core c.args.thread c.in-Some.set s (v c.stop_reopened.new.w) (v c.set_place.new.self) c.set_place.ensures) c.stop_reopened.ensures

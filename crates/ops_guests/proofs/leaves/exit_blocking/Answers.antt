@@ -12,8 +12,8 @@ use Rattle.machine_rules.specs.Progress.{Ordered, Stops, may, trap_if}
 use Rattle.core_primitives.specs.StateView.{StateView, thread_of}
 
 -- whichever waiter was tried, the check fails
-pub returns-then-not-passes_after_return-clause-meets : goal.returns-then-not-passes_after_return-clause-meets
-returns-then-not-passes_after_return-clause-meets g c =
+pub returns-then-not-passes_after_return-clause-implements : goal.returns-then-not-passes_after_return-clause-implements
+returns-then-not-passes_after_return-clause-implements g c =
     let v = g.W.View.view in
     let s = v c.args.w.now in
     let n = thread_of s c.args.thread in

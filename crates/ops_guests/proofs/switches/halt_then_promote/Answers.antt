@@ -50,6 +50,6 @@ returns-in-Ok-false g c =
     let halted = c.halt.ensures.does in
     record {
       does = does_same _ c.args.thread s u _
-          (λ d. promote_plain d (halt_of c.args.yielding) c.args.label c.args.thread c.args.handle s t u _ comes (halted.meets d))
+          (λ d. promote_plain d (halt_of c.args.yielding) c.args.label c.args.thread c.args.handle s t u _ comes (halted.implements d))
           (halted.kept.0 ∙ same.0) (halted.kept.1 ∙ same.1);
     }

@@ -1,5 +1,5 @@
 use Rattle.std.proofs.Common.{arith, sym, ◌∙◌}
-use Rattle.ops_guests.proofs.StrikeLemmas.{last_removed, named_after, removed_one}
+use Rattle.ops_guests.proofs.UnwindLemmas.{last_removed, named_after, removed_one}
 use Rattle.ops_guests.proofs.unwinds.remove_strand.Goals as goal
 
 pub returns-in_default-clause-core : goal.returns-in_default-clause-core

@@ -1,6 +1,6 @@
 use Rattle.std.proofs.Common.{Some, ap, sym, ◌∙◌}
-use Rattle.ops_subtasks.proofs.CancelLemmas.{cancel_kept, found_meets, named_call, there_live}
-use Rattle.ops_subtasks.proofs.SubtaskLemmas.{named_meets}
+use Rattle.ops_subtasks.proofs.CancelLemmas.{cancel_kept, found_implements, named_call, there_live}
+use Rattle.ops_subtasks.proofs.SubtaskLemmas.{named_implements}
 use Rattle.ops_subtasks.proofs.cancels.cancel.Goals as goal
 use Rattle.ops_subtasks.specs.Refused.{mode_of}
 use Rattle.machine_data.specs.Read.{is_joined, join_of}
@@ -29,9 +29,9 @@ returns-in-Guest-clause-does g c =
     let q = subtask.Guest (call_of s c.in-Guest.call) in
     let done = c.cancel_guest.ensures.does in
     record {
-      meets = λ d. named_meets n _ c.args.handle q (cancel_found_by d m n s.core) s.core _ _ c.instance_of-instance.ensures (ap (λ (x : SubtaskId). Some (subtask_in s.tags x)) (sym c.in-Guest.is) ∙ c.in-Some.ensures.is)
+      implements = λ d. named_implements n _ c.args.handle q (cancel_found_by d m n s.core) s.core _ _ c.instance_of-instance.ensures (ap (λ (x : SubtaskId). Some (subtask_in s.tags x)) (sym c.in-Guest.is) ∙ c.in-Some.ensures.is)
           (cancel_kept m n d c.instance_of-instance.result c.args.handle s.core c.none_is_zero.ensures.works c.requires.calls)
-          (found_meets m n d q s.core _ _ (ap (λ (x : SubtaskId). is_joined (join_of (subtask_in s.tags x) s.core)) (sym c.in-Guest.is) ∙ (sym c.is_joined.ensures ∙ c.if-is_joined.false)) (done.meets d));
+          (found_implements m n d q s.core _ _ (ap (λ (x : SubtaskId). is_joined (join_of (subtask_in s.tags x) s.core)) (sym c.in-Guest.is) ∙ (sym c.is_joined.ensures ∙ c.if-is_joined.false)) (done.implements d));
       stays = done.stays;
       kept = done.kept;
     }
@@ -44,9 +44,9 @@ returns-in-Host-clause-does g c =
     let q = subtask.Host (work_of s c.in-Host.work) in
     let done = c.cancel_host.ensures.does in
     record {
-      meets = λ d. named_meets n _ c.args.handle q (cancel_found_by d m n s.core) s.core _ _ c.instance_of-instance.ensures (ap (λ (x : SubtaskId). Some (subtask_in s.tags x)) (sym c.in-Host.is) ∙ c.in-Some.ensures.is)
+      implements = λ d. named_implements n _ c.args.handle q (cancel_found_by d m n s.core) s.core _ _ c.instance_of-instance.ensures (ap (λ (x : SubtaskId). Some (subtask_in s.tags x)) (sym c.in-Host.is) ∙ c.in-Some.ensures.is)
           (cancel_kept m n d c.instance_of-instance.result c.args.handle s.core c.none_is_zero.ensures.works c.requires.calls)
-          (found_meets m n d q s.core _ _ (ap (λ (x : SubtaskId). is_joined (join_of (subtask_in s.tags x) s.core)) (sym c.in-Host.is) ∙ (sym c.is_joined.ensures ∙ c.if-is_joined.false)) (done.meets d));
+          (found_implements m n d q s.core _ _ (ap (λ (x : SubtaskId). is_joined (join_of (subtask_in s.tags x) s.core)) (sym c.in-Host.is) ∙ (sym c.is_joined.ensures ∙ c.if-is_joined.false)) (done.implements d));
       stays = done.stays;
       kept = same_rest s (g.W.View.view c.cancel_host.new.w) done.kept;
     }

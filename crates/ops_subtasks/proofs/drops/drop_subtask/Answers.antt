@@ -1,8 +1,8 @@
 use Rattle.std.proofs.Common.{Option, ap, is_some, sym, ◌∙◌}
-use Rattle.ops_subtasks.proofs.DropLemmas.{drop_kept, drop_meets, dropped_names}
-use Rattle.ops_subtasks.proofs.SubtaskLemmas.{named_meets}
+use Rattle.ops_subtasks.proofs.DropLemmas.{drop_kept, drop_implements, dropped_names}
+use Rattle.ops_subtasks.proofs.SubtaskLemmas.{named_implements}
 use Rattle.ops_subtasks.proofs.drops.drop_subtask.Goals as goal
-use Rattle.machine_data.specs.declared.words.Status.{Status}
+use Rattle.machine_data.specs.declared.statuses.Status.{Status}
 use Rattle.machine_rules.specs.Cancels.{drop_by}
 use Rattle.core_primitives.specs.Names.{subtask_in}
 use Rattle.core_primitives.specs.StateView.{thread_of}
@@ -14,8 +14,8 @@ returns-clause-does g c =
     let n = thread_of s c.args.thread in
     let q = subtask_in s.tags c.in-Some.subtask in
     record {
-      meets = λ d. named_meets n _ c.args.handle q (drop_by d n c.args.handle s.core) s.core _ _ c.instance_of-instance.ensures c.in-Some.ensures.is (λ sub at. drop_kept d n c.args.handle s.core c.none_is_zero.ensures.calls c.none_is_zero.ensures.works sub)
-          (drop_meets d n c.args.handle _ q s.core _ c.number-number.ensures (sym c.is_watched.ensures ∙ c.if-is_watched.false) (sym c.has_ended.ensures ∙ c.if-not-has_ended.false) (ap (λ (e : Option Status). is_some e) (sym c.event.ensures) ∙ (sym c.is_some.ensures ∙ c.if-is_some.false)) c.part.ensures.core);
+      implements = λ d. named_implements n _ c.args.handle q (drop_by d n c.args.handle s.core) s.core _ _ c.instance_of-instance.ensures c.in-Some.ensures.is (λ sub at. drop_kept d n c.args.handle s.core c.none_is_zero.ensures.calls c.none_is_zero.ensures.works sub)
+          (drop_implements d n c.args.handle _ q s.core _ c.number-number.ensures (sym c.is_watched.ensures ∙ c.if-is_watched.false) (sym c.has_ended.ensures ∙ c.if-not-has_ended.false) (ap (λ (e : Option Status). is_some e) (sym c.event.ensures) ∙ (sym c.is_some.ensures ∙ c.if-is_some.false)) c.part.ensures.core);
       stays = tt;
       kept = (dropped_names n c.args.handle q s (v c.part.new.w) c.part.ensures.core c.part.ensures.tags, c.part.ensures.tags.same);
     }

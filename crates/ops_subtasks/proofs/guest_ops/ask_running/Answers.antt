@@ -1,5 +1,5 @@
 use Rattle.std.proofs.Common.{None, ap, refl, sym, ◌∙◌}
-use Rattle.ops_subtasks.proofs.EndLemmas.{finished, refused_on, refused_same, trapped_meets}
+use Rattle.ops_subtasks.proofs.EndLemmas.{finished, refused_on, refused_same, trapped_implements}
 use Rattle.ops_subtasks.proofs.GuestLemmas.{asks_steady}
 use Rattle.ops_subtasks.proofs.SteadyLemmas.{still_runs}
 use Rattle.ops_subtasks.proofs.guest_ops.ask_running.Goals as goal
@@ -19,7 +19,7 @@ returns-in-Some g c =
     let m = mode_of c.args.sync in
     record {
       does = does_same _ c.args.thread s s _
-          (λ d. trapped_meets m n d (subtask.Guest k) s.core (cancel_asks k s.core) _ (refused_same m n (subtask.Guest k) s.core _ (asks_steady k s.core) ∙ sym c.in-Some.ensures))
+          (λ d. trapped_implements m n d (subtask.Guest k) s.core (cancel_asks k s.core) _ (refused_same m n (subtask.Guest k) s.core _ (asks_steady k s.core) ∙ sym c.in-Some.ensures))
           refl refl;
     }
 
@@ -47,6 +47,6 @@ returns g c =
     let done = c.finish_cancel.ensures.does in
     record {
       does = does_same _ c.args.thread s (v c.finish_cancel.new.w) _
-          (λ d. finished m c.args.thread d (subtask_id.Guest c.args.call) (cancel_asks k) s (v c.ask.new.w) c.ask.ensures _ _ (refused_same m n (subtask.Guest k) s.core _ (asks_steady k s.core) ∙ sym c.in_default.ensures) (done.meets d))
+          (λ d. finished m c.args.thread d (subtask_id.Guest c.args.call) (cancel_asks k) s (v c.ask.new.w) c.ask.ensures _ _ (refused_same m n (subtask.Guest k) s.core _ (asks_steady k s.core) ∙ sym c.in_default.ensures) (done.implements d))
           (done.kept.0 ∙ ap (λ (y : StateView). y.tags) c.ask.ensures) (done.kept.1 ∙ ap (λ (y : StateView). y.current) c.ask.ensures);
     }

@@ -1,5 +1,5 @@
 use Rattle.std.proofs.Common.{ap, sym, ◌∙◌}
-use Rattle.ops_subtasks.proofs.GuestLemmas.{first_at_same, first_found, runs_meets, waits_meets, yields_meets}
+use Rattle.ops_subtasks.proofs.GuestLemmas.{first_at_same, first_found, runs_implements, waits_implements, yields_implements}
 use Rattle.ops_subtasks.proofs.guest_ops.cancel_started.Goals as goal
 use Rattle.ops_subtasks.specs.Refused.{mode_of}
 use Rattle.machine_data.specs.Read.{is_callback_yield}
@@ -23,7 +23,7 @@ returns-then-is_callback_wait g c =
     let k = call_of s c.args.call in
     record {
       does = does_same _ c.args.thread s (g.W.View.view c.wake_callback.new.w) _
-          (λ d. waits_meets (mode_of c.args.sync) (thread_of s c.args.thread) d k s.core c.requires.unended c.requires.started _ _
+          (λ d. waits_implements (mode_of c.args.sync) (thread_of s c.args.thread) d k s.core c.requires.unended c.requires.started _ _
           (sym (first_at_same _ k is_callback_wait s.core c.none_is_zero.ensures.threads c.first_thread-first.ensures) ∙ (sym c.is_callback_wait.ensures ∙ c.if-is_callback_wait.true))
           c.number-number.ensures (ap (λ (y : StateView). y.core) c.wake_callback.ensures))
           (ap (λ (y : StateView). y.tags) c.wake_callback.ensures) (ap (λ (y : StateView). y.current) c.wake_callback.ensures);
@@ -45,7 +45,7 @@ returns-then-is_callback_yield g c =
     let k = call_of s c.args.call in
     record {
       does = does_same _ c.args.thread s (g.W.View.view c.promote_yield.new.w) _
-          (λ d. yields_meets (mode_of c.args.sync) (thread_of s c.args.thread) d k s.core c.requires.unended c.requires.started
+          (λ d. yields_implements (mode_of c.args.sync) (thread_of s c.args.thread) d k s.core c.requires.unended c.requires.started
           (sym (first_at_same _ k is_callback_wait s.core c.none_is_zero.ensures.threads c.first_thread-first.ensures) ∙ (sym c.is_callback_wait.ensures ∙ c.if-is_callback_wait.false)) _ _
           (sym (first_at_same _ k is_callback_yield s.core c.none_is_zero.ensures.threads c.first_thread-first.ensures) ∙ (sym c.is_callback_yield.ensures ∙ c.if-is_callback_yield.true))
           c.number-number.ensures (ap (λ (y : StateView). y.core) c.promote_yield.ensures))
@@ -59,10 +59,10 @@ returns g c =
     let done = c.ask_running.ensures.does in
     record {
       does = record {
-        meets = λ d. runs_meets (mode_of c.args.sync) (thread_of s c.args.thread) d k s.core c.requires.unended c.requires.started
+        implements = λ d. runs_implements (mode_of c.args.sync) (thread_of s c.args.thread) d k s.core c.requires.unended c.requires.started
             (sym (first_at_same _ k is_callback_wait s.core c.none_is_zero.ensures.threads c.first_thread-first.ensures) ∙ (sym c.is_callback_wait.ensures ∙ c.if-is_callback_wait.false)) _ _
             (sym (first_at_same _ k is_callback_yield s.core c.none_is_zero.ensures.threads c.first_thread-first.ensures) ∙ (sym c.is_callback_yield.ensures ∙ c.if-is_callback_yield.false))
-            (done.meets d);
+            (done.implements d);
         stays = done.stays;
         kept = done.kept;
       };

@@ -12,7 +12,7 @@ returns-clause-does g c =
     let e = c.delete_work.ensures in
     let value = c.unwrap_or-value.ensures ∙ ap (λ (o : Option ℕ). unwrap_or o 0) c.value_of_work.ensures in
     record {
-      meets = λ d. work_answers c.args.thread d _ _ _ (v c.args.w.now) (v c.delete_work.new.self) c.number-number.ensures value e.core;
+      implements = λ d. work_answers c.args.thread d _ _ _ (v c.args.w.now) (v c.delete_work.new.self) c.number-number.ensures value e.core;
       stays = tt;
       kept = (e.tags, e.current);
     }

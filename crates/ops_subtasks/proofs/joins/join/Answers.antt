@@ -1,6 +1,6 @@
 use Rattle.std.proofs.Common.{ap, subst, sym, ◌∙◌, ℕ}
 use Rattle.ops_subtasks.proofs.JoinLemmas.{to_kept, to_set, to_zero}
-use Rattle.ops_subtasks.proofs.SubtaskLemmas.{named_meets}
+use Rattle.ops_subtasks.proofs.SubtaskLemmas.{named_implements}
 use Rattle.ops_subtasks.proofs.joins.join.Goals as goal
 use Rattle.machine_data.specs.Labels.{choice_of}
 use Rattle.machine_data.specs.Read.{set_at}
@@ -24,8 +24,8 @@ returns-then-set-eq0 g c =
     let done = c.join_set.ensures.does in
     record {
       does = record {
-        meets = λ d. named_meets n _ c.args.handle q (join_to_by d n c.args.set w s.core) s.core _ _ c.instance_of-instance.ensures c.in-Some.ensures.is (λ sub at. to_kept d n c.args.set w s.core c.none_is_zero.ensures.calls c.none_is_zero.ensures.works sub)
-            (subst (λ (p : Progress). Implements p s.core r (ended d n r t)) (sym (to_zero d n c.args.set w s.core q c.if-set-eq0.true)) (done.meets d));
+        implements = λ d. named_implements n _ c.args.handle q (join_to_by d n c.args.set w s.core) s.core _ _ c.instance_of-instance.ensures c.in-Some.ensures.is (λ sub at. to_kept d n c.args.set w s.core c.none_is_zero.ensures.calls c.none_is_zero.ensures.works sub)
+            (subst (λ (p : Progress). Implements p s.core r (ended d n r t)) (sym (to_zero d n c.args.set w s.core q c.if-set-eq0.true)) (done.implements d));
         stays = done.stays;
         kept = done.kept;
       };
@@ -44,8 +44,8 @@ returns g c =
     let done = c.join_set-2.ensures.does in
     record {
       does = record {
-        meets = λ d. named_meets n _ c.args.handle q (join_to_by d n c.args.set w s.core) s.core _ _ c.instance_of-instance.ensures c.in-Some.ensures.is (λ sub at. to_kept d n c.args.set w s.core c.none_is_zero.ensures.calls c.none_is_zero.ensures.works sub)
-            (subst (λ (p : Progress). Implements p s.core r (ended d n r t)) (sym (to_set d n c.args.set (set_of s c.in-Some-set_named.set) w s.core q c.if-set-eq0.false at)) (done.meets d));
+        implements = λ d. named_implements n _ c.args.handle q (join_to_by d n c.args.set w s.core) s.core _ _ c.instance_of-instance.ensures c.in-Some.ensures.is (λ sub at. to_kept d n c.args.set w s.core c.none_is_zero.ensures.calls c.none_is_zero.ensures.works sub)
+            (subst (λ (p : Progress). Implements p s.core r (ended d n r t)) (sym (to_set d n c.args.set (set_of s c.in-Some-set_named.set) w s.core q c.if-set-eq0.false at)) (done.implements d));
         stays = done.stays;
         kept = done.kept;
       };

@@ -1,5 +1,5 @@
 use Rattle.std.proofs.Common.{ap, refl, ◌∙◌}
-use Rattle.ops_subtasks.proofs.ResumeLemmas.{awaits_meets, awaits_trap}
+use Rattle.ops_subtasks.proofs.ResumeLemmas.{awaits_implements, awaits_trap}
 use Rattle.ops_subtasks.proofs.resumes.go_on_awaiting.Goals as goal
 use Rattle.ops_subtasks.specs.Refused.{mode_of}
 use Rattle.ops_guests.proofs.DoesLemmas.{does_same}
@@ -17,6 +17,6 @@ returns g c =
     let s = v c.args.w.now in
     record {
       does = does_same _ c.args.thread s (v c.answer_end.new.w) _
-          (λ d. awaits_meets (mode_of c.args.sync) c.args.thread d c.args.subtask _ s (v c.set_join.new.self) _ _ c.in-Some.ensures c.set_join.ensures c.answer_end.ensures.is c.answer_end.ensures.new)
+          (λ d. awaits_implements (mode_of c.args.sync) c.args.thread d c.args.subtask _ s (v c.set_join.new.self) _ _ c.in-Some.ensures c.set_join.ensures c.answer_end.ensures.is c.answer_end.ensures.new)
           (ap (λ (y : StateView). y.tags) c.answer_end.ensures.new ∙ ap (λ (y : StateView). y.tags) c.set_join.ensures) (ap (λ (y : StateView). y.current) c.answer_end.ensures.new ∙ ap (λ (y : StateView). y.current) c.set_join.ensures);
     }

@@ -1,5 +1,5 @@
 use Rattle.std.proofs.Common.{None, ap, subst, sym, ◌∙◌}
-use Rattle.ops_subtasks.proofs.EndLemmas.{finished, refused_on, trapped_meets}
+use Rattle.ops_subtasks.proofs.EndLemmas.{finished, refused_on, trapped_implements}
 use Rattle.ops_subtasks.proofs.ResumeLemmas.{resumed_as, resumed_refused, resumed_runs}
 use Rattle.ops_subtasks.proofs.resumes.go_on_cancelling.Goals as goal
 use Rattle.ops_subtasks.specs.Refused.{mode_of}
@@ -37,7 +37,7 @@ returns-in-Some g c =
     record {
       does = does_same _ c.args.thread s (v c.refusal_after.new.w) _
           (λ d. subst (λ (y : StateView). Implements (after_cancel_by d m n q (cancel_resumed n q s.core)) s.core (op_result.Traps c.in-Some.trap) y.core) (sym same)
-          (trapped_meets m n d q s.core (cancel_resumed n q s.core) _ (resumed_refused m n q s.core ∙ sym c.in-Some.ensures.is)))
+          (trapped_implements m n d q s.core (cancel_resumed n q s.core) _ (resumed_refused m n q s.core ∙ sym c.in-Some.ensures.is)))
           (ap (λ (y : StateView). y.tags) same) (ap (λ (y : StateView). y.current) same);
     }
 
@@ -52,6 +52,6 @@ returns g c =
     let done = c.finish_cancel.ensures.does in
     record {
       does = does_same _ c.args.thread s (v c.finish_cancel.new.w) _
-          (λ d. finished m c.args.thread d c.args.subtask (cancel_resumed n q) s (v c.resume_canceller.new.w) resumed _ _ (resumed_refused m n q s.core ∙ sym c.in_default.ensures.is) (done.meets d))
+          (λ d. finished m c.args.thread d c.args.subtask (cancel_resumed n q) s (v c.resume_canceller.new.w) resumed _ _ (resumed_refused m n q s.core ∙ sym c.in_default.ensures.is) (done.implements d))
           (done.kept.0 ∙ ap (λ (y : StateView). y.tags) resumed) (done.kept.1 ∙ ap (λ (y : StateView). y.current) resumed);
     }

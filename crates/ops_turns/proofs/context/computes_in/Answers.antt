@@ -1,6 +1,6 @@
 -- Each op by its rule.
 use Rattle.std.proofs.Common.{ap}
-use Rattle.ops_turns.proofs.ContextLemmas.{add_rule, beside_word, handle_rule, load_rule, scripted_set_rule, skip_eq_rule, store_rule}
+use Rattle.ops_turns.proofs.ContextLemmas.{add_rule, beside_memory_cell, handle_rule, load_rule, scripted_set_rule, skip_eq_rule, store_rule}
 use Rattle.ops_turns.proofs.context.computes_in.Goals as goal
 use Rattle.core_primitives.specs.StateView.{StateView}
 
@@ -18,14 +18,14 @@ returns-in-Handle-clause-row g c d script =
 
 pub returns-in-Load-clause-row : goal.returns-in-Load-clause-row
 returns-in-Load-clause-row g c d script =
-    rw c.in-Load.is (load_rule c.args.number c.args.instance (g.W.View.view c.args.w.now).core c.requires.there c.requires.instance c.args.context.now d c.in-Load.to c.in-Load.word c.word-answer.result c.assigns-in-Load.new.context c.word-answer.ensures c.assigns-in-Load.ensures)
+    rw c.in-Load.is (load_rule c.args.number c.args.instance (g.W.View.view c.args.w.now).core c.requires.there c.requires.instance c.args.context.now d c.in-Load.to c.in-Load.cell c.memory_cell-answer.result c.assigns-in-Load.new.context c.memory_cell-answer.ensures c.assigns-in-Load.ensures)
 
 pub returns-in-Store-clause-row : goal.returns-in-Store-clause-row
 returns-in-Store-clause-row g c d script =
-    rw c.in-Store.is (store_rule c.args.number c.args.instance (g.W.View.view c.args.w.now).core c.requires.there c.requires.instance c.args.context.now d c.in-Store.word c.in-Store.value c.operand_value-answer-in-Store.result (g.W.View.view c.set_word.new.self).core c.operand_value-answer-in-Store.ensures (ap (λ (s : StateView). s.core) c.set_word.ensures))
+    rw c.in-Store.is (store_rule c.args.number c.args.instance (g.W.View.view c.args.w.now).core c.requires.there c.requires.instance c.args.context.now d c.in-Store.cell c.in-Store.value c.operand_value-answer-in-Store.result (g.W.View.view c.set_memory_cell.new.self).core c.operand_value-answer-in-Store.ensures (ap (λ (s : StateView). s.core) c.set_memory_cell.ensures))
 
 pub returns-in-Store-clause-beside : goal.returns-in-Store-clause-beside
-returns-in-Store-clause-beside g c = beside_word c.args.instance c.in-Store.word c.operand_value-answer-in-Store.result (g.W.View.view c.args.w.now) (g.W.View.view c.set_word.new.self) c.set_word.ensures
+returns-in-Store-clause-beside g c = beside_memory_cell c.args.instance c.in-Store.cell c.operand_value-answer-in-Store.result (g.W.View.view c.args.w.now) (g.W.View.view c.set_memory_cell.new.self) c.set_memory_cell.ensures
 
 pub returns-in-SkipEq-clause-row : goal.returns-in-SkipEq-clause-row
 returns-in-SkipEq-clause-row g c d script =

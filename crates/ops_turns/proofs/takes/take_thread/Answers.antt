@@ -17,7 +17,7 @@ returns-in-Start-clause-shows g c =
     let n = thread_of s c.args.thread in
     let t = g.W.View.view c.take_start.new.w in
     ok_then (λ r. Implements (start_rule c.args.mark n (choice_of (label_of n r)).woken s.core (admits n s.core why.Start)) s.core r t.core) (Shows n) c.take_start.result
-    (λ r h. start_shows c.args.mark n (choice_of (label_of n r)).woken s.core (admits n s.core why.Start) r t.core h) c.take_start.ensures.meets
+    (λ r h. start_shows c.args.mark n (choice_of (label_of n r)).woken s.core (admits n s.core why.Start) r t.core h) c.take_start.ensures.implements
 
 pub returns-in-Start-clause-stays : goal.returns-in-Start-clause-stays
 returns-in-Start-clause-stays g c =
@@ -25,7 +25,7 @@ returns-in-Start-clause-stays g c =
     let n = thread_of s c.args.thread in
     let t = g.W.View.view c.take_start.new.w in
     ok_then (λ r. Implements (start_rule c.args.mark n (choice_of (label_of n r)).woken s.core (admits n s.core why.Start)) s.core r t.core) (λ r. StaysAfter r s t) c.take_start.result
-    (λ r h. same_stays (start_rule c.args.mark n (choice_of (label_of n r)).woken s.core (admits n s.core why.Start)) s t r h c.take_start.ensures.tags c.take_start.ensures.current) c.take_start.ensures.meets
+    (λ r h. same_stays (start_rule c.args.mark n (choice_of (label_of n r)).woken s.core (admits n s.core why.Start)) s t r h c.take_start.ensures.tags c.take_start.ensures.current) c.take_start.ensures.implements
 
 pub take_start-requires-clause-bottom : goal.take_start-requires-clause-bottom
 take_start-requires-clause-bottom g c = let a = c.why.ensures in let b = c.in-Start.is in c.requires.taken.bottom (cc)

@@ -9,7 +9,7 @@ use Rattle.task_nursery.specs.Numbers.{count_where}
 use Rattle.core_primitives.specs.Groups.{IsAsked}
 use Rattle.task_nursery.specs.Scope.{ScopeBegins, Refuses, TellsStart}
 use Rattle.task_nursery.specs.declared.children.Child.{Child}
-use Rattle.task_loop.specs.Standing.{standing}
+use Rattle.task_loop.specs.Constants.{constants}
 use Rattle.task_nursery.specs.declared.nursery.NurseryError.{NurseryError}
 use Rattle.task_nursery.specs.declared.nursery.NurseryError.TheVariants as error
 
@@ -61,7 +61,7 @@ returns-in-Err-Closed-clause-step g c =
     let full = was_full m.nursery n s t c.requires.may.knows.unclosed c.args.component.now c.func_of.result c.as_slice.result.now (Err error.Closed) refuses (λ b. b)
     (subst (λ (r : Result Child NurseryError). count_where is_open_call m.nursery.children < m.nursery.limit → ScopeBegins c.args.component.now c.func_of.result c.as_slice.result.now m.nursery s r n t) is (e.begins.begins c.requires.may.knows.unclosed)) in (
       waited_by g.H.HostWork.course c.args.component.now m s _ t (ap (λ k. record m { nursery = k }) refuses.same) (ap (λ q. q.state) full.1) (ap (λ q. q.listeners) full.1)
-          (ap standing full.1) (e.keeps.works g.H.HostWork.course c.requires.may.hosts) c.requires.may,
+          (ap constants full.1) (e.keeps.works g.H.HostWork.course c.requires.may.hosts) c.requires.may,
       inl full.0,
     )
 
@@ -77,6 +77,6 @@ returns-in-Err-Full-clause-step g c =
     let full = was_full m.nursery n s t c.requires.may.knows.unclosed c.args.component.now c.func_of.result c.as_slice.result.now (Err error.Full) refuses (λ b. b)
     (subst (λ (r : Result Child NurseryError). count_where is_open_call m.nursery.children < m.nursery.limit → ScopeBegins c.args.component.now c.func_of.result c.as_slice.result.now m.nursery s r n t) is (e.begins.begins c.requires.may.knows.unclosed)) in (
       waited_by g.H.HostWork.course c.args.component.now m s _ t (ap (λ k. record m { nursery = k }) refuses.same) (ap (λ q. q.state) full.1) (ap (λ q. q.listeners) full.1)
-          (ap standing full.1) (e.keeps.works g.H.HostWork.course c.requires.may.hosts) c.requires.may,
+          (ap constants full.1) (e.keeps.works g.H.HostWork.course c.requires.may.hosts) c.requires.may,
       inl full.0,
     )

@@ -5,7 +5,7 @@ use Rattle.ops_calls.proofs.TaskLemmas.{begun_in_order}
 use Rattle.task_group.specs.Listeners.{Listeners, errors_of}
 use Rattle.task_loop.proofs.GuestCallLemmas.{hears_of, makes_on, on_ok_of, rest_with, settled_ok}
 use Rattle.task_loop.proofs.GuestTaskLemmas.{begun_hosts, begun_open, still_hosts}
-use Rattle.task_loop.proofs.HookStartLemmas.{ok_or_err, unheard_at}
+use Rattle.task_loop.proofs.HookStartLemmas.{ok_or_err, if_hook_ok_at}
 use Rattle.task_loop.proofs.NewTaskLemmas.{begins_core, err_is, unmade_heard}
 use Rattle.task_loop.proofs.guest_tasks.new_guest_task.Goals as goal
 use Rattle.task_loop.specs.Begun.{MakesTold, SettlesGroups}
@@ -57,7 +57,7 @@ returns-in-Ok g c =
         makes = makes_on x i f store (record made { state = u; listeners = new }) c.in-Ok.id told (settles_errors b made.state u made.listeners new settle.settles) listens r settle.answer settle.failed;
         kept = λ untrapped.
             let same = settles_open b made.state u made.listeners new (begun_open x i f s made.state core untrapped) settle.settles in
-            on_ok_of _ r c.in-Ok.id (unheard_at listens made.listeners new (r ≡ Ok c.in-Ok.id) settle.answer (λ err. let no = ap errors_of same in omega (arith, err, no)));
+            on_ok_of _ r c.in-Ok.id (if_hook_ok_at listens made.listeners new (r ≡ Ok c.in-Ok.id) settle.answer (λ err. let no = ap errors_of same in omega (arith, err, no)));
         refused = settled_ok listens store.listeners made.listeners new _ r c.in-Ok.id e.begun.told.same_hook (settles_hook b made.state u made.listeners new settle.settles) settle.answer;
         order = λ component p kind sits. subst (CoreInOrder component p) (sym (settles_core b made.state u made.listeners new settle.settles ∙ core)) (begun_in_order component p i s sits x f kind);
         works = λ course h. rw c.in-Ok.ensures.rest

@@ -1,7 +1,7 @@
 -- In a trapped store all groups have ended.
 use Rattle.std.proofs.Common.{arith, refl, subst, sym, ◌∙◌}
 use Rattle.std.specs.Prelude.{Bool}
-use Rattle.task_loop.proofs.HookLemmas.{always_hook_is_ok, silent, unheard_failed}
+use Rattle.task_loop.proofs.HookLemmas.{always_hook_is_ok, silent, if_hook_ok_failed}
 use Rattle.task_loop.proofs.guest_tasks.settle.Goals as goal
 use Rattle.task_loop.specs.Begun.{SettlesGroups}
 
@@ -18,7 +18,7 @@ returns-in_default-clause-answer g c =
     let a = c.args.listeners.now in
     let b = c.finish_ended.new.listeners in
     let hooked = c.is_hooked-hooked.ensures in
-    unheard_failed g.G.TaskGroupHook.listens a b _
+    if_hook_ok_failed g.G.TaskGroupHook.listens a b _
     (λ off err. silent g.G.TaskGroupHook.listens c.is_hooked-hooked.result a b hooked.listens hooked.hook c.in_default.ensures.hook.hook off err)
     c.in_default.ensures.hook.failed
 

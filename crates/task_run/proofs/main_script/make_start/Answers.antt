@@ -68,7 +68,7 @@ returns-in-Ok-clause-steps c w =
     rw (w.in_ok-keep-in-Ok.ensures.at, w.in_ok-keep-in-Ok.ensures.registers, w.in_ok-keep-in-Ok.ensures.starts, w.in_ok-keep-in-Ok.ensures.spawns, map_push)
     (did_by_rule d (script_of main) (place_of main) s.state.core (machine.Start e w.args.params.now) (slice_get-map machine_op main.ops.now main.at ∙ ap (option_map machine_op) w.requires.op) (main_label.Start k thread) _ row tt) in
     start_stepped script_says c.H.HostWork.course d e words main s w.requires.may t w.in-Ok.ensures.keeps k call has thread w.thread-thread.ensures n steps tt (suits_still d main n w.in_ok-keep-in-Ok.ensures.ops w.requires.may.suits)
-    (knows_still d (script_of main) main n s.state t.state (shows_start k thread) w.in_ok-keep-in-Ok.ensures.spawns steps (start_names d e words s.state t.state k (start_refusal s.state.core) (Ok call.thread) has.starts) w.requires.may.knows)
+    (knows_still d (script_of main) main n s.state t.state (shows_start k thread) w.in_ok-keep-in-Ok.ensures.spawns w.requires.may.order steps (start_names d e words s.state t.state k (start_refusal s.state.core) (Ok call.thread) has.starts) w.requires.may.knows)
 
 pub returns-in-Err-Trap-clause-steps : goal.returns-in-Err-Trap-clause-steps
 returns-in-Err-Trap-clause-steps c w =
@@ -94,7 +94,7 @@ returns-in-Err-Trap-clause-steps c w =
     let told = stop_told c.G.TaskGroupHook.listens s _ t w.in-Err-Trap.ensures.does (λ is. let at = w.in-Err-Trap.field-0-is in w.in_default.not-HookFailed (cc))
     (λ is. let at = w.in-Err-Trap.field-0-is in absurd (cc)) in
     refusal_stepped script_says c.H.HostWork.course d e words main s w.requires.may t w.in-Err-Trap.ensures.keeps k why starts state told n steps tt (suits_still d main n w.in-Ok-keep.ensures.ops w.requires.may.suits)
-    (knows_still d (script_of main) main n s.state t.state (shows_refusal k why) w.in-Ok-keep.ensures.spawns steps (rw state (asked_names s.state trapped (start_names d e words s.state trapped k (start_refusal s.state.core) (Err (task_error.Trap why)) starts))) w.requires.may.knows)
+    (knows_still d (script_of main) main n s.state t.state (shows_refusal k why) w.in-Ok-keep.ensures.spawns w.requires.may.order steps (rw state (asked_names s.state trapped (start_names d e words s.state trapped k (start_refusal s.state.core) (Err (task_error.Trap why)) starts))) w.requires.may.knows)
 
 -- the hook answered an error to it
 pub returns-in-HookFailed-clause-steps : goal.returns-in-HookFailed-clause-steps

@@ -53,5 +53,5 @@ returns-clause-steps g w =
     (did_by_rule d (script_of main) (place_of main) s.state.core (machine.Spawn w.args.host) (slice_get-map machine_op main.ops.now main.at ∙ ap (option_map machine_op) w.requires.op) (main_label.Spawn k w.number-future.result) t.state.core row tt) in
     stepped_quietly script_says g.H.HostWork.course d (step.Did l) main s n t (ap (λ (st : Store _ _ _). st.listeners) w.spawn.ensures.spawns.rest) w.spawn.ensures.spawns.tags.same steps refl may.asked
     (current_still s.state t.state w.spawn.ensures.spawns.current may.idle ∙ sym may.idle) tt (suits_still d main n w.in_ok-keep_spawn.ensures.ops may.suits)
-    (knows_more d (script_of main) (part_of main) (part_of n) l main n s.state t.state w.in-Ok.work w.in_ok-keep_spawn.ensures.spawns w.in-Ok.ensures.spawns.spawned steps (λ id live. w.spawn.ensures.spawns.tags.works id live) may.knows)
+    (knows_more d (script_of main) (part_of main) (part_of n) l main n s.state t.state w.in-Ok.work w.in_ok-keep_spawn.ensures.spawns w.in-Ok.ensures.spawns.spawned may.order steps (λ id live. w.spawn.ensures.spawns.tags.works id live) may.knows)
     (w.spawn.ensures.spawns.hosts (may.order.order Unscripted).works.made may.works)

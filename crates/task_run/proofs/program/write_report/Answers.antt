@@ -20,8 +20,8 @@ pages-preserved g c =
     let left = filled c.pages.labels c.fill.new.labels t.0 c.pages.page c.fill.new.self _ t.1.0 c.fill.ensures.lines in
     record {
       count = omega (arith, c.pages.invariant.count, c.write.ensures.count);
-      fits = c.turn.ensures.room;
-      told = (t.0 ++ c.full.result.now, (turned c.fill.new.labels 131072 t.0 c.fill.new.self c.full.result.now c.turn.new.self _ left c.full.ensures c.turn.ensures.rest, appends_then _ _ _ t.0 c.full.result.now t.1.1 c.in_ok-write.ensures.told));
+      fits = c.take_full.ensures.room;
+      told = (t.0 ++ c.full.result.now, (turned c.fill.new.labels 131072 t.0 c.fill.new.self c.full.result.now c.take_full.new.self _ left c.full.ensures c.take_full.ensures.rest, appends_then _ _ _ t.0 c.full.result.now t.1.1 c.in_ok-write.ensures.told));
     }
 
 on_ok : {A E : Type 0} {P Q : Type 0} (r : Result A E) → (P → Q) → OnOk r P → OnOk r Q

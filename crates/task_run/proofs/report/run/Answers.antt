@@ -33,7 +33,7 @@ returns-clause-free c = rw (c.share_notices.ensures.same, c.end.ensures) refl
 
 pub returns-clause-concurrent : goal.returns-clause-concurrent
 returns-clause-concurrent c =
-    rw (c.share_notices.ensures.same, c.end.ensures) (ap (λ (p : Bool × (Bool × ℕ)). p.1.0) c.drive-driven.ensures.keeps.standing ∙ rw (c.run_concurrent.ensures.store, c.in_ok-keep_notices.ensures.ok) c.in_ok-store.ensures.concurrent)
+    rw (c.share_notices.ensures.same, c.end.ensures) (ap (λ (p : Bool × (Bool × ℕ)). p.1.0) c.drive-driven.ensures.keeps.constants ∙ rw (c.run_concurrent.ensures.store, c.in_ok-keep_notices.ensures.ok) c.in_ok-store.ensures.concurrent)
 
 pub returns-clause-ran : goal.returns-clause-ran
 returns-clause-ran c =

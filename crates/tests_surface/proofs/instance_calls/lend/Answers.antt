@@ -1,7 +1,7 @@
 use Rattle.std.proofs.Common.{subst, sym}
 use Rattle.tests_surface.proofs.LendLemmas.{runs_lending}
 use Rattle.tests_surface.proofs.instance_calls.lend.Goals as goal
-use Rattle.ops_calls.specs.Asks.{IsRunningIn}
+use Rattle.ops_calls.specs.HostOps.{IsRunningIn}
 use Rattle.core_primitives.specs.StateView.{StateView, call_of}
 
 pub returns : goal.returns

@@ -1,4 +1,4 @@
--- The thread runs on where its task lends something.
+-- The thread runs on where its task holds borrows.
 use Rattle.std.specs.Prelude.{ℕ}
 use Rattle.tests_surface.proofs.AskLemmas.{at_running}
 use Rattle.tests_surface.proofs.instance_calls.returns_lending.Goals as goal

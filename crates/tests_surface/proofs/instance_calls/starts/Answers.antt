@@ -3,7 +3,7 @@ use Rattle.std.specs.Prelude.{[]}
 use Rattle.tests_surface.proofs.AskLemmas.{can_start, can_start_asked}
 use Rattle.tests_surface.proofs.instance_calls.starts.Goals as goal
 use Rattle.ops_calls.specs.Prepared.{goal_for}
-use Rattle.task_loop.proofs.InstanceCallLemmas.{comes_to}
+use Rattle.task_loop.proofs.InstanceCallLemmas.{results_in}
 use Rattle.machine_data.specs.Read.{fits}
 use Rattle.std.proofs.Common.{subst, true, ◌≡◌}
 use Rattle.std.specs.Prelude.{IfSome, None}
@@ -18,7 +18,7 @@ start_call-step-requires-clause-prepared g c =
     let s = c.running-at.result.store.state in
     let d = c.running-at.result.scenario.component in
     let id = c.in-Ok.id in
-    comes_to _ (λ (v : StateView). IfSome (running_of v) (λ k. CanStart k id v)) _ _ _ c.in-Ok.ensures.does.told
+    results_in _ (λ (v : StateView). IfSome (running_of v) (λ k. CanStart k id v)) _ _ _ c.in-Ok.ensures.does.told
     (λ v is op_result.
     can_start_asked id v
     (can_start d q.number (record { instance = 0; export = 0 }) [] (goal_for true 3) s v (fits 3 s.core) id q.runs

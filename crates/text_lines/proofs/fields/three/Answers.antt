@@ -1,8 +1,8 @@
-use Rattle.text_lines.proofs.WordCounts.{are_three, not_three}
+use Rattle.text_lines.proofs.TokenCounts.{are_three, not_three}
 use Rattle.text_lines.proofs.fields.three.Goals as goal
 
-pub returns-then-words-ne3 : goal.returns-then-words-ne3
-returns-then-words-ne3 c = not_three c.args.words.now c.if-words-ne3.true
+pub returns-then-tokens-ne3 : goal.returns-then-tokens-ne3
+returns-then-tokens-ne3 c = not_three c.args.tokens.now c.if-tokens-ne3.true
 
 pub returns : goal.returns
-returns c = are_three c.args.words.now _ c.if-words-ne3.false
+returns c = are_three c.args.tokens.now _ c.if-tokens-ne3.false

@@ -1,6 +1,6 @@
 use Rattle.std.proofs.Common.{◌≡◌, ◌++◌, ◌∙◌, List, ℕ, ap, append_assoc, sym}
 use Rattle.std.specs.Prelude.{codes}
-use Rattle.machine_data.specs.declared.words.Mark.{Mark}
+use Rattle.machine_data.specs.declared.statuses.Mark.{Mark}
 use Rattle.machine_rules.specs.Texts.{taken_text}
 use Rattle.text_report.proofs.Lines.{nothing_given}
 use Rattle.text_report.proofs.label.own_label.Goals as goal

@@ -12,9 +12,9 @@ use Rattle.ops_turns.specs.declared.mains.MainStep.TheVariants as step
 pub returns : goal.returns
 returns g c =
     let s = c.args.access.now.store.now in
-    record { step = stepped_still asking_says g.H.HostWork.course c.args.component.now (step.Did (label.Main main_label.Quiet)) c.args.main.now s _ c.requires.may (did_quiet c.args.component.now s.state.core (is_quiet _ c.in-Ready.ensures)) refl refl tt tt }
+    record { step = stepped_still asking_says g.H.HostWork.course c.args.component.now (step.Did (label.Main main_label.Quiet)) c.args.main.now s _ c.requires.may (did_quiet c.args.component.now s.state.core (is_quiet _ c.in-Ready.ensures)) refl refl tt c.requires.may.knows }
 
 pub returns-in_default : goal.returns-in_default
 returns-in_default g c =
     let s = c.args.access.now.store.now in
-    record { step = stepped_still asking_says g.H.HostWork.course c.args.component.now step.Pends c.args.main.now s _ c.requires.may (pends_now c.args.component.now s.state.core) refl tt tt tt }
+    record { step = stepped_still asking_says g.H.HostWork.course c.args.component.now step.Pends c.args.main.now s _ c.requires.may (pends_now c.args.component.now s.state.core) refl tt tt c.requires.may.knows }

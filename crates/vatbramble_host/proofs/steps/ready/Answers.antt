@@ -14,10 +14,10 @@ returns g c =
     let s = c.args.access.now.store.now in
     record {
       step = stepped_still asking_says g.H.HostWork.course c.args.component.now (step.Did (label.Main main_label.Ready)) c.args.main.now s _ c.requires.may
-          (did_ready c.args.component.now s.state.core c.args.instance.index c.requires.there (is_ready _ c.in-Ready.ensures)) refl refl tt tt;
+          (did_ready c.args.component.now s.state.core c.args.instance.index c.requires.there (is_ready _ c.in-Ready.ensures)) refl refl tt c.requires.may.knows;
     }
 
 pub returns-in_default : goal.returns-in_default
 returns-in_default g c =
     let s = c.args.access.now.store.now in
-    record { step = stepped_still asking_says g.H.HostWork.course c.args.component.now step.Pends c.args.main.now s _ c.requires.may (pends_now c.args.component.now s.state.core) refl tt tt tt }
+    record { step = stepped_still asking_says g.H.HostWork.course c.args.component.now step.Pends c.args.main.now s _ c.requires.may (pends_now c.args.component.now s.state.core) refl tt tt c.requires.may.knows }

@@ -5,7 +5,7 @@ use Rattle.task_abort.specs.Cells.{TellsComplete, view_of}
 use Rattle.task_abort.specs.Staged.{made}
 use Rattle.task_abort.specs.declared.log.CallMade.{CallMade}
 use Rattle.task_abort.specs.declared.log.PhaseCall.TheVariants.{PollHandle}
-use Rattle.machine_data.specs.declared.words.Phase.TheVariants.{Complete}
+use Rattle.machine_data.specs.declared.statuses.Phase.TheVariants.{Complete}
 use Rattle.beside_works.proofs.cells.SharedSpawn.poll_handle.Goals as goal
 
 pub invariant_of-self-in-Ready-clause-first : goal.invariant_of-self-in-Ready-clause-first

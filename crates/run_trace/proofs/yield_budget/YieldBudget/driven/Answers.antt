@@ -3,7 +3,7 @@ use Rattle.run_trace.proofs.YieldBudgetLemmas.{driven_next, mark_from}
 use Rattle.run_trace.specs.YieldBudget.{counted_past}
 use Rattle.std.proofs.Common.{ap, arith, drop, length, length-drop, suc, sym, take, ◌+◌, ◌-◌, ◌<◌, ◌≡◌, ◌∙◌}
 use Rattle.std.specs.Prelude.{Option}
-use Rattle.machine_data.specs.declared.words.Mark.{Mark}
+use Rattle.machine_data.specs.declared.statuses.Mark.{Mark}
 use Rattle.run_trace.proofs.yield_budget.YieldBudget.driven.Goals as goal
 
 pub labels-preserved : goal.labels-preserved

@@ -1,11 +1,11 @@
--- The row of the entry is done.
+-- The rule of the entry is done.
 use Rattle.ops_state.specs.Named.{IsLive}
 use Rattle.std.proofs.Common.{ap, subst}
 use Rattle.std.specs.Prelude.{IfOk, true}
 use Rattle.ops_calls.specs.OpAnswers.{at_once}
-use Rattle.ops_calls.specs.Asks.{Answers}
+use Rattle.ops_calls.specs.HostOps.{Answers}
 use Rattle.ops_calls.specs.Directs.{entered, enters_rule, thread_entered}
-use Rattle.task_loop.proofs.AskHoldLemmas.{by_answers, entered_holds}
+use Rattle.task_loop.proofs.HostOpHoldLemmas.{by_answers, entered_holds}
 use Rattle.task_loop.proofs.InstanceCallLemmas.{does_call}
 use Rattle.task_loop.proofs.RuleTrapLemmas.{entered_not}
 use Rattle.task_loop.proofs.instance.Instance.enter_guest_sync_call.Goals as goal
@@ -44,5 +44,5 @@ returns g c =
           (λ failed. entered_not s.state u d q e words thread_entered answers enter.ensures.answers (ap (λ r. at_once (entered u r)) failed))
           (λ left h.
           by_answers left s.state u h true row thread_entered answers n q.runs
-          (λ r did. entered_holds left s.state u h n e (export_kind d e) words r did.meets) enter.ensures.answers) told);
+          (λ r did. entered_holds left s.state u h n e (export_kind d e) words r did.implements) enter.ensures.answers) told);
     }

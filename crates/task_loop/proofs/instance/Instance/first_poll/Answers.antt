@@ -1,9 +1,9 @@
--- The row of the call is done, and its work is settled.
+-- The rule of the call is done, and its work is settled.
 use Rattle.ops_state.specs.declared.error.TaskError.TheVariants as task_error
 use Rattle.std.proofs.Common.{ap, refl, subst, sym, ◌∙◌}
 use Rattle.std.specs.Prelude.{Err, is_ok, true, ◌≡◌}
 use Rattle.ops_calls.specs.OpAnswers.{at_once, number_answered}
-use Rattle.ops_calls.specs.Asks.{Answers}
+use Rattle.ops_calls.specs.HostOps.{Answers}
 use Rattle.ops_calls.specs.PolledCalls.{polls_rule}
 use Rattle.task_loop.proofs.HostCallLemmas.{after_settled, held_answers, may_tell, own_held, settle_rest, polled_holds}
 use Rattle.task_loop.proofs.InstanceCallLemmas.{held_state, is_told, settled_listeners, settled_rest, settled_state, unheld_rest}

@@ -1,7 +1,7 @@
 -- The op at the place is taken further.
 use Rattle.ops_calls.specs.OpAnswers.{whole_answer}
-use Rattle.ops_calls.specs.Asks.{AnswersHere, row_at, takes_here}
-use Rattle.task_loop.proofs.AskHoldLemmas.{gone_on_holds}
+use Rattle.ops_calls.specs.HostOps.{AnswersHere, op_rule_at, takes_here}
+use Rattle.task_loop.proofs.HostOpHoldLemmas.{gone_on_holds}
 use Rattle.task_loop.proofs.InstanceCallLemmas.{does_call}
 use Rattle.task_loop.proofs.TrackedLemmas.{answers_known}
 use Rattle.task_loop.proofs.RuleTrapLemmas.{here_not}
@@ -23,7 +23,7 @@ returns g c =
       does = record {
         call = does_call g.G.TaskGroupHook.listens (λ a v. AnswersHere d whole_answer s.state a v) s u c.tell_call.new.core c.tell_call.new.listeners
             c.asked-before.result c.asked-before.ensures go.result c.tell_call.result go.ensures.answers
-            (answers_known s.state u q.number q.runs (takes_here d s.state) (row_at d s.state.core) whole_answer go.result go.ensures.answers)
+            (answers_known s.state u q.number q.runs (takes_here d s.state) (op_rule_at d s.state.core) whole_answer go.result go.ensures.answers)
             (λ e. here_not s.state u d q whole_answer go.result go.ensures.answers e)
             (λ left h. gone_on_holds left s.state u h d q whole_answer go.result c.args.self.index c.requires.paused go.ensures.answers) told;
         order = sits_told g.G.TaskGroupHook.listens c.asked-before.result go.result c.tell_call.result d u c.tell_call.new.core s.listeners c.tell_call.new.listeners told go.ensures.order;

@@ -2,7 +2,7 @@
 use Rattle.std.proofs.Common.{subst}
 use Rattle.std.specs.Prelude.{IfSome, Option, ℕ}
 use Rattle.ops_calls.specs.Prepared.{Prepares, goal_for}
-use Rattle.task_loop.proofs.AskHoldLemmas.{prepared_holds}
+use Rattle.task_loop.proofs.HostOpHoldLemmas.{prepared_holds}
 use Rattle.task_loop.proofs.InstanceCallLemmas.{does_call}
 use Rattle.task_loop.proofs.RuleTrapLemmas.{prepares_not}
 use Rattle.task_loop.proofs.instance.Instance.prepare_call.Goals as goal

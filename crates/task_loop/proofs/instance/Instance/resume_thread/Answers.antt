@@ -2,7 +2,7 @@
 use Rattle.std.proofs.Common.{subst}
 use Rattle.std.specs.Prelude.{IfSome, Option, ℕ}
 use Rattle.ops_calls.specs.Resumes.{Resumed, resumed_by}
-use Rattle.task_loop.proofs.AskHoldLemmas.{resumed_holds}
+use Rattle.task_loop.proofs.HostOpHoldLemmas.{resumed_holds}
 use Rattle.task_loop.proofs.InstanceCallLemmas.{does_call}
 use Rattle.task_loop.proofs.TrackedLemmas.{resumed_known}
 use Rattle.task_loop.proofs.RuleTrapLemmas.{resumes_not}

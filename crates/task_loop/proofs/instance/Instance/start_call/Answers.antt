@@ -4,7 +4,7 @@ use Rattle.ops_state.specs.declared.name_calls.QualifiedThreadId.{QualifiedThrea
 use Rattle.std.specs.Prelude.{IfSome, IsSome, None, Ok, Option, Some, ℕ, ◌≡◌}
 use Rattle.ops_calls.specs.Prepared.{starts_in}
 use Rattle.ops_calls.specs.declared.answer_calls.Step.TheVariants as step
-use Rattle.task_loop.proofs.AskHoldLemmas.{started_holds}
+use Rattle.task_loop.proofs.HostOpHoldLemmas.{started_holds}
 use Rattle.task_loop.proofs.InstanceCallLemmas.{does_call}
 use Rattle.task_loop.proofs.instance.Instance.start_call.Goals as goal
 use Rattle.task_loop.proofs.TrackedLemmas.{started_known}

@@ -2,7 +2,7 @@
 use Rattle.std.proofs.Common.{refl}
 use Rattle.ops_calls.specs.OpAnswers.{number_answered}
 use Rattle.ops_calls.specs.Intrinsics.{cancel_op}
-use Rattle.task_loop.proofs.AskHoldLemmas.{apart_cancel}
+use Rattle.task_loop.proofs.HostOpHoldLemmas.{apart_cancel}
 use Rattle.task_loop.proofs.InstanceCallLemmas.{does_host_op}
 use Rattle.task_loop.proofs.instance.Instance.subtask_cancel.Goals as goal
 use Rattle.task_loop.specs.InstanceCalls.{may_pause}

@@ -8,7 +8,7 @@ use Rattle.task_loop.specs.InstanceCalls.{drop_subtask_op}
 pub returns : goal.returns
 returns g c =
     let s = c.args.store.now in
-    let ask = c.ask_nothing-answer in
+    let ask = c.host_op_nothing-answer in
     record {
       does = does_host_op g.G.TaskGroupHook.listens c.args.component.now (drop_subtask_op c.from.result) (drop_subtask_op c.args.subtask)
           (ap drop_subtask_op c.from.ensures) at_once nothing_answered refl s ask.new.w c.tell_call.new.core c.tell_call.new.listeners c.requires.running refl

@@ -2,7 +2,7 @@
 use Rattle.std.proofs.Common.{refl}
 use Rattle.ops_calls.specs.OpAnswers.{nothing_answered}
 use Rattle.ops_calls.specs.Intrinsics.{suspension_op}
-use Rattle.task_loop.proofs.AskHoldLemmas.{apart_suspension}
+use Rattle.task_loop.proofs.HostOpHoldLemmas.{apart_suspension}
 use Rattle.task_loop.proofs.InstanceCallLemmas.{does_host_op}
 use Rattle.task_loop.proofs.instance.Instance.suspension_intrinsic.Goals as goal
 use Rattle.task_loop.specs.InstanceCalls.{may_pause}

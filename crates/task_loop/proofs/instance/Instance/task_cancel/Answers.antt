@@ -1,15 +1,15 @@
--- The op is done elsewhere than at its thread's place, unless the task still lends something.
+-- The op is done elsewhere than at its thread's place, unless the task still holds borrows.
 use Rattle.ops_state.specs.declared.error.TaskError.TheVariants as task_error
 use Rattle.ops_dispatch.specs.Makes.{takes_memory}
 use Rattle.std.proofs.Common.{ap, refl, sym, ◌∙◌}
 use Rattle.std.specs.Prelude.{Err, ℕ}
 use Rattle.ops_calls.specs.OpAnswers.{at_once, nothing_answered}
-use Rattle.ops_calls.specs.Asks.{scripted_rule_of}
+use Rattle.ops_calls.specs.HostOps.{scripted_rule_of}
 use Rattle.task_store.specs.HeldBorrows.{Comes, cancel_holds_borrows}
-use Rattle.task_loop.proofs.AskHoldLemmas.{asked_holds}
+use Rattle.task_loop.proofs.HostOpHoldLemmas.{asked_holds}
 use Rattle.task_loop.proofs.InstanceCallLemmas.{does_call}
 use Rattle.task_loop.proofs.TrackedLemmas.{answers_known}
-use Rattle.task_loop.proofs.LentLemmas.{ended_unlent, refused_lent}
+use Rattle.task_loop.proofs.BorrowedLemmas.{ended_unborrowed, refused_borrowed}
 use Rattle.task_loop.proofs.RuleTrapLemmas.{asked_not}
 use Rattle.task_loop.proofs.instance.Instance.task_cancel.Goals as goal
 use Rattle.task_loop.specs.InstanceCalls.{UnlessHoldsBorrows, task_cancel_op}
@@ -21,11 +21,11 @@ returns g c =
     let s = c.args.store.now in
     let d = c.args.component.now in
     let q = c.requires.running in
-    let ask = c.ask_nothing-answer in
+    let ask = c.host_op_nothing-answer in
     let u = ask.new.w in
     let comes : ℕ → Comes = λ n. RuleAnswers (scripted_rule_of d task_cancel_op s.state.core) in
     let op_result =
-    ended_unlent s.state c.in-Some.thread c.current.result c.current.ensures c.in-Some.is (λ n. cancel_holds_borrows n s.state.core) comes
+    ended_unborrowed s.state c.in-Some.thread c.current.result c.current.ensures c.in-Some.is (λ n. cancel_holds_borrows n s.state.core) comes
     ask.result u (sym c.cancel_holds_borrows.ensures ∙ c.if-cancel_holds_borrows.false) ask.ensures.answers in
     record {
       does = does_call g.G.TaskGroupHook.listens (UnlessHoldsBorrows cancel_holds_borrows comes s.state) s u c.tell_call.new.core c.tell_call.new.listeners
@@ -41,7 +41,7 @@ returns-then-cancel_holds_borrows g c =
     let d = c.args.component.now in
     let comes : ℕ → Comes = λ n. RuleAnswers (scripted_rule_of d task_cancel_op s.state.core) in
     let op_result =
-    refused_lent s.state c.in-Some.thread c.current.result c.current.ensures c.in-Some.is (λ n. cancel_holds_borrows n s.state.core) comes
+    refused_borrowed s.state c.in-Some.thread c.current.result c.current.ensures c.in-Some.is (λ n. cancel_holds_borrows n s.state.core) comes
     (sym c.cancel_holds_borrows.ensures ∙ c.if-cancel_holds_borrows.true) in
     record {
       does = does_call g.G.TaskGroupHook.listens (UnlessHoldsBorrows cancel_holds_borrows comes s.state) s s.state c.tell_refused.new.core c.tell_refused.new.listeners

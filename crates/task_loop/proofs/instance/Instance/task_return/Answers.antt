@@ -1,14 +1,14 @@
--- The row of the return is done, unless the task still lends something.
+-- The rule of the return is done, unless the task still holds borrows.
 use Rattle.ops_state.specs.declared.error.TaskError.TheVariants as task_error
 use Rattle.std.proofs.Common.{ap, refl, subst, sym, ◌∙◌}
 use Rattle.std.specs.Option.{option_map}
 use Rattle.std.specs.Prelude.{Bool, Err, IfSome, Option, Some, false, true, ℕ, ◌≡◌}
 use Rattle.ops_calls.specs.MainCalls.{Returns, is_own_type}
 use Rattle.task_store.specs.HeldBorrows.{Comes, return_holds_borrows}
-use Rattle.task_loop.proofs.AskHoldLemmas.{returned_holds}
+use Rattle.task_loop.proofs.HostOpHoldLemmas.{returned_holds}
 use Rattle.task_loop.proofs.InstanceCallLemmas.{does_call}
 use Rattle.task_loop.proofs.TrackedLemmas.{returned_known}
-use Rattle.task_loop.proofs.LentLemmas.{ended_unlent, refused_lent}
+use Rattle.task_loop.proofs.BorrowedLemmas.{ended_unborrowed, refused_borrowed}
 use Rattle.task_loop.proofs.RuleTrapLemmas.{returns_not}
 use Rattle.task_loop.proofs.instance.Instance.task_return.Goals as goal
 use Rattle.task_loop.specs.InstanceCalls.{UnlessHoldsBorrows}
@@ -38,7 +38,7 @@ returns g c =
     subst (λ (b : Bool). return_holds_borrows (thread_of s.state c.in-Some.thread) b s.state.core ≡ false) c.is_own_type-own_type.ensures
     (sym c.return_holds_borrows.ensures ∙ c.if-return_holds_borrows.false) in
     let op_result =
-    ended_unlent s.state c.in-Some.thread c.current.result c.current.ensures c.in-Some.is (λ n. return_holds_borrows n own s.state.core)
+    ended_unborrowed s.state c.in-Some.thread c.current.result c.current.ensures c.in-Some.is (λ n. return_holds_borrows n own s.state.core)
     (λ n. Returns n v own) answer.result u lends
     (subst (λ (k : ℕ). Returns k v own s.state answer.result u) c.number-number.ensures answer.ensures.returns) in
     record {
@@ -60,6 +60,6 @@ returns-then-return_holds_borrows g c =
     record {
       does = does_call g.G.TaskGroupHook.listens (UnlessHoldsBorrows (λ n. return_holds_borrows n own) comes s.state) s s.state c.tell_refused.new.core c.tell_refused.new.listeners
           c.asked-before.result c.asked-before.ensures (Err (task_error.Trap trap.ScopeExit)) c.tell_refused.result
-          (refused_lent s.state c.in-Some.thread c.current.result c.current.ensures c.in-Some.is (λ n. return_holds_borrows n own s.state.core) comes lends)
+          (refused_borrowed s.state c.in-Some.thread c.current.result c.current.ensures c.in-Some.is (λ n. return_holds_borrows n own s.state.core) comes lends)
           refl (λ e. absurd (cc)) (λ left h. h) c.tell_refused.ensures;
     }

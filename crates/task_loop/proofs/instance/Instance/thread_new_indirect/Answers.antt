@@ -12,7 +12,7 @@ use Rattle.machine_data.specs.declared.op.ThreadOp.TheVariants as thread_op
 pub returns : goal.returns
 returns g c =
     let s = c.args.store.now in
-    let ask = c.ask_number-answer in
+    let ask = c.host_op_number-answer in
     let told = c.tell_call.ensures in
     record {
       does = does_host_op g.G.TaskGroupHook.listens c.args.component.now (op.Thread (thread_op.New 0 c.min.result (operand.Number c.args.context))) (new_thread_op c.args.slot c.args.context) (ap (λ (x : ℕ). op.Thread (thread_op.New 0 x (operand.Number c.args.context))) c.min.ensures) at_once number_answered refl s ask.new.w c.tell_call.new.core c.tell_call.new.listeners

@@ -8,7 +8,7 @@ use Rattle.task_loop.specs.InstanceCalls.{join_op}
 pub returns : goal.returns
 returns g c =
     let s = c.args.store.now in
-    let ask = c.ask_nothing-answer in
+    let ask = c.host_op_nothing-answer in
     let told = c.tell_call.ensures in
     record {
       does = does_host_op g.G.TaskGroupHook.listens c.args.component.now (join_op c.from.result c.from-2.result) (join_op c.args.waitable c.args.set) (ap₂ join_op c.from.ensures c.from-2.ensures) at_once nothing_answered refl s ask.new.w c.tell_call.new.core c.tell_call.new.listeners

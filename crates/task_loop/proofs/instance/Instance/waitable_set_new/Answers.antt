@@ -8,7 +8,7 @@ use Rattle.task_loop.specs.InstanceCalls.{new_set_op}
 pub returns : goal.returns
 returns g c =
     let s = c.args.store.now in
-    let ask = c.ask_number-answer in
+    let ask = c.host_op_number-answer in
     let told = c.tell_call.ensures in
     record {
       does = does_host_op g.G.TaskGroupHook.listens c.args.component.now new_set_op new_set_op refl at_once number_answered refl s ask.new.w c.tell_call.new.core c.tell_call.new.listeners

@@ -8,7 +8,7 @@ use Rattle.task_loop.specs.InstanceCalls.{poll_set_op}
 pub returns : goal.returns
 returns g c =
     let s = c.args.store.now in
-    let ask = c.ask_event-answer in
+    let ask = c.host_op_event-answer in
     let told = c.tell_call.ensures in
     record {
       does = does_host_op g.G.TaskGroupHook.listens c.args.component.now (poll_set_op c.from.result) (poll_set_op c.args.set) (ap poll_set_op c.from.ensures) at_once event_answered refl s ask.new.w c.tell_call.new.core c.tell_call.new.listeners

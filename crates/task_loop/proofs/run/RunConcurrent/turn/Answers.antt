@@ -148,7 +148,7 @@ returns-in_err-stepped-in-Run-clause-turned g c =
       stops = stops_after x c.args.self.now.turn (turn.Run n) c.in-Run.is (λ no. absurd (cc)) part s before after c.args.store.now.listeners c.run_thread.new.store.listeners (fails.told.answered, fails.hook) q.0 part t fails.told
           (made.0, (made.1.0, run_turns d n s t q.0 before after made x refl part));
       main = refl;
-      knows = by_run (says.knows main) s t (λ last. g.met.M.MainTask.stays main s t last may.stands.knows) x part n made.0 made.1.1.0 q.1.works;
+      knows = by_run (says.knows main) s t (λ last. g.met.M.MainTask.stays main s t last may.stands.knows) x part n made.0 (subst (λ (p : Turn). CoreInOrder d p s.core) c.in-Run.is may.stands.order) made.1.1.0 q.1.works;
       works = q.1.hosts;
     }) c.in_err-stepped-in-Run.ensures.ran
 
@@ -227,7 +227,7 @@ returns-in_err-stepped-in-Futures-clause-turned g c =
     record {
       stops = stops_after x c.args.self.now.turn p c.in-Futures.is (λ no. absurd (cc)) m s before after c.args.store.now.listeners c.poll_work.new.store.listeners (fails.told.answered, fails.hook) q.0 m t fails.told made;
       main = refl;
-      knows = by_poll (says.knows main) s t (λ last. g.met.M.MainTask.stays main s t last may.stands.knows) x m c.in-Futures.polled made.0 made.1.1 c.poll_work.ensures.works.0;
+      knows = by_poll (says.knows main) s t (λ last. g.met.M.MainTask.stays main s t last may.stands.knows) x m c.in-Futures.polled made.0 (subst (λ (w : Turn). CoreInOrder d w s.core) c.in-Futures.is may.stands.order) made.1.1 c.poll_work.ensures.works.0;
       works = c.poll_work.ensures.works.1;
     }) c.in_err-stepped-in-Futures.ensures.polled
 

@@ -4,7 +4,7 @@ use Rattle.std.specs.Prelude.{List}
 use Rattle.machine_data.specs.Core.{Core}
 use Rattle.task_nursery.proofs.GroupLemmas.{groups_queued}
 use Rattle.task_nursery.proofs.KeptLemmas.{are_more}
-use Rattle.task_nursery.proofs.LastLemmas.{spawn_last}
+use Rattle.task_loop.proofs.LastLemmas.{spawn_last}
 use Rattle.task_nursery.proofs.TallyLemmas.{tallies_more}
 use Rattle.task_nursery.specs.Scope.{IsOf, Scope}
 use Rattle.task_nursery.specs.declared.children.Kept.{Kept}

@@ -7,8 +7,8 @@ use Rattle.task_loop.proofs.HookLemmas.{knows_trapped}
 use Rattle.task_loop.specs.LoopCalls.{callee_of}
 use Rattle.machine_data.specs.declared.records.NoticeKind.TheVariants as notice
 use Rattle.task_nursery.proofs.KeptLemmas.{are_later, are_more}
-use Rattle.task_nursery.proofs.LastLemmas.{start_last}
 use Rattle.task_nursery.proofs.ScopeLemmas.{length_last}
+use Rattle.task_loop.proofs.LastLemmas.{start_last}
 use Rattle.task_nursery.proofs.StartLemmas.{begins_refused, tells_refused}
 use Rattle.task_nursery.proofs.TallyLemmas.{tallies_more}
 use Rattle.task_nursery.specs.Scope.{AreOf, IsOf, Scope, with_child}

@@ -32,7 +32,7 @@ use denote.Triple.Clauses.{Clauses, Ended, closing}
 use denote.Triple.Entry.{on_entry}
 use denote.Triple.Spec.{Meets, triple_of}
 use denote.Triple.Table.{entered}
-use denote.Triple.Walked.{says, Stays, stay_dropped, walk_of, ends_at, walked, Continues-spent_ref, walk_Meets}
+use denote.Triple.Walked.{says, Stays, stay_dropped, walk_of, ends_at, walked, Goes-spent_ref, walk_Meets}
 use Rattle.task_store.specs.contracts.access.WholeProject.project as F
 use Rattle.task_store.specs.contracts.access.WholeProject.project.Key.{name as #self}
 use Rattle.task_store.proofs.access.WholeProject.project.Statement as stated
@@ -82,9 +82,9 @@ module _ (X : RattleType) {M : Type 1} {𝓤 : Ura M} (𝓛 : Logic 𝓤) (at_me
         suffices ! _ (ends_at 𝓛 (ended X) (stayed X) clauses bound (vptr b o) self (tt, tt) (tt, tt)) $
         nothing ! $ nothing ! $ fjoin ! $ join ! $ move ! (1 ∷ 3 ∷ []) $ join ! $ join ! $ frame ! $ says ! refl $ done !)
 
-  meets : (𝓣 : Tables 𝓤 H) → Meets 𝓛 (ended X).signature (WpFn 𝓤 H 𝓣.C 𝓣.Λ (function X)) (closing 𝓛 (ended X) clauses)
-  meets 𝓣 =
-      walk_Meets 𝓛 (ended X) (stayed X) (Continues-spent_ref 𝓛 2 (0 ∷ []) tt (plain (λ _. R X)), tt) clauses (WpFn 𝓤 H 𝓣.C 𝓣.Λ (function X)) (WpFn-mono 𝓤 H 𝓛.laws 𝓣 (function X))
+  implements : (𝓣 : Tables 𝓤 H) → Meets 𝓛 (ended X).signature (WpFn 𝓤 H 𝓣.C 𝓣.Λ (function X)) (closing 𝓛 (ended X) clauses)
+  implements 𝓣 =
+      walk_Meets 𝓛 (ended X) (stayed X) (Goes-spent_ref 𝓛 2 (0 ∷ []) tt (plain (λ _. R X)), tt) clauses (WpFn 𝓤 H 𝓣.C 𝓣.Λ (function X)) (WpFn-mono 𝓤 H 𝓛.laws 𝓣 (function X))
       (walked 𝓛 (ended X) (stayed X) clauses (WpFn 𝓤 H 𝓣.C 𝓣.Λ (function X)) (λ κs. (mut_vals, tt)) (λ κs. (mut_Tells (named 0) κs.0 (R X), tt))
       (λ κs qs bounds a g are.
       qed 𝓛 (raw (on_entry 𝓛 (ended X).signature κs qs a (mut_vals a.0, tt)) ∷ raw ((clauses κs a).requires g) ∷ []) ∵
@@ -95,4 +95,4 @@ unfolding tables_of
 project_spec 𝓤 𝓛 𝓜 𝓡 wired X L =
     let 𝓣 : Tables 𝓤 𝓛.H = tables_of 𝓤 𝓛.H 𝓜 (tables 𝓤 𝓛.H 𝓜 𝓡 𝓡.env) in
     entered 𝓤 𝓛.H (triple_of 𝓛 (ended X).signature (F.spec X 𝓛 𝓜.mem 𝓡.returns)) 𝓣.C 𝓣.Λ (#self (args X)) (function X) (code.unfolded 𝓤 𝓛.H 𝓜 𝓡 wired (X, tt))
-    (meets X 𝓛 𝓜.mem 𝓡.returns 𝓣)
+    (implements X 𝓛 𝓜.mem 𝓡.returns 𝓣)

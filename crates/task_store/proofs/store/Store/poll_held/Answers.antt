@@ -2,7 +2,7 @@
 use Rattle.std.proofs.Common.{subst}
 use Rattle.std.specs.Prelude.{None, Option}
 use Rattle.store_works.specs.KeptWorks.{HeldWork, MayAnswer}
-use Rattle.machine_data.specs.declared.words.HostPoll.{HostPoll}
+use Rattle.machine_data.specs.declared.statuses.HostPoll.{HostPoll}
 use Rattle.task_store.proofs.store.Store.poll_held.Goals as goal
 use Rattle.task_store.specs.Hosts.{held_by}
 

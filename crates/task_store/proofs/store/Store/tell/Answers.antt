@@ -1,7 +1,7 @@
 use Rattle.std.proofs.Common.{ap, refl, subst, sym, ◌∙◌}
 use Rattle.std.specs.Prelude.{Bool, None, Option, false, true, ◌||◌}
 use Rattle.store_works.specs.KeptWorks.{MayAnswer, held}
-use Rattle.machine_data.specs.declared.words.HostPoll.{HostPoll}
+use Rattle.machine_data.specs.declared.statuses.HostPoll.{HostPoll}
 use Rattle.machine_data.specs.Read.{course_of, is_aborted}
 use Rattle.machine_data.specs.declared.records.Course.{Course}
 use Rattle.ops_guests.specs.PolledWorks.{TellsPoll}

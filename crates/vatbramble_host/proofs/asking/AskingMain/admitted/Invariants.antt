@@ -5,4 +5,5 @@ use Rattle.std.proofs.Common.{◌≡◌}
 abbrev pub invariant-loop : goal.invariant-loop
 invariant-loop g l = record {
   calls : l.self.calls ≡ l.initial.self.calls;
+  spawns : l.self.spawns ≡ l.initial.self.spawns;
 }

@@ -8,6 +8,7 @@ use Rattle.machine_data.specs.Core.{Unscripted}
 use Rattle.machine_data.specs.declared.records.Turn.{Turn}
 use Rattle.ops_turns.specs.Turn.{setting_of, state_at}
 use Rattle.vatbramble_host.proofs.RunLemmas.{host_run}
+use Rattle.vatbramble_host.proofs.SpawnLemmas.{spawns_none}
 use Rattle.vatbramble_host.proofs.hosted.Hosted.driven.Goals as goal
 
 pub drive-requires : goal.drive-requires
@@ -15,7 +16,8 @@ drive-requires g c =
     let x = c.args.self.now.scenario in
     record {
       may = may_open _ _ _ c.in-Ok.run' c.in-Ok.ensures.turn c.new-main.result tt c.args.self.now.formed c.in_ok-store.store _ c.run_concurrent.ensures.store _
-          c.args.self.now.codes c.len.result x.handles x.table (rw c.len.ensures (omega arith)) c.in_ok-store.ensures.state c.in_ok-store.ensures.works tt
+          c.args.self.now.codes c.len.result x.handles x.table (rw c.len.ensures (omega arith)) c.in_ok-store.ensures.state c.in_ok-store.ensures.works
+          (spawns_none c.new-main.result.spawns.items _ c.new-main.ensures.spawns)
           (fresh_asked c.len.result x.handles x.table c.in_ok-store.store.state c.in_ok-store.ensures.state);
     }
 

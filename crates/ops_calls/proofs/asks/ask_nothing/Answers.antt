@@ -1,8 +1,0 @@
-use Rattle.ops_calls.proofs.AskLemmas.{went_on}
-use Rattle.ops_calls.proofs.asks.ask_nothing.Goals as goal
-
-pub at_once-requires : goal.at_once-requires
-at_once-requires g c =
-    let v = g.W.View.view in
-    let q = c.requires.running in
-    went_on c.args.component.now c.args.op q.number (v c.args.w.now) (v c.ask.new.w) c.in_ok-op_result.op_result q.runs c.requires.at_once c.in_ok-op_result.ensures.did

@@ -1,8 +1,0 @@
-use Rattle.std.proofs.Common.{◌∙◌, ℕ, ap, arith, sym, take}
-use Rattle.text_report.proofs.Digits.{over}
-use Rattle.text_report.proofs.piece.words_over.Goals as goal
-
-pub returns-clause-text : goal.returns-clause-text
-returns-clause-text c =
-    over c.args.out.now c.words.new.out c.args.text.now c.args.at c.args.stay (omega (arith, c.requires.room)) c.requires.stay
-    (ap (λ (k : ℕ). take k c.words.new.out) (sym c.words.ensures.end) ∙ c.words.ensures.text)
