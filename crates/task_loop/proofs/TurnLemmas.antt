@@ -64,7 +64,7 @@ module _ {M T H G : Type 0} (says : Says M) (course : H → HostDef) (c : Compon
       (held_taken {E = Halt} x b ended part s.state t.state (held_by course s) (Ok o) before after order refl pends turned may.stands.works)
 
   knows : (o : Option StepResult) → Taken o → KeepsWorks s.state t.state → says.knows m t.state
-  knows o turned kept = by_take (says.knows m) s.state t.state (λ last. stays t.state last may.stands.knows) {E = Halt} x b ended part (Ok o) before after refl pends turned kept
+  knows o turned kept = by_take (says.knows m) s.state t.state (λ last. stays t.state last may.stands.knows) {E = Halt} x b ended part (Ok o) before after order refl pends turned kept
 
   -- nothing was told where nothing is there
   beside_told : (o : Option StepResult) → IfSome o (λ k. ToldBeside s.state s.listeners p running t.state t.listeners) → (◌≡◌ {A = Result (Option StepResult) Halt} (Ok o) (Ok None) → t.listeners ≡ s.listeners) →

@@ -119,7 +119,7 @@ returns-in_ok-stepped-in-Run-clause-turned g c =
           (λ made h. still_run says.does main x part s t n made h.0) made;
       group = e.ran.group;
       suits = may.stands.suits;
-      knows = by_run (says.knows main) s t (λ last. g.met.M.MainTask.stays main s t last may.stands.knows) x part n made.0 made.1.1.0 steps.works;
+      knows = by_run (says.knows main) s t (λ last. g.met.M.MainTask.stays main s t last may.stands.knows) x part n made.0 (subst (λ (p : Turn). CoreInOrder d p s.core) c.in-Run.is may.stands.order) made.1.1.0 steps.works;
       works = steps.hosts;
       asked = e.ran.asked;
     }
@@ -198,7 +198,7 @@ returns-in_ok-stepped-in-Futures-clause-turned g c =
       did = (made.0, (made.1.0, still says.does main x m s t p refl made.0 made.1.1));
       group = told.group ∙ current_is t (turn_of q) (turns_runs x p m s m t q before after made);
       suits = may.stands.suits;
-      knows = by_poll (says.knows main) s t (λ last. g.met.M.MainTask.stays main s t last may.stands.knows) x m c.in-Futures.polled made.0 made.1.1 c.poll_work.ensures.works.0;
+      knows = by_poll (says.knows main) s t (λ last. g.met.M.MainTask.stays main s t last may.stands.knows) x m c.in-Futures.polled made.0 (subst (λ (w : Turn). CoreInOrder d w s.core) c.in-Futures.is may.stands.order) made.1.1 c.poll_work.ensures.works.0;
       works = c.poll_work.ensures.works.1;
       asked = told.asked;
     }
