@@ -1,5 +1,5 @@
 //! Which groups are tracked.
-ghost use Rattle.std.specs.Prelude.{◌≡◌, ◌<◌};
+ghost use Rattle.std.specs.Prelude.{◌≡◌};
 ghost use Rattle.core_fields.specs.Groups.{HasGroup};
 ghost use Rattle.core_records.specs.Image.{tracked_in};
 ghost use Rattle.core_records.specs.Seen.{IsSoundCore, parts_of};

@@ -1,9 +1,9 @@
 ghost use Rattle.std.specs.Prelude.{◌<◌, ◌^◌, ◌≡◌, IfSome, option_map};
-ghost use Rattle.machine_data.specs.Read.{new_handle, new_thread_handle, set_at, subtask_at, thread_at};
+ghost use Rattle.machine_data.specs.Read.{new_handle, new_thread_handle};
 ghost use Rattle.core_records.specs.Seen.{IsSoundCore, seen};
-ghost use Rattle.core_primitives.specs.Live.{live_set, live_subtask, live_thread};
 ghost use Rattle.core_primitives.specs.Names.{subtask_in};
-ghost use Rattle.core_primitives.specs.StateView.{set_of, thread_of};
+ghost use Rattle.core_primitives.specs.StateView.{thread_if_any, set_if_any};
+ghost use Rattle.core_primitives.specs.Live.{live_subtask_at, live_set_at, live_thread_at};
 
 use core_primitives::{SetId, SubtaskId, ThreadId};
 use core_records::{CoreParts, call_id_at, set_id_at, thread_id_at, work_id_at};
@@ -12,7 +12,7 @@ use task_handles::{HandleKind, WaitableKind};
 /// Returns the subtask that a handle names.
 pub fn subtask_at(parts: &CoreParts, instance: u32, handle: u64) -> Option<SubtaskId>
     requires { IsSoundCore parts.now }
-    ensures is { option_map (subtask_in (seen parts.now).tags) result ≡ option_map (λ sub. live_subtask sub (seen parts.now).core) (subtask_at instance handle (seen parts.now).core) }
+    ensures is { option_map (subtask_in (seen parts.now).tags) result ≡ live_subtask_at instance handle (seen parts.now).core }
     ensures small { IfSome result (λ id. handle < 2 ^ 32) }
 {
     match core_records::held(parts, instance, handle) {
@@ -37,7 +37,7 @@ pub fn subtask_at(parts: &CoreParts, instance: u32, handle: u64) -> Option<Subta
 /// Returns the set that a handle names.
 pub fn set_at(parts: &CoreParts, instance: u32, handle: u64) -> Option<SetId>
     requires { IsSoundCore parts.now }
-    ensures is { option_map (λ id. set_of (seen parts.now) id) result ≡ option_map (λ x. live_set x (seen parts.now).core) (set_at instance handle (seen parts.now).core) }
+    ensures is { set_if_any (seen parts.now) result ≡ live_set_at instance handle (seen parts.now).core }
     ensures small { IfSome result (λ id. handle < 2 ^ 32) }
 {
     match core_records::held(parts, instance, handle) {
@@ -53,7 +53,7 @@ pub fn set_at(parts: &CoreParts, instance: u32, handle: u64) -> Option<SetId>
 /// Returns the thread that a thread handle names.
 pub fn thread_at(parts: &CoreParts, instance: u32, handle: u64) -> Option<ThreadId>
     requires { IsSoundCore parts.now }
-    ensures { option_map (λ id. thread_of (seen parts.now) id) result ≡ option_map (λ n. live_thread n (seen parts.now).core) (thread_at instance handle (seen parts.now).core) }
+    ensures { thread_if_any (seen parts.now) result ≡ live_thread_at instance handle (seen parts.now).core }
 {
     match core_records::held_thread(parts, instance, handle) {
         Some(rep) => Some(thread_id_at(parts, rep.id, rep.serial)),

@@ -1,9 +1,8 @@
 ghost use Rattle.std.specs.Prelude.{◌≡◌, ◌<◌, IfOk, OnErr, OnOk, Some};
-ghost use Rattle.machine_data.specs.Read.{instance_of, new_thread_handle, thread_at};
 ghost use Rattle.machine_data.specs.Write.{set_thread_handle};
 ghost use Rattle.core_records.specs.Seen.{IsSoundCore, parts_of, seen};
-ghost use Rattle.machine_rules.specs.Calls.{with_thread_handle};
 ghost use Rattle.core_primitives.specs.StateView.{on_core, thread_of};
+ghost use Rattle.core_primitives.specs.Changes.{NamesThread, handle_for, with_handle_for};
 
 use crate::thread_handles::insert_thread_handle;
 use core_primitives::ThreadId;
@@ -16,7 +15,7 @@ use task_handles::Rep;
 fn write_handle(parts: &mut CoreParts, thread: ThreadId, handle: u32)
     requires sound { IsSoundCore parts.old }
     requires live { 0 < thread_of (seen parts.old) thread }
-    requires owns { thread_at (instance_of (thread_of (seen parts.old) thread) (seen parts.old).core) handle (seen parts.old).core ≡ Some (thread_of (seen parts.old) thread) }
+    requires owns { NamesThread thread handle (seen parts.old) }
     ensures sound { IsSoundCore parts.new }
     ensures new { seen parts.new ≡ on_core (set_thread_handle (thread_of (seen parts.old) thread) (Some handle)) (seen parts.old) }
 {
@@ -29,8 +28,8 @@ pub fn name_thread(parts: &mut CoreParts, thread: ThreadId) -> Result<u32, NoMem
     requires sound { IsSoundCore parts.old }
     requires live { 0 < thread_of (seen parts.old) thread }
     ensures sound { IsSoundCore parts.new }
-    ensures handle { IfOk result (λ h. h ≡ new_thread_handle (instance_of (thread_of (seen parts.old) thread) (seen parts.old).core) (seen parts.old).core) }
-    ensures new { OnOk result (seen parts.new ≡ on_core (with_thread_handle (instance_of (thread_of (seen parts.old) thread) (seen parts.old).core) (thread_of (seen parts.old) thread)) (seen parts.old)) }
+    ensures handle { IfOk result (λ h. h ≡ handle_for thread (seen parts.old)) }
+    ensures new { OnOk result (seen parts.new ≡ with_handle_for thread (seen parts.old)) }
     ensures err { OnErr result (seen parts.new ≡ seen parts.old) }
     ensures same { OnErr result (parts_of parts.new ≡ parts_of parts.old) }
 {

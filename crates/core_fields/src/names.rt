@@ -1,8 +1,7 @@
 ghost use Rattle.std.specs.Prelude.{◌≡◌};
-ghost use Rattle.machine_data.specs.Read.{caller_of, op_progress_of, join_of, work_caller_of};
 ghost use Rattle.core_records.specs.Names.{AtPlace, caller_target, op_progress_target, join_target, subtask_target, work_caller_target};
 ghost use Rattle.core_records.specs.Seen.{IsSoundCore, parts_of, seen};
-ghost use Rattle.core_primitives.specs.Live.{live_caller, live_op_progress, live_join, live_subtask, live_work_caller};
+ghost use Rattle.core_primitives.specs.Live.{live_caller, live_op_progress, live_join, live_subtask, live_work_caller, live_caller_of, live_work_caller_of, live_op_progress_of, live_join_of};
 ghost use Rattle.core_primitives.specs.Names.{caller_in, op_progress_in, join_in, subtask_in, work_caller_in};
 ghost use Rattle.core_primitives.specs.StateView.{call_of, thread_of, work_of};
 
@@ -50,7 +49,7 @@ fn op_progress_id(parts: &CoreParts, place: u32, op_progress: OpProgress) -> OpP
 #[inline(always)]
 pub fn op_progress(parts: &CoreParts, thread: ThreadId) -> OpProgressId
     requires { IsSoundCore parts.now }
-    ensures { op_progress_in (seen parts.now).tags result ≡ live_op_progress (op_progress_of (thread_of (seen parts.now) thread) (seen parts.now).core) (seen parts.now).core }
+    ensures { op_progress_in (seen parts.now).tags result ≡ live_op_progress_of (thread_of (seen parts.now) thread) (seen parts.now).core }
 {
     match core_records::thread(parts, thread) {
         Some(entry) => op_progress_id(parts, entry.op_target, entry.thread.op_progress),
@@ -72,7 +71,7 @@ fn caller_id(parts: &CoreParts, place: u32, caller: Caller) -> CallerId
 /// Returns who made a call.
 pub fn caller(parts: &CoreParts, call: CallId) -> CallerId
     requires { IsSoundCore parts.now }
-    ensures { caller_in (seen parts.now).tags result ≡ live_caller (caller_of (call_of (seen parts.now) call) (seen parts.now).core) (seen parts.now).core }
+    ensures { caller_in (seen parts.now).tags result ≡ live_caller_of (call_of (seen parts.now) call) (seen parts.now).core }
 {
     match core_records::call(parts, call) {
         Some(entry) => caller_id(parts, entry.maker, entry.call.caller),
@@ -98,7 +97,7 @@ fn work_caller_id(parts: &CoreParts, place: u32, caller: WorkCaller) -> WorkCall
 /// Returns who made a host work.
 pub fn work_caller(parts: &CoreParts, work: WorkId) -> WorkCallerId
     requires { IsSoundCore parts.now }
-    ensures { work_caller_in (seen parts.now).tags result ≡ live_work_caller (work_caller_of (work_of (seen parts.now) work) (seen parts.now).core) (seen parts.now).core }
+    ensures { work_caller_in (seen parts.now).tags result ≡ live_work_caller_of (work_of (seen parts.now) work) (seen parts.now).core }
 {
     match core_records::work(parts, work) {
         Some(entry) => work_caller_id(parts, entry.maker, entry.work.caller),
@@ -120,7 +119,7 @@ fn join_id(parts: &CoreParts, place: u32, join: Join) -> JoinId
 
 fn call_join(parts: &CoreParts, call: CallId) -> JoinId
     requires { IsSoundCore parts.now }
-    ensures { join_in (seen parts.now).tags result ≡ live_join (join_of (subtask_in (seen parts.now).tags (SubtaskId.Guest call)) (seen parts.now).core) (seen parts.now).core }
+    ensures { join_in (seen parts.now).tags result ≡ live_join_of (subtask_in (seen parts.now).tags (SubtaskId.Guest call)) (seen parts.now).core }
 {
     match core_records::call(parts, call) {
         Some(entry) => join_id(parts, entry.joined, entry.call.join),
@@ -130,7 +129,7 @@ fn call_join(parts: &CoreParts, call: CallId) -> JoinId
 
 fn work_join(parts: &CoreParts, work: WorkId) -> JoinId
     requires { IsSoundCore parts.now }
-    ensures { join_in (seen parts.now).tags result ≡ live_join (join_of (subtask_in (seen parts.now).tags (SubtaskId.Host work)) (seen parts.now).core) (seen parts.now).core }
+    ensures { join_in (seen parts.now).tags result ≡ live_join_of (subtask_in (seen parts.now).tags (SubtaskId.Host work)) (seen parts.now).core }
 {
     match core_records::work(parts, work) {
         Some(entry) => join_id(parts, entry.joined, entry.work.join),
@@ -142,7 +141,7 @@ fn work_join(parts: &CoreParts, work: WorkId) -> JoinId
 #[inline(always)]
 pub fn join(parts: &CoreParts, subtask: SubtaskId) -> JoinId
     requires { IsSoundCore parts.now }
-    ensures { join_in (seen parts.now).tags result ≡ live_join (join_of (subtask_in (seen parts.now).tags subtask) (seen parts.now).core) (seen parts.now).core }
+    ensures { join_in (seen parts.now).tags result ≡ live_join_of (subtask_in (seen parts.now).tags subtask) (seen parts.now).core }
 {
     match subtask {
         SubtaskId::Guest(call) => call_join(parts, call),

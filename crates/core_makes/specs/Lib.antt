@@ -8,3 +8,5 @@ pub mod CallThread
 pub mod Pushed
 pub mod Member
 pub mod Ends
+pub mod Fresh
+pub mod Counted

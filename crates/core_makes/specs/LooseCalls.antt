@@ -12,6 +12,14 @@ use Rattle.core_records.specs.declared.thread_records.GuestThread.{GuestThread}
 use Rattle.core_records.specs.declared.work_records.WorkRecord.{WorkRecord}
 use Rattle.task_table.specs.Table.{Placed, place_at}
 
+-- those that a thread's record has, and a call's
+abbrev pub thread_nodes_of : GuestThread → ThreadNodes
+thread_nodes_of g =
+    record { node = g.node; mark = g.mark; instance_queue = g.instance_queue; caller = g.caller; callers = g.callers; under = g.under }
+
+abbrev pub call_nodes_of : GuestTask → CallNodes
+call_nodes_of g = record { ready = g.ready; blocked = g.blocked }
+
 -- They hang on nothing; no work has the node of the mark.
 pub record AreThreadLoose (p : CoreImage) (n : ThreadNodes) : Type 0 where
   pub node : IsSpare (λ (g : GuestThread). g.node.index) p.threads p.places n.node.index

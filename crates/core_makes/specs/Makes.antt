@@ -19,3 +19,7 @@ MakesChain = MakesSpot (λ c. c) (ChainOf [])
 
 abbrev pub MakesNode : {P : Type 0} → (old new : List (Spot P)) → (a b with_new : CoreParts) → Result Node NoMemory → Type 0
 MakesNode = MakesSpot (λ n. n.index) FreeNode
+
+-- a core with the instance queues of another one
+abbrev pub with_instance_queues_of : (new old : CoreParts) → CoreParts
+with_instance_queues_of b a = record a { instance_queues = b.instance_queues }

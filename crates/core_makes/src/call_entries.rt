@@ -1,4 +1,5 @@
 ghost use Rattle.std.specs.Prelude.{◌≡◌, IfOk, OnOk};
+ghost use Rattle.core_makes.specs.Fresh.{next_entries};
 ghost use Rattle.table_lists.specs.GivenPlaces.{given, next_place, taken};
 
 use machine_data::NoMemory;
@@ -31,7 +32,7 @@ pub(crate) fn take_thread(places: &mut TablePlaces, task: u32) -> Result<Entries
 // The places of a call and then of its first thread. If it is out of memory, none is taken.
 #[inline(always)]
 pub(crate) fn take_call_entries(places: &mut TablePlaces) -> Result<Entries, NoMemory>
-    ensures entries { IfOk result (λ e. e ≡ record { task = next_place places.old; set = next_place (taken places.old); thread = next_place (taken (taken places.old)) }) }
+    ensures entries { IfOk result (λ e. e ≡ next_entries places.old) }
     ensures places { OnOk result (places.new ≡ taken (taken (taken places.old))) }
 {
     let task = places.take()?;

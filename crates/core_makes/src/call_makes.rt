@@ -1,19 +1,17 @@
 ghost use Rattle.std.specs.Prelude.{◌≡◌, ◌+◌, ◌<◌, ◌≤◌, ◌^◌, IfOk, IsSome, OnErr, OnOk, length, true};
 ghost use Rattle.core_makes.specs.Restored.{IsRestored};
-ghost use Rattle.core_makes.specs.Ends.{HasEndRoom};
+ghost use Rattle.core_makes.specs.Fresh.{requested, requested_grouped, requested_with_handle};
 ghost use Rattle.core_makes.specs.LooseCalls.{AreCallAndThreadLoose};
-ghost use Rattle.core_makes.specs.Pushed.{MayAdd, PushesCallWithThread};
+ghost use Rattle.core_makes.specs.Pushed.{MayAdd, PushesCallWithThread, MayAddByMain};
 ghost use Rattle.machine_data.specs.Maps.{get};
 ghost use Rattle.machine_data.specs.Read.{fits};
-ghost use Rattle.machine_data.specs.Write.{add_group};
 ghost use Rattle.machine_data.specs.declared.records.Caller.TheVariants as callers;
 ghost use Rattle.machine_data.specs.declared.records.Goal.TheVariants as goals;
 ghost use Rattle.core_records.specs.Image.{HasRoom};
 ghost use Rattle.core_records.specs.Names.{AtPlace, caller_target};
 ghost use Rattle.core_records.specs.Seen.{IsSoundCore, parts_of, seen};
 ghost use Rattle.core_records.specs.Sound.{bare};
-ghost use Rattle.machine_rules.specs.Calls.{call_made, next_thread, with_thread_handle};
-ghost use Rattle.core_primitives.specs.BecomesRecord.{MakesRecord, MakesGrouped, names_call};
+ghost use Rattle.core_primitives.specs.Records.{MakesCall, MakesGroupedCall, grouped_call};
 
 use crate::call_entries::{Entries, give_call_entries, take_call_entries};
 use crate::calls_with_threads::{drop_call_with_thread, push_call_with_thread};
@@ -42,7 +40,7 @@ pub fn add_call_with_thread(
     requires add { MayAdd parts.old id group request words.now nodes }
     requires caller { AtPlace (parts_of parts.old) request.maker (caller_target request.caller) }
     ensures sound { IsSoundCore parts.new }
-    ensures new { MakesRecord (names_call (next_thread (seen parts.old).core)) (call_made request.caller request.callee request.kind request.goal group.number words.now (seen parts.old).core) (seen parts.old) result (seen parts.new) }
+    ensures new { MakesCall (requested request group.number words.now) (seen parts.old) result (seen parts.new) }
     ensures pushes { IfOk result (λ ids. PushesCallWithThread parts.old parts.new id group ids.0 ids.1) }
     ensures err { OnErr result (IsRestored (parts_of parts.old) (parts_of parts.new)) }
 {
@@ -103,7 +101,7 @@ pub fn add_call_with_thread_outlined(
     requires add { MayAdd parts.old id group request words.now nodes }
     requires caller { AtPlace (parts_of parts.old) request.maker (caller_target request.caller) }
     ensures sound { IsSoundCore parts.new }
-    ensures new { MakesRecord (names_call (next_thread (seen parts.old).core)) (call_made request.caller request.callee request.kind request.goal group.number words.now (seen parts.old).core) (seen parts.old) result (seen parts.new) }
+    ensures new { MakesCall (requested request group.number words.now) (seen parts.old) result (seen parts.new) }
     ensures pushes { IfOk result (λ ids. PushesCallWithThread parts.old parts.new id group ids.0 ids.1) }
     ensures err { OnErr result (IsRestored (parts_of parts.old) (parts_of parts.new)) }
 {
@@ -135,17 +133,9 @@ fn add_main_call(
     nodes: (CallNodes, ThreadNodes),
 ) -> Result<(ThreadId, CallId), NoMemory>
     requires sound { IsSoundCore parts.old }
-    requires words { length words.now ≤ 16 }
-    requires few { (seen parts.old).core.made.threads + 1 < 2 ^ 64 }
-    requires groups { (seen parts.old).core.made.groups + 1 < 2 ^ 64 }
-    requires room { fits 4 (seen parts.old).core ≡ true }
-    requires end_room { HasEndRoom parts.old }
-    requires caller { request.caller ≡ callers.Main }
-    requires there { IsSome (get (seen parts.old).core.instances request.callee.instance) }
-    requires result { request.goal ≡ goals.Main → HasRoom (parts.old.made.threads + 1) parts.old.results }
-    requires loose { AreCallAndThreadLoose (bare (parts_of parts.old)) nodes.0 nodes.1 }
+    requires add { MayAddByMain parts.old request words.now nodes }
     ensures sound { IsSoundCore parts.new }
-    ensures new { MakesGrouped (names_call ((seen parts.old).core.made.threads + 1)) (call_made request.caller request.callee request.kind request.goal ((seen parts.old).core.made.groups + 1) words.now (add_group (seen parts.old).core)) (seen parts.old) result (seen parts.new) }
+    ensures new { MakesGroupedCall (requested_grouped request words.now) (seen parts.old) result (seen parts.new) }
 {
     let number = parts.made.groups + 1;
     match push_group(parts, entry) {
@@ -184,7 +174,7 @@ fn make_call_by_main_with(
     requires groups { (seen parts.old).core.made.groups + 1 < 2 ^ 64 }
     requires room { fits 4 (seen parts.old).core ≡ true }
     ensures sound { IsSoundCore parts.new }
-    ensures new { MakesGrouped (names_call (next_thread (seen parts.old).core)) (call_made callers.Main callee kind goal ((seen parts.old).core.made.groups + 1) words.now (add_group (seen parts.old).core)) (seen parts.old) result (seen parts.new) }
+    ensures new { MakesGroupedCall (grouped_call callers.Main callee kind goal words.now) (seen parts.old) result (seen parts.new) }
 {
     let request = Request {
         caller: Caller::Main,
@@ -223,7 +213,7 @@ pub fn make_call_by_main(
     requires groups { (seen parts.old).core.made.groups + 1 < 2 ^ 64 }
     requires room { fits 4 (seen parts.old).core ≡ true }
     ensures sound { IsSoundCore parts.new }
-    ensures new { MakesGrouped (names_call (next_thread (seen parts.old).core)) (call_made callers.Main callee kind goal ((seen parts.old).core.made.groups + 1) words.now (add_group (seen parts.old).core)) (seen parts.old) result (seen parts.new) }
+    ensures new { MakesGroupedCall (grouped_call callers.Main callee kind goal words.now) (seen parts.old) result (seen parts.new) }
 {
     let entry = parts.table_places.take()?;
     match take_call_entries(&mut parts.table_places) {
@@ -256,7 +246,7 @@ pub fn add_named_call(
     requires add { MayAdd parts.old id group request words.now nodes }
     requires caller { AtPlace (parts_of parts.old) request.maker (caller_target request.caller) }
     ensures sound { IsSoundCore parts.new }
-    ensures new { MakesRecord (names_call (next_thread (seen parts.old).core)) (with_thread_handle request.callee.instance (next_thread (seen parts.old).core) (call_made request.caller request.callee request.kind request.goal group.number words.now (seen parts.old).core)) (seen parts.old) result (seen parts.new) }
+    ensures new { MakesCall (requested_with_handle request group.number words.now) (seen parts.old) result (seen parts.new) }
 {
     match add_call_with_thread(parts, id, group, request, words, nodes) {
         Ok((first, task)) => match name_thread(parts, first) {

@@ -1,16 +1,11 @@
-ghost use Rattle.std.specs.Prelude.{◌≡◌, ◌+◌, ◌-◌, ◌<◌, ◌≤◌, ◌^◌, IfOk, None, Ok, OnErr, OnOk, true};
+ghost use Rattle.std.specs.Prelude.{◌≡◌, ◌+◌, ◌-◌, ◌<◌, ◌≤◌, ◌^◌, IfOk, Ok, OnErr, OnOk};
 ghost use Rattle.core_makes.specs.Restored.{IsRestored};
-ghost use Rattle.core_makes.specs.LooseCalls.{AreCallAndThreadLoose};
-ghost use Rattle.core_makes.specs.Pushed.{PushesCallWithThread};
-ghost use Rattle.core_makes.specs.CallThread.{IsCallWithThread};
-ghost use Rattle.machine_data.specs.Read.{fits};
-ghost use Rattle.machine_data.specs.Write.{add_call, add_thread};
+ghost use Rattle.core_makes.specs.Pushed.{PushesCallWithThread, DropsCallWithThread, MayPushCallWithThread, with_call_and_thread};
 ghost use Rattle.core_records.specs.Keys.{call_key, thread_key};
 ghost use Rattle.core_records.specs.Kinds.{entry_of, item_of};
 ghost use Rattle.core_records.specs.Seen.{IsSoundCore, parts_of, seen};
-ghost use Rattle.core_records.specs.Sound.{bare, bare_call, bare_thread};
 ghost use Rattle.task_table.specs.TableAnswers.{item_at};
-ghost use Rattle.task_table.specs.Changes.{deleted, next_place, with_entry};
+ghost use Rattle.task_table.specs.Changes.{deleted, with_entry};
 ghost use Rattle.task_table.specs.Records.{number_of};
 ghost use Rattle.task_table.specs.Table.{IsTable, children_of};
 ghost use Rattle.core_primitives.specs.BecomesRecord.{BecomesRecord};
@@ -85,17 +80,9 @@ pub fn push_call_with_thread(
     thread: GuestThread,
 ) -> Result<(ThreadId, CallId), NoMemory>
     requires sound { IsSoundCore parts.old }
-    requires few { parts.old.made.threads + 1 < 2 ^ 64 }
-    requires room { fits 3 (seen parts.old).core ≡ true }
-    requires group { Ok group ≡ item_at item_of parts.old.groups id.rep id.serial }
-    requires place { call.group ≡ id.rep }
-    requires of_group { group.number ≡ call.call.group }
-    requires strand { IsCallWithThread (bare (parts_of parts.old)) (bare_call (record call { first = next_place parts.old.threads })) (bare_thread (record thread { task = next_place parts.old.calls })) }
-    requires loose { AreCallAndThreadLoose (bare (parts_of parts.old)) (record { ready = call.ready; blocked = call.blocked }) (record { node = thread.node; mark = thread.mark; instance_queue = thread.instance_queue; caller = thread.caller; callers = thread.callers; under = thread.under }) }
-    requires unnamed { thread.thread.handle ≡ None }
-    requires interests { call.call.interesting ≡ true }
+    requires may { MayPushCallWithThread parts.old id group call thread }
     ensures sound { IsSoundCore parts.new }
-    ensures new { OnOk result (BecomesRecord (add_thread thread.thread (add_call call.number call.call (seen parts.old).core)) (seen parts.old) (seen parts.new)) }
+    ensures new { OnOk result (BecomesRecord (with_call_and_thread call thread (seen parts.old).core) (seen parts.old) (seen parts.new)) }
     ensures thread { IfOk result (λ ids. thread_of (seen parts.new) ids.0 ≡ parts.old.made.threads + 1) }
     ensures call { IfOk result (λ ids. call_of (seen parts.new) ids.1 ≡ parts.old.made.threads + 1) }
     ensures pushes { IfOk result (λ ids. PushesCallWithThread parts.old parts.new id group ids.0 ids.1) }
@@ -143,12 +130,7 @@ pub fn drop_call_with_thread(
     requires made { 0 < parts.old.made.threads }
     requires used { 3 ≤ parts.old.kept.used }
     requires interesting { 0 < parts.old.kept.interesting }
-    ensures threads_table { IsTable parts.new.threads }
-    ensures calls_table { IsTable parts.new.calls }
-    ensures threads { parts.new.threads ≡ deleted first.rep parts.old.threads }
-    ensures calls { parts.new.calls ≡ deleted task.rep parts.old.calls }
-    ensures groups { parts.new.groups ≡ with_entry id.rep (entry_of group) parts.old.groups }
-    ensures only { parts.new ≡ record parts.old { threads = parts.new.threads; calls = parts.new.calls; groups = parts.new.groups; made = record parts.old.made { threads = parts.old.made.threads - 1 }; kept = record parts.old.kept { used = parts.old.kept.used - 3; interesting = parts.old.kept.interesting - 1 } } }
+    ensures { DropsCallWithThread parts.old parts.new id group first task }
 {
     drop_thread(&mut parts.threads, first);
     drop_call(&mut parts.calls, task);

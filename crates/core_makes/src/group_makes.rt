@@ -1,10 +1,12 @@
+ghost use Rattle.core_makes.specs.Pushed.{PushesGroup};
+ghost use Rattle.core_makes.specs.Counted.{IsGroupLess};
 ghost use Rattle.core_makes.specs.Ends.{HasEndRoom};
 ghost use Rattle.std.specs.Prelude.{◌≡◌, ◌+◌, ◌-◌, ◌<◌, ◌^◌, IfOk, Ok, OnErr, OnOk, true};
 ghost use Rattle.machine_data.specs.Read.{fits};
-ghost use Rattle.core_records.specs.Kinds.{entry_of, item_of};
+ghost use Rattle.core_records.specs.Kinds.{item_of};
 ghost use Rattle.core_records.specs.Seen.{IsSoundCore, seen};
 ghost use Rattle.task_table.specs.TableAnswers.{item_at};
-ghost use Rattle.task_table.specs.Changes.{deleted, next_place, pushed};
+ghost use Rattle.task_table.specs.Changes.{deleted};
 ghost use Rattle.task_table.specs.Table.{IsTable};
 ghost use Rattle.core_primitives.specs.Groups.{with_group};
 
@@ -38,10 +40,7 @@ pub fn push_group(parts: &mut CoreParts, entry: u32) -> Result<TableId<GroupKey>
     requires end_room { HasEndRoom parts.old }
     ensures sound { IsSoundCore parts.new }
     ensures new { OnOk result (seen parts.new ≡ with_group (seen parts.old)) }
-    ensures group { IfOk result (λ id. Ok (record { number = parts.old.made.groups + 1; calls = 0; entry = entry }) ≡ item_at item_of parts.new.groups id.rep id.serial) }
-    ensures rep { IfOk result (λ id. id.rep ≡ next_place parts.old.groups) }
-    ensures pushed { OnOk result (parts.new.groups ≡ pushed (entry_of (record { number = parts.old.made.groups + 1; calls = 0; entry = entry })) parts.old.groups) }
-    ensures only { OnOk result (parts.new ≡ record parts.old { groups = parts.new.groups; made = record parts.old.made { groups = parts.old.made.groups + 1 }; kept = record parts.old.kept { used = parts.old.kept.used + 1; groups = parts.old.kept.groups + 1 } }) }
+    ensures pushes { IfOk result (λ id. PushesGroup parts.old parts.new entry id) }
     ensures err { OnErr result (parts.new ≡ parts.old) }
 {
     let number = parts.made.groups + 1;
@@ -70,7 +69,7 @@ pub fn drop_group(parts: &mut CoreParts, id: TableId<GroupKey>, group: TaskGroup
     requires kept { 0 < parts.old.kept.groups }
     ensures table { IsTable parts.new.groups }
     ensures deleted { parts.new.groups ≡ deleted id.rep parts.old.groups }
-    ensures only { parts.new ≡ record parts.old { groups = parts.new.groups; made = record parts.old.made { groups = parts.old.made.groups - 1 }; kept = record parts.old.kept { used = parts.old.kept.used - 1; groups = parts.old.kept.groups - 1 } } }
+    ensures only { IsGroupLess parts.old parts.new }
 {
     // only the contract speaks of `group`
     let _group = group;

@@ -1,21 +1,20 @@
-ghost use Rattle.std.specs.Prelude.{◌≡◌, ◌+◌, ◌-◌, ◌<◌, ◌≤◌, ◌^◌, IfOk, None, Ok, OnErr, OnOk, is_some, length, true};
+ghost use Rattle.std.specs.Prelude.{◌≡◌, ◌+◌, ◌-◌, ◌<◌, ◌≤◌, ◌^◌, IfOk, Ok, OnErr, OnOk, is_some, length, true};
+ghost use Rattle.core_makes.specs.Counted.{IsMemberLess};
 ghost use Rattle.core_makes.specs.LooseCalls.{AreThreadLoose};
-ghost use Rattle.core_makes.specs.Member.{IsMember};
-ghost use Rattle.core_makes.specs.Pushed.{PushesThread};
+ghost use Rattle.core_makes.specs.Pushed.{PushesThread, MayPushThread};
 ghost use Rattle.machine_data.specs.Maps.{get};
 ghost use Rattle.machine_data.specs.Read.{call_instance, fits};
 ghost use Rattle.machine_data.specs.Write.{add_thread};
-ghost use Rattle.machine_data.specs.declared.records.Script.TheVariants as scripts;
 ghost use Rattle.core_records.specs.Kinds.{entry_of, item_of};
 ghost use Rattle.core_records.specs.Seen.{IsSoundCore, parts_of, seen};
-ghost use Rattle.core_records.specs.Sound.{bare, bare_call, bare_thread};
-ghost use Rattle.machine_rules.specs.Calls.{new_thread, next_thread, with_thread_handle};
-ghost use Rattle.machine_rules.specs.Scripts.{registers_for};
+ghost use Rattle.core_records.specs.Sound.{bare};
+ghost use Rattle.machine_rules.specs.Calls.{new_thread, next_thread};
 ghost use Rattle.task_table.specs.TableAnswers.{item_at};
 ghost use Rattle.task_table.specs.Changes.{deleted, with_entry};
 ghost use Rattle.task_table.specs.Table.{IsTable};
-ghost use Rattle.core_primitives.specs.BecomesRecord.{BecomesRecord, MakesRecord, names_thread};
+ghost use Rattle.core_primitives.specs.BecomesRecord.{BecomesRecord};
 ghost use Rattle.core_primitives.specs.StateView.{call_of, thread_of};
+ghost use Rattle.core_primitives.specs.Records.{MakesThread, with_member};
 
 use crate::call_entries::{Entries, give_thread, take_thread};
 use crate::calls_with_threads::drop_thread;
@@ -64,10 +63,7 @@ fn push_thread(
     requires sound { IsSoundCore parts.old }
     requires few { parts.old.made.threads + 1 < 2 ^ 64 }
     requires room { fits 2 (seen parts.old).core ≡ true }
-    requires call { Ok call ≡ item_at item_of parts.old.calls task.rep task.serial }
-    requires member { IsMember (bare (parts_of parts.old)) (bare_call call) task.rep (bare_thread thread) }
-    requires loose { AreThreadLoose (bare (parts_of parts.old)) (record { node = thread.node; mark = thread.mark; instance_queue = thread.instance_queue; caller = thread.caller; callers = thread.callers; under = thread.under }) }
-    requires unnamed { thread.thread.handle ≡ None }
+    requires may { MayPushThread parts.old task call thread }
     ensures sound { IsSoundCore parts.new }
     ensures new { OnOk result (BecomesRecord (add_thread thread.thread (seen parts.old).core) (seen parts.old) (seen parts.new)) }
     ensures thread { IfOk result (λ id. thread_of (seen parts.new) id ≡ next_thread (seen parts.old).core) }
@@ -97,7 +93,7 @@ fn drop_member(parts: &mut CoreParts, task: CallId, call: GuestTask, new: Thread
     ensures table { IsTable parts.new.threads }
     ensures threads { parts.new.threads ≡ deleted new.rep parts.old.threads }
     ensures calls { parts.new.calls ≡ with_entry task.rep (entry_of call) parts.old.calls }
-    ensures only { parts.new ≡ record parts.old { threads = parts.new.threads; calls = parts.new.calls; made = record parts.old.made { threads = parts.old.made.threads - 1 }; kept = record parts.old.kept { used = parts.old.kept.used - 2 } } }
+    ensures only { IsMemberLess parts.old parts.new }
 {
     let more = one_thread_more(call);
     drop_thread(&mut parts.threads, new);
@@ -123,7 +119,7 @@ fn add_member(
     requires room { fits 2 (seen parts.old).core ≡ true }
     requires loose { AreThreadLoose (bare (parts_of parts.old)) nodes }
     ensures sound { IsSoundCore parts.new }
-    ensures new { MakesRecord (names_thread (next_thread (seen parts.old).core)) (with_thread_handle (call_instance (call_of (seen parts.old) task) (seen parts.old).core) (next_thread (seen parts.old).core) (add_thread (new_thread (call_of (seen parts.old) task) true (scripts.Slot slot) (registers_for words.now) None) (seen parts.old).core)) (seen parts.old) result (seen parts.new) }
+    ensures new { MakesThread (with_member (call_of (seen parts.old) task) slot words.now) (seen parts.old) result (seen parts.new) }
 {
     let call = *core_records::call_there(parts, task);
     let number = parts.made.threads + 1;
@@ -157,7 +153,7 @@ fn make_thread_with(
     requires few { (seen parts.old).core.made.threads + 1 < 2 ^ 64 }
     requires room { fits 2 (seen parts.old).core ≡ true }
     ensures sound { IsSoundCore parts.new }
-    ensures new { MakesRecord (names_thread (next_thread (seen parts.old).core)) (with_thread_handle (call_instance (call_of (seen parts.old) task) (seen parts.old).core) (next_thread (seen parts.old).core) (add_thread (new_thread (call_of (seen parts.old) task) true (scripts.Slot slot) (registers_for words.now) None) (seen parts.old).core)) (seen parts.old) result (seen parts.new) }
+    ensures new { MakesThread (with_member (call_of (seen parts.old) task) slot words.now) (seen parts.old) result (seen parts.new) }
 {
     match new_thread_nodes(parts) {
         Ok(nodes) => match add_member(parts, task, slot, words, entries, nodes) {
@@ -184,7 +180,7 @@ pub fn make_thread(
     requires few { (seen parts.old).core.made.threads + 1 < 2 ^ 64 }
     requires room { fits 2 (seen parts.old).core ≡ true }
     ensures sound { IsSoundCore parts.new }
-    ensures new { MakesRecord (names_thread (next_thread (seen parts.old).core)) (with_thread_handle (call_instance (call_of (seen parts.old) task) (seen parts.old).core) (next_thread (seen parts.old).core) (add_thread (new_thread (call_of (seen parts.old) task) true (scripts.Slot slot) (registers_for words.now) None) (seen parts.old).core)) (seen parts.old) result (seen parts.new) }
+    ensures new { MakesThread (with_member (call_of (seen parts.old) task) slot words.now) (seen parts.old) result (seen parts.new) }
 {
     let call = core_records::call_there(parts, task).entry;
     let entries = take_thread(&mut parts.table_places, call)?;

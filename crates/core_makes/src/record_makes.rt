@@ -1,4 +1,5 @@
 ghost use Rattle.std.specs.Prelude.{◌≡◌, ◌≤◌, None, length, not};
+ghost use Rattle.core_makes.specs.Fresh.{call_record, thread_record};
 ghost use Rattle.machine_data.specs.Read.{is_sync};
 ghost use Rattle.machine_rules.specs.Calls.{new_call, new_thread};
 ghost use Rattle.machine_rules.specs.Scripts.{registers_for};
@@ -93,7 +94,7 @@ pub fn call_record(
     entry: u32,
     nodes: CallNodes,
 ) -> GuestTask
-    ensures { result ≡ record { number = number; call = call; maker = maker; first = 0; joined = 0; group = group; entry = entry; threads = 1; ready = nodes.ready; blocked = nodes.blocked } }
+    ensures { result ≡ call_record number call maker group entry nodes }
 {
     GuestTask {
         number,
@@ -131,7 +132,7 @@ pub fn thread_record(
     entries: Entries,
     nodes: ThreadNodes,
 ) -> GuestThread
-    ensures { result ≡ record { number = number; thread = thread; task = task; instance = instance; task_entry = entries.task; entry = entries.thread; set_entry = entries.set; state_target = 0; op_target = 0; barred = barred; node = nodes.node; mark = nodes.mark; instance_queue = nodes.instance_queue; caller = nodes.caller; callers = nodes.callers; under = nodes.under } }
+    ensures { result ≡ thread_record number thread task instance barred entries nodes }
 {
     GuestThread {
         number,

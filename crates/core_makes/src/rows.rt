@@ -1,4 +1,4 @@
-ghost use Rattle.core_makes.specs.Makes.{MakesChain, MakesNode};
+ghost use Rattle.core_makes.specs.Makes.{MakesChain, MakesNode, with_instance_queues_of};
 ghost use Rattle.core_records.specs.Seen.{IsSoundCore};
 
 use core_records::CoreParts;
@@ -34,7 +34,7 @@ pub fn make_mark_node(parts: &mut CoreParts) -> Result<Node, NoMemory>
 #[inline(always)]
 pub fn make_instance_queue_chain(parts: &mut CoreParts) -> Result<usize, NoMemory>
     requires { IsSoundCore parts.old }
-    ensures { MakesChain parts.old.instance_queues parts.new.instance_queues parts.old parts.new (record parts.old { instance_queues = parts.new.instance_queues }) result }
+    ensures { MakesChain parts.old.instance_queues parts.new.instance_queues parts.old parts.new (with_instance_queues_of parts.new parts.old) result }
 {
     match parts.instance_queues.make_chain() {
         Ok(chain) => Ok(chain),
@@ -47,7 +47,7 @@ pub fn make_instance_queue_chain(parts: &mut CoreParts) -> Result<usize, NoMemor
 #[inline(always)]
 pub fn make_instance_queue_node(parts: &mut CoreParts) -> Result<Node, NoMemory>
     requires { IsSoundCore parts.old }
-    ensures { MakesNode parts.old.instance_queues parts.new.instance_queues parts.old parts.new (record parts.old { instance_queues = parts.new.instance_queues }) result }
+    ensures { MakesNode parts.old.instance_queues parts.new.instance_queues parts.old parts.new (with_instance_queues_of parts.new parts.old) result }
 {
     match parts.instance_queues.make_node() {
         Ok(node) => Ok(node),

@@ -1,16 +1,17 @@
+ghost use Rattle.core_makes.specs.Pushed.{IsSetNext, PushesSet};
+ghost use Rattle.core_makes.specs.Counted.{IsSetLess};
 ghost use Rattle.core_makes.specs.Loose.{AreSetLoose};
 ghost use Rattle.std.specs.Prelude.{◌≡◌, ◌+◌, ◌-◌, ◌<◌, ◌^◌, IfOk, OnErr, OnOk, is_some, length, true};
 ghost use Rattle.machine_data.specs.Maps.{get};
 ghost use Rattle.machine_data.specs.Read.{fits};
-ghost use Rattle.machine_data.specs.Write.{add_set, give_handle};
-ghost use Rattle.machine_data.specs.declared.records.Named.TheVariants as names;
-ghost use Rattle.core_records.specs.Kinds.{entry_of};
+ghost use Rattle.machine_data.specs.Write.{add_set};
 ghost use Rattle.core_records.specs.Seen.{IsSoundCore, parts_of, seen};
 ghost use Rattle.core_records.specs.Sound.{bare};
-ghost use Rattle.task_table.specs.Changes.{deleted, next_place, pushed};
+ghost use Rattle.task_table.specs.Changes.{deleted};
 ghost use Rattle.task_table.specs.Table.{IsTable};
-ghost use Rattle.core_primitives.specs.BecomesRecord.{BecomesRecord, MakesRecord, names_set};
+ghost use Rattle.core_primitives.specs.BecomesRecord.{BecomesRecord};
 ghost use Rattle.core_primitives.specs.StateView.{set_of};
+ghost use Rattle.core_primitives.specs.Records.{MakesSet, with_named_set};
 
 use crate::{make_place_chain, make_ready_call_chain, make_ready_work_chain};
 use core_fields::insert_handle;
@@ -23,18 +24,13 @@ use task_wait::SetKey;
 // The record of a set, with its chains.
 fn push_set(parts: &mut CoreParts, set: WaitSet) -> Result<SetId, NoMemory>
     requires sound { IsSoundCore parts.old }
-    requires next { set.number ≡ parts.old.made.sets + 1 }
     requires few { (seen parts.old).core.made.sets + 1 < 2 ^ 64 }
     requires room { fits 1 (seen parts.old).core ≡ true }
-    requires loose { AreSetLoose (bare (parts_of parts.old)) set }
-    requires members { set.members ≡ 0 }
-    requires entries { set.entries ≡ 0 }
+    requires next { IsSetNext parts.old set }
     ensures sound { IsSoundCore parts.new }
     ensures new { OnOk result (BecomesRecord (add_set set.set (seen parts.old).core) (seen parts.old) (seen parts.new)) }
     ensures set { IfOk result (λ id. set_of (seen parts.new) id ≡ (seen parts.old).core.made.sets + 1) }
-    ensures rep { IfOk result (λ id. id.rep ≡ next_place parts.old.sets) }
-    ensures pushed { OnOk result (parts.new.sets ≡ pushed (entry_of set) parts.old.sets) }
-    ensures only { OnOk result (parts.new ≡ record parts.old { sets = parts.new.sets; made = record parts.old.made { sets = parts.old.made.sets + 1 }; kept = record parts.old.kept { used = parts.old.kept.used + 1 } }) }
+    ensures pushes { IfOk result (λ id. PushesSet parts.old parts.new set id) }
     ensures err { OnErr result (parts.new ≡ parts.old) }
 {
     match parts.sets.push::<SetKey>(set) {
@@ -55,7 +51,7 @@ fn take_back(parts: &mut CoreParts, set: SetId)
     requires used { 0 < parts.old.kept.used }
     ensures table { IsTable parts.new.sets }
     ensures deleted { parts.new.sets ≡ deleted set.rep parts.old.sets }
-    ensures only { parts.new ≡ record parts.old { sets = parts.new.sets; made = record parts.old.made { sets = parts.old.made.sets - 1 }; kept = record parts.old.kept { used = parts.old.kept.used - 1 } } }
+    ensures only { IsSetLess parts.old parts.new }
 {
     match parts.sets.delete(set) {
         Ok(_) => {}
@@ -69,14 +65,11 @@ fn take_back(parts: &mut CoreParts, set: SetId)
 fn name_set(parts: &mut CoreParts, instance: u32, set: WaitSet) -> Result<SetId, NoMemory>
     requires sound { IsSoundCore parts.old }
     requires there { instance < length parts.old.instances.items }
-    requires next { set.number ≡ parts.old.made.sets + 1 }
     requires few { (seen parts.old).core.made.sets + 1 < 2 ^ 64 }
     requires room { fits 1 (seen parts.old).core ≡ true }
-    requires loose { AreSetLoose (bare (parts_of parts.old)) set }
-    requires members { set.members ≡ 0 }
-    requires entries { set.entries ≡ 0 }
+    requires next { IsSetNext parts.old set }
     ensures sound { IsSoundCore parts.new }
-    ensures new { MakesRecord (names_set ((seen parts.old).core.made.sets + 1)) (give_handle instance (names.Set ((seen parts.old).core.made.sets + 1)) (add_set set.set (seen parts.old).core)) (seen parts.old) result (seen parts.new) }
+    ensures new { MakesSet (with_named_set instance set.set) (seen parts.old) result (seen parts.new) }
 {
     let number = set.number;
     match push_set(parts, set) {
@@ -132,7 +125,7 @@ fn open_set_at(parts: &mut CoreParts, instance: u32, entry: u32) -> Result<SetId
     requires few { (seen parts.old).core.made.sets + 1 < 2 ^ 64 }
     requires room { fits 1 (seen parts.old).core ≡ true }
     ensures sound { IsSoundCore parts.new }
-    ensures new { MakesRecord (names_set ((seen parts.old).core.made.sets + 1)) (give_handle instance (names.Set ((seen parts.old).core.made.sets + 1)) (add_set (record { instance = instance }) (seen parts.old).core)) (seen parts.old) result (seen parts.new) }
+    ensures new { MakesSet (with_named_set instance (record { instance = instance })) (seen parts.old) result (seen parts.new) }
 {
     match new_set(parts, instance, entry) {
         Ok(set) => name_set(parts, instance, set),
@@ -148,7 +141,7 @@ pub fn open_set(parts: &mut CoreParts, instance: u32) -> Result<SetId, NoMemory>
     requires few { (seen parts.old).core.made.sets + 1 < 2 ^ 64 }
     requires room { fits 1 (seen parts.old).core ≡ true }
     ensures sound { IsSoundCore parts.new }
-    ensures new { MakesRecord (names_set ((seen parts.old).core.made.sets + 1)) (give_handle instance (names.Set ((seen parts.old).core.made.sets + 1)) (add_set (record { instance = instance }) (seen parts.old).core)) (seen parts.old) result (seen parts.new) }
+    ensures new { MakesSet (with_named_set instance (record { instance = instance })) (seen parts.old) result (seen parts.new) }
 {
     let entry = parts.table_places.take()?;
     match open_set_at(parts, instance, entry) {

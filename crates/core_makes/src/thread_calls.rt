@@ -1,14 +1,11 @@
 ghost use Rattle.std.specs.Prelude.{◌≡◌, ◌+◌, ◌<◌, ◌≤◌, ◌^◌, IsSome, Ok, length, true};
 ghost use Rattle.machine_data.specs.Maps.{get};
 ghost use Rattle.machine_data.specs.Read.{fits, thread_group};
-ghost use Rattle.machine_data.specs.declared.records.Caller.TheVariants as callers;
-ghost use Rattle.machine_data.specs.declared.records.Goal.TheVariants as goals;
 ghost use Rattle.core_records.specs.Kinds.{item_of};
 ghost use Rattle.core_records.specs.Seen.{IsSoundCore, seen};
-ghost use Rattle.machine_rules.specs.Calls.{call_made, next_thread, with_thread_handle};
 ghost use Rattle.task_table.specs.TableAnswers.{item_at};
-ghost use Rattle.core_primitives.specs.BecomesRecord.{MakesRecord, names_call};
 ghost use Rattle.core_primitives.specs.StateView.{thread_of};
+ghost use Rattle.core_primitives.specs.Records.{MakesCall, call_by, direct_call_by};
 
 use crate::call_entries::{Entries, give_call_entries, take_call_entries};
 use crate::call_makes::{add_call_with_thread_outlined, add_named_call, prepare, prepare_outlined};
@@ -51,7 +48,7 @@ fn make_call_with(
     requires few { (seen parts.old).core.made.threads + 1 < 2 ^ 64 }
     requires room { fits 3 (seen parts.old).core ≡ true }
     ensures sound { IsSoundCore parts.new }
-    ensures new { MakesRecord (names_call (next_thread (seen parts.old).core)) (call_made (callers.Thread (thread_of (seen parts.old) thread)) callee kind goal (thread_group (thread_of (seen parts.old) thread) (seen parts.old).core) words.now (seen parts.old).core) (seen parts.old) result (seen parts.new) }
+    ensures new { MakesCall (call_by (thread_of (seen parts.old) thread) callee kind goal words.now) (seen parts.old) result (seen parts.new) }
 {
     let request = Request {
         caller: Caller::Thread {
@@ -92,7 +89,7 @@ pub fn make_call(
     requires few { (seen parts.old).core.made.threads + 1 < 2 ^ 64 }
     requires room { fits 3 (seen parts.old).core ≡ true }
     ensures sound { IsSoundCore parts.new }
-    ensures new { MakesRecord (names_call (next_thread (seen parts.old).core)) (call_made (callers.Thread (thread_of (seen parts.old) thread)) callee kind goal (thread_group (thread_of (seen parts.old) thread) (seen parts.old).core) words.now (seen parts.old).core) (seen parts.old) result (seen parts.new) }
+    ensures new { MakesCall (call_by (thread_of (seen parts.old) thread) callee kind goal words.now) (seen parts.old) result (seen parts.new) }
 {
     let entries = take_call_entries(&mut parts.table_places)?;
     match make_call_with(parts, thread, callee, kind, goal, words, entries) {
@@ -122,7 +119,7 @@ fn make_direct_call_with(
     requires few { (seen parts.old).core.made.threads + 1 < 2 ^ 64 }
     requires room { fits 3 (seen parts.old).core ≡ true }
     ensures sound { IsSoundCore parts.new }
-    ensures new { MakesRecord (names_call (next_thread (seen parts.old).core)) (with_thread_handle callee.instance (next_thread (seen parts.old).core) (call_made (callers.Thread (thread_of (seen parts.old) thread)) callee kind goals.Direct (thread_group (thread_of (seen parts.old) thread) (seen parts.old).core) words.now (seen parts.old).core)) (seen parts.old) result (seen parts.new) }
+    ensures new { MakesCall (direct_call_by (thread_of (seen parts.old) thread) callee kind words.now) (seen parts.old) result (seen parts.new) }
 {
     let request = Request {
         caller: Caller::Thread { thread: number },
@@ -161,7 +158,7 @@ pub fn make_direct_call(
     requires few { (seen parts.old).core.made.threads + 1 < 2 ^ 64 }
     requires room { fits 3 (seen parts.old).core ≡ true }
     ensures sound { IsSoundCore parts.new }
-    ensures new { MakesRecord (names_call (next_thread (seen parts.old).core)) (with_thread_handle callee.instance (next_thread (seen parts.old).core) (call_made (callers.Thread (thread_of (seen parts.old) thread)) callee kind goals.Direct (thread_group (thread_of (seen parts.old) thread) (seen parts.old).core) words.now (seen parts.old).core)) (seen parts.old) result (seen parts.new) }
+    ensures new { MakesCall (direct_call_by (thread_of (seen parts.old) thread) callee kind words.now) (seen parts.old) result (seen parts.new) }
 {
     let number = number(parts, thread);
     let entries = take_call_entries(&mut parts.table_places)?;

@@ -9,7 +9,9 @@ use Rattle.machine_data.specs.declared.records.Join.{Join}
 use Rattle.machine_data.specs.declared.records.Join.TheVariants as join
 use Rattle.machine_data.specs.declared.records.Place.{Place}
 use Rattle.machine_data.specs.declared.records.Place.TheVariants as place
+use Rattle.machine_data.specs.Moves.{held_why_of}
 use Rattle.machine_data.specs.Read.{is_stage_live}
+use Rattle.machine_data.specs.Write.{on_thread, set_place}
 use Rattle.machine_data.specs.declared.records.Stage.{Stage}
 use Rattle.machine_data.specs.declared.records.Stage.TheVariants as stage
 use Rattle.machine_data.specs.declared.records.Script.TheVariants as script
@@ -30,6 +32,13 @@ use Rattle.task_table.specs.Mapped.{mapped}
 use Rattle.task_table.specs.Table.{Table}
 use Rattle.task_table.specs.declared.error.ResourceTableError.{ResourceTableError}
 use Rattle.core_primitives.specs.Live.{delivered_set, kept_in}
+use Rattle.core_primitives.specs.Names.{op_progress_in}
+use Rattle.core_primitives.specs.StateView.{StateView, on_core, thread_of}
+use Rattle.core_primitives.specs.declared.names.OpProgressId.{OpProgressId}
+use Rattle.core_records.specs.declared.parts.CoreParts.{CoreParts}
+use Rattle.table_links.specs.Links.{removed}
+use Rattle.task_table.specs.declared.id.TableId.{TableId}
+use Rattle.task_wait.specs.declared.keys.ThreadKey.{ThreadKey}
 
 abbrev pub still : Thread → Thread
 still t = record t { place = place.New; op_progress = op_progress.Fresh }
@@ -156,3 +165,24 @@ to_begun code handle status t =
 
 abbrev pub begun : GuestThread → (code : ℕ) → (handle : ℕ) → (status : ℕ) → GuestThread
 begun g code handle status = record g { thread = to_begun code handle status g.thread; state_target = 0; op_target = 0 }
+
+-- The record of the thread that the id names, if it names one, is what this makes of it.
+abbrev pub WritesThread : (GuestThread → GuestThread) → TableId ThreadKey → (old new : Table (Single GuestThread)) → Type 0
+WritesThread change id old new =
+    (g : GuestThread) → Ok g ≡ item_at item_of old id.rep id.serial → new ≡ with_entry id.rep (entry_of (change g)) old
+
+-- the thread at this place
+abbrev pub placed_at : TableId ThreadKey → Place → StateView → StateView
+placed_at id at s = on_core (set_place (thread_of s id) at) s
+
+-- at this place, and its op got this far
+abbrev pub stood_at : TableId ThreadKey → Place → OpProgressId → StateView → StateView
+stood_at id at progress s = on_core (on_thread (thread_of s id) (to_stand at (op_progress_in s.tags progress))) s
+
+-- A thread that is held becomes this for what it is held for.
+abbrev pub RaisesHeld : (ℕ → Why → Core → Core) → (n : ℕ) → (old new : StateView) → Type 0
+RaisesHeld change n s t = (w : Why) → held_why_of n s.core ≡ Some w → t ≡ on_core (change n w) s
+
+-- The node of the thread that the id names, if it names one, is in no chain of places any more.
+abbrev pub LeavesChain : TableId ThreadKey → (old new : CoreParts) → Type 0
+LeavesChain id a b = (g : GuestThread) → Ok g ≡ item_at item_of a.threads id.rep id.serial → b.places ≡ removed g.node.index a.places

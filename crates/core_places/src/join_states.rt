@@ -11,6 +11,7 @@ ghost use Rattle.core_records.specs.declared.set_records.WaitSet.{WaitSet};
 ghost use Rattle.task_table.specs.TableAnswers.{item_at};
 ghost use Rattle.core_primitives.specs.Names.{join_in, subtask_in};
 ghost use Rattle.core_primitives.specs.StateView.{call_of, on_core, set_of, work_of};
+ghost use Rattle.core_primitives.specs.Changes.{with_join};
 
 use crate::entry_states::no_set;
 use crate::event_states::{call_chain, work_chain};
@@ -75,7 +76,7 @@ fn join_from_id(parts: &CoreParts, join: JoinId) -> (Join, u32)
 fn set_call_join(parts: &mut CoreParts, call: CallId, join: JoinId)
     requires { IsSoundCore parts.old }
     ensures sound { IsSoundCore parts.new }
-    ensures new { seen parts.new ≡ on_core (set_join (subtasks_of.Guest (call_of (seen parts.old) call)) (join_in (seen parts.old).tags join)) (seen parts.old) }
+    ensures new { seen parts.new ≡ with_join (SubtaskId.Guest call) join (seen parts.old) }
 {
     if let Some(found) = core_records::call(parts, call) {
         let old = *found;
@@ -127,7 +128,7 @@ fn set_work_join(parts: &mut CoreParts, work: WorkId, join: JoinId)
 fn rejoin(parts: &mut CoreParts, subtask: SubtaskId, join: JoinId)
     requires { IsSoundCore parts.old }
     ensures sound { IsSoundCore parts.new }
-    ensures new { seen parts.new ≡ on_core (set_join (subtask_in (seen parts.old).tags subtask) (join_in (seen parts.old).tags join)) (seen parts.old) }
+    ensures new { seen parts.new ≡ with_join subtask join (seen parts.old) }
 {
     match subtask {
         SubtaskId::Guest(call) => set_call_join(parts, call, join),
@@ -192,7 +193,7 @@ fn part(parts: &mut CoreParts, subtask: SubtaskId)
 pub fn set_join(parts: &mut CoreParts, subtask: SubtaskId, join: JoinId)
     requires { IsSoundCore parts.old }
     ensures sound { IsSoundCore parts.new }
-    ensures new { seen parts.new ≡ on_core (set_join (subtask_in (seen parts.old).tags subtask) (join_in (seen parts.old).tags join)) (seen parts.old) }
+    ensures new { seen parts.new ≡ with_join subtask join (seen parts.old) }
 {
     match join {
         JoinId::Nowhere => part(parts, subtask),

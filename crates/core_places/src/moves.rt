@@ -1,18 +1,17 @@
 //! A thread that is written with another place.
 ghost use Rattle.std.specs.Prelude.{◌≡◌, IfSome, IsSome, None, Ok, option_map, slice_set, true};
-ghost use Rattle.core_places.specs.Moved.{StandsAlone, arrived, at_answer, at_op, begun, placed, queued_set, standing, to_answer, to_begun, to_op, to_stand};
+ghost use Rattle.core_places.specs.Moved.{WritesThread, StandsAlone, arrived, at_answer, at_op, begun, placed, queued_set, standing, to_answer, to_begun, to_op, to_stand};
 ghost use Rattle.core_places.specs.Puts.{BecomesBy, IsChainAt, IsPut};
 ghost use Rattle.table_lists.specs.Index.{Refiles};
 ghost use Rattle.table_links.specs.Links.{is_made, link_of, list_of, removed};
 ghost use Rattle.machine_data.specs.declared.records.OpProgress.{OpProgress};
 ghost use Rattle.machine_data.specs.Write.{on_thread, set_op_progress};
-ghost use Rattle.core_records.specs.Kinds.{entry_of, item_of};
+ghost use Rattle.core_records.specs.Kinds.{item_of};
 ghost use Rattle.core_records.specs.Names.{AtPlace, op_progress_target, place_target};
 ghost use Rattle.core_records.specs.RecordPlaces.{member_order_key, thread_order_key};
 ghost use Rattle.core_records.specs.Seen.{IsSoundCore, parts_of, seen};
 ghost use Rattle.core_records.specs.declared.thread_records.GuestThread.{GuestThread};
 ghost use Rattle.task_table.specs.TableAnswers.{item_at};
-ghost use Rattle.task_table.specs.Changes.{with_entry};
 ghost use Rattle.core_primitives.specs.StateView.{thread_of};
 
 use crate::entry_states::{entry_set, no_set, recount};
@@ -76,7 +75,7 @@ fn write_place(
     place: Place,
     state_target: u32,
 )
-    ensures { (g : GuestThread) → Ok g ≡ item_at item_of threads.old id.rep id.serial → threads.new ≡ with_entry id.rep (entry_of (placed g place state_target)) threads.old }
+    ensures { WritesThread (λ g. placed g place state_target) id threads.old threads.new }
 {
     if let Ok(entry) = threads.get_mut(id) {
         entry.thread.place = place;
@@ -91,7 +90,7 @@ fn write_point(
     op_progress: OpProgress,
     op_target: u32,
 )
-    ensures { (g : GuestThread) → Ok g ≡ item_at item_of threads.old id.rep id.serial → threads.new ≡ with_entry id.rep (entry_of (arrived g op_progress op_target)) threads.old }
+    ensures { WritesThread (λ g. arrived g op_progress op_target) id threads.old threads.new }
 {
     if let Ok(entry) = threads.get_mut(id) {
         entry.thread.op_progress = op_progress;
@@ -108,7 +107,7 @@ fn write_stand(
     op_progress: OpProgress,
     op_target: u32,
 )
-    ensures { (g : GuestThread) → Ok g ≡ item_at item_of threads.old id.rep id.serial → threads.new ≡ with_entry id.rep (entry_of (standing g place state_target op_progress op_target)) threads.old }
+    ensures { WritesThread (λ g. standing g place state_target op_progress op_target) id threads.old threads.new }
 {
     if let Ok(entry) = threads.get_mut(id) {
         entry.thread.place = place;
@@ -120,7 +119,7 @@ fn write_stand(
 
 #[inline(always)]
 fn write_op(threads: &mut RecordTable<Single<GuestThread>>, id: ThreadId, position: u32)
-    ensures { (g : GuestThread) → Ok g ≡ item_at item_of threads.old id.rep id.serial → threads.new ≡ with_entry id.rep (entry_of (at_op g position)) threads.old }
+    ensures { WritesThread (λ g. at_op g position) id threads.old threads.new }
 {
     if let Ok(entry) = threads.get_mut(id) {
         entry.thread.position = position;
@@ -147,7 +146,7 @@ fn write_answer(
     value: u64,
     position: u32,
 )
-    ensures { (g : GuestThread) → Ok g ≡ item_at item_of threads.old id.rep id.serial → threads.new ≡ with_entry id.rep (entry_of (at_answer g register value position)) threads.old }
+    ensures { WritesThread (λ g. at_answer g register value position) id threads.old threads.new }
 {
     if let Ok(entry) = threads.get_mut(id) {
         put_register(&mut entry.thread.registers, register, value);
@@ -160,7 +159,7 @@ fn write_answer(
 // The beginning of an activation, with these values in r0, r1 and r2.
 #[inline(always)]
 fn write_begun(threads: &mut RecordTable<Single<GuestThread>>, id: ThreadId, words: (u64, u64, u64))
-    ensures { (g : GuestThread) → Ok g ≡ item_at item_of threads.old id.rep id.serial → threads.new ≡ with_entry id.rep (entry_of (begun g words.0 words.1 words.2)) threads.old }
+    ensures { WritesThread (λ g. begun g words.0 words.1 words.2) id threads.old threads.new }
 {
     if let Ok(entry) = threads.get_mut(id) {
         entry.thread.registers[0] = words.0;

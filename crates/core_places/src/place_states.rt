@@ -1,23 +1,20 @@
-ghost use Rattle.std.specs.Prelude.{◌≡◌, Bool, IsSome, None, Ok, Some, option_map, ℕ};
-ghost use Rattle.table_links.specs.Links.{removed};
+ghost use Rattle.std.specs.Prelude.{◌≡◌, Bool, IsSome, None, option_map, ℕ};
 ghost use Rattle.machine_data.specs.Moves.{held_why_of, ready_why, stand, why_of};
 ghost use Rattle.machine_data.specs.Read.{place_of};
-ghost use Rattle.machine_data.specs.Write.{on_thread, set_op_progress, set_place};
-ghost use Rattle.core_places.specs.Moved.{to_stand};
+ghost use Rattle.machine_data.specs.Write.{set_place};
+ghost use Rattle.core_places.specs.Moved.{LeavesChain, RaisesHeld, placed_at, stood_at};
 ghost use Rattle.machine_data.specs.declared.records.Place.TheVariants as places;
 ghost use Rattle.machine_data.specs.declared.records.Why.{Why};
 ghost use Rattle.machine_data.specs.declared.statuses.Mark.TheVariants as marks;
 ghost use Rattle.core_records.specs.Keys.{thread_key};
-ghost use Rattle.core_records.specs.Kinds.{item_of};
 ghost use Rattle.core_records.specs.Names.{AtPlace, place_target, why_target};
 ghost use Rattle.core_records.specs.RecordPlaces.{where_at};
 ghost use Rattle.core_records.specs.Seen.{IsSoundCore, parts_of, seen};
-ghost use Rattle.core_records.specs.declared.thread_records.GuestThread.{GuestThread};
-ghost use Rattle.task_table.specs.TableAnswers.{item_at};
 ghost use Rattle.task_table.specs.Records.{number_in, record_at};
-ghost use Rattle.core_primitives.specs.Live.{delivered_set, live_set};
-ghost use Rattle.core_primitives.specs.Names.{op_progress_in, place_in, why_in};
-ghost use Rattle.core_primitives.specs.StateView.{on_core, set_of, thread_of};
+ghost use Rattle.core_primitives.specs.Live.{delivered_set, live_set, live_delivered_set};
+ghost use Rattle.core_primitives.specs.Names.{place_in, why_in};
+ghost use Rattle.core_primitives.specs.StateView.{on_core, set_of, thread_of, set_if_any};
+ghost use Rattle.core_primitives.specs.Changes.{with_place, standing_at, with_mark, with_held};
 
 use crate::moves::{
     is_queued_alone, put, put_alone, put_away, put_counted, put_stand, put_stand_counted,
@@ -68,7 +65,7 @@ pub fn why(parts: &CoreParts, thread: ThreadId) -> Why
 fn delivery_from_id(parts: &CoreParts, place: u32, why: Why) -> Option<SetId>
     requires sound { IsSoundCore parts.now }
     requires at { AtPlace (parts_of parts.now) place (why_target why) }
-    ensures { option_map (λ id. set_of (seen parts.now) id) result ≡ option_map (λ x. live_set x (seen parts.now).core) (delivered_set why) }
+    ensures { set_if_any (seen parts.now) result ≡ option_map (λ x. live_set x (seen parts.now).core) (delivered_set why) }
 {
     match why {
         Why::Delivery {
@@ -81,7 +78,7 @@ fn delivery_from_id(parts: &CoreParts, place: u32, why: Why) -> Option<SetId>
 /// Returns the set that the thread's queued delivery is for.
 pub fn delivered_set(parts: &CoreParts, thread: ThreadId) -> Option<SetId>
     requires { IsSoundCore parts.now }
-    ensures { option_map (λ id. set_of (seen parts.now) id) result ≡ option_map (λ x. live_set x (seen parts.now).core) (delivered_set (why_of (thread_of (seen parts.now) thread) (seen parts.now).core)) }
+    ensures { set_if_any (seen parts.now) result ≡ live_delivered_set (thread_of (seen parts.now) thread) (seen parts.now).core }
 {
     match core_records::thread(parts, thread) {
         Some(found) => delivery_from_id(parts, found.state_target, ready_why(found.thread.place)),
@@ -94,7 +91,7 @@ pub fn delivered_set(parts: &CoreParts, thread: ThreadId) -> Option<SetId>
 fn queue(parts: &mut CoreParts, thread: ThreadId, mark: Mark, why: WhyId)
     requires { IsSoundCore parts.old }
     ensures sound { IsSoundCore parts.new }
-    ensures new { seen parts.new ≡ on_core (set_place (thread_of (seen parts.old) thread) (places.Ready mark (why_in (seen parts.old).tags why))) (seen parts.old) }
+    ensures new { seen parts.new ≡ placed_at thread (places.Ready mark (why_in (seen parts.old).tags why)) (seen parts.old) }
 {
     let (named, state_target) = why_from_id(parts, why);
     put(
@@ -141,7 +138,7 @@ fn hold_for(parts: &mut CoreParts, thread: ThreadId, why: WhyId)
 fn wait_on(parts: &mut CoreParts, thread: ThreadId, set: SetId, by_callback: bool)
     requires { IsSoundCore parts.old }
     ensures sound { IsSoundCore parts.new }
-    ensures new { seen parts.new ≡ on_core (set_place (thread_of (seen parts.old) thread) (places.Waiting (set_of (seen parts.old) set) by_callback)) (seen parts.old) }
+    ensures new { seen parts.new ≡ placed_at thread (places.Waiting (set_of (seen parts.old) set) by_callback) (seen parts.old) }
 {
     let number = set_number(parts, set);
     let chain = waiters_chain(parts, set);
@@ -167,7 +164,7 @@ pub fn suspend(parts: &mut CoreParts, thread: ThreadId)
 fn put_at(parts: &mut CoreParts, thread: ThreadId, place: PlaceId)
     requires { IsSoundCore parts.old }
     ensures sound { IsSoundCore parts.new }
-    ensures new { seen parts.new ≡ on_core (set_place (thread_of (seen parts.old) thread) (place_in (seen parts.old).tags place)) (seen parts.old) }
+    ensures new { seen parts.new ≡ with_place thread place (seen parts.old) }
 {
     if let Some(found) = core_records::thread(parts, thread) {
         let instance = found.instance;
@@ -183,7 +180,7 @@ fn put_at(parts: &mut CoreParts, thread: ThreadId, place: PlaceId)
 pub fn set_place(parts: &mut CoreParts, thread: ThreadId, place: PlaceId)
     requires { IsSoundCore parts.old }
     ensures sound { IsSoundCore parts.new }
-    ensures new { seen parts.new ≡ on_core (set_place (thread_of (seen parts.old) thread) (place_in (seen parts.old).tags place)) (seen parts.old) }
+    ensures new { seen parts.new ≡ with_place thread place (seen parts.old) }
 {
     match place {
         // seldom one that was where no set counts it
@@ -205,7 +202,7 @@ fn stand_anywhere(
 )
     requires { IsSoundCore parts.old }
     ensures sound { IsSoundCore parts.new }
-    ensures new { seen parts.new ≡ on_core (on_thread (thread_of (seen parts.old) thread) (to_stand (place_in (seen parts.old).tags place) (op_progress_in (seen parts.old).tags op_progress))) (seen parts.old) }
+    ensures new { seen parts.new ≡ stood_at thread (place_in (seen parts.old).tags place) op_progress (seen parts.old) }
 {
     if let Some(found) = core_records::thread(parts, thread) {
         let instance = found.instance;
@@ -221,7 +218,7 @@ fn stand_anywhere(
 fn stand_under(parts: &mut CoreParts, thread: ThreadId, callee: ThreadId, op_progress: OpProgressId)
     requires { IsSoundCore parts.old }
     ensures sound { IsSoundCore parts.new }
-    ensures new { seen parts.new ≡ on_core (on_thread (thread_of (seen parts.old) thread) (to_stand (places.Under (thread_of (seen parts.old) callee)) (op_progress_in (seen parts.old).tags op_progress))) (seen parts.old) }
+    ensures new { seen parts.new ≡ stood_at thread (places.Under (thread_of (seen parts.old) callee)) op_progress (seen parts.old) }
 {
     let called = number(parts, callee);
     let chain = under_chain(parts, callee);
@@ -243,7 +240,7 @@ fn stand_unchained(
     requires at { AtPlace (parts_of parts.old) state_target (place_target place) }
     requires unchained { (i : ℕ) (b : Bool) → where_at i b place ≡ None }
     ensures sound { IsSoundCore parts.new }
-    ensures new { seen parts.new ≡ on_core (on_thread (thread_of (seen parts.old) thread) (to_stand place (op_progress_in (seen parts.old).tags op_progress))) (seen parts.old) }
+    ensures new { seen parts.new ≡ stood_at thread place op_progress (seen parts.old) }
 {
     let (point, op_target) = op_progress_from_id(parts, op_progress);
     put_stand(parts, thread, place, state_target, point, op_target, None);
@@ -260,7 +257,7 @@ fn stand_waiting(
 )
     requires { IsSoundCore parts.old }
     ensures sound { IsSoundCore parts.new }
-    ensures new { seen parts.new ≡ on_core (on_thread (thread_of (seen parts.old) thread) (to_stand (places.Waiting (set_of (seen parts.old) set) by_callback) (op_progress_in (seen parts.old).tags op_progress))) (seen parts.old) }
+    ensures new { seen parts.new ≡ stood_at thread (places.Waiting (set_of (seen parts.old) set) by_callback) op_progress (seen parts.old) }
 {
     let number = set_number(parts, set);
     let chain = waiters_chain(parts, set);
@@ -277,7 +274,7 @@ fn stand_waiting(
 pub fn stand_at(parts: &mut CoreParts, thread: ThreadId, place: PlaceId, op_progress: OpProgressId)
     requires { IsSoundCore parts.old }
     ensures sound { IsSoundCore parts.new }
-    ensures new { seen parts.new ≡ on_core (λ s. set_op_progress (thread_of (seen parts.old) thread) (op_progress_in (seen parts.old).tags op_progress) (set_place (thread_of (seen parts.old) thread) (place_in (seen parts.old).tags place) s)) (seen parts.old) }
+    ensures new { seen parts.new ≡ standing_at thread place op_progress (seen parts.old) }
 {
     match place {
         PlaceId::Running => {
@@ -306,7 +303,7 @@ pub fn stand_at(parts: &mut CoreParts, thread: ThreadId, place: PlaceId, op_prog
 pub fn set_mark(parts: &mut CoreParts, thread: ThreadId, mark: Mark)
     requires { IsSoundCore parts.old }
     ensures sound { IsSoundCore parts.new }
-    ensures new { seen parts.new ≡ on_core (λ s. stand (thread_of (seen parts.old) thread) mark (why_of (thread_of (seen parts.old) thread) s) s) (seen parts.old) }
+    ensures new { seen parts.new ≡ with_mark thread mark (seen parts.old) }
 {
     if let Some(found) = core_records::thread(parts, thread) {
         let state_target = found.state_target;
@@ -325,7 +322,7 @@ pub fn set_mark(parts: &mut CoreParts, thread: ThreadId, mark: Mark)
 pub fn hold(parts: &mut CoreParts, thread: ThreadId)
     requires { IsSoundCore parts.old }
     ensures sound { IsSoundCore parts.new }
-    ensures new { seen parts.new ≡ on_core (λ s. set_place (thread_of (seen parts.old) thread) (places.Held (why_of (thread_of (seen parts.old) thread) s)) s) (seen parts.old) }
+    ensures new { seen parts.new ≡ with_held thread (seen parts.old) }
 {
     if let Some(found) = core_records::thread(parts, thread) {
         let state_target = found.state_target;
@@ -347,9 +344,9 @@ pub fn unhold(parts: &mut CoreParts, thread: ThreadId)
     requires sound { IsSoundCore parts.old }
     requires held { IsSome (held_why_of (thread_of (seen parts.old) thread) (seen parts.old).core) }
     ensures sound { IsSoundCore parts.new }
-    ensures new { (w : Why) → held_why_of (thread_of (seen parts.old) thread) (seen parts.old).core ≡ Some w → seen parts.new ≡ on_core (stand (thread_of (seen parts.old) thread) marks.High w) (seen parts.old) }
+    ensures new { RaisesHeld (λ n. stand n marks.High) (thread_of (seen parts.old) thread) (seen parts.old) (seen parts.new) }
     ensures numbers { (r : ℕ) → number_in (record_at thread_key parts.new.threads.places r) ≡ number_in (record_at thread_key parts.old.threads.places r) }
-    ensures left { (g : GuestThread) → Ok g ≡ item_at item_of parts.old.threads thread.rep thread.serial → parts.new.places ≡ removed g.node.index parts.old.places }
+    ensures left { LeavesChain thread parts.old parts.new }
 {
     let Some(found) = core_records::thread(parts, thread) else {
         unreachable!()

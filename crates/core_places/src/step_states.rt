@@ -2,13 +2,13 @@
 ghost use Rattle.std.specs.Prelude.{◌≡◌, ◌+◌, ◌<◌, ◌^◌};
 ghost use Rattle.machine_data.specs.Read.{position_of};
 ghost use Rattle.core_places.specs.Moved.{with_registers};
-ghost use Rattle.machine_data.specs.Write.{on_thread, set_op_progress};
+ghost use Rattle.machine_data.specs.Write.{on_thread};
 ghost use Rattle.core_records.specs.Seen.{IsSoundCore, seen};
 ghost use Rattle.machine_rules.specs.Data.{advanced, assigned, moved_to};
 ghost use Rattle.machine_rules.specs.Sets.{given_code, given_handle, given_result};
 ghost use Rattle.core_primitives.specs.Context.{activating, with_context};
-ghost use Rattle.core_primitives.specs.Names.{op_progress_in};
 ghost use Rattle.core_primitives.specs.StateView.{on_core, thread_of};
+ghost use Rattle.core_primitives.specs.Changes.{with_op_progress};
 
 use crate::moves::{put_answer, put_begun, put_op, put_there};
 use crate::targets::op_progress_from_id;
@@ -22,7 +22,7 @@ use machine_data::Given;
 pub fn set_op_progress(parts: &mut CoreParts, thread: ThreadId, op_progress: OpProgressId)
     requires { IsSoundCore parts.old }
     ensures sound { IsSoundCore parts.new }
-    ensures new { seen parts.new ≡ on_core (set_op_progress (thread_of (seen parts.old) thread) (op_progress_in (seen parts.old).tags op_progress)) (seen parts.old) }
+    ensures new { seen parts.new ≡ with_op_progress thread op_progress (seen parts.old) }
 {
     let (named, op_target) = op_progress_from_id(parts, op_progress);
     put_there(parts, thread, named, op_target);

@@ -1,11 +1,10 @@
 //! A thread that is under another, and the one on top of it.
 ghost use Rattle.std.specs.Prelude.{◌≡◌, ◌<◌};
-ghost use Rattle.machine_data.specs.Write.{set_op_progress, set_place};
-ghost use Rattle.machine_data.specs.declared.records.OpProgress.TheVariants as op_progresses;
+ghost use Rattle.machine_data.specs.Write.{set_place};
 ghost use Rattle.machine_data.specs.declared.records.Place.TheVariants as places;
-ghost use Rattle.machine_data.specs.declared.records.Subtask.TheVariants as subtasks;
 ghost use Rattle.core_records.specs.Seen.{IsSoundCore, seen};
 ghost use Rattle.core_primitives.specs.StateView.{call_of, on_core, thread_of};
+ghost use Rattle.core_primitives.specs.Changes.{standing_under};
 
 use crate::moves::{put, put_stand};
 use core_primitives::{CallId, ThreadId};
@@ -30,7 +29,7 @@ pub fn stand_under(parts: &mut CoreParts, thread: ThreadId, callee: ThreadId, ca
     requires callee { 0 < thread_of (seen parts.old) callee }
     requires call { 0 < call_of (seen parts.old) call }
     ensures sound { IsSoundCore parts.new }
-    ensures new { seen parts.new ≡ on_core (λ s. set_op_progress (thread_of (seen parts.old) thread) (op_progresses.Calls (subtasks.Guest (call_of (seen parts.old) call))) (set_place (thread_of (seen parts.old) thread) (places.Under (thread_of (seen parts.old) callee)) s)) (seen parts.old) }
+    ensures new { seen parts.new ≡ standing_under thread callee call (seen parts.old) }
 {
     let top = core_records::thread_there(parts, callee);
     let place = Place::Under { callee: top.number };

@@ -1,11 +1,11 @@
 //! Who is behind whom.
-ghost use Rattle.std.specs.Prelude.{◌≡◌, ◌++◌, ◌<◌, ◌∷◌, [], IfSome, not, option_map};
-ghost use Rattle.machine_data.specs.Read.{callers_of, is_nil};
-ghost use Rattle.machine_data.specs.Write.{set_callers};
+ghost use Rattle.std.specs.Prelude.{◌≡◌, ◌<◌, IfSome, not};
+ghost use Rattle.machine_data.specs.Read.{is_nil};
 ghost use Rattle.core_records.specs.Seen.{IsSoundCore, seen};
 ghost use Rattle.machine_rules.specs.Works.{first_number};
 ghost use Rattle.core_primitives.specs.Apart.{IsBehindNobody, later_of, newest_of, older_of};
-ghost use Rattle.core_primitives.specs.StateView.{on_core, thread_of};
+ghost use Rattle.core_primitives.specs.StateView.{thread_of, thread_if_any};
+ghost use Rattle.core_primitives.specs.Changes.{with_caller, with_callers, callers_at};
 
 use crate::order_keys::live_thread;
 use core_primitives::ThreadId;
@@ -14,7 +14,7 @@ use core_records::{CoreParts, Follower, thread_at};
 /// Returns whether some thread is behind this one.
 pub fn has_callers(parts: &CoreParts, thread: ThreadId) -> bool
     requires { IsSoundCore parts.now }
-    ensures { result ≡ not (is_nil (callers_of (thread_of (seen parts.now) thread) (seen parts.now).core)) }
+    ensures { result ≡ not (is_nil (callers_at (seen parts.now) thread)) }
 {
     match core_records::thread(parts, thread) {
         Some(found) => parts.behind.first(found.callers).is_some(),
@@ -29,7 +29,7 @@ pub fn add_caller(parts: &mut CoreParts, thread: ThreadId, other: ThreadId)
     requires other { 0 < thread_of (seen parts.old) other }
     requires apart { IsBehindNobody (thread_of (seen parts.old) other) (seen parts.old).core }
     ensures sound { IsSoundCore parts.new }
-    ensures new { seen parts.new ≡ on_core (set_callers (thread_of (seen parts.old) thread) (callers_of (thread_of (seen parts.old) thread) (seen parts.old).core ++ thread_of (seen parts.old) other ∷ [])) (seen parts.old) }
+    ensures new { seen parts.new ≡ with_caller thread other (seen parts.old) }
 {
     let found = live_thread(parts, thread);
     let caller = live_thread(parts, other);
@@ -49,9 +49,9 @@ pub fn pop_caller(parts: &mut CoreParts, thread: ThreadId) -> Option<ThreadId>
     requires sound { IsSoundCore parts.old }
     requires live { 0 < thread_of (seen parts.old) thread }
     ensures sound { IsSoundCore parts.new }
-    ensures is { option_map (λ id. thread_of (seen parts.old) id) result ≡ first_number (callers_of (thread_of (seen parts.old) thread) (seen parts.old).core) }
+    ensures is { thread_if_any (seen parts.old) result ≡ first_number (callers_at (seen parts.old) thread) }
     ensures live { IfSome result (λ id. 0 < thread_of (seen parts.old) id) }
-    ensures new { seen parts.new ≡ on_core (set_callers (thread_of (seen parts.old) thread) (later_of (callers_of (thread_of (seen parts.old) thread) (seen parts.old).core))) (seen parts.old) }
+    ensures new { seen parts.new ≡ with_callers thread (later_of (callers_at (seen parts.old) thread)) (seen parts.old) }
 {
     let found = live_thread(parts, thread);
     match parts.behind.first(found.callers) {
@@ -70,9 +70,9 @@ pub fn pop_newest_caller(parts: &mut CoreParts, thread: ThreadId) -> Option<Thre
     requires sound { IsSoundCore parts.old }
     requires live { 0 < thread_of (seen parts.old) thread }
     ensures sound { IsSoundCore parts.new }
-    ensures is { option_map (λ id. thread_of (seen parts.old) id) result ≡ newest_of (callers_of (thread_of (seen parts.old) thread) (seen parts.old).core) }
+    ensures is { thread_if_any (seen parts.old) result ≡ newest_of (callers_at (seen parts.old) thread) }
     ensures live { IfSome result (λ id. 0 < thread_of (seen parts.old) id) }
-    ensures new { seen parts.new ≡ on_core (set_callers (thread_of (seen parts.old) thread) (older_of (callers_of (thread_of (seen parts.old) thread) (seen parts.old).core))) (seen parts.old) }
+    ensures new { seen parts.new ≡ with_callers thread (older_of (callers_at (seen parts.old) thread)) (seen parts.old) }
 {
     let found = live_thread(parts, thread);
     match parts.behind.last(found.callers) {

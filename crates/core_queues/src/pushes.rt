@@ -1,10 +1,10 @@
 //! Entries that are queued.
-ghost use Rattle.std.specs.Prelude.{◌≡◌, ◌<◌, IfSome, option_map};
+ghost use Rattle.std.specs.Prelude.{◌≡◌, ◌<◌, IfSome};
 ghost use Rattle.machine_data.specs.Write.{push_high, push_high_first, push_low, set_switch};
 ghost use Rattle.machine_data.specs.declared.records.Entry.TheVariants as entries;
 ghost use Rattle.core_records.specs.Seen.{IsSoundCore, seen};
 ghost use Rattle.core_primitives.specs.Apart.{IsUnqueued, work_entries};
-ghost use Rattle.core_primitives.specs.StateView.{on_core, thread_of, work_of};
+ghost use Rattle.core_primitives.specs.StateView.{on_core, thread_of, work_of, thread_if_any};
 
 use crate::order_keys::{entry_of, high_chains, host_entry_of, live_thread, live_work, low_chains};
 use core_primitives::{ThreadId, WorkId};
@@ -15,7 +15,7 @@ pub fn set_switch(parts: &mut CoreParts, thread: Option<ThreadId>)
     requires sound { IsSoundCore parts.old }
     requires live { IfSome thread (λ id. 0 < thread_of (seen parts.old) id) }
     ensures sound { IsSoundCore parts.new }
-    ensures new { seen parts.new ≡ on_core (set_switch (option_map (λ id. thread_of (seen parts.old) id) thread)) (seen parts.old) }
+    ensures new { seen parts.new ≡ on_core (set_switch (thread_if_any (seen parts.old) thread)) (seen parts.old) }
 {
     match thread {
         Some(id) => {

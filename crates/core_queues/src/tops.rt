@@ -4,7 +4,7 @@ ghost use Rattle.machine_data.specs.Moves.{first_entry};
 ghost use Rattle.machine_data.specs.Read.{next_entry};
 ghost use Rattle.core_records.specs.Seen.{IsSoundCore, seen};
 ghost use Rattle.core_primitives.specs.Names.{entry_in};
-ghost use Rattle.core_primitives.specs.StateView.{thread_of};
+ghost use Rattle.core_primitives.specs.StateView.{thread_of, thread_if_any};
 
 use crate::order_keys::{entry_id, first_queued};
 use core_primitives::{EntryId, ThreadId};
@@ -14,7 +14,7 @@ use machine_data::Mark;
 /// Returns the thread at switch.
 pub fn switch(parts: &CoreParts) -> Option<ThreadId>
     requires { IsSoundCore parts.now }
-    ensures is { option_map (λ id. thread_of (seen parts.now) id) result ≡ (seen parts.now).core.queues.switch }
+    ensures is { thread_if_any (seen parts.now) result ≡ (seen parts.now).core.queues.switch }
     ensures live { IfSome result (λ id. 0 < thread_of (seen parts.now) id) }
 {
     match parts.switch {
@@ -26,7 +26,7 @@ pub fn switch(parts: &CoreParts) -> Option<ThreadId>
 /// Returns the thread of the first entry of an instance, at high, else at low.
 pub fn first_entry(parts: &CoreParts, instance: u32) -> Option<ThreadId>
     requires { IsSoundCore parts.now }
-    ensures is { option_map (λ id. thread_of (seen parts.now) id) result ≡ first_entry instance (seen parts.now).core }
+    ensures is { thread_if_any (seen parts.now) result ≡ first_entry instance (seen parts.now).core }
     ensures live { IfSome result (λ id. 0 < thread_of (seen parts.now) id) }
 {
     match core_records::instance(parts, instance) {

@@ -4,7 +4,7 @@ use Rattle.std.specs.Prelude.{◌≡◌, ◌==◌, ◌&&◌, ℕ, Bool, false, n
 use Rattle.table_lists.specs.Members.{Once, has}
 use Rattle.machine_data.specs.Core.{Core}
 use Rattle.machine_data.specs.Maps.{get}
-use Rattle.machine_data.specs.Moves.{held_why_of, released}
+use Rattle.machine_data.specs.Moves.{held_why_of, put_high, released}
 use Rattle.machine_data.specs.Read.{held_why, instance_of, is_held_admitted, kind_of}
 use Rattle.machine_data.specs.declared.records.Thread.{Thread}
 use Rattle.machine_data.specs.declared.records.Why.{Why}
@@ -14,6 +14,7 @@ use Rattle.core_records.specs.declared.parts.CoreParts.{CoreParts}
 use Rattle.machine_rules.specs.Places.{is_for_start}
 use Rattle.core_primitives.specs.Apart.{IsUnqueued}
 use Rattle.core_primitives.specs.Barred.{bars_start}
+use Rattle.core_places.specs.Moved.{RaisesHeld}
 use Rattle.core_primitives.specs.StateView.{StateView, on_core}
 use Rattle.core_removals.specs.Walks.{of_node}
 
@@ -45,6 +46,10 @@ listed_in starts i s n = (instance_of n s == i) && listed_at starts s (get s.thr
 -- some of what is left passes just where some of all does
 abbrev pub AnyLeft : {P : Type 0} → (ℕ → ℕ) → (ℕ → Bool) → List ℕ → List (ℕ × P) → Type 0
 AnyLeft number test all left = list_any test (map (λ e. number e.0) left) ≡ list_any test all
+
+-- The held thread is at high, if it is admitted.
+abbrev pub RaisesAdmitted : (instance n : ℕ) → (old new : StateView) → Type 0
+RaisesAdmitted i n s t = is_admitted i s.core n ≡ true → RaisesHeld put_high n s t
 
 -- nothing that a release looks at has changed for the thread, and it has no entry
 pub record IsUntouched (n : ℕ) (s t : Core) : Type 0 where

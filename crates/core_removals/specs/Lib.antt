@@ -7,3 +7,4 @@ pub mod Chains
 pub mod Counted
 pub mod LooseWorks
 pub mod Raised
+pub mod Gone

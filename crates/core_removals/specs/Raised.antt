@@ -1,8 +1,16 @@
 -- A host work that is made, and its group, if it is a call.
+use Rattle.task_wait.specs.declared.keys.HostTaskKey.{HostTaskKey}
+use Rattle.core_primitives.specs.Apart.{work_entries}
+use Rattle.core_primitives.specs.StateView.{StateView, work_of}
+use Rattle.core_removals.specs.LooseWorks.{AreWorkLoose}
+use Rattle.core_records.specs.Seen.{parts_of}
+use Rattle.core_records.specs.Sound.{bare, bare_work}
 use Rattle.std.specs.Option.{option_map_or}
-use Rattle.std.specs.Prelude.{◌≡◌, ◌+◌, ◌<◌, ℕ, Ok, Option, None, Some, option_map}
+use Rattle.std.specs.Prelude.{◌≡◌, ◌+◌, ◌-◌, ◌<◌, ℕ, Ok, Option, None, Some, option_map, IsSome}
+use Rattle.machine_data.specs.Core.{Core}
 use Rattle.machine_data.specs.declared.records.Join.TheVariants as join
 use Rattle.machine_data.specs.declared.records.Stage.TheVariants as stage
+use Rattle.machine_data.specs.declared.records.Subtask.TheVariants as subtask
 use Rattle.core_records.specs.Image.{CoreImage}
 use Rattle.core_records.specs.Keys.{group_key}
 use Rattle.core_records.specs.Kinds.{entry_of, item_of}
@@ -11,7 +19,7 @@ use Rattle.core_records.specs.declared.call_records.TaskGroup.{TaskGroup}
 use Rattle.core_records.specs.declared.parts.CoreParts.{CoreParts}
 use Rattle.core_records.specs.declared.single.Single.{Single}
 use Rattle.core_records.specs.declared.work_records.WorkRecord.{WorkRecord}
-use Rattle.machine_rules.specs.Calls.{new_work}
+use Rattle.machine_rules.specs.Calls.{new_work, next_work, with_handle, work_queued}
 use Rattle.task_table.specs.TableAnswers.{item_at}
 use Rattle.task_table.specs.Changes.{next_place, pushed, with_entry}
 use Rattle.task_table.specs.Table.{Table}
@@ -67,6 +75,19 @@ record_for number q group nodes = record {
   blocked = nodes.blocked;
 }
 
+-- The work that is asked for, with its push and its handle in an instance.
+abbrev pub requested_work : (instance : ℕ) → WorkRequest → TableId GroupKey × TaskGroup → Core → Core
+requested_work i q group s = with_handle i (subtask.Host (next_work s)) (work_queued q.caller q.host (group_name (Some group)) s)
+
+-- One work less, and its handle's room, is counted: all else but the tables of works and of groups is as before.
+abbrev pub IsWorkLess : (old new : CoreParts) → Type 0
+IsWorkLess a b = b ≡ record a {
+  works = b.works;
+  groups = b.groups;
+  made = record a.made { works = a.made.works - 1 };
+  kept = record a.kept { used = a.kept.used - 1 };
+}
+
 -- What the push of a work's record changed.
 pub record PushesWork (a b : CoreParts) (w : WorkRecord) (group : GroupHere) (id : ℕ) (used : ℕ) : Type 0 where
   pub works : b.works ≡ pushed (entry_of w) a.works
@@ -78,3 +99,20 @@ pub record PushesWork (a b : CoreParts) (w : WorkRecord) (group : GroupHere) (id
         made = record a.made { works = a.made.works + 1 };
         kept = record a.kept { used = a.kept.used + used };
       }
+
+-- What a work is to have hangs on nothing yet, and the lists that it goes to are there.
+pub record MayQueueWork (a : CoreParts) (nodes : WorkNodes) : Type 0 where
+  pub loose : AreWorkLoose (bare (parts_of a)) nodes
+  pub high : IsSome a.high
+  pub live : IsSome a.live
+
+-- The work is the next one, of this group, if it is a call.
+pub record IsWorkNextOf (a : CoreParts) (w : WorkRecord) (group : GroupHere) : Type 0 where
+  pub next : IsWorkNext (bare (parts_of a)) (bare_work w)
+  pub here : IsHere a.groups group
+  pub named : w.work.group ≡ group_name group
+
+-- The id names it, and it has no entry yet.
+pub record NamesNewWork (id : TableId HostTaskKey) (s t : StateView) : Type 0 where
+  pub named : work_of t id ≡ s.core.made.works + 1
+  pub unqueued : work_entries (s.core.made.works + 1) t.core.queues.high ≡ 0

@@ -46,7 +46,7 @@ fn admits(parts: &CoreParts, thread: ThreadId, why: Why) -> bool
 #[inline(always)]
 pub(crate) fn is_admitted(parts: &CoreParts, instance: u32, thread: ThreadId) -> bool
     requires { IsSoundCore parts.now }
-    ensures { result ≡ is_held_admitted instance (seen parts.now).core (thread_of (seen parts.now) thread) (held_why_of (thread_of (seen parts.now) thread) (seen parts.now).core) }
+    ensures { result ≡ is_admitted instance (seen parts.now).core (thread_of (seen parts.now) thread) }
 {
     match core_records::thread(parts, thread) {
         Some(found) => match found.thread.place {

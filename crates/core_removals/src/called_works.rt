@@ -1,19 +1,16 @@
-ghost use Rattle.std.specs.Prelude.{◌≡◌, ◌+◌, ◌-◌, ◌<◌, ◌^◌, IsSome, Ok, OnErr, OnOk, Some, length, true};
-ghost use Rattle.machine_data.specs.Read.{fits, instance_of, new_handle, thread_group};
+ghost use Rattle.std.specs.Prelude.{◌≡◌, ◌+◌, ◌-◌, ◌<◌, ◌^◌, Ok, OnErr, OnOk, length, true};
+ghost use Rattle.machine_data.specs.Read.{fits, instance_of, new_handle};
 ghost use Rattle.machine_data.specs.declared.records.Subtask.TheVariants as subtasks;
-ghost use Rattle.machine_data.specs.declared.records.WorkCaller.TheVariants as callers;
 ghost use Rattle.core_records.specs.Kinds.{entry_of, item_of};
 ghost use Rattle.core_records.specs.Names.{AtPlace, work_caller_target};
 ghost use Rattle.core_records.specs.Seen.{IsSoundCore, parts_of, seen};
-ghost use Rattle.core_records.specs.Sound.{bare};
-ghost use Rattle.machine_rules.specs.Calls.{next_work, with_handle, work_queued};
+ghost use Rattle.machine_rules.specs.Calls.{with_handle};
 ghost use Rattle.task_table.specs.TableAnswers.{item_at};
 ghost use Rattle.task_table.specs.Changes.{deleted, with_entry};
 ghost use Rattle.task_table.specs.Table.{IsTable};
-ghost use Rattle.core_primitives.specs.BecomesRecord.{MakesRecord, names_work};
 ghost use Rattle.core_primitives.specs.StateView.{on_core, thread_of, work_of};
-ghost use Rattle.core_removals.specs.LooseWorks.{AreWorkLoose};
-ghost use Rattle.core_removals.specs.Raised.{group_name};
+ghost use Rattle.core_removals.specs.Raised.{IsWorkLess, requested_work, MayQueueWork};
+ghost use Rattle.core_primitives.specs.Records.{MakesWork, async_work};
 
 use crate::spawned_works::push_work;
 use crate::work_entries::queue_push;
@@ -61,7 +58,7 @@ fn drop_work(parts: &mut CoreParts, id: TableId<GroupKey>, group: TaskGroup, new
     ensures table { IsTable parts.new.works }
     ensures works { parts.new.works ≡ deleted new.rep parts.old.works }
     ensures groups { parts.new.groups ≡ with_entry id.rep (entry_of group) parts.old.groups }
-    ensures only { parts.new ≡ record parts.old { works = parts.new.works; groups = parts.new.groups; made = record parts.old.made { works = parts.old.made.works - 1 }; kept = record parts.old.kept { used = parts.old.kept.used - 1 } } }
+    ensures only { IsWorkLess parts.old parts.new }
 {
     match parts.works.delete(new) {
         Ok(_) => {}
@@ -86,11 +83,9 @@ fn call_work(
     requires room { fits 1 (seen parts.old).core ≡ true }
     requires caller { AtPlace (parts_of parts.old) request.maker (work_caller_target request.caller) }
     requires here { Ok group.1 ≡ item_at item_of parts.old.groups group.0.rep group.0.serial }
-    requires loose { AreWorkLoose (bare (parts_of parts.old)) nodes }
-    requires high { IsSome parts.old.high }
-    requires live { IsSome parts.old.live }
+    requires nodes { MayQueueWork parts.old nodes }
     ensures sound { IsSoundCore parts.new }
-    ensures new { MakesRecord (names_work (next_work (seen parts.old).core)) (with_handle instance (subtasks.Host (next_work (seen parts.old).core)) (work_queued request.caller request.host (group_name (Some group)) (seen parts.old).core)) (seen parts.old) result (seen parts.new) }
+    ensures new { MakesWork (requested_work instance request group) (seen parts.old) result (seen parts.new) }
     ensures small { OnOk result (new_handle instance (seen parts.old).core < 2 ^ 28) }
 {
     let number = parts.made.works + 1;
@@ -123,7 +118,7 @@ fn queue_call_at(
     requires few { (seen parts.old).core.made.works + 1 < 2 ^ 64 }
     requires room { fits 1 (seen parts.old).core ≡ true }
     ensures sound { IsSoundCore parts.new }
-    ensures new { MakesRecord (names_work (next_work (seen parts.old).core)) (with_handle (instance_of (thread_of (seen parts.old) thread) (seen parts.old).core) (subtasks.Host (next_work (seen parts.old).core)) (work_queued (callers.Async (thread_of (seen parts.old) thread) register) host (Some (thread_group (thread_of (seen parts.old) thread) (seen parts.old).core)) (seen parts.old).core)) (seen parts.old) result (seen parts.new) }
+    ensures new { MakesWork (async_work (thread_of (seen parts.old) thread) register host) (seen parts.old) result (seen parts.new) }
     ensures small { OnOk result (new_handle (instance_of (thread_of (seen parts.old) thread) (seen parts.old).core) (seen parts.old).core < 2 ^ 28) }
 {
     let caller = WorkCaller::Async {
@@ -166,7 +161,7 @@ pub fn queue_call(
     requires few { (seen parts.old).core.made.works + 1 < 2 ^ 64 }
     requires room { fits 1 (seen parts.old).core ≡ true }
     ensures sound { IsSoundCore parts.new }
-    ensures new { MakesRecord (names_work (next_work (seen parts.old).core)) (with_handle (instance_of (thread_of (seen parts.old) thread) (seen parts.old).core) (subtasks.Host (next_work (seen parts.old).core)) (work_queued (callers.Async (thread_of (seen parts.old) thread) register) host (Some (thread_group (thread_of (seen parts.old) thread) (seen parts.old).core)) (seen parts.old).core)) (seen parts.old) result (seen parts.new) }
+    ensures new { MakesWork (async_work (thread_of (seen parts.old) thread) register host) (seen parts.old) result (seen parts.new) }
     ensures small { OnOk result (new_handle (instance_of (thread_of (seen parts.old) thread) (seen parts.old).core) (seen parts.old).core < 2 ^ 28) }
 {
     let entry = parts.table_places.take()?;

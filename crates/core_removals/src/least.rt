@@ -1,10 +1,10 @@
 //! The thread of the least number in a chain: the only one, where the machine has come there itself.
-ghost use Rattle.std.specs.Prelude.{◌≡◌, ◌<◌, IfSome, IsSome, option_map};
+ghost use Rattle.std.specs.Prelude.{◌≡◌, ◌<◌, IfSome, IsSome};
 ghost use Rattle.table_links.specs.Links.{IsLinks, list_of};
 ghost use Rattle.machine_data.specs.Read.{blocked_on, under_of};
 ghost use Rattle.core_records.specs.Seen.{IsSoundCore, seen};
 ghost use Rattle.core_primitives.specs.Names.{number_in, subtask_in};
-ghost use Rattle.core_primitives.specs.StateView.{thread_of};
+ghost use Rattle.core_primitives.specs.StateView.{thread_of, thread_if_any};
 ghost use Rattle.core_removals.specs.Least.{least_of, lesser};
 ghost use Rattle.core_removals.specs.Walks.{of_chain};
 
@@ -16,7 +16,7 @@ use core_records::CoreParts;
 // Of a thread and of one that was found before that of the smaller number.
 fn lesser(parts: &CoreParts, least: Option<ThreadId>, thread: ThreadId) -> ThreadId
     requires { IsSoundCore parts.now }
-    ensures { thread_of (seen parts.now) result ≡ lesser (option_map (λ id. thread_of (seen parts.now) id) least) (thread_of (seen parts.now) thread) }
+    ensures { thread_of (seen parts.now) result ≡ lesser (thread_if_any (seen parts.now) least) (thread_of (seen parts.now) thread) }
 {
     match least {
         Some(other) => {
@@ -34,7 +34,7 @@ fn lesser(parts: &CoreParts, least: Option<ThreadId>, thread: ThreadId) -> Threa
 fn least(parts: &CoreParts, chain: usize) -> Option<ThreadId>
     requires sound { IsSoundCore parts.now }
     requires live { IsSome (list_of parts.now.places chain) }
-    ensures is { option_map (λ id. thread_of (seen parts.now) id) result ≡ least_of (of_chain parts.now chain) }
+    ensures is { thread_if_any (seen parts.now) result ≡ least_of (of_chain parts.now chain) }
     ensures links { IsLinks parts.now.places }
 {
     let mut least = None;
@@ -52,7 +52,7 @@ fn least(parts: &CoreParts, chain: usize) -> Option<ThreadId>
 pub fn under(parts: &CoreParts, thread: ThreadId) -> Option<ThreadId>
     requires sound { IsSoundCore parts.now }
     requires live { 0 < thread_of (seen parts.now) thread }
-    ensures is { option_map (λ id. thread_of (seen parts.now) id) result ≡ under_of (thread_of (seen parts.now) thread) (seen parts.now).core }
+    ensures is { thread_if_any (seen parts.now) result ≡ under_of (thread_of (seen parts.now) thread) (seen parts.now).core }
     ensures live { IfSome result (λ id. 0 < thread_of (seen parts.now) id) }
 {
     let found = core_records::thread_there(parts, thread);
@@ -64,7 +64,7 @@ pub fn under(parts: &CoreParts, thread: ThreadId) -> Option<ThreadId>
 pub fn blocked_on(parts: &CoreParts, subtask: SubtaskId) -> Option<ThreadId>
     requires sound { IsSoundCore parts.now }
     requires live { 0 < number_in (seen parts.now).tags subtask }
-    ensures is { option_map (λ id. thread_of (seen parts.now) id) result ≡ blocked_on (subtask_in (seen parts.now).tags subtask) (seen parts.now).core }
+    ensures is { thread_if_any (seen parts.now) result ≡ blocked_on (subtask_in (seen parts.now).tags subtask) (seen parts.now).core }
     ensures live { IfSome result (λ id. 0 < thread_of (seen parts.now) id) }
 {
     match subtask {

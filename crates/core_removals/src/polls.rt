@@ -7,10 +7,11 @@ ghost use Rattle.machine_data.specs.declared.component.HostDef.{HostDef as Left}
 ghost use Rattle.machine_data.specs.declared.records.Course.TheVariants as courses;
 ghost use Rattle.core_records.specs.RecordPlaces.{Rises};
 ghost use Rattle.core_records.specs.Seen.{IsSoundCore, seen};
-ghost use Rattle.machine_rules.specs.Works.{next_polled, poll_of, poll_pends, polled_course};
+ghost use Rattle.machine_rules.specs.Works.{next_polled, poll_of, polled_course};
 ghost use Rattle.core_primitives.specs.Polls.{PendsWith};
-ghost use Rattle.core_primitives.specs.StateView.{on_core, work_of};
+ghost use Rattle.core_primitives.specs.StateView.{work_of};
 ghost use Rattle.core_removals.specs.Walks.{HasNext, StandsLive, Walk, live_numbers};
+ghost use Rattle.core_primitives.specs.Changes.{CountsPoll};
 
 use core_primitives::WorkId;
 use core_records::{CoreParts, LiveWork, Node, work_at};
@@ -126,7 +127,7 @@ pub fn count_poll(parts: &mut CoreParts, work: WorkId) -> bool
     requires live { is_stage_live (stage_of (work_of (seen parts.old) work) (seen parts.old).core) ≡ true }
     requires pends { (left : Left) × PendsWith left (poll_of (work_of (seen parts.old) work) (seen parts.old).core) }
     ensures sound { IsSoundCore parts.new }
-    ensures new { (left : Left) → PendsWith left (poll_of (work_of (seen parts.old) work) (seen parts.old).core) → seen parts.new ≡ on_core (poll_pends (work_of (seen parts.old) work) left) (seen parts.old) }
+    ensures new { CountsPoll work (seen parts.old) (seen parts.new) }
     ensures more { result ≡ is_some (next_polled (work_of (seen parts.old) work) (seen parts.new).core) }
 {
     let entry = parts.works.get_mut_unchecked(work);

@@ -1,14 +1,12 @@
-ghost use Rattle.std.specs.Prelude.{◌≡◌, ◌+◌, ◌<◌, ◌^◌, IsSome, None, Some, is_some, true};
-ghost use Rattle.machine_data.specs.Read.{fits, thread_group};
+ghost use Rattle.std.specs.Prelude.{◌≡◌, ◌+◌, ◌<◌, ◌^◌, None, is_some, true};
+ghost use Rattle.machine_data.specs.Read.{fits};
 ghost use Rattle.machine_data.specs.declared.records.WorkCaller.TheVariants as callers;
 ghost use Rattle.core_records.specs.Names.{AtPlace, work_caller_target};
 ghost use Rattle.core_records.specs.Seen.{IsSoundCore, parts_of, seen};
-ghost use Rattle.core_records.specs.Sound.{bare};
-ghost use Rattle.machine_rules.specs.Calls.{next_work, work_queued};
-ghost use Rattle.core_primitives.specs.BecomesRecord.{MakesRecord, names_work};
+ghost use Rattle.machine_rules.specs.Calls.{work_queued};
 ghost use Rattle.core_primitives.specs.StateView.{thread_of};
-ghost use Rattle.core_removals.specs.LooseWorks.{AreWorkLoose};
-ghost use Rattle.core_removals.specs.Raised.{IsHere, group_name};
+ghost use Rattle.core_removals.specs.Raised.{IsHere, group_name, MayQueueWork};
+ghost use Rattle.core_primitives.specs.Records.{MakesWork, sync_work};
 
 use crate::spawned_works::push_work;
 use crate::work_entries::queue_push;
@@ -34,11 +32,9 @@ fn queue_work(
     requires room { is_some group ≡ true → fits 1 (seen parts.old).core ≡ true }
     requires caller { AtPlace (parts_of parts.old) request.maker (work_caller_target request.caller) }
     requires here { IsHere parts.old.groups group }
-    requires loose { AreWorkLoose (bare (parts_of parts.old)) nodes }
-    requires high { IsSome parts.old.high }
-    requires live { IsSome parts.old.live }
+    requires nodes { MayQueueWork parts.old nodes }
     ensures sound { IsSoundCore parts.new }
-    ensures new { MakesRecord (names_work (next_work (seen parts.old).core)) (work_queued request.caller request.host (group_name group) (seen parts.old).core) (seen parts.old) result (seen parts.new) }
+    ensures new { MakesWork (work_queued request.caller request.host (group_name group)) (seen parts.old) result (seen parts.new) }
 {
     let number = parts.made.works + 1;
     let work = record_for(number, request, group, nodes);
@@ -56,7 +52,7 @@ pub fn queue_spawn(parts: &mut CoreParts, host: HostDef) -> Result<WorkId, NoMem
     requires sound { IsSoundCore parts.old }
     requires few { (seen parts.old).core.made.works + 1 < 2 ^ 64 }
     ensures sound { IsSoundCore parts.new }
-    ensures new { MakesRecord (names_work (next_work (seen parts.old).core)) (work_queued callers.Spawn host None (seen parts.old).core) (seen parts.old) result (seen parts.new) }
+    ensures new { MakesWork (work_queued callers.Spawn host None) (seen parts.old) result (seen parts.new) }
 {
     let request = WorkRequest {
         caller: WorkCaller::Spawn,
@@ -85,7 +81,7 @@ fn queue_sync_call_at(
     requires few { (seen parts.old).core.made.works + 1 < 2 ^ 64 }
     requires room { fits 1 (seen parts.old).core ≡ true }
     ensures sound { IsSoundCore parts.new }
-    ensures new { MakesRecord (names_work (next_work (seen parts.old).core)) (work_queued (callers.Sync (thread_of (seen parts.old) thread)) host (Some (thread_group (thread_of (seen parts.old) thread) (seen parts.old).core)) (seen parts.old).core) (seen parts.old) result (seen parts.new) }
+    ensures new { MakesWork (sync_work (thread_of (seen parts.old) thread) host) (seen parts.old) result (seen parts.new) }
 {
     let caller = WorkCaller::Sync {
         thread: number(parts, thread),
@@ -120,7 +116,7 @@ pub fn queue_sync_call(
     requires few { (seen parts.old).core.made.works + 1 < 2 ^ 64 }
     requires room { fits 1 (seen parts.old).core ≡ true }
     ensures sound { IsSoundCore parts.new }
-    ensures new { MakesRecord (names_work (next_work (seen parts.old).core)) (work_queued (callers.Sync (thread_of (seen parts.old) thread)) host (Some (thread_group (thread_of (seen parts.old) thread) (seen parts.old).core)) (seen parts.old).core) (seen parts.old) result (seen parts.new) }
+    ensures new { MakesWork (sync_work (thread_of (seen parts.old) thread) host) (seen parts.old) result (seen parts.new) }
 {
     let entry = parts.table_places.take()?;
     match queue_sync_call_at(parts, thread, host, entry) {

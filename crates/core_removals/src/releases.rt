@@ -1,22 +1,20 @@
 //! The release of the held threads of an instance.
-ghost use Rattle.std.specs.Prelude.{◌≡◌, ◌<◌, ◌||◌, IsPermutation, IsSome, List, Ok, Some, false, filter, nat_lt, option_map, true, ℕ};
+ghost use Rattle.std.specs.Prelude.{◌≡◌, ◌<◌, ◌||◌, IsSome, Some, false, filter, nat_lt, option_map, true, ℕ};
 ghost use Rattle.table_lists.specs.Members.{Once, has, is_held_in};
-ghost use Rattle.table_links.specs.Links.{IsLinks, entries, head_of, link_of, list_of, removed};
+ghost use Rattle.table_links.specs.Links.{IsLinks, link_of, list_of, removed};
 ghost use Rattle.machine_data.specs.Moves.{held_why_of, put_high, released};
-ghost use Rattle.machine_data.specs.Read.{admitted_held, backpressure_of, may_not_enter};
-ghost use Rattle.machine_data.specs.declared.records.Why.{Why};
-ghost use Rattle.core_records.specs.Kinds.{item_of};
+ghost use Rattle.machine_data.specs.Read.{backpressure_of, may_not_enter};
 ghost use Rattle.core_records.specs.RecordPlaces.{HeldIn, StartsIn, place_chain};
 ghost use Rattle.core_records.specs.Seen.{IsSoundCore, parts_of, seen};
 ghost use Rattle.core_records.specs.Sound.{bare};
-ghost use Rattle.core_records.specs.declared.thread_records.GuestThread.{GuestThread};
 ghost use Rattle.machine_rules.specs.Places.{Placed};
-ghost use Rattle.task_table.specs.TableAnswers.{item_at};
 ghost use Rattle.core_primitives.specs.Apart.{IsUnqueued};
 ghost use Rattle.core_primitives.specs.StateView.{on_core, thread_of};
-ghost use Rattle.core_removals.specs.Held.{is_admitted};
-ghost use Rattle.core_removals.specs.Merged.{merged, of_both};
-ghost use Rattle.core_removals.specs.Order.{AreInOrder};
+ghost use Rattle.core_places.specs.Moved.{LeavesChain, RaisesHeld};
+ghost use Rattle.core_primitives.specs.Changes.{ReleasesHeld};
+ghost use Rattle.core_removals.specs.Held.{RaisesAdmitted, is_admitted};
+ghost use Rattle.core_removals.specs.Merged.{first_of_both, of_both};
+ghost use Rattle.core_removals.specs.Order.{AreInOrder, ReleasesInOrder};
 ghost use Rattle.core_removals.specs.Walks.{at_place, of_chain, of_node};
 
 use crate::admissions::is_admitted;
@@ -34,9 +32,9 @@ fn put_high(parts: &mut CoreParts, thread: ThreadId)
     requires held { IsSome (held_why_of (thread_of (seen parts.old) thread) (seen parts.old).core) }
     requires unqueued { IsUnqueued (thread_of (seen parts.old) thread) (seen parts.old).core }
     ensures sound { IsSoundCore parts.new }
-    ensures new { (w : Why) → held_why_of (thread_of (seen parts.old) thread) (seen parts.old).core ≡ Some w → seen parts.new ≡ on_core (put_high (thread_of (seen parts.old) thread) w) (seen parts.old) }
+    ensures new { RaisesHeld put_high (thread_of (seen parts.old) thread) (seen parts.old) (seen parts.new) }
     ensures numbers { (r : ℕ) → at_place parts.new r ≡ at_place parts.old r }
-    ensures left { (g : GuestThread) → Ok g ≡ item_at item_of parts.old.threads thread.rep thread.serial → parts.new.places ≡ removed g.node.index parts.old.places }
+    ensures left { LeavesChain thread parts.old parts.new }
     ensures links { IsLinks parts.new.places }
 {
     unhold(parts, thread);
@@ -52,7 +50,7 @@ fn raise_node(parts: &mut CoreParts, node: Node)
     requires unqueued { IsUnqueued (of_node parts.old node.index) (seen parts.old).core }
     requires held { IsSome (held_why_of (of_node parts.old node.index) (seen parts.old).core) }
     ensures sound { IsSoundCore parts.new }
-    ensures puts { (w : Why) → held_why_of (of_node parts.old node.index) (seen parts.old).core ≡ Some w → seen parts.new ≡ on_core (put_high (of_node parts.old node.index) w) (seen parts.old) }
+    ensures puts { RaisesHeld put_high (of_node parts.old node.index) (seen parts.old) (seen parts.new) }
     ensures left { parts.new.places ≡ removed node.index parts.old.places }
     ensures numbers { (r : ℕ) → at_place parts.new r ≡ at_place parts.old r }
     ensures links { IsLinks parts.new.places }
@@ -69,7 +67,7 @@ fn release_node(parts: &mut CoreParts, instance: u32, node: Node)
     requires unqueued { IsUnqueued (of_node parts.old node.index) (seen parts.old).core }
     ensures sound { IsSoundCore parts.new }
     ensures stays { is_admitted instance (seen parts.old).core (of_node parts.old node.index) ≡ false → parts.new ≡ parts.old }
-    ensures puts { is_admitted instance (seen parts.old).core (of_node parts.old node.index) ≡ true → (w : Why) → held_why_of (of_node parts.old node.index) (seen parts.old).core ≡ Some w → seen parts.new ≡ on_core (put_high (of_node parts.old node.index) w) (seen parts.old) }
+    ensures puts { RaisesAdmitted instance (of_node parts.old node.index) (seen parts.old) (seen parts.new) }
     ensures left { is_admitted instance (seen parts.old).core (of_node parts.old node.index) ≡ true → parts.new.places ≡ removed node.index parts.old.places }
     ensures numbers { (r : ℕ) → at_place parts.new r ≡ at_place parts.old r }
     ensures links { IsLinks parts.new.places }
@@ -104,7 +102,7 @@ fn release_chain(parts: &mut CoreParts, instance: u32, chain: usize)
 fn first_of(parts: &CoreParts, chain: usize, other: usize) -> Option<Node>
     requires chain { IsSome (list_of parts.now.places chain) }
     requires other { IsSome (list_of parts.now.places other) }
-    ensures is { option_map (λ n. n.index) result ≡ option_map (λ e. e.0) (head_of (merged (entries parts.now.places chain) (entries parts.now.places other))) }
+    ensures is { option_map (λ n. n.index) result ≡ first_of_both parts.now chain other }
     ensures links { IsLinks parts.now.places }
 {
     match parts.places.first(chain) {
@@ -149,8 +147,8 @@ fn release_some(parts: &mut CoreParts, instance: u32, held: usize, starts: usize
     requires starts { place_chain (bare (parts_of parts.old)) (StartsIn instance) ≡ Some starts }
     requires kept_out { (may_not_enter instance (seen parts.old).core || nat_lt 0 (backpressure_of instance (seen parts.old).core)) ≡ kept_out }
     ensures sound { IsSoundCore parts.new }
-    ensures new { (order : List ℕ) × (IsPermutation (admitted_held instance (seen parts.old).core) order × (seen parts.new ≡ on_core (released order) (seen parts.old))) }
-    ensures picks { (order : List ℕ) × (AreInOrder parts.old order × (IsPermutation (admitted_held instance (seen parts.old).core) order × (seen parts.new ≡ on_core (released order) (seen parts.old)))) }
+    ensures new { ReleasesHeld instance (seen parts.old) (seen parts.new) }
+    ensures picks { ReleasesInOrder instance parts.old parts.new }
 {
     parts.places.no_node_is_twice();
     if kept_out {
@@ -167,8 +165,8 @@ pub fn release(parts: &mut CoreParts, instance: u32)
     requires sound { IsSoundCore parts.old }
     requires placed { Placed (seen parts.old).core }
     ensures sound { IsSoundCore parts.new }
-    ensures new { (order : List ℕ) × (IsPermutation (admitted_held instance (seen parts.old).core) order × (seen parts.new ≡ on_core (released order) (seen parts.old))) }
-    ensures picks { (order : List ℕ) × (AreInOrder parts.old order × (IsPermutation (admitted_held instance (seen parts.old).core) order × (seen parts.new ≡ on_core (released order) (seen parts.old)))) }
+    ensures new { ReleasesHeld instance (seen parts.old) (seen parts.new) }
+    ensures picks { ReleasesInOrder instance parts.old parts.new }
 {
     if let Some(found) = core_records::instance(parts, instance) {
         let (held, starts) = (found.held, found.starts);

@@ -6,8 +6,8 @@ ghost use Rattle.core_records.specs.Kinds.{item_of};
 ghost use Rattle.core_records.specs.Seen.{IsSoundCore, seen};
 ghost use Rattle.core_records.specs.declared.set_records.WaitSet.{WaitSet};
 ghost use Rattle.task_table.specs.TableAnswers.{item_at};
-ghost use Rattle.core_primitives.specs.BecomesRecord.{BecomesBut};
-ghost use Rattle.core_primitives.specs.StateView.{lost_set, on_core, set_of};
+ghost use Rattle.core_primitives.specs.StateView.{on_core, set_of};
+ghost use Rattle.core_primitives.specs.Records.{LosesSetBy, set_closed};
 
 use crate::chains_removals::close_order_keys;
 use core_primitives::SetId;
@@ -18,7 +18,7 @@ fn remove_set(parts: &mut CoreParts, set: SetId)
     requires sound { IsSoundCore parts.old }
     requires live { 0 < set_of (seen parts.old) set }
     ensures sound { IsSoundCore parts.new }
-    ensures new { BecomesBut (lost_set (set_of (seen parts.old) set)) (remove_set (set_of (seen parts.old) set) (seen parts.old).core) (seen parts.old) (seen parts.new) }
+    ensures new { LosesSetBy remove_set set (seen parts.old) (seen parts.new) }
     ensures places { (x : WaitSet) → Ok x ≡ item_at item_of parts.old.sets set.rep set.serial → parts.new.table_places ≡ given x.entry parts.old.table_places }
 {
     let found = *core_records::set_there(parts, set);
@@ -49,7 +49,7 @@ pub fn close_set(parts: &mut CoreParts, instance: u32, handle: u32, set: SetId)
     requires live { 0 < set_of (seen parts.old) set }
     requires names { IsSome (set_at instance handle (seen parts.old).core) }
     ensures sound { IsSoundCore parts.new }
-    ensures new { BecomesBut (lost_set (set_of (seen parts.old) set)) (remove_set (set_of (seen parts.old) set) (free_handle instance handle (seen parts.old).core)) (seen parts.old) (seen parts.new) }
+    ensures new { LosesSetBy (set_closed instance handle) set (seen parts.old) (seen parts.new) }
 {
     free_set_handle(parts, instance, handle);
     remove_set(parts, set);

@@ -1,15 +1,12 @@
-ghost use Rattle.std.specs.Prelude.{◌≡◌, ◌+◌, ◌<◌, ◌^◌, IfOk, IsSome, OnErr, OnOk, if◌then◌else◌, true};
+ghost use Rattle.std.specs.Prelude.{◌≡◌, ◌+◌, ◌<◌, ◌^◌, IfOk, OnErr, OnOk, if◌then◌else◌, true};
 ghost use Rattle.machine_data.specs.Read.{fits, is_host_call};
 ghost use Rattle.machine_data.specs.Write.{add_work, count_work};
-ghost use Rattle.core_records.specs.Seen.{IsSoundCore, parts_of, seen};
-ghost use Rattle.core_records.specs.Sound.{bare, bare_work};
+ghost use Rattle.core_records.specs.Seen.{IsSoundCore, seen};
 ghost use Rattle.core_records.specs.declared.call_records.TaskGroup.{TaskGroup};
 ghost use Rattle.core_removals.specs.Counted.{IsIn};
-ghost use Rattle.core_primitives.specs.Apart.{work_entries};
 ghost use Rattle.core_primitives.specs.BecomesRecord.{BecomesRecord};
-ghost use Rattle.core_primitives.specs.StateView.{work_of};
-ghost use Rattle.core_removals.specs.LooseWorks.{AreWorkLoose, nodes_of};
-ghost use Rattle.core_removals.specs.Raised.{IsHere, IsWorkNext, PushesWork, group_name, raised};
+ghost use Rattle.core_removals.specs.LooseWorks.{nodes_of};
+ghost use Rattle.core_removals.specs.Raised.{IsHere, PushesWork, raised, IsWorkNextOf, MayQueueWork, NamesNewWork};
 
 use core_makes::one_more;
 use core_primitives::WorkId;
@@ -48,18 +45,13 @@ pub(crate) fn push_work(
     group: Option<(TableId<GroupKey>, TaskGroup)>,
 ) -> Result<WorkId, NoMemory>
     requires sound { IsSoundCore parts.old }
-    requires next { IsWorkNext (bare (parts_of parts.old)) (bare_work work) }
     requires few { (seen parts.old).core.made.works + 1 < 2 ^ 64 }
     requires room { is_host_call work.work ≡ true → fits 1 (seen parts.old).core ≡ true }
-    requires here { IsHere parts.old.groups group }
-    requires named { work.work.group ≡ group_name group }
-    requires loose { AreWorkLoose (bare (parts_of parts.old)) (nodes_of work) }
-    requires high { IsSome parts.old.high }
-    requires live { IsSome parts.old.live }
+    requires next { IsWorkNextOf parts.old work group }
+    requires nodes { MayQueueWork parts.old (nodes_of work) }
     ensures sound { IsSoundCore parts.new }
     ensures new { OnOk result (BecomesRecord (add_work work.number work.work (count_work (seen parts.old).core)) (seen parts.old) (seen parts.new)) }
-    ensures work { IfOk result (λ id. work_of (seen parts.new) id ≡ (seen parts.old).core.made.works + 1) }
-    ensures unqueued { OnOk result (work_entries ((seen parts.old).core.made.works + 1) (seen parts.new).core.queues.high ≡ 0) }
+    ensures names { IfOk result (λ id. NamesNewWork id (seen parts.old) (seen parts.new)) }
     ensures pushes { IfOk result (λ id. PushesWork parts.old parts.new work group id.rep (if is_host_call work.work then 1 else 0)) }
     ensures err { OnErr result (parts.new ≡ parts.old) }
 {

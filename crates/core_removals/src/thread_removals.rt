@@ -1,17 +1,16 @@
-ghost use Rattle.std.specs.Prelude.{◌≡◌, ◌⊎◌, ◌<◌, ℕ, IsSome, None, Ok, Some, true};
+ghost use Rattle.core_removals.specs.Gone.{FreesThread, IsSuspendedOrRuns};
+ghost use Rattle.std.specs.Prelude.{◌≡◌, ◌<◌, ℕ, IsSome, None, Ok, Some, true};
 ghost use Rattle.machine_data.specs.Maps.{get};
-ghost use Rattle.machine_data.specs.Moves.{freed_thread_handle};
-ghost use Rattle.machine_data.specs.Read.{instance_of, place_of, thread_at, thread_handle_of};
+ghost use Rattle.machine_data.specs.Read.{place_of, thread_at};
 ghost use Rattle.machine_data.specs.Write.{free_thread_handle, remove_thread};
 ghost use Rattle.machine_data.specs.declared.records.Place.TheVariants as places;
 ghost use Rattle.core_records.specs.Kinds.{item_of};
 ghost use Rattle.core_records.specs.Seen.{IsSoundCore, seen};
-ghost use Rattle.table_lists.specs.GivenPlaces.{given};
 ghost use Rattle.core_records.specs.declared.thread_records.GuestThread.{GuestThread};
 ghost use Rattle.task_table.specs.TableAnswers.{item_at};
 ghost use Rattle.core_primitives.specs.Apart.{IsApart};
-ghost use Rattle.core_primitives.specs.BecomesRecord.{BecomesBut};
-ghost use Rattle.core_primitives.specs.StateView.{lost_thread, on_core, thread_of};
+ghost use Rattle.core_primitives.specs.StateView.{on_core, thread_of};
+ghost use Rattle.core_primitives.specs.Records.{LosesThreadBy, thread_retired};
 
 use crate::chains_removals::{close, close_order_keys, drop_order_key};
 use core_places::{place, suspend};
@@ -38,10 +37,10 @@ fn drop_thread(parts: &mut CoreParts, thread: ThreadId)
     requires sound { IsSoundCore parts.old }
     requires live { 0 < thread_of (seen parts.old) thread }
     requires apart { IsApart (thread_of (seen parts.old) thread) (seen parts.old).core }
-    requires place { (place_of (thread_of (seen parts.old) thread) (seen parts.old).core ≡ Some places.Suspended) ⊎ (place_of (thread_of (seen parts.old) thread) (seen parts.old).core ≡ Some places.Running) }
+    requires place { IsSuspendedOrRuns (thread_of (seen parts.old) thread) (seen parts.old).core }
     ensures sound { IsSoundCore parts.new }
-    ensures new { BecomesBut (lost_thread (thread_of (seen parts.old) thread)) (remove_thread (thread_of (seen parts.old) thread) (seen parts.old).core) (seen parts.old) (seen parts.new) }
-    ensures places { (g : GuestThread) → Ok g ≡ item_at item_of parts.old.threads thread.rep thread.serial → parts.new.table_places ≡ given g.set_entry (given g.entry parts.old.table_places) }
+    ensures new { LosesThreadBy remove_thread thread (seen parts.old) (seen parts.new) }
+    ensures places { FreesThread thread parts.old parts.new }
 {
     let (found, task, call) = with_call(parts, thread);
     let threads = call.threads - 1;
@@ -80,7 +79,7 @@ fn remove_other(parts: &mut CoreParts, thread: ThreadId)
     requires live { 0 < thread_of (seen parts.old) thread }
     requires apart { IsApart (thread_of (seen parts.old) thread) (seen parts.old).core }
     ensures sound { IsSoundCore parts.new }
-    ensures new { BecomesBut (lost_thread (thread_of (seen parts.old) thread)) (remove_thread (thread_of (seen parts.old) thread) (seen parts.old).core) (seen parts.old) (seen parts.new) }
+    ensures new { LosesThreadBy remove_thread thread (seen parts.old) (seen parts.new) }
 {
     suspend(parts, thread);
     drop_thread(parts, thread);
@@ -92,7 +91,7 @@ pub fn remove_thread(parts: &mut CoreParts, thread: ThreadId)
     requires live { 0 < thread_of (seen parts.old) thread }
     requires apart { IsApart (thread_of (seen parts.old) thread) (seen parts.old).core }
     ensures sound { IsSoundCore parts.new }
-    ensures new { BecomesBut (lost_thread (thread_of (seen parts.old) thread)) (remove_thread (thread_of (seen parts.old) thread) (seen parts.old).core) (seen parts.old) (seen parts.new) }
+    ensures new { LosesThreadBy remove_thread thread (seen parts.old) (seen parts.new) }
 {
     if runs(parts, thread) {
         drop_thread(parts, thread);
@@ -121,7 +120,7 @@ pub fn retire_thread(parts: &mut CoreParts, thread: ThreadId)
     requires live { 0 < thread_of (seen parts.old) thread }
     requires apart { IsApart (thread_of (seen parts.old) thread) (seen parts.old).core }
     ensures sound { IsSoundCore parts.new }
-    ensures new { BecomesBut (lost_thread (thread_of (seen parts.old) thread)) (remove_thread (thread_of (seen parts.old) thread) (freed_thread_handle (instance_of (thread_of (seen parts.old) thread) (seen parts.old).core) (thread_handle_of (thread_of (seen parts.old) thread) (seen parts.old).core) (seen parts.old).core)) (seen parts.old) (seen parts.new) }
+    ensures new { LosesThreadBy thread_retired thread (seen parts.old) (seen parts.new) }
 {
     let found = core_records::thread_there(parts, thread);
     let instance = found.instance;

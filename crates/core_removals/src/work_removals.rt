@@ -1,19 +1,17 @@
+ghost use Rattle.core_removals.specs.Gone.{FreesWork};
 ghost use Rattle.core_removals.specs.Counted.{IsNamedBy};
-ghost use Rattle.std.specs.Prelude.{◌≡◌, ◌<◌, Ok, if◌then◌else◌};
+ghost use Rattle.std.specs.Prelude.{◌≡◌, ◌<◌, if◌then◌else◌};
 ghost use Rattle.table_lists.specs.GivenPlaces.{given};
-ghost use Rattle.machine_data.specs.Read.{is_host_call, join_of, stage_of};
+ghost use Rattle.machine_data.specs.Read.{join_of, stage_of};
 ghost use Rattle.machine_data.specs.Write.{remove_work, set_stage};
 ghost use Rattle.machine_data.specs.declared.records.Join.TheVariants as joins;
 ghost use Rattle.machine_data.specs.declared.records.Stage.TheVariants as stages;
 ghost use Rattle.machine_data.specs.declared.records.Subtask.TheVariants as subtasks;
-ghost use Rattle.core_records.specs.Kinds.{item_of};
 ghost use Rattle.core_records.specs.Seen.{IsSoundCore, seen};
-ghost use Rattle.core_records.specs.declared.work_records.WorkRecord.{WorkRecord};
 ghost use Rattle.machine_rules.specs.Calls.{work_deleted, work_group};
-ghost use Rattle.task_table.specs.TableAnswers.{item_at};
 ghost use Rattle.core_primitives.specs.Apart.{work_entries};
-ghost use Rattle.core_primitives.specs.BecomesRecord.{BecomesBut};
-ghost use Rattle.core_primitives.specs.StateView.{lost_work, on_core, work_of};
+ghost use Rattle.core_primitives.specs.StateView.{on_core, work_of};
+ghost use Rattle.core_primitives.specs.Records.{LosesWorkBy};
 
 use crate::chains_removals::{close_order_keys, drop_order_key};
 use crate::group_removals::{lower_group, one_if, settle_group};
@@ -42,9 +40,9 @@ fn drop_work(parts: &mut CoreParts, work: WorkId) -> Option<TableId<GroupKey>>
     requires join { join_of (subtasks.Host (work_of (seen parts.old) work)) (seen parts.old).core ≡ joins.Nowhere }
     requires stage { stage_of (work_of (seen parts.old) work) (seen parts.old).core ≡ stages.Ended }
     ensures sound { IsSoundCore parts.new }
-    ensures new { BecomesBut (lost_work (work_of (seen parts.old) work)) (remove_work (work_of (seen parts.old) work) (seen parts.old).core) (seen parts.old) (seen parts.new) }
+    ensures new { LosesWorkBy remove_work work (seen parts.old) (seen parts.new) }
     ensures group { IsNamedBy parts.new.groups (work_group (work_of (seen parts.old) work) (seen parts.old).core) result }
-    ensures places { (w : WorkRecord) → Ok w ≡ item_at item_of parts.old.works work.rep work.serial → parts.new.table_places ≡ (if is_host_call w.work then given w.entry parts.old.table_places else parts.old.table_places) }
+    ensures places { FreesWork work parts.old parts.new }
 {
     let found = *core_records::work_there(parts, work);
     let group = lower_group(&mut parts.groups, found.group, found.work.group);
@@ -85,7 +83,7 @@ pub fn delete_work(parts: &mut CoreParts, work: WorkId)
     requires live { 0 < work_of (seen parts.old) work }
     requires unqueued { work_entries (work_of (seen parts.old) work) (seen parts.old).core.queues.high ≡ 0 }
     ensures sound { IsSoundCore parts.new }
-    ensures new { BecomesBut (lost_work (work_of (seen parts.old) work)) (work_deleted (work_of (seen parts.old) work) (seen parts.old).core) (seen parts.old) (seen parts.new) }
+    ensures new { LosesWorkBy work_deleted work (seen parts.old) (seen parts.new) }
 {
     set_join(parts, SubtaskId::Host(work), JoinId::Nowhere);
     end_stage(parts, work);

@@ -1,5 +1,5 @@
 -- What an op did, against its rule.
-use Rattle.std.specs.Prelude.{ℕ, ◌≡◌}
+use Rattle.std.specs.Prelude.{IfOk, Option, Result, ℕ, ◌≡◌}
 use Rattle.machine_data.specs.Core.{Core}
 use Rattle.machine_data.specs.Labels.{Choice, choice_of}
 use Rattle.ops_guests.specs.OpResult.{Implements}
@@ -26,6 +26,26 @@ pub record DoesRule (AreKept : StateView → StateView → Type 0) (rule : Rule)
       (ended d (thread_of s id) r t.core)
   pub stays : StaysAfter r s t
   pub kept : AreKept s t
+
+-- the same, unless it is out of memory
+abbrev pub MayDoRule :
+    {E : Type 0} → (StateView → StateView → Type 0) → Rule → TableId ThreadKey → StateView → Result OpResult E → StateView → Type 0
+MayDoRule AreKept rule id s r t = IfOk r (λ done. DoesRule AreKept rule id s done t)
+
+-- a rule that is the same whoever does it: what it results in for the number of a thread or of a work, where its label shows such choices
+abbrev pub NumberRule : Type 0
+NumberRule = ℕ → Choice → Core → Progress
+
+-- one that looks at whom its label wakes alone
+abbrev pub by_woken : (ℕ → Option ℕ → Core → Progress) → NumberRule
+by_woken rule n ch = rule n ch.woken
+
+-- What began in s with the number came to what the rule says.
+abbrev pub ImplementsAt : NumberRule → ℕ → StateView → OpResult → StateView → Type 0
+ImplementsAt rule n s r t = Implements (rule n (choice_of (label_of n r)) s.core) s.core r t.core
+
+abbrev pub ImplementsRule : NumberRule → TableId ThreadKey → StateView → OpResult → StateView → Type 0
+ImplementsRule rule id s = ImplementsAt rule (thread_of s id) s
 
 -- ---- What is kept
 

@@ -1,14 +1,17 @@
 -- What a task is given, as the code says it.
-use Rattle.std.specs.Prelude.{None, Option, Some, true, ℕ, ◌≡◌}
+use Rattle.task_wait.specs.declared.keys.SetKey.{SetKey}
+use Rattle.task_wait.specs.declared.keys.GuestTaskKey.{GuestTaskKey}
+use Rattle.task_table.specs.declared.id.TableId.{TableId}
+use Rattle.std.specs.Prelude.{None, Option, Some, true, ℕ, ◌≡◌, Bool}
 use Rattle.machine_data.specs.Core.{Core}
-use Rattle.machine_data.specs.Moves.{PickedMember, NothingPicked, PickedTaskEvent}
+use Rattle.machine_data.specs.Moves.{PickedMember, NothingPicked, PickedTaskEvent, picked_event}
 use Rattle.machine_data.specs.Moves as moves
 use Rattle.machine_data.specs.Read.{is_ready_member, set_at, subtask_at, subtask_handle}
 use Rattle.machine_data.specs.declared.records.Subtask.{Subtask}
 use Rattle.ops_guests.specs.declared.picked_events.PickedEvent.{PickedEvent}
 use Rattle.ops_guests.specs.declared.picked_events.PickedEvent.TheVariants as picked_events
 use Rattle.core_primitives.specs.Names.{subtask_in}
-use Rattle.core_primitives.specs.StateView.{Tags}
+use Rattle.core_primitives.specs.StateView.{Tags, StateView, call_of, set_of}
 
 abbrev pub picked_event_in : Tags → PickedEvent → moves.PickedEvent
 picked_event_in tags (picked_events.Own e) = PickedTaskEvent e
@@ -36,3 +39,8 @@ IsNamedIn i tags _ s = Unit {0}
 -- As before, of each set that the instance names.
 abbrev pub AllMembersNamed : ℕ → Core → Type 0
 AllMembersNamed i s = (h x : ℕ) → set_at i h s ≡ Some x → MembersNamed i x s
+
+-- This is what the task is given first, with its member.
+abbrev pub IsPickedFor : (by_callback : Bool) → TableId GuestTaskKey → TableId SetKey → PickedEvent → StateView → Type 0
+IsPickedFor by_callback call set picked s =
+    picked_event by_callback (call_of s call) (set_of s set) (member_in s.tags picked) s.core ≡ Some (picked_event_in s.tags picked)

@@ -1,4 +1,7 @@
 -- What a poll of a live work resulted in, against what the machine finds.
+use Rattle.task_wait.specs.declared.keys.HostTaskKey.{HostTaskKey}
+use Rattle.task_table.specs.declared.id.TableId.{TableId}
+use Rattle.core_primitives.specs.StateView.{StateView, work_of}
 use Rattle.std.specs.Prelude.{None, Some, is_some, ℕ, ◌≡◌}
 use Rattle.machine_data.specs.Core.{Core}
 use Rattle.machine_data.specs.Write.{set_trapped}
@@ -8,7 +11,7 @@ use Rattle.ops_guests.specs.declared.work_ops.PollNews.{PollNews}
 use Rattle.ops_guests.specs.declared.work_ops.PollNews.TheVariants as told
 use Rattle.machine_data.specs.declared.statuses.HostPoll.{HostPoll}
 use Rattle.machine_data.specs.declared.statuses.HostPoll.TheVariants as host_poll
-use Rattle.machine_rules.specs.Works.{Asked, Ends, FailsNow, Poll, StillPends, next_polled, poll_ends, poll_pends}
+use Rattle.machine_rules.specs.Works.{Asked, Ends, FailsNow, Poll, StillPends, next_polled, poll_ends, poll_pends, poll_of}
 
 -- what a work has answered that has told this; an open one ends with a value alone
 abbrev pub answer_in : PollNews → HostPoll
@@ -36,3 +39,11 @@ PolledTo r i (StillPends host) s t = t ≡ poll_pends i host s
 PolledTo r i (Ends v) s t = t ≡ poll_ends i v s
 PolledTo r i FailsNow s t = t ≡ set_trapped s
 PolledTo r i (Asked next) s t = PolledTo r i (next (answer_in r)) s t
+
+-- The poll of the work that the id names resulted in what the machine finds,
+abbrev pub PollsWork : TableId HostTaskKey → StateView → Polled → StateView → Type 0
+PollsWork id s r t = PollImplements (work_of s id) (poll_of (work_of s id) s.core) s.core r t.core
+
+-- and the core is what it becomes by what the work has told.
+abbrev pub PollsWorkTo : PollNews → TableId HostTaskKey → (old new : StateView) → Type 0
+PollsWorkTo r id s t = PolledTo r (work_of s id) (poll_of (work_of s id) s.core) s.core t.core

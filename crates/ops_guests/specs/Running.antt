@@ -1,8 +1,12 @@
 -- What ops ask of the thread that runs, or whose entry was taken.
-use Rattle.std.specs.Prelude.{List, Some, [], false, is_some, true, ℕ, ◌≡◌}
+use Rattle.task_wait.specs.declared.keys.ThreadKey.{ThreadKey}
+use Rattle.task_wait.specs.declared.keys.GuestTaskKey.{GuestTaskKey}
+use Rattle.task_table.specs.declared.id.TableId.{TableId}
+use Rattle.core_primitives.specs.StateView.{StateView, call_of, thread_of}
+use Rattle.std.specs.Prelude.{List, Some, [], false, is_some, true, ℕ, ◌≡◌, ◌<◌}
 use Rattle.machine_data.specs.Core.{Core}
 use Rattle.machine_data.specs.Maps.{get}
-use Rattle.machine_data.specs.Read.{set_at}
+use Rattle.machine_data.specs.Read.{set_at, task_of}
 use Rattle.machine_data.specs.declared.records.Place.{Place}
 use Rattle.machine_data.specs.declared.records.Place.TheVariants as places
 use Rattle.machine_data.specs.declared.records.Why.{Why}
@@ -37,3 +41,8 @@ IsStartTaken n s = (m : Mark) × Stand n (places.Ready m why.Start) [] s
 -- The thread's entry was taken, which represented this, and each other thread has its place.
 abbrev pub IsTaken : ℕ → Why → Core → Type 0
 IsTaken n w s = (m : Mark) × Stand n (places.Ready m w) [] s
+
+-- The id is that of the thread's call, which is there.
+pub record IsTaskOf (call : TableId GuestTaskKey) (id : TableId ThreadKey) (s : StateView) : Type 0 where
+  pub named : 0 < call_of s call
+  pub is : call_of s call ≡ task_of (thread_of s id) s.core

@@ -1,12 +1,13 @@
 //! The ends of activations, each with a code.
-ghost use Rattle.std.specs.Prelude.{◌≡◌, ◌<◌, ◌/◌, Some, is_some, suc, true, zero, ℕ};
-ghost use Rattle.machine_data.specs.Read.{instance_of};
+ghost use Rattle.ops_guests.specs.Rules.{ends_by_code};
+ghost use Rattle.ops_guests.specs.Does.{ImplementsRule};
+ghost use Rattle.std.specs.Prelude.{◌≡◌, ◌<◌, ◌/◌, suc, true, zero, ℕ};
 ghost use Rattle.machine_data.specs.declared.label.Label.{Label};
 ghost use Rattle.ops_guests.specs.OpResult.{Implements};
 ghost use Rattle.ops_guests.specs.Stays.{StaysAfter};
 ghost use Rattle.ops_guests.specs.Running.{IsRunning, SetsThere};
 ghost use Rattle.ops_guests.specs.Works.{KeepsTold};
-ghost use Rattle.machine_rules.specs.Ends.{code_kind_rule, code_rule, has_event_for, held_by_flag};
+ghost use Rattle.machine_rules.specs.Ends.{code_rule, has_event_for};
 ghost use Rattle.core_primitives.specs.StateView.{call_of, set_of, thread_of};
 
 use crate::exit_ops::{leaves_no_result, passes_after_stop, stop_reopened};
@@ -20,7 +21,7 @@ use ops_moves::{check, end_thread, foot_of, put_high, put_low};
 fn code_exits<W: Primitives>(w: &mut W, thread: ThreadId, label: Label) -> OpResult
     requires live { 0 < thread_of (W.view w.old) thread }
     requires running { IsRunning (thread_of (W.view w.old) thread) (W.view w.old).core }
-    ensures implements { (rest : ℕ) → Implements (code_kind_rule label (thread_of (W.view w.old) thread) (held_by_flag (instance_of (thread_of (W.view w.old) thread) (W.view w.old).core) (W.view w.old).core) (W.view w.old).core zero rest) (W.view w.old).core result (W.view w.new).core }
+    ensures implements { (rest : ℕ) → ImplementsRule (ends_by_code label zero rest) thread (W.view w.old) result (W.view w.new) }
     ensures stays { StaysAfter result (W.view w.old) (W.view w.new) }
     ensures current { (W.view w.new).current ≡ (W.view w.old).current }
     ensures works { KeepsTold (W.view w.old) (W.view w.new) }
@@ -44,7 +45,7 @@ fn code_exits<W: Primitives>(w: &mut W, thread: ThreadId, label: Label) -> OpRes
 fn code_yields<W: Primitives>(w: &mut W, thread: ThreadId)
     requires live { 0 < thread_of (W.view w.old) thread }
     requires running { IsRunning (thread_of (W.view w.old) thread) (W.view w.old).core }
-    ensures implements { (label : Label) → (rest : ℕ) → Implements (code_kind_rule label (thread_of (W.view w.old) thread) (held_by_flag (instance_of (thread_of (W.view w.old) thread) (W.view w.old).core) (W.view w.old).core) (W.view w.old).core (suc zero) rest) (W.view w.old).core (OpResult.Stops label) (W.view w.new).core }
+    ensures implements { (l : Label) → (rest : ℕ) → ImplementsRule (ends_by_code l (suc zero) rest) thread (W.view w.old) (OpResult.Stops l) (W.view w.new) }
     ensures current { (W.view w.new).current ≡ (W.view w.old).current }
     ensures works { KeepsTold (W.view w.old) (W.view w.new) }
 {
@@ -69,7 +70,7 @@ fn code_waits<W: Primitives>(w: &mut W, thread: ThreadId, label: Label, handle: 
     requires live { 0 < thread_of (W.view w.old) thread }
     requires running { IsRunning (thread_of (W.view w.old) thread) (W.view w.old).core }
     requires there { SetsThere (W.view w.old).core }
-    ensures implements { Implements (code_kind_rule label (thread_of (W.view w.old) thread) (held_by_flag (instance_of (thread_of (W.view w.old) thread) (W.view w.old).core) (W.view w.old).core) (W.view w.old).core (suc (suc zero)) handle) (W.view w.old).core result (W.view w.new).core }
+    ensures implements { ImplementsRule (ends_by_code label (suc (suc zero)) handle) thread (W.view w.old) result (W.view w.new) }
     ensures stays { StaysAfter result (W.view w.old) (W.view w.new) }
     ensures current { (W.view w.new).current ≡ (W.view w.old).current }
     ensures works { KeepsTold (W.view w.old) (W.view w.new) }

@@ -1,11 +1,9 @@
 //! The ops on registers and memory cells.
-ghost use Rattle.std.specs.Prelude.{◌≡◌, ◌+◌, ◌<◌, length, min};
+ghost use Rattle.ops_guests.specs.Rules.{ImplementsData};
+ghost use Rattle.std.specs.Prelude.{◌≡◌, ◌+◌, ◌<◌};
 ghost use Rattle.machine_data.specs.Read.{position_of};
-ghost use Rattle.machine_data.specs.declared.component.Component.{Component};
 ghost use Rattle.machine_data.specs.declared.op.DataOp.TheVariants as data_ops;
-ghost use Rattle.ops_guests.specs.OpResult.{Implements};
-ghost use Rattle.machine_rules.specs.Data.{data_rule};
-ghost use Rattle.machine_rules.specs.Scripts.{script_of, value_of};
+ghost use Rattle.machine_rules.specs.Scripts.{value_of};
 ghost use Rattle.core_primitives.specs.StateView.{thread_of};
 
 use crate::op_result::{OpAnswer, OpResult};
@@ -33,7 +31,7 @@ fn skip_equal<W: Primitives>(
     end: u32,
 ) -> OpResult
     requires { position_of (thread_of (W.view w.old) thread) (W.view w.old).core < end }
-    ensures implements { (c : Component) → length (script_of c (thread_of (W.view w.old) thread) (W.view w.old).core) ≡ end → Implements (data_rule c (thread_of (W.view w.old) thread) (W.view w.old).core (data_ops.SkipEq left right ops)) (W.view w.old).core result (W.view w.new).core }
+    ensures implements { ImplementsData end (data_ops.SkipEq left right ops) thread (W.view w.old) result (W.view w.new) }
     ensures tags { (W.view w.new).tags ≡ (W.view w.old).tags }
     ensures current { (W.view w.new).current ≡ (W.view w.old).current }
 {
@@ -55,7 +53,7 @@ fn skip_equal<W: Primitives>(
 #[tactic(auto, using(crate::proofs::PositionLemmas::position_memory_cell), unfolding(machine_rules::specs::Data::stored))]
 fn store<W: Primitives>(w: &mut W, thread: ThreadId, cell: u8, value: Operand, end: u32) -> OpResult
     requires { position_of (thread_of (W.view w.old) thread) (W.view w.old).core < end }
-    ensures implements { (c : Component) → length (script_of c (thread_of (W.view w.old) thread) (W.view w.old).core) ≡ end → Implements (data_rule c (thread_of (W.view w.old) thread) (W.view w.old).core (data_ops.Store word value)) (W.view w.old).core result (W.view w.new).core }
+    ensures implements { ImplementsData end (data_ops.Store cell value) thread (W.view w.old) result (W.view w.new) }
     ensures tags { (W.view w.new).tags ≡ (W.view w.old).tags }
     ensures current { (W.view w.new).current ≡ (W.view w.old).current }
 {
@@ -74,7 +72,7 @@ fn store<W: Primitives>(w: &mut W, thread: ThreadId, cell: u8, value: Operand, e
 #[tactic(auto, using(crate::proofs::PositionLemmas::position_memory_cell))]
 pub fn compute<W: Primitives>(w: &mut W, thread: ThreadId, op: DataOp, end: u32) -> OpResult
     requires { position_of (thread_of (W.view w.old) thread) (W.view w.old).core < end }
-    ensures implements { (c : Component) → length (script_of c (thread_of (W.view w.old) thread) (W.view w.old).core) ≡ end → Implements (data_rule c (thread_of (W.view w.old) thread) (W.view w.old).core op) (W.view w.old).core result (W.view w.new).core }
+    ensures implements { ImplementsData end op thread (W.view w.old) result (W.view w.new) }
     ensures tags { (W.view w.new).tags ≡ (W.view w.old).tags }
     ensures current { (W.view w.new).current ≡ (W.view w.old).current }
 {

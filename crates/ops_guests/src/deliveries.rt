@@ -1,15 +1,14 @@
 //! The taking of deliveries and of resumptions.
+ghost use Rattle.ops_guests.specs.Rules.{delivers_own, delivers_set, delivery_held};
+ghost use Rattle.ops_guests.specs.Does.{ImplementsRule};
 ghost use Rattle.std.specs.Prelude.{◌≡◌, ◌<◌, None};
-ghost use Rattle.machine_data.specs.Labels.{choice_of, event_label, held_label, take_label};
+ghost use Rattle.machine_data.specs.Labels.{event_label, held_label, take_label};
 ghost use Rattle.machine_data.specs.Moves.{picked_task_event_only, why_of};
 ghost use Rattle.machine_data.specs.Read.{instance_of, task_of};
-ghost use Rattle.machine_data.specs.declared.records.Delivery.TheVariants as deliveries;
-ghost use Rattle.ops_guests.specs.OpResult.{Implements};
 ghost use Rattle.ops_guests.specs.PickedEvents.{MembersNamed, picked_event_in};
 ghost use Rattle.ops_guests.specs.Running.{IsTaken};
 ghost use Rattle.ops_guests.specs.Shown.{goes_as};
-ghost use Rattle.ops_guests.specs.Steps.{label_of};
-ghost use Rattle.machine_rules.specs.Takes.{activated, delivered, own_delivered, running, take_holds, wait_again};
+ghost use Rattle.machine_rules.specs.Takes.{activated, running, wait_again};
 ghost use Rattle.core_primitives.specs.Apart.{AreWaitersUnqueued};
 ghost use Rattle.core_primitives.specs.StateView.{call_of, on_core, set_of, thread_of};
 
@@ -59,7 +58,7 @@ fn activated(mark: Mark, thread: u64, given: Given, woken: Option<u64>) -> OpRes
 /// Makes a delivery of a yield or of a cancel, which is admitted.
 #[inline(always)]
 pub fn deliver_own<W: Primitives>(w: &mut W, mark: Mark, thread: ThreadId) -> OpResult
-    ensures implements { Implements (own_delivered mark (thread_of (W.view w.old) thread) (W.view w.old).core (picked_task_event_only (task_of (thread_of (W.view w.old) thread) (W.view w.old).core) (W.view w.old).core)) (W.view w.old).core result (W.view w.new).core }
+    ensures implements { ImplementsRule (delivers_own mark) thread (W.view w.old) result (W.view w.new) }
     ensures tags { (W.view w.new).tags ≡ (W.view w.old).tags }
     ensures current { (W.view w.new).current ≡ (W.view w.old).current }
 {
@@ -91,7 +90,7 @@ pub fn hold_delivery<W: Primitives>(w: &mut W, mark: Mark, thread: ThreadId) -> 
     requires live { 0 < thread_of (W.view w.old) thread }
     requires taken { IsTaken (thread_of (W.view w.old) thread) (why_of (thread_of (W.view w.old) thread) (W.view w.old).core) (W.view w.old).core }
     ensures label { result ≡ OpResult.Stops (held_label mark (thread_of (W.view w.old) thread) None) }
-    ensures new { W.view w.new ≡ on_core (take_holds (thread_of (W.view w.old) thread) (why_of (thread_of (W.view w.old) thread) (W.view w.old).core)) (W.view w.old) }
+    ensures new { W.view w.new ≡ delivery_held thread (W.view w.old) }
 {
     let number = w.number(thread);
     let foot = foot_of(w, thread);
@@ -121,7 +120,7 @@ pub fn deliver_set<W: Primitives>(w: &mut W, mark: Mark, thread: ThreadId, set: 
     requires taken { IsTaken (thread_of (W.view w.old) thread) (why_of (thread_of (W.view w.old) thread) (W.view w.old).core) (W.view w.old).core }
     requires unqueued { AreWaitersUnqueued (set_of (W.view w.old) set) (W.view w.old).core }
     requires members { MembersNamed (instance_of (thread_of (W.view w.old) thread) (W.view w.old).core) (set_of (W.view w.old) set) (W.view w.old).core }
-    ensures implements { Implements (delivered mark (thread_of (W.view w.old) thread) (choice_of (label_of (thread_of (W.view w.old) thread) result)) (W.view w.old).core (deliveries.Set (set_of (W.view w.old) set))) (W.view w.old).core result (W.view w.new).core }
+    ensures implements { ImplementsRule (delivers_set mark (set_of (W.view w.old) set)) thread (W.view w.old) result (W.view w.new) }
     ensures tags { (W.view w.new).tags ≡ (W.view w.old).tags }
     ensures current { (W.view w.new).current ≡ (W.view w.old).current }
 {

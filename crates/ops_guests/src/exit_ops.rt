@@ -1,8 +1,8 @@
 //! The ends of threads.
 ghost use Rattle.std.specs.Prelude.{◌≡◌, ◌<◌, not};
-ghost use Rattle.machine_data.specs.Read.{instance_of, is_nil};
+ghost use Rattle.machine_data.specs.Read.{is_nil};
 ghost use Rattle.ops_guests.specs.OpResult.{Implements};
-ghost use Rattle.ops_guests.specs.Reopens.{InSomeOrder};
+ghost use Rattle.ops_guests.specs.Reopens.{InSomeOrder, ReopensBy};
 ghost use Rattle.ops_guests.specs.Stays.{StaysAfter};
 ghost use Rattle.ops_guests.specs.Running.{IsRunning};
 ghost use Rattle.ops_guests.specs.Works.{KeepsTold};
@@ -97,7 +97,7 @@ pub(crate) fn reopen<W: Primitives>(w: &mut W, instance: u32, thread: ThreadId)
 pub(crate) fn stop_reopened<W: Primitives>(w: &mut W, thread: ThreadId)
     requires live { 0 < thread_of (W.view w.old) thread }
     requires running { IsRunning (thread_of (W.view w.old) thread) (W.view w.old).core }
-    ensures { InSomeOrder (instance_of (thread_of (W.view w.old) thread) (W.view w.old).core) (code_stops (thread_of (W.view w.old) thread)) (W.view w.old) (W.view w.new) }
+    ensures { ReopensBy code_stops thread (W.view w.old) (W.view w.new) }
 {
     let foot = foot_of(w, thread);
     let instance = w.instance_of(thread);

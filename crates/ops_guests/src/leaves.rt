@@ -1,19 +1,19 @@
 //! The exits that end a task with what its first register has.
-ghost use Rattle.std.specs.Prelude.{◌≡◌, ◌<◌, IsPermutation, IsSome, List, None, Some, option_map, true, ℕ};
-ghost use Rattle.machine_data.specs.Labels.{choice_of, exit_label};
-ghost use Rattle.machine_data.specs.Read.{instance_of, is_explicit, place_of, task_of, under_of};
+ghost use Rattle.ops_guests.specs.Reopens.{ExitsOpen};
+ghost use Rattle.ops_guests.specs.Rules.{exits_by, exits_direct};
+ghost use Rattle.ops_guests.specs.Does.{ImplementsRule, by_woken};
+ghost use Rattle.std.specs.Prelude.{◌≡◌, ◌<◌, IsSome, None, Some, true};
+ghost use Rattle.machine_data.specs.Read.{is_explicit, place_of, task_of, under_of};
 ghost use Rattle.machine_data.specs.declared.records.Place.TheVariants as places;
 ghost use Rattle.machine_data.specs.declared.records.Subtask.TheVariants as subtasks;
 ghost use Rattle.ops_moves.specs.Idle.{CanPublish, IsJoinThere};
-ghost use Rattle.ops_guests.specs.Answered.{goes_by};
-ghost use Rattle.ops_guests.specs.OpResult.{IsCurrent, Implements};
-ghost use Rattle.ops_guests.specs.Running.{IsRunning};
+ghost use Rattle.ops_guests.specs.OpResult.{IsCurrent};
+ghost use Rattle.ops_guests.specs.Running.{IsRunning, IsTaskOf};
 ghost use Rattle.ops_guests.specs.Stays.{StaysAfter};
-ghost use Rattle.ops_guests.specs.Steps.{label_of};
 ghost use Rattle.ops_guests.specs.OpWakes.{WaitersTogether, is_of, wakes_in};
 ghost use Rattle.ops_guests.specs.Works.{KeepsTold};
-ghost use Rattle.machine_rules.specs.Ends.{blocking_exit_rule, blocking_exits, direct_exit_rule, direct_exits, exit_restores, held_by_flag, may_tell, passes_after_return, sync_exit_rule, sync_exits};
-ghost use Rattle.core_primitives.specs.StateView.{call_of, on_core, thread_of};
+ghost use Rattle.machine_rules.specs.Ends.{blocking_exit_rule, direct_exits, exit_restores, may_tell, passes_after_return, sync_exit_rule, sync_exits};
+ghost use Rattle.core_primitives.specs.StateView.{call_of, on_core, thread_of, thread_if_any};
 
 use crate::exit_ops::{has_held, reopen, stop_and_end};
 use crate::op_result::{OpAnswer, OpResult};
@@ -39,7 +39,7 @@ fn leave<W: Primitives>(w: &mut W, thread: ThreadId, waiter: Option<ThreadId>)
     requires live { 0 < thread_of (W.view w.old) thread }
     requires running { IsRunning (thread_of (W.view w.old) thread) (W.view w.old).core }
     requires can { CanPublish (subtasks.Guest (task_of (thread_of (W.view w.old) thread) (W.view w.old).core)) waiter (W.view w.old) }
-    ensures core { (W.view w.new).core ≡ sync_exits (thread_of (W.view w.old) thread) (option_map (λ id. thread_of (W.view w.old) id) waiter) (W.view w.old).core }
+    ensures core { (W.view w.new).core ≡ sync_exits (thread_of (W.view w.old) thread) (thread_if_any (W.view w.old) waiter) (W.view w.old).core }
     ensures current { (W.view w.new).current ≡ (W.view w.old).current }
     ensures works { KeepsTold (W.view w.old) (W.view w.new) }
 {
@@ -57,7 +57,7 @@ pub fn exit_sync<W: Primitives>(w: &mut W, thread: ThreadId) -> OpResult
     requires live { 0 < thread_of (W.view w.old) thread }
     requires running { IsRunning (thread_of (W.view w.old) thread) (W.view w.old).core }
     requires there { IsJoinThere (subtasks.Guest (task_of (thread_of (W.view w.old) thread) (W.view w.old).core)) (W.view w.old).core }
-    ensures implements { Implements (sync_exit_rule (thread_of (W.view w.old) thread) (choice_of (label_of (thread_of (W.view w.old) thread) result)).woken (W.view w.old).core) (W.view w.old).core result (W.view w.new).core }
+    ensures implements { ImplementsRule (by_woken sync_exit_rule) thread (W.view w.old) result (W.view w.new) }
     ensures stays { StaysAfter result (W.view w.old) (W.view w.new) }
     ensures current { (W.view w.new).current ≡ (W.view w.old).current }
     ensures works { KeepsTold (W.view w.old) (W.view w.new) }
@@ -89,8 +89,7 @@ fn leave_to<W: Primitives>(
     value: u64,
 )
     requires live { 0 < thread_of (W.view w.old) thread }
-    requires named { 0 < call_of (W.view w.old) call }
-    requires call { call_of (W.view w.old) call ≡ task_of (thread_of (W.view w.old) thread) (W.view w.old).core }
+    requires task { IsTaskOf call thread (W.view w.old) }
     requires below { 0 < thread_of (W.view w.old) below }
     requires running { IsRunning (thread_of (W.view w.old) thread) (W.view w.old).core }
     requires under { place_of (thread_of (W.view w.old) below) (W.view w.old).core ≡ Some (places.Under (thread_of (W.view w.old) thread)) }
@@ -115,9 +114,9 @@ fn leave_direct<W: Primitives>(w: &mut W, thread: ThreadId, call: CallId) -> Res
     requires named { 0 < call_of (W.view w.old) call }
     requires call { call_of (W.view w.old) call ≡ task_of (thread_of (W.view w.old) thread) (W.view w.old).core }
     requires under { IsSome (under_of (thread_of (W.view w.old) thread) (W.view w.old).core) }
-    ensures implements { Implements (direct_exit_rule (thread_of (W.view w.old) thread) (W.view w.old).core) (W.view w.old).core (goes_by (exit_label (thread_of (W.view w.old) thread) None) result) (W.view w.new).core }
-    ensures stays { StaysAfter (goes_by (exit_label (thread_of (W.view w.old) thread) None) result) (W.view w.old) (W.view w.new) }
-    ensures current { IsCurrent (goes_by (exit_label (thread_of (W.view w.old) thread) None) result) (W.view w.new) }
+    ensures implements { ImplementsRule exits_direct thread (W.view w.old) (exits_by thread (W.view w.old) result) (W.view w.new) }
+    ensures stays { StaysAfter (exits_by thread (W.view w.old) result) (W.view w.old) (W.view w.new) }
+    ensures current { IsCurrent (exits_by thread (W.view w.old) result) (W.view w.new) }
     ensures works { KeepsTold (W.view w.old) (W.view w.new) }
 {
     let value = w.register_unchecked(thread, 0);
@@ -149,7 +148,7 @@ pub fn exit_direct<W: Primitives>(w: &mut W, thread: ThreadId, call: CallId) -> 
     requires named { 0 < call_of (W.view w.old) call }
     requires call { call_of (W.view w.old) call ≡ task_of (thread_of (W.view w.old) thread) (W.view w.old).core }
     requires under { IsSome (under_of (thread_of (W.view w.old) thread) (W.view w.old).core) }
-    ensures implements { Implements (direct_exit_rule (thread_of (W.view w.old) thread) (W.view w.old).core) (W.view w.old).core result (W.view w.new).core }
+    ensures implements { ImplementsRule exits_direct thread (W.view w.old) result (W.view w.new) }
     ensures stays { StaysAfter result (W.view w.old) (W.view w.new) }
     ensures current { IsCurrent result (W.view w.new) }
     ensures works { KeepsTold (W.view w.old) (W.view w.new) }
@@ -163,7 +162,7 @@ pub fn exit_direct<W: Primitives>(w: &mut W, thread: ThreadId, call: CallId) -> 
 
 // The thread, if there is one, is of the instance.
 fn is_of<W: Primitives>(w: &W, thread: Option<ThreadId>, instance: u32) -> bool
-    ensures { result ≡ is_of instance (option_map (λ id. thread_of (W.view w.now) id) thread) (W.view w.now).core }
+    ensures { result ≡ is_of instance (thread_if_any (W.view w.now) thread) (W.view w.now).core }
 {
     match thread {
         None => false,
@@ -174,7 +173,7 @@ fn is_of<W: Primitives>(w: &W, thread: Option<ThreadId>, instance: u32) -> bool
 // A thread of the instance is given an entry where an end of the call is told, and this waiter is woken.
 fn wakes_in<W: Primitives>(w: &W, call: CallId, waiter: Option<ThreadId>, instance: u32) -> bool
     requires { 0 < call_of (W.view w.now) call }
-    ensures { result ≡ wakes_in instance (call_of (W.view w.now) call) (option_map (λ id. thread_of (W.view w.now) id) waiter) (W.view w.now).core }
+    ensures { result ≡ wakes_in instance (call_of (W.view w.now) call) (thread_if_any (W.view w.now) waiter) (W.view w.now).core }
 {
     is_told(w, call)
         && (is_of(w, w.blocked_on(SubtaskId::Guest(call)), instance) || is_of(w, waiter, instance))
@@ -184,8 +183,8 @@ fn wakes_in<W: Primitives>(w: &W, call: CallId, waiter: Option<ThreadId>, instan
 #[tactic(auto, using(crate::proofs::BlockLemmas::passes_before))]
 fn passes_after_return<W: Primitives>(w: &mut W, thread: ThreadId, waiter: Option<ThreadId>) -> bool
     requires live { 0 < thread_of (W.view w.old) thread }
-    requires choice { may_tell (task_of (thread_of (W.view w.old) thread) (W.view w.old).core) (option_map (λ id. thread_of (W.view w.old) id) waiter) (W.view w.old).core ≡ true }
-    ensures passes { result ≡ passes_after_return (thread_of (W.view w.old) thread) (option_map (λ id. thread_of (W.view w.old) id) waiter) (W.view w.old).core }
+    requires choice { may_tell (task_of (thread_of (W.view w.old) thread) (W.view w.old).core) (thread_if_any (W.view w.old) waiter) (W.view w.old).core ≡ true }
+    ensures passes { result ≡ passes_after_return (thread_of (W.view w.old) thread) (thread_if_any (W.view w.old) waiter) (W.view w.old).core }
     ensures same { W.view w.new ≡ W.view w.old }
 {
     let instance = w.instance_of(thread);
@@ -200,7 +199,7 @@ fn leave_open<W: Primitives>(w: &mut W, thread: ThreadId, waiter: Option<ThreadI
     requires live { 0 < thread_of (W.view w.old) thread }
     requires running { IsRunning (thread_of (W.view w.old) thread) (W.view w.old).core }
     requires can { CanPublish (subtasks.Guest (task_of (thread_of (W.view w.old) thread) (W.view w.old).core)) waiter (W.view w.old) }
-    ensures core { (order : List ℕ) × (IsPermutation (held_by_flag (instance_of (thread_of (W.view w.old) thread) (W.view w.old).core) (W.view w.old).core) order × ((W.view w.new).core ≡ blocking_exits (thread_of (W.view w.old) thread) (option_map (λ id. thread_of (W.view w.old) id) waiter) order (W.view w.old).core)) }
+    ensures core { ExitsOpen waiter thread (W.view w.old) (W.view w.new) }
     ensures current { (W.view w.new).current ≡ (W.view w.old).current }
     ensures works { KeepsTold (W.view w.old) (W.view w.new) }
 {
@@ -218,7 +217,7 @@ pub fn exit_blocking<W: Primitives>(w: &mut W, thread: ThreadId) -> OpResult
     requires running { IsRunning (thread_of (W.view w.old) thread) (W.view w.old).core }
     requires there { IsJoinThere (subtasks.Guest (task_of (thread_of (W.view w.old) thread) (W.view w.old).core)) (W.view w.old).core }
     requires together { WaitersTogether (W.view w.old).core }
-    ensures implements { Implements (blocking_exit_rule (thread_of (W.view w.old) thread) (choice_of (label_of (thread_of (W.view w.old) thread) result)).woken (W.view w.old).core) (W.view w.old).core result (W.view w.new).core }
+    ensures implements { ImplementsRule (by_woken blocking_exit_rule) thread (W.view w.old) result (W.view w.new) }
     ensures stays { StaysAfter result (W.view w.old) (W.view w.new) }
     ensures current { (W.view w.new).current ≡ (W.view w.old).current }
     ensures works { KeepsTold (W.view w.old) (W.view w.new) }

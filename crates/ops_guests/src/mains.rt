@@ -1,15 +1,13 @@
 //! The ops of main, and the deadlock.
-ghost use Rattle.std.specs.Prelude.{◌≡◌, ◌+◌, ◌<◌, ◌≤◌, ◌^◌, IfOk, IsSome, None, OnErr, Some, length, ℕ};
+ghost use Rattle.std.specs.Prelude.{◌≡◌, ◌+◌, ◌<◌, ◌≤◌, ◌^◌, IfOk, IsSome, None, OnErr, length};
 ghost use Rattle.machine_data.specs.Core.{Began};
 ghost use Rattle.machine_data.specs.Maps.{get};
 ghost use Rattle.machine_data.specs.Write.{set_trapped};
-ghost use Rattle.machine_data.specs.declared.component.Component.{Component};
 ghost use Rattle.machine_data.specs.declared.label.LoopLabel.TheVariants as loop_labels;
-ghost use Rattle.ops_guests.specs.Acted.{KeepsStarted, MainImplements};
+ghost use Rattle.ops_guests.specs.Acted.{KeepsStarted, ImplementsMain, ImplementsMainAnywhere, SpawnsMain, StartsMain};
 ghost use Rattle.machine_rules.specs.Cancels.{aborted_phase};
-ghost use Rattle.machine_rules.specs.MainOps.{Abort, Answer, Await, Finish, Quiet, Ready, Spawn, Start, main_rule, start_refusal};
+ghost use Rattle.machine_rules.specs.MainOps.{Abort, Answer, Await, Finish, Quiet, Ready, Start, start_refusal};
 ghost use Rattle.machine_rules.specs.Places.{Placed};
-ghost use Rattle.machine_rules.specs.Scripts.{export_kind, host_at};
 ghost use Rattle.machine_rules.specs.Stalled.{deadlock_trap};
 ghost use Rattle.core_primitives.specs.StateView.{Keeps, on_core, work_of};
 
@@ -53,7 +51,7 @@ pub fn start<W: Primitives>(
     requires words { length words.now ≤ 16 }
     requires few { (W.view w.old).core.made.threads + 1 < 2 ^ 64 }
     requires groups { (W.view w.old).core.made.groups + 1 < 2 ^ 64 }
-    ensures implements { IfOk result (λ acted. (c : Component) → export_kind c callee ≡ kind → MainImplements (main_rule c line (W.view w.old).core (Start callee words.now)) (W.view w.old).core acted (W.view w.new).core) }
+    ensures implements { IfOk result (λ acted. StartsMain line callee kind words.now (W.view w.old) acted (W.view w.new)) }
     ensures tags { KeepsStarted result (W.view w.old) (W.view w.new) }
     ensures current { (W.view w.new).current ≡ (W.view w.old).current }
     ensures asked { OnErr result (start_refusal (W.view w.old).core ≡ None) }
@@ -70,7 +68,7 @@ pub fn start<W: Primitives>(
 
 /// Does `finish K R`, of the start that made this call, or was refused.
 pub fn finish<W: Primitives>(w: &mut W, line: u32, call: u64) -> Acted
-    ensures implements { (c : Component) → MainImplements (main_rule c line (W.view w.old).core (Finish (Began call))) (W.view w.old).core result (W.view w.new).core }
+    ensures implements { ImplementsMain line (Finish (Began call)) (W.view w.old) result (W.view w.new) }
     ensures tags { (W.view w.new).tags ≡ (W.view w.old).tags }
     ensures current { (W.view w.new).current ≡ (W.view w.old).current }
 {
@@ -87,7 +85,7 @@ pub fn finish<W: Primitives>(w: &mut W, line: u32, call: u64) -> Acted
 #[tactic(auto, unfolding(machine_rules::specs::MainOps::main_spawned))]
 pub fn spawn<W: Primitives>(w: &mut W, line: u32, host: HostDef) -> Result<Acted, NoMemory>
     requires few { (W.view w.old).core.made.works + 1 < 2 ^ 64 }
-    ensures implements { IfOk result (λ acted. (c : Component) → (h : ℕ) → host_at c h ≡ host → MainImplements (main_rule c line (W.view w.old).core (Spawn h)) (W.view w.old).core acted (W.view w.new).core) }
+    ensures implements { IfOk result (λ acted. SpawnsMain line host (W.view w.old) acted (W.view w.new)) }
     ensures tags { Keeps (W.view w.old).tags (W.view w.new).tags }
     ensures current { (W.view w.new).current ≡ (W.view w.old).current }
     ensures err { OnErr result (W.view w.new ≡ W.view w.old) }
@@ -109,7 +107,7 @@ fn aborted(phase: Phase) -> Phase
 /// Does `abort K`, of the spawn that made this work.
 #[tactic(auto, unfolding(machine_rules::specs::MainOps::main_aborted))]
 pub fn abort<W: Primitives>(w: &mut W, line: u32, work: WorkId) -> Acted
-    ensures implements { (c : Component) → MainImplements (main_rule c line (W.view w.old).core (Abort (work_of (W.view w.old) work))) (W.view w.old).core result (W.view w.new).core }
+    ensures implements { ImplementsMain line (Abort (work_of (W.view w.old) work)) (W.view w.old) result (W.view w.new) }
     ensures tags { (W.view w.new).tags ≡ (W.view w.old).tags }
     ensures current { (W.view w.new).current ≡ (W.view w.old).current }
 {
@@ -120,7 +118,7 @@ pub fn abort<W: Primitives>(w: &mut W, line: u32, work: WorkId) -> Acted
 
 /// Does `await K`, of the spawn that made this work.
 pub fn await_spawn<W: Primitives>(w: &W, line: u32, work: WorkId) -> Acted
-    ensures { (c : Component) → MainImplements (main_rule c line (W.view w.now).core (Await (work_of (W.view w.now) work))) (W.view w.now).core result (W.view w.now).core }
+    ensures { ImplementsMain line (Await (work_of (W.view w.now) work)) (W.view w.now) result (W.view w.now) }
 {
     if matches!(w.phase(work), Phase::Complete) {
         Acted::Does(MainLabel::Await(line))
@@ -129,9 +127,9 @@ pub fn await_spawn<W: Primitives>(w: &W, line: u32, work: WorkId) -> Acted
     }
 }
 
-/// Does `quiet`: main waits as long as a task is interesting.
+/// Does `quiet`.
 pub fn quiet<W: Primitives>(w: &W) -> Acted
-    ensures { (c : Component) → (k : ℕ) → MainImplements (main_rule c k (W.view w.now).core Quiet) (W.view w.now).core result (W.view w.now).core }
+    ensures { ImplementsMainAnywhere Quiet (W.view w.now) result (W.view w.now) }
 {
     if w.has_interesting() {
         Acted::Pends
@@ -143,7 +141,7 @@ pub fn quiet<W: Primitives>(w: &W) -> Acted
 /// Does `ready F`, of an export of this instance.
 #[tactic(auto, unfolding(machine_rules::specs::MainOps::is_ready_for_call))]
 pub fn ready<W: Primitives>(w: &W, instance: u32) -> Acted
-    ensures { (c : Component) → (k : ℕ) → MainImplements (main_rule c k (W.view w.now).core (Ready instance)) (W.view w.now).core result (W.view w.now).core }
+    ensures { ImplementsMainAnywhere (Ready instance) (W.view w.now) result (W.view w.now) }
 {
     if w.may_not_enter(instance) || w.backpressure(instance) != 0 {
         Acted::Pends
@@ -152,9 +150,9 @@ pub fn ready<W: Primitives>(w: &W, instance: u32) -> Acted
     }
 }
 
-/// Does `answer X`: main's last op.
+/// Does `answer X`.
 pub fn answer<W: Primitives>(w: &W, value: u64) -> Acted
-    ensures { (c : Component) → (k : ℕ) → MainImplements (main_rule c k (W.view w.now).core (Answer value)) (W.view w.now).core result (W.view w.now).core }
+    ensures { ImplementsMainAnywhere (Answer value) (W.view w.now) result (W.view w.now) }
 {
     // only the contract speaks of `w`
     let _state = w;

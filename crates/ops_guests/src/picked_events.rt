@@ -1,8 +1,8 @@
 //! What a task is given: its task event, that of a ready member of a set, or nothing.
-ghost use Rattle.std.specs.Prelude.{◌≡◌, ◌<◌, None, Some, unwrap_or};
+ghost use Rattle.std.specs.Prelude.{◌≡◌, ◌<◌, None, unwrap_or};
 ghost use Rattle.machine_data.specs.Labels.{handle_given};
 ghost use Rattle.machine_data.specs.Moves.{picked_event, given_for, picked_task_event_of, picked_task_event_only, taken};
-ghost use Rattle.ops_guests.specs.PickedEvents.{IsNamedIn, MembersNamed, picked_event_in, handle_in, member_in};
+ghost use Rattle.ops_guests.specs.PickedEvents.{IsNamedIn, MembersNamed, picked_event_in, handle_in, IsPickedFor};
 ghost use Rattle.core_primitives.specs.StateView.{call_of, on_core, set_of};
 
 use core_primitives::{CallId, Primitives, SetId, SubtaskId};
@@ -43,7 +43,7 @@ pub(crate) fn picked_event_for<W: Primitives>(
 ) -> PickedEvent
     requires live { 0 < set_of (W.view w.now) set }
     requires named { MembersNamed instance (set_of (W.view w.now) set) (W.view w.now).core }
-    ensures is { picked_event by_callback (call_of (W.view w.now) call) (set_of (W.view w.now) set) (member_in (W.view w.now).tags result) (W.view w.now).core ≡ Some (picked_event_in (W.view w.now).tags result) }
+    ensures is { IsPickedFor by_callback call set result (W.view w.now) }
     ensures named { IsNamedIn instance (W.view w.now).tags result (W.view w.now).core }
 {
     // only the contract speaks of `instance`

@@ -1,16 +1,16 @@
 //! The taking of a start.
-ghost use Rattle.std.specs.Prelude.{◌≡◌, ◌<◌, IfOk, IfSome, None, OnErr, OnOk, false, option_map, true};
-ghost use Rattle.machine_data.specs.Labels.{choice_of, held_label, take_label};
+ghost use Rattle.ops_guests.specs.Rules.{takes_start};
+ghost use Rattle.ops_guests.specs.Does.{ImplementsRule};
+ghost use Rattle.std.specs.Prelude.{◌≡◌, ◌<◌, IfOk, IfSome, None, OnErr, OnOk, false, true};
+ghost use Rattle.machine_data.specs.Labels.{held_label, take_label};
 ghost use Rattle.machine_data.specs.Read.{admits, at_handle_limit, task_of, under_of};
 ghost use Rattle.machine_data.specs.declared.records.Subtask.TheVariants as subtasks;
 ghost use Rattle.machine_data.specs.declared.records.Why.TheVariants as whys;
 ghost use Rattle.ops_moves.specs.Idle.{CanPublish, IsJoinThere, IsWaiting};
-ghost use Rattle.ops_guests.specs.OpResult.{Implements};
 ghost use Rattle.ops_guests.specs.Running.{IsStartTaken};
 ghost use Rattle.ops_guests.specs.Shown.{goes_as};
-ghost use Rattle.ops_guests.specs.Steps.{label_of};
-ghost use Rattle.machine_rules.specs.Takes.{may_tell_starting, start_begins, start_holds, start_rule, start_sets_flags, starting_is_published, starting_told};
-ghost use Rattle.core_primitives.specs.StateView.{call_of, on_core, thread_of};
+ghost use Rattle.machine_rules.specs.Takes.{may_tell_starting, start_begins, start_holds, start_sets_flags, starting_is_published, starting_told};
+ghost use Rattle.core_primitives.specs.StateView.{call_of, on_core, thread_of, thread_if_any};
 
 use crate::op_result::{OpAnswer, OpResult};
 use core_primitives::{CallId, NoMemory, PlaceId, Primitives, ThreadId, WhyId};
@@ -46,7 +46,7 @@ fn held_label(mark: Mark, thread: u64, woken: Option<u64>) -> Label
 }
 
 fn woken_number<W: Primitives>(w: &W, waiter: Option<ThreadId>) -> Option<u64>
-    ensures { result ≡ option_map (λ id. thread_of (W.view w.now) id) waiter }
+    ensures { result ≡ thread_if_any (W.view w.now) waiter }
 {
     match waiter {
         None => None,
@@ -92,7 +92,7 @@ fn begin<W: Primitives>(
     requires live { 0 < thread_of (W.view w.old) thread }
     requires can { CanPublish (subtasks.Guest (task_of (thread_of (W.view w.old) thread) (W.view w.old).core)) waiter (W.view w.old) }
     requires limit { at_handle_limit (W.view w.old).core ≡ false }
-    ensures ok { OnOk result (W.view w.new ≡ on_core (start_begins (thread_of (W.view w.old) thread) (option_map (λ id. thread_of (W.view w.old) id) waiter)) (W.view w.old)) }
+    ensures ok { OnOk result (W.view w.new ≡ on_core (start_begins (thread_of (W.view w.old) thread) (thread_if_any (W.view w.old) waiter)) (W.view w.old)) }
     ensures err { OnErr result (W.view w.new ≡ W.view w.old) }
 {
     let call = w.task_of(thread);
@@ -110,7 +110,7 @@ fn begin<W: Primitives>(
 fn starting_waiter<W: Primitives>(w: &W, call: CallId, told: bool) -> Option<ThreadId>
     requires there { IsJoinThere (subtasks.Guest (call_of (W.view w.now) call)) (W.view w.now).core }
     requires told { told ≡ starting_is_published (call_of (W.view w.now) call) (W.view w.now).core }
-    ensures choice { may_tell_starting (call_of (W.view w.now) call) (option_map (λ id. thread_of (W.view w.now) id) result) (W.view w.now).core ≡ true }
+    ensures choice { may_tell_starting (call_of (W.view w.now) call) (thread_if_any (W.view w.now) result) (W.view w.now).core ≡ true }
     ensures live { IfSome result (λ id. 0 < thread_of (W.view w.now) id) }
     ensures waits { IfSome result (λ id. IsWaiting (thread_of (W.view w.now) id) (W.view w.now).core) }
 {
@@ -122,7 +122,7 @@ fn starting_waiter<W: Primitives>(w: &W, call: CallId, told: bool) -> Option<Thr
 fn tell_starting<W: Primitives>(w: &mut W, call: CallId, waiter: Option<ThreadId>, told: bool)
     requires told { told ≡ starting_is_published (call_of (W.view w.old) call) (W.view w.old).core }
     requires can { CanPublish (subtasks.Guest (call_of (W.view w.old) call)) waiter (W.view w.old) }
-    ensures { W.view w.new ≡ on_core (starting_told (call_of (W.view w.old) call) (option_map (λ id. thread_of (W.view w.old) id) waiter)) (W.view w.old) }
+    ensures { W.view w.new ≡ on_core (starting_told (call_of (W.view w.old) call) (thread_if_any (W.view w.old) waiter)) (W.view w.old) }
 {
     if !told {
         w.set_starting_published(call);
@@ -145,7 +145,7 @@ fn hold_start<W: Primitives>(
     requires taken { IsStartTaken (thread_of (W.view w.old) thread) (W.view w.old).core }
     requires bottom { under_of (thread_of (W.view w.old) thread) (W.view w.old).core ≡ None }
     requires can { CanPublish (subtasks.Guest (task_of (thread_of (W.view w.old) thread) (W.view w.old).core)) waiter (W.view w.old) }
-    ensures { W.view w.new ≡ on_core (start_holds (thread_of (W.view w.old) thread) (option_map (λ id. thread_of (W.view w.old) id) waiter)) (W.view w.old) }
+    ensures { W.view w.new ≡ on_core (start_holds (thread_of (W.view w.old) thread) (thread_if_any (W.view w.old) waiter)) (W.view w.old) }
 {
     tell_starting(w, call, waiter, told);
     let foot = own_foot(w, thread);
@@ -164,7 +164,7 @@ pub fn take_start<W: Primitives>(
     requires taken { IsStartTaken (thread_of (W.view w.old) thread) (W.view w.old).core }
     requires bottom { under_of (thread_of (W.view w.old) thread) (W.view w.old).core ≡ None }
     requires there { IsJoinThere (subtasks.Guest (task_of (thread_of (W.view w.old) thread) (W.view w.old).core)) (W.view w.old).core }
-    ensures implements { IfOk result (λ op_result. Implements (start_rule mark (thread_of (W.view w.old) thread) (choice_of (label_of (thread_of (W.view w.old) thread) op_result)).woken (W.view w.old).core (admits (thread_of (W.view w.old) thread) (W.view w.old).core whys.Start)) (W.view w.old).core op_result (W.view w.new).core) }
+    ensures implements { IfOk result (λ op_result. ImplementsRule (takes_start mark) thread (W.view w.old) op_result (W.view w.new)) }
     ensures tags { (W.view w.new).tags ≡ (W.view w.old).tags }
     ensures current { (W.view w.new).current ≡ (W.view w.old).current }
     ensures err { OnErr result (W.view w.new ≡ W.view w.old) }

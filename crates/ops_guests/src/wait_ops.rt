@@ -1,5 +1,6 @@
 //! Waiting on a set.
-ghost use Rattle.std.specs.Prelude.{◌≡◌, ◌<◌, option_map, true};
+ghost use Rattle.ops_moves.specs.Wakes.{MayHandOn, handed_to};
+ghost use Rattle.std.specs.Prelude.{◌≡◌, ◌<◌};
 ghost use Rattle.machine_data.specs.Labels.{given_task_event, wait_label};
 ghost use Rattle.machine_data.specs.Moves.{handed_on, may_hand_on};
 ghost use Rattle.machine_data.specs.Read.{instance_of};
@@ -30,8 +31,8 @@ pub(crate) fn hand_on<W: Primitives>(
 ) -> Option<ThreadId>
     requires live { 0 < set_of (W.view w.old) set }
     requires unqueued { AreWaitersUnqueued (set_of (W.view w.old) set) (W.view w.old).core }
-    ensures choice { may_hand_on (set_of (W.view w.old) set) (picked_event_in (W.view w.old).tags picked_event) (option_map (λ id. thread_of (W.view w.old) id) result) (W.view w.old).core ≡ true }
-    ensures new { W.view w.new ≡ on_core (handed_on (set_of (W.view w.old) set) (picked_event_in (W.view w.old).tags picked_event) (option_map (λ id. thread_of (W.view w.old) id) result)) (W.view w.old) }
+    ensures choice { MayHandOn set (picked_event_in (W.view w.old).tags picked_event) result (W.view w.old) }
+    ensures new { W.view w.new ≡ handed_to set (picked_event_in (W.view w.old).tags picked_event) result (W.view w.old) }
 {
     match picked_event {
         PickedEvent::Own(_) => hand_wake_on(w, set),

@@ -1,10 +1,10 @@
 //! The polls of live host works by the loop, and the taking of their pushes.
-ghost use Rattle.std.specs.Prelude.{◌≡◌, ◌<◌, Some, true};
+ghost use Rattle.std.specs.Prelude.{◌≡◌, ◌<◌, true};
 ghost use Rattle.machine_data.specs.declared.label.Label.TheVariants as labels;
 ghost use Rattle.machine_data.specs.declared.label.TakeLabel.TheVariants as take_labels;
 ghost use Rattle.machine_data.specs.declared.records.Subtask.TheVariants as subtasks;
 ghost use Rattle.machine_data.specs.Read.{is_stage_live, stage_of};
-ghost use Rattle.ops_guests.specs.PolledWorks.{PollImplements, PolledTo, TellsPoll};
+ghost use Rattle.ops_guests.specs.PolledWorks.{TellsPoll, PollsWork, PollsWorkTo};
 ghost use Rattle.machine_rules.specs.Takes.{pushed};
 ghost use Rattle.machine_rules.specs.Works.{followed, poll_ends, poll_of};
 ghost use Rattle.core_primitives.specs.Apart.{IsBlockedUnqueued, work_entries};
@@ -96,8 +96,8 @@ pub fn poll_work<W: Primitives>(w: &mut W, work: WorkId, told: PollNews) -> Poll
     requires told { TellsPoll told (poll_of (work_of (W.view w.old) work) (W.view w.old).core) }
     requires blocked { IsBlockedUnqueued (subtasks.Host (work_of (W.view w.old) work)) (W.view w.old).core }
     requires unqueued { work_entries (work_of (W.view w.old) work) (W.view w.old).core.queues.high ≡ 0 }
-    ensures implements { PollImplements (work_of (W.view w.old) work) (poll_of (work_of (W.view w.old) work) (W.view w.old).core) (W.view w.old).core result (W.view w.new).core }
-    ensures core { PolledTo told (work_of (W.view w.old) work) (poll_of (work_of (W.view w.old) work) (W.view w.old).core) (W.view w.old).core (W.view w.new).core }
+    ensures implements { PollsWork work (W.view w.old) result (W.view w.new) }
+    ensures core { PollsWorkTo told work (W.view w.old) (W.view w.new) }
     ensures tags { (W.view w.new).tags ≡ (W.view w.old).tags }
     ensures current { (W.view w.new).current ≡ (W.view w.old).current }
 {

@@ -1,3 +1,4 @@
 pub mod Stops
 pub mod Idle
 pub mod Gone
+pub mod Wakes

@@ -1,9 +1,9 @@
 //! Put, Check and the other promotions.
+ghost use Rattle.ops_moves.specs.Wakes.{standing_low};
 ghost use Rattle.std.specs.Prelude.{◌≡◌, ◌<◌};
 ghost use Rattle.machine_data.specs.Moves.{checked, displaced, passes_check, promoted, promoted_unless, put_high, put_low, put_switch};
 ghost use Rattle.core_primitives.specs.Apart.{IsSwitchUnqueued, IsUnqueued};
-ghost use Rattle.machine_data.specs.Write.{set_op_progress};
-ghost use Rattle.core_primitives.specs.Names.{op_progress_in, why_in};
+ghost use Rattle.core_primitives.specs.Names.{why_in};
 ghost use Rattle.core_primitives.specs.StateView.{on_core, thread_of};
 
 use core_primitives::{OpProgressId, PlaceId, Primitives, ThreadId, WhyId};
@@ -39,7 +39,7 @@ pub fn put_low<W: Primitives>(w: &mut W, thread: ThreadId, why: WhyId)
 pub fn put_low_at<W: Primitives>(w: &mut W, thread: ThreadId, why: WhyId, op_progress: OpProgressId)
     requires live { 0 < thread_of (W.view w.old) thread }
     requires unqueued { IsUnqueued (thread_of (W.view w.old) thread) (W.view w.old).core }
-    ensures { W.view w.new ≡ on_core (λ s. set_op_progress (thread_of (W.view w.old) thread) (op_progress_in (W.view w.old).tags op_progress) (put_low (thread_of (W.view w.old) thread) (why_in (W.view w.old).tags why) s)) (W.view w.old) }
+    ensures { W.view w.new ≡ standing_low thread why op_progress (W.view w.old) }
 {
     let mark = Mark::Low;
     w.stand_at(thread, PlaceId::Ready { mark, why }, op_progress);

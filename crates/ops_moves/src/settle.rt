@@ -1,8 +1,8 @@
 //! What the end of a thread settles.
 ghost use Rattle.std.specs.Prelude.{◌≡◌, ◌<◌};
 ghost use Rattle.machine_data.specs.Moves.{call_settled, interest_settled};
-ghost use Rattle.core_primitives.specs.BecomesRecord.{BecomesBut};
-ghost use Rattle.core_primitives.specs.StateView.{call_of, lost_call, on_core};
+ghost use Rattle.core_primitives.specs.StateView.{call_of, on_core};
+ghost use Rattle.core_primitives.specs.Records.{LosesCallBy};
 
 use core_primitives::{CallId, Primitives};
 
@@ -21,7 +21,7 @@ pub fn settle_interest<W: Primitives>(w: &mut W, call: CallId)
 #[inline(always)]
 pub fn settle_call<W: Primitives>(w: &mut W, call: CallId)
     requires { 0 < call_of (W.view w.old) call }
-    ensures { BecomesBut (lost_call (call_of (W.view w.old) call)) (call_settled (call_of (W.view w.old) call) (W.view w.old).core) (W.view w.old) (W.view w.new) }
+    ensures { LosesCallBy call_settled call (W.view w.old) (W.view w.new) }
 {
     if w.is_deletable(call) {
         w.delete_call(call);

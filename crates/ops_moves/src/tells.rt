@@ -1,12 +1,12 @@
 //! The end of a task, and what its caller is told.
-ghost use Rattle.std.specs.Prelude.{◌≡◌, ◌<◌, IfSome, option_map, true};
+ghost use Rattle.std.specs.Prelude.{◌≡◌, ◌<◌, IfSome, true};
 ghost use Rattle.machine_data.specs.Read.{goal_of};
 ghost use Rattle.machine_data.specs.declared.records.Goal.TheVariants as goals;
 ghost use Rattle.ops_moves.specs.Idle.{CanPublish, IsJoinThere, IsWaiting};
 ghost use Rattle.machine_data.specs.declared.records.Subtask.TheVariants as subtasks;
 ghost use Rattle.machine_rules.specs.Ends.{cancelled, is_told, may_tell, result_given, returned, told};
 ghost use Rattle.core_primitives.specs.Names.{caller_in};
-ghost use Rattle.core_primitives.specs.StateView.{call_of, on_core, thread_of};
+ghost use Rattle.core_primitives.specs.StateView.{call_of, on_core, thread_of, thread_if_any};
 
 use crate::publishes::{publish, publish_waiter};
 use core_primitives::{CallId, CallerId, Primitives, SubtaskId, ThreadId};
@@ -27,7 +27,7 @@ pub fn is_told<W: Primitives>(w: &W, call: CallId) -> bool
 #[inline(always)]
 pub fn tell_waiter<W: Primitives>(w: &W, call: CallId) -> Option<ThreadId>
     requires { IsJoinThere (subtasks.Guest (call_of (W.view w.now) call)) (W.view w.now).core }
-    ensures choice { may_tell (call_of (W.view w.now) call) (option_map (λ id. thread_of (W.view w.now) id) result) (W.view w.now).core ≡ true }
+    ensures choice { may_tell (call_of (W.view w.now) call) (thread_if_any (W.view w.now) result) (W.view w.now).core ≡ true }
     ensures live { IfSome result (λ id. 0 < thread_of (W.view w.now) id) }
     ensures waits { IfSome result (λ id. IsWaiting (thread_of (W.view w.now) id) (W.view w.now).core) }
 {
@@ -42,7 +42,7 @@ pub fn tell_waiter<W: Primitives>(w: &W, call: CallId) -> Option<ThreadId>
 #[tactic(auto, unfolding(machine_rules::specs::Ends::told))]
 pub fn tell<W: Primitives>(w: &mut W, call: CallId, status: Status, waiter: Option<ThreadId>)
     requires { CanPublish (subtasks.Guest (call_of (W.view w.old) call)) waiter (W.view w.old) }
-    ensures { W.view w.new ≡ on_core (told (call_of (W.view w.old) call) status (option_map (λ id. thread_of (W.view w.old) id) waiter)) (W.view w.old) }
+    ensures { W.view w.new ≡ on_core (told (call_of (W.view w.old) call) status (thread_if_any (W.view w.old) waiter)) (W.view w.old) }
 {
     if is_told(w, call) {
         publish(w, SubtaskId::Guest(call), status, waiter);
@@ -69,7 +69,7 @@ fn give_result<W: Primitives>(w: &mut W, goal: Goal, caller: CallerId, call: Cal
 #[inline(always)]
 pub fn return_value<W: Primitives>(w: &mut W, call: CallId, value: u64, waiter: Option<ThreadId>)
     requires { CanPublish (subtasks.Guest (call_of (W.view w.old) call)) waiter (W.view w.old) }
-    ensures { W.view w.new ≡ on_core (returned (call_of (W.view w.old) call) value (option_map (λ id. thread_of (W.view w.old) id) waiter)) (W.view w.old) }
+    ensures { W.view w.new ≡ on_core (returned (call_of (W.view w.old) call) value (thread_if_any (W.view w.old) waiter)) (W.view w.old) }
 {
     w.none_is_zero();
     let goal = w.goal(call);
@@ -83,7 +83,7 @@ pub fn return_value<W: Primitives>(w: &mut W, call: CallId, value: u64, waiter: 
 #[tactic(auto, unfolding(machine_rules::specs::Ends::cancelled))]
 pub fn cancel_task<W: Primitives>(w: &mut W, call: CallId, waiter: Option<ThreadId>)
     requires { CanPublish (subtasks.Guest (call_of (W.view w.old) call)) waiter (W.view w.old) }
-    ensures { W.view w.new ≡ on_core (cancelled (call_of (W.view w.old) call) (option_map (λ id. thread_of (W.view w.old) id) waiter)) (W.view w.old) }
+    ensures { W.view w.new ≡ on_core (cancelled (call_of (W.view w.old) call) (thread_if_any (W.view w.old) waiter)) (W.view w.old) }
 {
     w.set_end(call, CallEnd::ReturnCancelled);
     tell(w, call, Status::ReturnCancelled, waiter);

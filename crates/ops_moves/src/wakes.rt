@@ -1,11 +1,12 @@
 //! Wakes: who waits on a set, or is blocked on a subtask, gets an entry at high.
-ghost use Rattle.std.specs.Prelude.{◌≡◌, ◌<◌, IfSome, option_map, true};
+ghost use Rattle.ops_moves.specs.Wakes.{MayHandOn, handed_to};
+ghost use Rattle.std.specs.Prelude.{◌≡◌, ◌<◌, IfSome, true};
 ghost use Rattle.machine_data.specs.Moves.{PickedTaskEvent, behind_one, handed_on, is_callback_waiter, may_hand_on, may_wake, unblocked, wake, waken_by};
 ghost use Rattle.machine_data.specs.Read.{blocked_on};
 ghost use Rattle.machine_data.specs.declared.statuses.TaskEvent.{TaskEvent};
 ghost use Rattle.core_primitives.specs.Apart.{AreWaitersUnqueued, IsBehindNobody, IsBlockedUnqueued, IsUnqueued};
 ghost use Rattle.core_primitives.specs.Names.{number_in, subtask_in};
-ghost use Rattle.core_primitives.specs.StateView.{on_core, set_of, thread_of};
+ghost use Rattle.core_primitives.specs.StateView.{on_core, set_of, thread_of, thread_if_any};
 
 use crate::moves::put_high;
 use core_primitives::{DeliveryId, PlaceId, Primitives, SetId, SubtaskId, ThreadId, WhyId};
@@ -45,7 +46,7 @@ fn is_callback_waiter<W: Primitives>(w: &W, thread: ThreadId) -> bool
 pub fn wake_chosen<W: Primitives>(w: &mut W, set: SetId, waiter: Option<ThreadId>)
     requires live { IfSome waiter (λ id. 0 < thread_of (W.view w.old) id) }
     requires unqueued { IfSome waiter (λ id. IsUnqueued (thread_of (W.view w.old) id) (W.view w.old).core) }
-    ensures { W.view w.new ≡ on_core (wake (set_of (W.view w.old) set) (option_map (λ id. thread_of (W.view w.old) id) waiter)) (W.view w.old) }
+    ensures { W.view w.new ≡ on_core (wake (set_of (W.view w.old) set) (thread_if_any (W.view w.old) waiter)) (W.view w.old) }
 {
     if let Some(thread) = waiter {
         let by_callback = is_callback_waiter(w, thread);
@@ -58,8 +59,8 @@ pub fn wake_chosen<W: Primitives>(w: &mut W, set: SetId, waiter: Option<ThreadId
 pub fn wake<W: Primitives>(w: &mut W, set: SetId) -> Option<ThreadId>
     requires named { 0 < set_of (W.view w.old) set }
     requires unqueued { AreWaitersUnqueued (set_of (W.view w.old) set) (W.view w.old).core }
-    ensures choice { may_wake (set_of (W.view w.old) set) (option_map (λ id. thread_of (W.view w.old) id) result) (W.view w.old).core ≡ true }
-    ensures new { W.view w.new ≡ on_core (wake (set_of (W.view w.old) set) (option_map (λ id. thread_of (W.view w.old) id) result)) (W.view w.old) }
+    ensures choice { may_wake (set_of (W.view w.old) set) (thread_if_any (W.view w.old) result) (W.view w.old).core ≡ true }
+    ensures new { W.view w.new ≡ on_core (wake (set_of (W.view w.old) set) (thread_if_any (W.view w.old) result)) (W.view w.old) }
 {
     let waiter = w.first_waiter(set);
     wake_chosen(w, set, waiter);
@@ -72,8 +73,8 @@ pub fn wake<W: Primitives>(w: &mut W, set: SetId) -> Option<ThreadId>
 pub fn hand_wake_on<W: Primitives>(w: &mut W, set: SetId) -> Option<ThreadId>
     requires named { 0 < set_of (W.view w.old) set }
     requires unqueued { AreWaitersUnqueued (set_of (W.view w.old) set) (W.view w.old).core }
-    ensures choice { (event : TaskEvent) → may_hand_on (set_of (W.view w.old) set) (PickedTaskEvent event) (option_map (λ id. thread_of (W.view w.old) id) result) (W.view w.old).core ≡ true }
-    ensures new { (event : TaskEvent) → W.view w.new ≡ on_core (handed_on (set_of (W.view w.old) set) (PickedTaskEvent event) (option_map (λ id. thread_of (W.view w.old) id) result)) (W.view w.old) }
+    ensures choice { (event : TaskEvent) → MayHandOn set (PickedTaskEvent event) result (W.view w.old) }
+    ensures new { (event : TaskEvent) → W.view w.new ≡ handed_to set (PickedTaskEvent event) result (W.view w.old) }
 {
     if w.has_ready_member(set) {
         wake(w, set)

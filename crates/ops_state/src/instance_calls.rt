@@ -15,28 +15,30 @@ pub struct ConcurrentInstanceState {
 }
 
 impl ConcurrentInstanceState {
-    /// Returns whether no thread of the instance is held.
+    /// Returns whether no thread of the instance is held: then nobody waits to be let in.
     pub fn pending_is_empty(&self) -> bool
         ensures { result ≡ self.now.pending_is_empty }
     {
         self.pending_is_empty
     }
 
-    /// Returns how often entries of the instance are asked to wait; 0 where they needn't.
+    /// Returns how often entries of the instance are asked to wait; 0 where they needn't. A guest raises it as long as it has enough
+    /// to do, so that further calls don't take memory of its own.
     pub fn backpressure(&self) -> u16
         ensures { result ≡ self.now.backpressure }
     {
         self.backpressure
     }
 
-    /// Returns whether an entry of the instance holds it.
+    /// Returns whether an entry of the instance holds it. As long as one does no other comes in, since the guest's code would find its
+    /// data half changed.
     pub fn do_not_enter(&self) -> bool
         ensures { result ≡ self.now.do_not_enter }
     {
         self.do_not_enter
     }
 
-    /// Returns whether the instance may not block.
+    /// Returns whether the instance may not block. A sync call has promised its caller to end without a pause.
     pub fn do_not_suspend(&self) -> bool
         ensures { result ≡ self.now.do_not_suspend }
     {

@@ -1,4 +1,6 @@
 -- The rules of ops on subtasks, by what their contracts name.
+use Rattle.machine_data.specs.declared.records.OpProgress.TheVariants as op_progress
+use Rattle.ops_subtasks.specs.Refused.{mode_of}
 use Rattle.std.specs.Prelude.{Bool, List, None, Option, false, not, option_map, true, ℕ}
 use Rattle.machine_data.specs.Core.{Core}
 use Rattle.machine_data.specs.Read.{event_of, fits, undelivered_end}
@@ -84,6 +86,13 @@ cancels_from mode f h d n ch s = cancel_rule d mode n h s f
 -- the rule of one that is resumed inside, whatever its handle names by then
 abbrev pub goes_on_from : Mode → OpProgress → Rule
 goes_on_from mode f d n ch s = cancel_rule d mode n 0 s f
+
+-- by how far it has come: it cancels the subtask, or awaits its end
+abbrev pub goes_on_cancelling : (sync : Bool) → SubtaskId → StateView → Rule
+goes_on_cancelling sync sub v = goes_on_from (mode_of sync) (op_progress.Cancels (subtask_in v.tags sub))
+
+abbrev pub goes_on_awaiting : (sync : Bool) → SubtaskId → StateView → Rule
+goes_on_awaiting sync sub v = goes_on_from (mode_of sync) (op_progress.AwaitsEnd (subtask_in v.tags sub))
 
 abbrev pub cancels_guest : Mode → (call : ℕ) → Rule
 cancels_guest mode k d n ch s = cancel_guest_by d mode n k s (cancel_case k s)

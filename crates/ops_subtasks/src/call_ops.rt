@@ -3,14 +3,14 @@ ghost use Rattle.std.specs.Prelude.{◌≡◌, ◌+◌, ◌<◌, ◌≤◌, ◌^
 ghost use Rattle.machine_data.specs.Maps.{get};
 ghost use Rattle.machine_data.specs.Read.{fits, place_of};
 ghost use Rattle.ops_subtasks.specs.Rules.{queues_call};
-ghost use Rattle.ops_subtasks.specs.Starts.{call_starts};
+ghost use Rattle.ops_subtasks.specs.Starts.{call_started};
 ghost use Rattle.machine_data.specs.declared.records.Place.TheVariants as places;
 ghost use Rattle.ops_guests.specs.OpResult.{IsCurrent};
 ghost use Rattle.ops_guests.specs.Does.{DoesRule, KeepsNames};
 ghost use Rattle.ops_guests.specs.Running.{IsRunning};
-ghost use Rattle.machine_rules.specs.Calls.{call_clears_flag, call_queues, next_thread};
-ghost use Rattle.core_primitives.specs.BecomesRecord.{MakesRecord, names_thread};
-ghost use Rattle.core_primitives.specs.StateView.{call_of, on_core, thread_of};
+ghost use Rattle.machine_rules.specs.Calls.{call_clears_flag, call_queues};
+ghost use Rattle.core_primitives.specs.StateView.{on_core, thread_of};
+ghost use Rattle.core_primitives.specs.Records.{MakesThread};
 
 use core_primitives::{CallId, NoMemory, OpProgressId, Primitives, SubtaskId, ThreadId, WhyId};
 use machine_data::{CallLabel, Callee, ExportKind, Goal, Label, Trap};
@@ -42,7 +42,7 @@ pub fn start_made<W: Primitives>(
     requires running { IsRunning (thread_of (W.view w.old) thread) (W.view w.old).core }
     requires other { 0 < thread_of (W.view w.old) other }
     requires new { place_of (thread_of (W.view w.old) other) (W.view w.old).core ≡ Some places.New }
-    ensures { W.view w.new ≡ on_core (call_starts (thread_of (W.view w.old) thread) (thread_of (W.view w.old) other) (call_of (W.view w.old) call) instance kind) (W.view w.old) }
+    ensures { W.view w.new ≡ call_started thread other call instance kind (W.view w.old) }
 {
     put_switch(w, other, WhyId::Start);
     clear_flag(w, thread, instance, kind);
@@ -65,7 +65,7 @@ fn queue_start<W: Primitives>(
     requires words { length words.now ≤ 16 }
     requires few { (W.view w.old).core.made.threads + 1 < 2 ^ 64 }
     requires room { fits 3 (W.view w.old).core ≡ true }
-    ensures { MakesRecord (names_thread (next_thread (W.view w.old).core)) (call_queues (thread_of (W.view w.old) thread) callee kind goal words.now (W.view w.old).core) (W.view w.old) result (W.view w.new) }
+    ensures { MakesThread (call_queues (thread_of (W.view w.old) thread) callee kind goal words.now) (W.view w.old) result (W.view w.new) }
 {
     let (other, call) = w.make_call(thread, callee, kind, goal, words)?;
     start_made(w, thread, other, call, callee.instance, kind);

@@ -1,13 +1,14 @@
 //! Direct calls, of sync and blocking exports.
+ghost use Rattle.ops_subtasks.specs.Starts.{IsMadeNext};
 ghost use Rattle.std.specs.Prelude.{◌≡◌, ◌+◌, ◌<◌, ◌≤◌, ◌^◌, IfOk, IsSome, OnErr, OnOk, false, length, true};
 ghost use Rattle.ops_subtasks.specs.Rules.{answers_value, begins_call, enters_call, queues_call};
 ghost use Rattle.machine_data.specs.Maps.{get};
 ghost use Rattle.machine_data.specs.Read.{at_handle_limit, fits, is_async_lifted};
 ghost use Rattle.machine_data.specs.declared.records.Goal.TheVariants as goals;
 ghost use Rattle.ops_guests.specs.OpResult.{IsCurrent};
-ghost use Rattle.ops_guests.specs.Does.{DoesRule, KeepsTags, SameNames};
+ghost use Rattle.ops_guests.specs.Does.{DoesRule, KeepsTags, SameNames, MayDoRule};
 ghost use Rattle.ops_guests.specs.Running.{IsRunning};
-ghost use Rattle.machine_rules.specs.Calls.{enter_runs, next_thread, sync_sets_flag};
+ghost use Rattle.machine_rules.specs.Calls.{enter_runs, sync_sets_flag};
 ghost use Rattle.core_primitives.specs.StateView.{Keeps, on_core, thread_of};
 
 use crate::call_ops::begin_call;
@@ -40,8 +41,7 @@ fn run_on_top<W: Primitives>(
     requires few { (W.view w.old).core.made.threads + 1 < 2 ^ 64 }
     requires room { fits 3 (W.view w.old).core ≡ true }
     requires limit { at_handle_limit (W.view w.old).core ≡ false }
-    ensures thread { IfOk result (λ found. thread_of (W.view w.new) found.0 ≡ next_thread (W.view w.old).core) }
-    ensures number { IfOk result (λ found. found.1 ≡ next_thread (W.view w.old).core) }
+    ensures found { IfOk result (λ found. IsMadeNext found (W.view w.old) (W.view w.new)) }
     ensures core { OnOk result ((W.view w.new).core ≡ enter_runs (thread_of (W.view w.old) thread) callee kind words.now (W.view w.old).core) }
     ensures tags { Keeps (W.view w.old).tags (W.view w.new).tags }
     ensures err { OnErr result (W.view w.new ≡ W.view w.old) }
@@ -68,7 +68,7 @@ pub fn enter<W: Primitives>(
     requires there { IsSome (get (W.view w.old).core.instances callee.instance) }
     requires words { length words.now ≤ 16 }
     requires few { (W.view w.old).core.made.threads + 1 < 2 ^ 64 }
-    ensures does { IfOk result (λ op_result. DoesRule KeepsTags (enters_call kind callee words.now) thread (W.view w.old) op_result (W.view w.new)) }
+    ensures does { MayDoRule KeepsTags (enters_call kind callee words.now) thread (W.view w.old) result (W.view w.new) }
     ensures current { IfOk result (λ op_result. IsCurrent op_result (W.view w.new)) }
     ensures err { OnErr result (W.view w.new ≡ W.view w.old) }
 {
@@ -103,7 +103,7 @@ fn begin_queued<W: Primitives>(
     requires there { IsSome (get (W.view w.old).core.instances callee.instance) }
     requires words { length words.now ≤ 16 }
     requires few { (W.view w.old).core.made.threads + 1 < 2 ^ 64 }
-    ensures does { IfOk result (λ op_result. DoesRule KeepsTags (queues_call kind goals.Answer callee words.now) thread (W.view w.old) op_result (W.view w.new)) }
+    ensures does { MayDoRule KeepsTags (queues_call kind goals.Answer callee words.now) thread (W.view w.old) result (W.view w.new) }
     ensures current { IfOk result (λ op_result. IsCurrent op_result (W.view w.new)) }
     ensures err { OnErr result (W.view w.new ≡ W.view w.old) }
 {
@@ -126,7 +126,7 @@ pub fn begin_call_sync<W: Primitives>(
     requires there { IsSome (get (W.view w.old).core.instances callee.instance) }
     requires words { length words.now ≤ 16 }
     requires few { (W.view w.old).core.made.threads + 1 < 2 ^ 64 }
-    ensures does { IfOk result (λ op_result. DoesRule KeepsTags (begins_call (is_async_lifted kind) kind callee words.now) thread (W.view w.old) op_result (W.view w.new)) }
+    ensures does { MayDoRule KeepsTags (begins_call (is_async_lifted kind) kind callee words.now) thread (W.view w.old) result (W.view w.new) }
     ensures current { IfOk result (λ op_result. IsCurrent op_result (W.view w.new)) }
     ensures err { OnErr result (W.view w.new ≡ W.view w.old) }
 {

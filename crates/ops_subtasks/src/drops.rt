@@ -1,14 +1,13 @@
 //! Dropping a subtask.
 ghost use Rattle.std.specs.Prelude.{◌≡◌, ◌<◌, IsSome, true, ℕ};
-ghost use Rattle.ops_subtasks.specs.Named.{lost_subtask};
+ghost use Rattle.ops_subtasks.specs.Named.{lost_subtask, SettlesSubtask};
 ghost use Rattle.laws_states.specs.Order.{WorksQueued};
 ghost use Rattle.machine_data.specs.Read.{instance_of, subtask_at, subtask_ended};
 ghost use Rattle.machine_data.specs.declared.records.Subtask.TheVariants as subtasks;
 ghost use Rattle.ops_guests.specs.Does.{DoesRule};
-ghost use Rattle.machine_rules.specs.Cancels.{drop_rule, subtask_settled, unnamed};
+ghost use Rattle.machine_rules.specs.Cancels.{drop_rule, unnamed};
 ghost use Rattle.core_primitives.specs.Apart.{work_entries};
 ghost use Rattle.core_primitives.specs.Names.{subtask_in};
-ghost use Rattle.core_primitives.specs.BecomesRecord.{BecomesBut};
 ghost use Rattle.core_primitives.specs.StateView.{KeepsBut, thread_of, work_of};
 ghost use Rattle.ops_guests.specs.Works.{NamesTold};
 
@@ -21,7 +20,7 @@ use ops_moves::settle_call;
 // A work is gone, if it is there.
 fn delete_work<W: Primitives>(w: &mut W, work: WorkId)
     requires unqueued { work_entries (work_of (W.view w.old) work) (W.view w.old).core.queues.high ≡ 0 }
-    ensures { BecomesBut (lost_subtask (subtasks.Host (work_of (W.view w.old) work))) (subtask_settled (subtasks.Host (work_of (W.view w.old) work)) (W.view w.old).core) (W.view w.old) (W.view w.new) }
+    ensures { SettlesSubtask (subtasks.Host (work_of (W.view w.old) work)) (W.view w.old) (W.view w.new) }
 {
     w.none_is_zero();
     if w.work_number(work) > 0 {
@@ -33,7 +32,7 @@ fn delete_work<W: Primitives>(w: &mut W, work: WorkId)
 fn settle<W: Primitives>(w: &mut W, subtask: SubtaskId)
     requires live { (k : ℕ) → subtask_in (W.view w.old).tags subtask ≡ subtasks.Guest k → 0 < k }
     requires unqueued { (i : ℕ) → subtask_in (W.view w.old).tags subtask ≡ subtasks.Host i → work_entries i (W.view w.old).core.queues.high ≡ 0 }
-    ensures { BecomesBut (lost_subtask (subtask_in (W.view w.old).tags subtask)) (subtask_settled (subtask_in (W.view w.old).tags subtask) (W.view w.old).core) (W.view w.old) (W.view w.new) }
+    ensures { SettlesSubtask (subtask_in (W.view w.old).tags subtask) (W.view w.old) (W.view w.new) }
 {
     match subtask {
         SubtaskId::Guest(call) => settle_call(w, call),

@@ -2,18 +2,16 @@
 ghost use Rattle.std.specs.Prelude.{◌≡◌, ◌+◌, ◌<◌, ◌^◌, IfOk, None, OnErr, false, true};
 ghost use Rattle.ops_subtasks.specs.First.{first_heard, first_named};
 ghost use Rattle.ops_subtasks.specs.Named.{LosesWork};
-ghost use Rattle.ops_subtasks.specs.Queued.{NamesQueued};
+ghost use Rattle.ops_subtasks.specs.Queued.{NamesQueued, queued_answer};
 ghost use Rattle.ops_subtasks.specs.Rules.{answers_work, calls_host, calls_sync_host};
 ghost use Rattle.machine_data.specs.Maps.{get};
-ghost use Rattle.machine_data.specs.Read.{at_handle_limit, fits, instance_of, new_handle};
-ghost use Rattle.machine_data.specs.Statuses.{packed};
-ghost use Rattle.machine_data.specs.declared.statuses.Status.TheVariants as statuses;
+ghost use Rattle.machine_data.specs.Read.{at_handle_limit, fits};
 ghost use Rattle.ops_guests.specs.Does.{DoesRule, KeepsNames};
 ghost use Rattle.ops_guests.specs.Running.{IsRunning};
 ghost use Rattle.machine_rules.specs.Calls.{Later, call_sync_host_stops, host_valued, host_with_handle, next_work};
 ghost use Rattle.core_primitives.specs.Apart.{work_entries};
-ghost use Rattle.core_primitives.specs.BecomesRecord.{MakesRecord, names_work};
 ghost use Rattle.core_primitives.specs.StateView.{Keeps, on_core, thread_of, work_of};
+ghost use Rattle.core_primitives.specs.Records.{MakesWork};
 
 use crate::returns::stop_blocked;
 use crate::takes::value_of_work;
@@ -78,7 +76,7 @@ fn queue_work<W: Primitives>(
     requires few { (W.view w.old).core.made.works + 1 < 2 ^ 64 }
     requires room { fits 1 (W.view w.old).core ≡ true }
     requires limit { at_handle_limit (W.view w.old).core ≡ false }
-    ensures value { IfOk result (λ r. r.0 ≡ packed (new_handle (instance_of (thread_of (W.view w.old) thread) (W.view w.old).core) (W.view w.old).core) statuses.Started) }
+    ensures value { IfOk result (λ r. r.0 ≡ queued_answer thread (W.view w.old)) }
     ensures work { IfOk result (λ r. work_of (W.view w.new) r.1 ≡ next_work (W.view w.old).core) }
     ensures core { IfOk result (λ r. (W.view w.new).core ≡ host_with_handle (thread_of (W.view w.old) thread) register host (W.view w.old).core) }
     ensures tags { Keeps (W.view w.old).tags (W.view w.new).tags }
@@ -180,7 +178,7 @@ fn stop_on_host<W: Primitives>(
     requires running { IsRunning (thread_of (W.view w.old) thread) (W.view w.old).core }
     requires few { (W.view w.old).core.made.works + 1 < 2 ^ 64 }
     requires room { fits 1 (W.view w.old).core ≡ true }
-    ensures { MakesRecord (names_work (next_work (W.view w.old).core)) (call_sync_host_stops (thread_of (W.view w.old) thread) host (W.view w.old).core) (W.view w.old) result (W.view w.new) }
+    ensures { MakesWork (call_sync_host_stops (thread_of (W.view w.old) thread) host) (W.view w.old) result (W.view w.new) }
 {
     let instance = w.instance_of(thread);
     let work = w.queue_sync_call(thread, host)?;

@@ -1,5 +1,5 @@
 //! Joining a set.
-ghost use Rattle.std.specs.Prelude.{◌≡◌, ◌<◌, IfSome, Option, Some, option_map, true};
+ghost use Rattle.std.specs.Prelude.{◌≡◌, ◌<◌, IfSome, true};
 ghost use Rattle.ops_subtasks.specs.Rules.{joins_of};
 ghost use Rattle.machine_data.specs.Labels.{join_label};
 ghost use Rattle.machine_data.specs.Read.{is_watched, join_of};
@@ -9,7 +9,7 @@ ghost use Rattle.ops_guests.specs.Running.{IsRunning, SetsThere};
 ghost use Rattle.ops_guests.specs.Shown.{goes_as};
 ghost use Rattle.machine_rules.specs.Sets.{join_rule, joins, may_wake_new, wakes_joined};
 ghost use Rattle.core_primitives.specs.Names.{join_in, subtask_in};
-ghost use Rattle.core_primitives.specs.StateView.{on_core, set_of, thread_of};
+ghost use Rattle.core_primitives.specs.StateView.{on_core, set_of, thread_of, thread_if_any, set_if_any};
 
 use core_primitives::{JoinId, Primitives, SetId, SubtaskId, ThreadId};
 use machine_data::{Label, SetLabel, Status, Trap};
@@ -31,8 +31,8 @@ fn wake_joined<W: Primitives>(
 ) -> Option<ThreadId>
     requires live { IfSome set (λ id. 0 < set_of (W.view w.old) id) }
     requires idle { AreIdleUnqueued (W.view w.old).core }
-    ensures choice { may_wake_new event (option_map (λ id. set_of (W.view w.old) id) set) (option_map (λ id. thread_of (W.view w.old) id) result) (W.view w.old).core ≡ true }
-    ensures new { W.view w.new ≡ on_core (wakes_joined event (option_map (λ id. set_of (W.view w.old) id) set) (option_map (λ id. thread_of (W.view w.old) id) result)) (W.view w.old) }
+    ensures choice { may_wake_new event (set_if_any (W.view w.old) set) (thread_if_any (W.view w.old) result) (W.view w.old).core ≡ true }
+    ensures new { W.view w.new ≡ on_core (wakes_joined event (set_if_any (W.view w.old) set) (thread_if_any (W.view w.old) result)) (W.view w.old) }
 {
     match (event, set) {
         (Some(_), Some(set)) => wake(w, set),
@@ -42,7 +42,7 @@ fn wake_joined<W: Primitives>(
 
 // The set as a join, or none.
 fn joins<W: Primitives>(w: &W, set: Option<SetId>) -> JoinId
-    ensures { join_in (W.view w.now).tags result ≡ joins (option_map (λ id. set_of (W.view w.now) id) set) }
+    ensures { join_in (W.view w.now).tags result ≡ joins (set_if_any (W.view w.now) set) }
 {
     // only the contract speaks of `w`
     let _w = w;

@@ -1,9 +1,7 @@
 //! Cancels that go on.
 ghost use Rattle.std.specs.Prelude.{◌≡◌, ◌<◌};
-ghost use Rattle.ops_subtasks.specs.Refused.{mode_of, refused};
-ghost use Rattle.ops_subtasks.specs.Rules.{goes_on_from};
-ghost use Rattle.machine_data.specs.Read.{saved_callee_of};
-ghost use Rattle.machine_data.specs.declared.records.OpProgress.TheVariants as op_progresses;
+ghost use Rattle.ops_subtasks.specs.Refused.{mode_of, refused_after};
+ghost use Rattle.ops_subtasks.specs.Rules.{goes_on_awaiting, goes_on_cancelling};
 ghost use Rattle.ops_guests.specs.Does.{DoesRule, SameNames};
 ghost use Rattle.ops_guests.specs.Running.{IsRunning};
 ghost use Rattle.machine_rules.specs.Calls.{put_back};
@@ -42,7 +40,7 @@ fn refusal_after<W: Primitives>(
     sync: bool,
     subtask: SubtaskId,
 ) -> Option<Trap>
-    ensures is { result ≡ refused (mode_of sync) (thread_of (W.view w.old) thread) (subtask_in (W.view w.old).tags subtask) (put_back (saved_callee_of (thread_of (W.view w.old) thread) (W.view w.old).core) (subtask_instance (subtask_in (W.view w.old).tags subtask) (W.view w.old).core) (W.view w.old).core) }
+    ensures is { result ≡ refused_after (mode_of sync) (thread_of (W.view w.old) thread) (subtask_in (W.view w.old).tags subtask) (W.view w.old).core }
     ensures same { W.view w.new ≡ W.view w.old }
 {
     let instance = subtask_instance(w, subtask);
@@ -75,7 +73,7 @@ pub fn go_on_cancelling<W: Primitives>(
 ) -> OpResult
     requires live { 0 < thread_of (W.view w.old) thread }
     requires running { IsRunning (thread_of (W.view w.old) thread) (W.view w.old).core }
-    ensures does { DoesRule SameNames (goes_on_from (mode_of sync) (op_progresses.Cancels (subtask_in (W.view w.old).tags subtask))) thread (W.view w.old) result (W.view w.new) }
+    ensures does { DoesRule SameNames (goes_on_cancelling sync subtask (W.view w.old)) thread (W.view w.old) result (W.view w.new) }
 {
     if let Some(trap) = refusal_after(w, thread, sync, subtask) {
         return OpResult::Traps(trap);
@@ -91,7 +89,7 @@ pub fn go_on_awaiting<W: Primitives>(
     sync: bool,
     subtask: SubtaskId,
 ) -> OpResult
-    ensures does { DoesRule SameNames (goes_on_from (mode_of sync) (op_progresses.AwaitsEnd (subtask_in (W.view w.old).tags subtask))) thread (W.view w.old) result (W.view w.new) }
+    ensures does { DoesRule SameNames (goes_on_awaiting sync subtask (W.view w.old)) thread (W.view w.old) result (W.view w.new) }
 {
     let Some(status) = undelivered_end(w, subtask) else {
         return OpResult::Traps(Trap::SubtaskCancelAfterTerminal);

@@ -1,17 +1,17 @@
 //! Calls of exports whose start was queued, as they go on.
 ghost use Rattle.std.specs.Prelude.{◌≡◌, ◌+◌, ◌*◌, ◌<◌, IfOk, OnErr, false, is_some, true};
-ghost use Rattle.ops_subtasks.specs.Named.{LosesCall};
+ghost use Rattle.ops_subtasks.specs.Named.{LosesCallOf};
 ghost use Rattle.ops_subtasks.specs.Rules.{call_pends, goes_on_in_sync, goes_on_with, result_taken, return_taken};
 ghost use Rattle.machine_data.specs.Maps.{get};
 ghost use Rattle.machine_data.specs.Moves.{passes_check};
 ghost use Rattle.machine_data.specs.Read.{at_handle_limit, instance_of, new_handle, result_of};
 ghost use Rattle.machine_data.specs.Statuses.{packed, status_code};
-ghost use Rattle.ops_guests.specs.Does.{DoesRule};
+ghost use Rattle.ops_guests.specs.Does.{DoesRule, MayDoRule};
 ghost use Rattle.ops_guests.specs.Running.{IsRunning};
 ghost use Rattle.machine_rules.specs.Calls.{call_resumes, call_stops, call_sync_stops, status_found};
 ghost use Rattle.core_primitives.specs.Names.{subtask_in};
-ghost use Rattle.core_primitives.specs.BecomesRecord.{BecomesBut};
 ghost use Rattle.core_primitives.specs.StateView.{KeepsBut, call_of, lost_call, on_core, thread_of};
+ghost use Rattle.core_primitives.specs.Records.{LosesCallBy};
 
 use core_primitives::{CallId, NoMemory, OpProgressId, PlaceId, Primitives, SubtaskId, ThreadId};
 use machine_data::{CallLabel, Label, Status, ThreadLabel, Trap};
@@ -73,7 +73,7 @@ pub(crate) fn stop_blocked<W: Primitives>(w: &mut W, thread: ThreadId, subtask: 
 fn take_return<W: Primitives>(w: &mut W, thread: ThreadId, call: CallId)
     requires live { 0 < thread_of (W.view w.old) thread }
     requires call { 0 < call_of (W.view w.old) call }
-    ensures { BecomesBut (lost_call (call_of (W.view w.old) call)) (return_taken (thread_of (W.view w.old) thread) (call_of (W.view w.old) call) (W.view w.old).core) (W.view w.old) (W.view w.new) }
+    ensures { LosesCallBy (return_taken (thread_of (W.view w.old) thread)) call (W.view w.old) (W.view w.new) }
 {
     resume(w, thread, call);
     settle_call(w, call);
@@ -110,7 +110,7 @@ pub fn go_on_calling<W: Primitives>(
     requires live { 0 < thread_of (W.view w.old) thread }
     requires call { 0 < call_of (W.view w.old) call }
     requires there { is_some (get (W.view w.old).core.handles (instance_of (thread_of (W.view w.old) thread) (W.view w.old).core)) ≡ true }
-    ensures does { IfOk result (λ op_result. DoesRule (LosesCall (call_of (W.view w.old) call)) (goes_on_with (call_of (W.view w.old) call)) thread (W.view w.old) op_result (W.view w.new)) }
+    ensures does { MayDoRule (LosesCallOf call) (goes_on_with (call_of (W.view w.old) call)) thread (W.view w.old) result (W.view w.new) }
     ensures thread { thread_of (W.view w.new) thread ≡ thread_of (W.view w.old) thread }
     ensures err { OnErr result (W.view w.new ≡ W.view w.old) }
 {
@@ -186,7 +186,7 @@ pub fn go_on_calling_sync<W: Primitives>(w: &mut W, thread: ThreadId, call: Call
     requires live { 0 < thread_of (W.view w.old) thread }
     requires call { 0 < call_of (W.view w.old) call }
     requires running { IsRunning (thread_of (W.view w.old) thread) (W.view w.old).core }
-    ensures does { DoesRule (LosesCall (call_of (W.view w.old) call)) (goes_on_in_sync (call_of (W.view w.old) call)) thread (W.view w.old) result (W.view w.new) }
+    ensures does { DoesRule (LosesCallOf call) (goes_on_in_sync (call_of (W.view w.old) call)) thread (W.view w.old) result (W.view w.new) }
     ensures thread { thread_of (W.view w.new) thread ≡ thread_of (W.view w.old) thread }
 {
     let number = w.number(thread);

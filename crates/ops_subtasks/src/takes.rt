@@ -1,16 +1,15 @@
 //! The taking of the entries of host calls.
-ghost use Rattle.std.specs.Prelude.{◌≡◌, ◌<◌, option_map};
-ghost use Rattle.machine_data.specs.Labels.{choice_of, host_label};
+ghost use Rattle.ops_guests.specs.Does.{ImplementsAt, by_woken};
+ghost use Rattle.std.specs.Prelude.{◌≡◌, ◌<◌};
+ghost use Rattle.machine_data.specs.Labels.{host_label};
 ghost use Rattle.machine_data.specs.Read.{course_of, course_value};
 ghost use Rattle.machine_data.specs.declared.records.Subtask.TheVariants as subtasks;
 ghost use Rattle.ops_moves.specs.Idle.{CanPublish, IsJoinThere};
-ghost use Rattle.ops_guests.specs.OpResult.{Implements};
 ghost use Rattle.ops_guests.specs.Stays.{StaysAfter};
-ghost use Rattle.ops_guests.specs.Steps.{label_of};
 ghost use Rattle.machine_rules.specs.Places.{Placed};
 ghost use Rattle.machine_rules.specs.Takes.{host_done, host_result, scripted_host_rule, host_status};
 ghost use Rattle.core_primitives.specs.Names.{work_caller_in};
-ghost use Rattle.core_primitives.specs.StateView.{on_core, thread_of, work_of};
+ghost use Rattle.core_primitives.specs.StateView.{on_core, work_of, thread_if_any};
 
 use core_primitives::{Primitives, SubtaskId, ThreadId, WorkCallerId, WorkId};
 use machine_data::{Course, Label, Mark, Stage, Status, TakeLabel};
@@ -61,7 +60,7 @@ fn give_value<W: Primitives>(w: &mut W, caller: WorkCallerId, value: Option<u64>
 #[inline(always)]
 fn end_host<W: Primitives>(w: &mut W, work: WorkId, waiter: Option<ThreadId>)
     requires { CanPublish (subtasks.Host (work_of (W.view w.old) work)) waiter (W.view w.old) }
-    ensures { W.view w.new ≡ on_core (host_done (work_of (W.view w.old) work) (option_map (λ id. thread_of (W.view w.old) id) waiter)) (W.view w.old) }
+    ensures { W.view w.new ≡ on_core (host_done (work_of (W.view w.old) work) (thread_if_any (W.view w.old) waiter)) (W.view w.old) }
 {
     w.none_is_zero();
     let value = value_of_work(w, work);
@@ -77,7 +76,7 @@ pub fn take_host<W: Primitives>(w: &mut W, mark: Mark, work: WorkId) -> OpResult
     requires live { 0 < work_of (W.view w.old) work }
     requires placed { Placed (W.view w.old).core }
     requires there { IsJoinThere (subtasks.Host (work_of (W.view w.old) work)) (W.view w.old).core }
-    ensures implements { Implements (scripted_host_rule mark (work_of (W.view w.old) work) (choice_of (label_of (work_of (W.view w.old) work) result)).woken (W.view w.old).core) (W.view w.old).core result (W.view w.new).core }
+    ensures implements { ImplementsAt (by_woken (scripted_host_rule mark)) (work_of (W.view w.old) work) (W.view w.old) result (W.view w.new) }
     ensures stays { StaysAfter result (W.view w.old) (W.view w.new) }
     ensures tags { (W.view w.new).tags ≡ (W.view w.old).tags }
     ensures current { (W.view w.new).current ≡ (W.view w.old).current }

@@ -1,11 +1,11 @@
 //! The withdrawal of a start.
+ghost use Rattle.ops_subtasks.specs.Starts.{taken_out};
+ghost use Rattle.ops_subtasks.specs.Named.{WithdrawsCall};
 ghost use Rattle.std.specs.Prelude.{◌≡◌, ◌<◌, None, false, true};
-ghost use Rattle.machine_data.specs.Moves.{less_switch, unqueued, withdrawn};
+ghost use Rattle.machine_data.specs.Moves.{less_switch, withdrawn};
 ghost use Rattle.machine_data.specs.Read.{place_of};
-ghost use Rattle.machine_data.specs.Write.{set_switch};
 ghost use Rattle.machine_rules.specs.Places.{HasPlace, is_fresh};
-ghost use Rattle.core_primitives.specs.BecomesRecord.{BecomesBut};
-ghost use Rattle.core_primitives.specs.StateView.{call_of, lost_thread, on_core, thread_of};
+ghost use Rattle.core_primitives.specs.StateView.{call_of, thread_of};
 
 use core_primitives::{CallId, Primitives, ThreadId};
 use machine_data::CallEnd;
@@ -23,7 +23,7 @@ fn is_switched<W: Primitives>(w: &W, thread: ThreadId) -> bool
 
 // The thread's entry is gone, wherever it is.
 fn take_out<W: Primitives>(w: &mut W, thread: ThreadId)
-    ensures { W.view w.new ≡ on_core (λ s. set_switch (less_switch (thread_of (W.view w.old) thread) s.queues.switch) (unqueued (thread_of (W.view w.old) thread) s)) (W.view w.old) }
+    ensures { W.view w.new ≡ taken_out thread (W.view w.old) }
 {
     let switched = is_switched(w, thread);
     w.unqueue(thread);
@@ -39,7 +39,7 @@ pub(crate) fn withdraw<W: Primitives>(w: &mut W, call: CallId, first: ThreadId)
     requires first { thread_of (W.view w.old) first ≡ call_of (W.view w.old) call }
     requires place { HasPlace (call_of (W.view w.old) call) (W.view w.old).core }
     requires fresh { is_fresh (place_of (call_of (W.view w.old) call) (W.view w.old).core) ≡ true }
-    ensures { BecomesBut (lost_thread (call_of (W.view w.old) call)) (withdrawn (call_of (W.view w.old) call) (W.view w.old).core) (W.view w.old) (W.view w.new) }
+    ensures { WithdrawsCall call (W.view w.old) (W.view w.new) }
 {
     take_out(w, first);
     w.remove_thread(first);

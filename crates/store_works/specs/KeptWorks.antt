@@ -6,7 +6,7 @@ use Rattle.machine_data.specs.declared.statuses.HostPoll.{HostPoll}
 use Rattle.machine_data.specs.declared.statuses.HostPoll.TheVariants as polls
 use Rattle.std.specs.HashMap.{get}
 use Rattle.std.specs.Option.{option_and_then, option_map, option_map_or}
-use Rattle.std.specs.Prelude.{[], Bool, None, Option, Some, false, nat_eq, true, ℕ, ◌≡◌}
+use Rattle.std.specs.Prelude.{[], Bool, None, Option, Some, false, nat_eq, true, ℕ, ◌≡◌, cond, ◌==◌}
 use Rattle.task_abort.specs.PhaseLog.{after}
 use Rattle.task_abort.specs.declared.log.PhaseCall.TheVariants.{Abort}
 use Rattle.machine_data.specs.declared.component.HostDef.{HostDef}
@@ -58,3 +58,8 @@ unless_over false w = Some (record w { left = one_fewer w.left })
 -- what is held of it once it answered so
 abbrev pub after_poll : Option HostPoll → Option HeldWork → Option HeldWork
 after_poll a o = option_and_then (λ (w : HeldWork). unless_over (is_over a) w) o
+
+-- This work is held under the number, and runs; all else is as before.
+abbrev pub HoldsMore : {H : Type 0} → (H → HostDef) → (number : ℕ) → H → (old new : HostWorks H) → Type 0
+HoldsMore course number work old new =
+    (i : ℕ) → held course new i ≡ cond (number == i) (Some (Found (course work) phases.Running)) (held course old i)

@@ -1,7 +1,7 @@
 //! The works that a store keeps.
 ghost use Rattle.std.specs.Prelude.{◌≡◌, ◌↔◌, ◌==◌, ℕ, IfNone, IfSome, None, OnErr, OnOk, Some, cond, nat_eq, slice_get};
 ghost use Rattle.indexmap.specs.IndexMap.{get};
-ghost use Rattle.store_works.specs.KeptWorks.{Found, HoldsNone, after_abort, after_poll, MayAnswer, found_phase, held, is_over};
+ghost use Rattle.store_works.specs.KeptWorks.{HoldsNone, after_abort, after_poll, MayAnswer, found_phase, held, is_over, HoldsMore};
 ghost use Rattle.machine_data.specs.declared.statuses.Phase.TheVariants as phases;
 
 use crate::joined::JoinedWork;
@@ -40,7 +40,7 @@ impl<H: HostWork> HostWorks<H> {
     /// function of its own, as it takes memory three times.
     #[inline(never)]
     pub fn keep(&mut self, number: u64, work: H) -> Result<(), NoMemory>
-        ensures ok { OnOk result ((i : ℕ) → held H.course self.new i ≡ cond (number == i) (Some (Found (H.course work) phases.Running)) (held H.course self.old i)) }
+        ensures ok { OnOk result (HoldsMore H.course number work self.old self.new) }
         ensures err { OnErr result ((i : ℕ) → held H.course self.new i ≡ held H.course self.old i) }
     {
         let joined = JoinedWork::new(self.alloc, work)?;

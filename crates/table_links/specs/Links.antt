@@ -203,3 +203,8 @@ pub record ChangesOnly {P : Type 0} (old new : List (Spot P)) (chain node : ℕ)
   pub lists : (n : ℕ) → (n ≡ chain → ⊥) → list_of new n ≡ list_of old n
   pub links : (n : ℕ) → (n ≡ node → ⊥) → link_of new n ≡ link_of old n
   pub free : (n : ℕ) → (n ≡ node → ⊥) → is_free new n ≡ is_free old n
+
+-- A free node that is put into the chain, wherever, changes that chain and its own link alone.
+abbrev pub LinkingChangesOnly : {P : Type 0} → (links : List (Spot P)) → (chain node : ℕ) → Type 0
+LinkingChangesOnly {P} links chain node =
+    (value : P) (list : List (ℕ × P)) → ChangesOnly links (linked chain node value list links) chain node list (Some (chain, value))

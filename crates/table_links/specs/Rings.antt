@@ -1,8 +1,8 @@
 -- How a `Links` lays out its chains: each is a ring of next and previous names that begins and ends at the chain's own. No public clause
 -- cites this module.
-use Rattle.std.specs.Prelude.{◌≡◌, ℕ, zero, suc, ◌==◌, if◌then◌else◌, Bool, true, false, List, [], ◌∷◌, length, map, slice_index_or, slice_get, count_by, option_map, Option, Some, None}
+use Rattle.std.specs.Prelude.{◌≡◌, ℕ, zero, suc, ◌==◌, if◌then◌else◌, Bool, true, false, List, [], ◌∷◌, length, map, slice_index_or, slice_get, count_by, option_map, Option, Some, None, IfOk, Result}
 pub use Rattle.table_links.specs.Links.{In, Apart}
-use Rattle.table_links.specs.Links.{Spot, Unmade, ChainOf, FreeNode, LinkedNode}
+use Rattle.table_links.specs.Links.{Spot, Unmade, ChainOf, FreeNode, LinkedNode, Renames}
 use Rattle.table_links.specs.declared.links.LinkCell.{LinkCell}
 use Rattle.table_links.specs.declared.links.Role.{Role}
 use Rattle.table_links.specs.declared.links.Role.TheVariants.{Unused, Chain, Free, Linked}
@@ -144,3 +144,19 @@ pub record IsSound {P : Type 0} (next previous : List ℕ) (rs : List (Role P)) 
   pub names : List ℕ
   pub unused_once : (n : ℕ) → count_by (λ m. m == n) names ≡ (if is_unused_at (slice_get rs n) then 1 else 0)
   pub chained : UnusedFrom next unused names
+
+-- what the cells show
+abbrev pub shown_cells : {P : Type 0} → List (LinkCell P) → List (Spot P)
+shown_cells cs = shown (next_names cs) (roles_in cs)
+
+-- The cells are sound, with this name unused first.
+abbrev pub AreSoundCells : {P : Type 0} → List (LinkCell P) → (unused : ℕ) → Type 0
+AreSoundCells cs unused = IsSound (next_names cs) (previous_names cs) (roles_in cs) unused
+
+abbrev pub StaySound : {P : Type 0} → (old new : List (LinkCell P)) → Type 0
+StaySound old new = (unused : ℕ) → AreSoundCells old unused → AreSoundCells new unused
+
+-- A name that named nothing has this role.
+abbrev pub NamesNew : {P E : Type 0} → Role P → (old new : List (LinkCell P)) → Result ℕ E → Type 0
+NamesNew role old new result = (unused : ℕ) → AreSoundCells old unused →
+    IfOk result (λ index. Renames (shown_cells old) (shown_cells new) index Unmade (new_spot role))

@@ -1,6 +1,6 @@
 //! A law of links that users of them rest on. The function does nothing.
-ghost use Rattle.std.specs.Prelude.{◌≡◌, ℕ, List, None, Some, IsSome, true};
-ghost use Rattle.table_links.specs.Links.{ChangesOnly, is_made, linked, list_of, unlinked};
+ghost use Rattle.std.specs.Prelude.{◌≡◌, ℕ, List, None, IsSome, true};
+ghost use Rattle.table_links.specs.Links.{ChangesOnly, is_made, linked, list_of, unlinked, LinkingChangesOnly};
 
 use crate::links::{Links, Node};
 
@@ -9,7 +9,7 @@ use crate::links::{Links, Node};
 pub fn others_stay<P: Copy>(links: &Links<P>, chain: usize, node: Node)
     requires chain { IsSome (list_of links.now chain) }
     requires made { is_made links.now node.index ≡ true }
-    ensures linked { (value : P) (list : List (ℕ × P)) → ChangesOnly links.now (linked chain node.index value list links.now) chain node.index list (Some (chain, value)) }
+    ensures linked { LinkingChangesOnly links.now chain node.index }
     ensures unlinked { (list : List (ℕ × P)) → ChangesOnly links.now (unlinked chain node.index list links.now) chain node.index list None }
 {
     // only the contract speaks of `links`, `chain` and `node`

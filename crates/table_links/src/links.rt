@@ -1,8 +1,8 @@
-ghost use Rattle.std.specs.Prelude.{◌≡◌, ◌⊎◌, ◌<◌, ◌++◌, ◌∷◌, [], ◌↔◌, true, Some, slice_set, slice_index_or, length, IsSome, is_some, IfOk, OnErr, ℕ};
+ghost use Rattle.std.specs.Prelude.{◌≡◌, ◌⊎◌, ◌<◌, ◌++◌, ◌∷◌, [], ◌↔◌, true, Some, slice_set, slice_index_or, length, IsSome, is_some, IfOk, OnErr};
 ghost use Rattle.std.specs.Option.{option_map};
 ghost use Rattle.table_links.specs.Links.{spot_at, Unmade, ChainOf, FreeNode, Renames, AreLinked, IsLinks, entries, is_free, is_made, link_of, list_of, linked, removed, inserted, head_of, following, last_of, preceding};
 ghost use Rattle.table_links.specs.declared.links.Role.TheVariants as Role;
-ghost use Rattle.table_links.specs.Rings.{IsSound, cell_role, entry_at, new_spot, next_names, previous_names, role_as, role_at, role_is_chain, role_is_free, role_is_new, role_is_node, roles_in, shown};
+ghost use Rattle.table_links.specs.Rings.{IsSound, cell_role, entry_at, next_names, previous_names, role_as, role_at, role_is_chain, role_is_free, role_is_new, role_is_node, roles_in, shown, NamesNew, StaySound};
 
 use machine_data::NoMemory;
 use std::alloc::Global;
@@ -307,8 +307,8 @@ fn name_free<P: Copy>(cells: &mut Vec<LinkCell<P>>, index: usize)
 #[cold]
 fn new_name<P: Copy>(cells: &mut Vec<LinkCell<P>>, used: Use, blank: P) -> Result<usize, NoMemory>
     requires { role_is_new (role_as used 0 blank) ≡ true }
-    ensures sound { (unused : ℕ) → IsSound (next_names cells.old.items) (previous_names cells.old.items) (roles_in cells.old.items) unused → IsSound (next_names cells.new.items) (previous_names cells.new.items) (roles_in cells.new.items) unused }
-    ensures named { (unused : ℕ) → IsSound (next_names cells.old.items) (previous_names cells.old.items) (roles_in cells.old.items) unused → IfOk result (λ index. Renames (shown (next_names cells.old.items) (roles_in cells.old.items)) (shown (next_names cells.new.items) (roles_in cells.new.items)) index Unmade (new_spot (role_as used 0 blank))) }
+    ensures sound { StaySound cells.old.items cells.new.items }
+    ensures named { NamesNew (role_as used 0 blank) cells.old.items cells.new.items result }
     ensures err { OnErr result (cells.new.items ≡ cells.old.items) }
 {
     if cells.reserve(1).is_err() {

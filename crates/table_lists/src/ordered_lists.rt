@@ -1,10 +1,9 @@
 ghost use Rattle.std.specs.Ordering.{is_lt};
 ghost use Rattle.std.specs.Prelude.{◌≡◌, [], if◌then◌else◌, false, IfOk, IfSome, IsSome, None, OnErr, Some, option_map, true};
-ghost use Rattle.table_lists.specs.OrderKeys.{AreOrdered, comes_first, order_key_order, keyed};
+ghost use Rattle.table_lists.specs.OrderKeys.{AreOrdered, comes_first, order_key_order, keyed, linked_keyed, BeginsWalk};
 ghost use Rattle.table_lists.specs.Index.{Refiles};
 ghost use Rattle.table_links.specs.Links.{AreLinked, ChainOf, FreeNode, IsLinks, Renames, Unmade, entries, following, head_of, is_free, is_made, link_of, linked, list_of, removed};
 ghost use Rattle.task_wait.specs.Sets.{IsAscending, IsLeast, place_of, placed};
-ghost use Rattle.task_wait.specs.Walks.{IsWalk};
 
 use crate::skip_lists::SkipLists;
 use machine_data::NoMemory;
@@ -71,7 +70,7 @@ fn begin<P: Copy + Ord>(
 ) -> (Option<(Node, P)>, Option<Node>)
     requires chain { IsSome (list_of links.now chain) }
     requires order { IsAscending P.cmp (entries links.now chain) }
-    ensures walk { IsWalk (λ other. is_lt (P.cmp other value)) (entries links.now chain) (option_map (λ e. (e.0.index, e.1)) result.0) (option_map (λ node. node.index) result.1) }
+    ensures walk { BeginsWalk P.cmp value (entries links.now chain) result }
     ensures sound { IsLinks links.now }
 {
     if let Some(node) = from {
@@ -155,7 +154,7 @@ fn put_at_end<P: Copy + Ord>(links: &mut Links<P>, chain: usize, node: Node, val
     requires chain { IsSome (list_of links.old chain) }
     requires free { is_free links.old node.index ≡ true }
     requires order { IsAscending P.cmp (entries links.old chain) }
-    ensures links { links.new ≡ (if result then linked chain node.index value (keyed P.cmp (node.index, value) (entries links.old chain)) links.old else links.old) }
+    ensures links { links.new ≡ (if result then linked_keyed P.cmp chain node.index value links.old else links.old) }
     ensures order { IsAscending P.cmp (entries links.new chain) }
     ensures between { result ≡ false → comes_first P.cmp value (head_of (entries links.old chain)) ≡ false }
 {
@@ -187,7 +186,7 @@ fn put_inside(
     requires free { is_free links.old node.index ≡ true }
     requires order { IsAscending order_key_order (entries links.old chain) }
     requires between { comes_first order_key_order (record { task = task; thread = thread; place = place }) (head_of (entries links.old chain)) ≡ false }
-    ensures links { links.new ≡ linked chain node.index (record { task = task; thread = thread; place = place }) (keyed order_key_order (node.index, record { task = task; thread = thread; place = place }) (entries links.old chain)) links.old }
+    ensures links { links.new ≡ linked_keyed order_key_order chain node.index (record { task = task; thread = thread; place = place }) links.old }
     ensures order { IsAscending order_key_order (entries links.new chain) }
 {
     let order_key = OrderKey {

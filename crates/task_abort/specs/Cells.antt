@@ -1,4 +1,5 @@
 -- Which cell a handle, a work and a pass belong to, what a pass knows, and what a poll answers.
+use Rattle.task_abort.specs.PhaseLog.{first_view}
 use Rattle.std.specs.Prelude.{◌≡◌, ◌≢◌, ℕ, Option, Some, None}
 use Rattle.std.specs.Arc.{arc_value}
 use Rattle.atomic_table.specs.Seated.{TableId}
@@ -60,3 +61,8 @@ GaveOutput gives found None = found ≢ Running
 abbrev pub TellsRunning : {A : Type 0} → (A → Type 0) → Type 0 → Phase → Poll (Option A) → Type 0
 TellsRunning gives again found (Ready x) = GaveOutput gives found x
 TellsRunning gives again found Pending = (found ≡ Running) × again
+
+-- They are of one cell, of this work, and nothing has been called.
+abbrev pub AreMadeOf : {F : Type 0} → F → JoinHandle × Abortable F × JoinPass → Type 0
+AreMadeOf future r =
+    (pass_cell r.2 ≡ handle_cell r.0) × (work_cell r.1 ≡ handle_cell r.0) × (work_of r.1 ≡ future) × (view_of r.2 ≡ first_view)

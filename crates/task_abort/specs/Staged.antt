@@ -1,5 +1,5 @@
 -- A log put together from what each caller can list, by stages.
-use Rattle.std.specs.Prelude.{◌≡◌, ℕ, ◌-◌, ◌≤◌, ◌<◌, Bool, true, false, if◌then◌else◌, List, [], ◌∷◌, ◌++◌, ◌==◌, ◌&&◌, ◌||◌, filter, map, length, Option, Some, None}
+use Rattle.std.specs.Prelude.{◌≡◌, ℕ, ◌-◌, ◌≤◌, ◌<◌, Bool, true, false, if◌then◌else◌, List, [], ◌∷◌, ◌++◌, ◌==◌, ◌&&◌, ◌||◌, filter, map, length, Option, Some, None, ◌≢◌, take, drop}
 use mathlib.Core.Option.{some}
 use lib.ListN.{get_elem?}
 use Rattle.machine_data.specs.declared.statuses.Phase.{Phase}
@@ -10,7 +10,7 @@ use Rattle.task_abort.specs.declared.log.LogEntry.{LogEntry}
 use Rattle.task_abort.specs.declared.log.CallMade.{CallMade}
 use Rattle.task_abort.specs.declared.log.HandleCaller.{HandleCaller}
 use Rattle.task_abort.specs.declared.log.PassView.{PassView}
-use Rattle.task_abort.specs.PhaseLog.{entry, Log, calls_by, LogBegins}
+use Rattle.task_abort.specs.PhaseLog.{entry, Log, calls_by, LogBegins, IsLegal, Name}
 
 -- what its caller is told of a call
 abbrev pub told_answer : PhaseCall → Phase → Option Phase
@@ -120,3 +120,30 @@ pub record LastRound (v : PassView) (n : ℕ) : Type 0 where
   pub begins : LogBegins early v.seen
   pub others : (a : ℕ) (d : HandleCaller) → get_elem? v.met a ≡ some d → calls_by d.name early ≡ d.calls
   pub count : length (calls_by v.own.name early) ≤ n
+
+-- ---- What holds of the staged log of a pass that has seen the calls of its callers alone
+
+abbrev pub StagedIsLegal : PassView → Type 0
+StagedIsLegal v =
+    (own : List CallMade) (aborters : List Aborter) (n : ℕ) → Lists v own aborters → LastRound v n → IsLegal (staged own aborters n)
+
+-- it has the entries of caller 0, and those of each aborter, in their order
+abbrev pub StagedKeepsOwn : PassView → Type 0
+StagedKeepsOwn v = (own : List CallMade) (aborters : List Aborter) (n : ℕ) → Lists v own aborters → LastRound v n →
+    Numbered 0 aborters → by_number 0 (staged own aborters n) ≡ entered n (any_abort aborters) false own
+
+abbrev pub StagedKeepsAborters : PassView → Type 0
+StagedKeepsAborters v = (own : List CallMade) (aborters : List Aborter) (n i : ℕ) (a : Aborter) → Lists v own aborters → LastRound v n →
+    Numbered 0 aborters → get_elem? aborters i ≡ some a → by_number a.0 (staged own aborters n) ≡ aborts_of a
+
+-- the calls of caller 0 after its first n are last
+abbrev pub LateStandLast : PassView → Type 0
+LateStandLast v = (own : List CallMade) (aborters : List Aborter) (n : ℕ) → Lists v own aborters → LastRound v n →
+    staged own aborters n ≡
+    by_stages (all_aborts aborters ++ take n (entered n (any_abort aborters) false own)) ++ drop n (entered n (any_abort aborters) false own)
+
+-- no call before its own finish finds Complete, where the callers that it met made aborts alone
+abbrev pub UnfinishedBefore : PassView → Type 0
+UnfinishedBefore v = (aborters : List Aborter) (before rest : Log) (e : LogEntry Name) → OnlyAborted v.met aborters →
+    v.own.calls ≡ before ++ e ∷ rest → ((m : ℕ) (x : LogEntry Name) → get_elem? before m ≡ some x → x.call ≢ Finish) →
+    e.answer ≢ Complete

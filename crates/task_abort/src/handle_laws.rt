@@ -1,12 +1,11 @@
 //! Laws of passes that users of join handles rest on. The functions do nothing.
-ghost use Rattle.std.specs.Prelude.{◌≡◌, ◌≢◌, ◌++◌, ◌∷◌, ℕ, false, List, take, drop};
+ghost use Rattle.std.specs.Prelude.{◌≡◌, ◌≢◌, ℕ};
 ghost use mathlib.Core.Option.{some};
 ghost use lib.ListN.{get_elem?};
 ghost use Rattle.task_abort.specs.Cells.{view_of};
-ghost use Rattle.task_abort.specs.PhaseLog.{IsLegal, Name, Log, phase};
+ghost use Rattle.task_abort.specs.PhaseLog.{Name, phase};
 ghost use Rattle.task_abort.specs.Rule.{HasMetAll, AllKnown};
-ghost use Rattle.task_abort.specs.Staged.{Aborter, Lists, OnlyAborted, LastRound, Numbered, all_aborts, aborts_of, any_abort, by_number, by_stages, entered, staged};
-ghost use Rattle.task_abort.specs.declared.log.CallMade.{CallMade};
+ghost use Rattle.task_abort.specs.Staged.{LateStandLast, StagedIsLegal, StagedKeepsAborters, StagedKeepsOwn, UnfinishedBefore};
 ghost use Rattle.task_abort.specs.declared.log.LogEntry.{LogEntry};
 ghost use Rattle.machine_data.specs.declared.statuses.Phase.TheVariants.{Running, Complete};
 ghost use Rattle.task_abort.specs.declared.log.PhaseCall.TheVariants.{Abort, Finish};
@@ -27,7 +26,7 @@ pub fn known_callers(pass: &JoinPass)
 /// aborts alone, is legal. (By the one legal log that the pass has seen.)
 pub fn staged_log_is_legal(pass: &JoinPass)
     requires { AllKnown (view_of pass.now) }
-    ensures { (own : List CallMade) (aborters : List Aborter) (n : ℕ) → Lists (view_of pass.now) own aborters → LastRound (view_of pass.now) n → IsLegal (staged own aborters n) }
+    ensures { StagedIsLegal (view_of pass.now) }
 {
     // only the contract speaks of `pass`
     let _pass = pass;
@@ -37,8 +36,8 @@ pub fn staged_log_is_legal(pass: &JoinPass)
 /// numbers. (What one caller's calls find never falls.)
 pub fn staged_log_keeps_lists(pass: &JoinPass)
     requires { AllKnown (view_of pass.now) }
-    ensures run { (own : List CallMade) (aborters : List Aborter) (n : ℕ) → Lists (view_of pass.now) own aborters → LastRound (view_of pass.now) n → Numbered 0 aborters → by_number 0 (staged own aborters n) ≡ entered n (any_abort aborters) false own }
-    ensures aborters { (own : List CallMade) (aborters : List Aborter) (n i : ℕ) (a : Aborter) → Lists (view_of pass.now) own aborters → LastRound (view_of pass.now) n → Numbered 0 aborters → get_elem? aborters i ≡ some a → by_number a.0 (staged own aborters n) ≡ aborts_of a }
+    ensures run { StagedKeepsOwn (view_of pass.now) }
+    ensures aborters { StagedKeepsAborters (view_of pass.now) }
 {
     // only the contract speaks of `pass`
     let _pass = pass;
@@ -48,7 +47,7 @@ pub fn staged_log_keeps_lists(pass: &JoinPass)
 /// aborts were made before them.)
 pub fn late_calls_stand_last(pass: &JoinPass)
     requires { AllKnown (view_of pass.now) }
-    ensures { (own : List CallMade) (aborters : List Aborter) (n : ℕ) → Lists (view_of pass.now) own aborters → LastRound (view_of pass.now) n → staged own aborters n ≡ by_stages (all_aborts aborters ++ take n (entered n (any_abort aborters) false own)) ++ drop n (entered n (any_abort aborters) false own) }
+    ensures { LateStandLast (view_of pass.now) }
 {
     // only the contract speaks of `pass`
     let _pass = pass;
@@ -59,7 +58,7 @@ pub fn late_calls_stand_last(pass: &JoinPass)
 /// phase `Complete`.)
 pub fn unfinished_calls(pass: &JoinPass)
     requires { AllKnown (view_of pass.now) }
-    ensures { (aborters : List Aborter) (before rest : Log) (e : LogEntry Name) → OnlyAborted (view_of pass.now).met aborters → (view_of pass.now).own.calls ≡ before ++ e ∷ rest → ((m : ℕ) (x : LogEntry Name) → get_elem? before m ≡ some x → x.call ≢ Finish) → e.answer ≢ Complete }
+    ensures { UnfinishedBefore (view_of pass.now) }
 {
     // only the contract speaks of `pass`
     let _pass = pass;

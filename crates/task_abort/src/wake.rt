@@ -1,13 +1,14 @@
 //! The calls that wake, or that can be woken.
+ghost use Rattle.task_abort.specs.Polls.{PollsFuture};
 ghost use Rattle.std.specs.Prelude.{◌≡◌, ◌≢◌, ◌⊎◌, None};
 ghost use Rattle.futures.specs.Poll.{OnPending};
 ghost use Rattle.futures.specs.Task.{Covers, Keeps};
-ghost use Rattle.task_abort.specs.Cells.{handle_cell, work_cell, pass_cell, abort_source, end_source, work_of, view_of, TellsComplete, TellsRunning};
+ghost use Rattle.task_abort.specs.Cells.{handle_cell, work_cell, pass_cell, abort_source, end_source, work_of, view_of, TellsComplete};
 ghost use Rattle.task_abort.specs.PhaseLog.{phase};
 ghost use Rattle.task_abort.specs.Rule.{Calls};
 ghost use Rattle.machine_data.specs.declared.statuses.Phase.{Phase};
 ghost use Rattle.machine_data.specs.declared.statuses.Phase.TheVariants.{Running, Complete};
-ghost use Rattle.task_abort.specs.declared.log.PhaseCall.TheVariants.{Abort, PollFuture, PollHandle, Finish};
+ghost use Rattle.task_abort.specs.declared.log.PhaseCall.TheVariants.{Abort, PollHandle, Finish};
 
 use crate::cell::{Abortable, JoinHandle, JoinPass, PhaseCell};
 use crate::handle::phase_of_word;
@@ -111,7 +112,7 @@ impl<F: Future> Abortable<F> {
         requires cell { pass_cell pass.old ≡ work_cell self.old }
         requires ready { F.can_poll (work_of self.old) }
         ensures same { (pass_cell pass.new ≡ pass_cell pass.old) × (work_cell self.new ≡ work_cell self.old) × (abort_source self.new ≡ abort_source self.old) }
-        ensures call { (found : Phase) × Calls PollFuture (view_of pass.old) found (view_of pass.new) × TellsRunning (F.gives (work_of self.old)) (F.can_poll (work_of self.new)) found result }
+        ensures call { PollsFuture (F.gives (work_of self.old)) (F.can_poll (work_of self.new)) (view_of pass.old) result (view_of pass.new) }
         ensures seen { phase (view_of pass.old).seen ≢ Running → result ≡ Poll.Ready None }
 
         // What a future owes of its poll, where this is part of one.

@@ -1,9 +1,10 @@
 //! The calls of the work.
+ghost use Rattle.task_abort.specs.Polls.{PollsFuture};
 ghost use Rattle.std.specs.Arc.{arc_value};
 ghost use Rattle.std.specs.Prelude.{◌≡◌, ◌≢◌, IfErr, IfOk, IfSome, IsNone, MatchOption, None};
 ghost use Rattle.futures.specs.Poll.{OnPending};
 ghost use Rattle.futures.specs.Task.{Covers, Keeps};
-ghost use Rattle.task_abort.specs.Cells.{handle_cell, work_cell, pass_cell, abort_source, work_of, view_of, TellsRunning};
+ghost use Rattle.task_abort.specs.Cells.{work_cell, pass_cell, abort_source, work_of, view_of, AreMadeOf};
 ghost use Rattle.task_abort.specs.PhaseLog.{first_view, phase};
 ghost use Rattle.task_abort.specs.Rule.{Calls};
 ghost use Rattle.machine_data.specs.declared.statuses.Phase.{Phase};
@@ -42,7 +43,7 @@ impl JoinHandle {
     /// Makes a cell in phase `Running` for a work: its handle, the work, and the first pass, which has seen nothing.
     /// Where there is no memory the work comes back.
     pub fn run<F>(alloc: Global, future: F) -> Result<(JoinHandle, Abortable<F>, JoinPass), F>
-        ensures ok { IfOk result (λ r. (pass_cell r.2 ≡ handle_cell r.0) × (work_cell r.1 ≡ handle_cell r.0) × (work_of r.1 ≡ future) × (view_of r.2 ≡ first_view)) }
+        ensures ok { IfOk result (λ r. AreMadeOf future r) }
         ensures no_memory { IfErr result (λ f. f ≡ future) }
     {
         let Some((cell, pass)) = new_cell(alloc) else {
@@ -126,7 +127,7 @@ impl<F: Future> Abortable<F> {
         requires cell { pass_cell pass.old ≡ work_cell self.old }
         requires ready { F.can_poll (work_of self.old) }
         ensures same { (pass_cell pass.new ≡ pass_cell pass.old) × (work_cell self.new ≡ work_cell self.old) × (abort_source self.new ≡ abort_source self.old) }
-        ensures call { (found : Phase) × Calls PollFuture (view_of pass.old) found (view_of pass.new) × TellsRunning (F.gives (work_of self.old)) (F.can_poll (work_of self.new)) found result }
+        ensures call { PollsFuture (F.gives (work_of self.old)) (F.can_poll (work_of self.new)) (view_of pass.old) result (view_of pass.new) }
         ensures seen { phase (view_of pass.old).seen ≢ Running → result ≡ Poll.Ready None }
 
         // What a future owes of its poll, where this is part of one.

@@ -1,12 +1,12 @@
 -- What a contract sees of the groups of a store, and which notices their calls give.
-use Rattle.std.specs.Prelude.{◌≡◌, ℕ, ◌+◌, ◌≤◌, ◌==◌, nat_lt, List, [], ◌∷◌, map, Option, Some, None, Bool, true, false, is_some, IsSome, if◌then◌else◌, refl}
+use Rattle.std.specs.Prelude.{◌≡◌, ℕ, ◌+◌, ◌≤◌, ◌==◌, nat_lt, List, [], ◌∷◌, map, Option, Some, None, Bool, true, false, is_some, IsSome, if◌then◌else◌, refl, ◌++◌}
 use Rattle.std.specs.Coded.{Coded, code_by, coded×, coded_ℕ}
 use Rattle.std.specs.FinMap as finite
 use Rattle.machine_data.specs.declared.records.Notice.{Notice}
 use Rattle.machine_data.specs.declared.records.NoticeKind.{NoticeKind}
-use Rattle.machine_data.specs.declared.records.NoticeKind.TheVariants.{Finish}
+use Rattle.machine_data.specs.declared.records.NoticeKind.TheVariants.{Enter, Exit, Finish}
 use Rattle.task_group.specs.declared.notice.TaskGroupId.{TaskGroupId}
-use Rattle.task_group.specs.Heard.{notice_of, finish_of}
+use Rattle.task_group.specs.Heard.{notice_of, finish_of, start_of}
 use Rattle.task_group.specs.Listeners.{Listeners, listeners_code, errors_of, AnsweredErr, ToldListeners}
 use Rattle.task_group.specs.Counts.{Counts, count_in}
 
@@ -62,3 +62,15 @@ pub record Switches (exits enters : List Notice) (old new : Listeners) : Type 0 
   pub exited : ToldListeners exits old between
   pub entered : errors_of between ≡ errors_of old → ToldListeners enters between new
   pub stopped : AnsweredErr old between → new ≡ between
+
+-- what is told of the group that is made next
+abbrev pub told_of_next : Groups → List Notice
+told_of_next g = start_of (record { number = g.made + 1 }) ∷ []
+
+-- what is told of a visit of a group: that it is entered, and exited
+abbrev pub told_of_visit : Counts → TaskGroupId → List Notice
+told_of_visit live id = notice_at live Enter (Some id) ++ notice_at live Exit (Some id)
+
+-- One group is exited, and another one entered, as far as they are live.
+abbrev pub SwitchesGroups : (from to : Option TaskGroupId) → (old new : Groups) → Type 0
+SwitchesGroups from to old new = Switches (notice_at old.live Exit from) (notice_at old.live Enter to) old.listeners new.listeners

@@ -3,7 +3,7 @@ ghost use Rattle.std.specs.FinMap as finite;
 ghost use Rattle.task_group.specs.Counts.{count_in, raised, lowered};
 ghost use Rattle.task_group.specs.Listeners.{nobody, ToldListeners, AnsweredErr, errors_of};
 ghost use Rattle.task_group.specs.Heard.{start_of};
-ghost use Rattle.task_group.specs.Groups.{notice_at, finish_at, finish_all, numbered, same_group, IsKnown, Switches};
+ghost use Rattle.task_group.specs.Groups.{notice_at, finish_at, finish_all, numbered, same_group, IsKnown, SwitchesGroups, told_of_next, told_of_visit};
 
 use crate::hook::{NoHook, TaskGroupHook};
 use crate::listeners::Listeners;
@@ -82,7 +82,7 @@ impl<H: TaskGroupHook> Groups<H> {
         ensures refused { OnErr result ((self.new.live ≡ self.old.live) × (self.new.made ≡ self.old.made)) }
 
         // The hook and the list are told of the start, unless it is out of memory.
-        ensures told { result ≢ Err GroupError.NoMemory → ToldListeners (start_of (record { number = self.old.made + 1 }) ∷ []) self.old.listeners self.new.listeners }
+        ensures told { result ≢ Err GroupError.NoMemory → ToldListeners (told_of_next self.old) self.old.listeners self.new.listeners }
         ensures failed { (result ≡ Err GroupError.HookFailed) ↔ AnsweredErr self.old.listeners self.new.listeners }
         ensures no_memory { result ≡ Err GroupError.NoMemory → self.new ≡ self.old }
     {
@@ -207,7 +207,7 @@ impl<H: TaskGroupHook> Groups<H> {
     ) -> Result<(), GroupError>
         ensures groups { (self.new.live ≡ self.old.live) × (self.new.made ≡ self.old.made) }
         ensures same { IsTrue (same_group old new) → self.new ≡ self.old }
-        ensures told { same_group old new ≡ false → Switches (notice_at self.old.live NoticeKind.Exit old) (notice_at self.old.live NoticeKind.Enter new) self.old.listeners self.new.listeners }
+        ensures told { same_group old new ≡ false → SwitchesGroups old new self.old self.new }
         ensures failed { (result ≡ Err GroupError.HookFailed) ↔ AnsweredErr self.old.listeners self.new.listeners }
         ensures no_other { result ≢ Err GroupError.NoMemory }
     {
@@ -224,7 +224,7 @@ impl<H: TaskGroupHook> Groups<H> {
     pub fn switch_at_once(&mut self, old: Option<TaskGroupId>, new: Option<TaskGroupId>) -> bool
         ensures groups { (self.new.live ≡ self.old.live) × (self.new.made ≡ self.old.made) }
         ensures same { IsTrue (same_group old new) → self.new ≡ self.old }
-        ensures told { result ≡ true → same_group old new ≡ false → Switches (notice_at self.old.live NoticeKind.Exit old) (notice_at self.old.live NoticeKind.Enter new) self.old.listeners self.new.listeners }
+        ensures told { result ≡ true → same_group old new ≡ false → SwitchesGroups old new self.old self.new }
         ensures hook_is_ok { result ≡ true → errors_of self.new.listeners ≡ errors_of self.old.listeners }
         ensures nothing { IsTrue (same_group old new) → result ≡ true }
         ensures none { result ≡ false → self.new ≡ self.old }
@@ -241,7 +241,7 @@ impl<H: TaskGroupHook> Groups<H> {
     #[inline(always)]
     pub fn visit_at_once(&mut self, id: TaskGroupId) -> bool
         ensures groups { (self.new.live ≡ self.old.live) × (self.new.made ≡ self.old.made) }
-        ensures told { result ≡ true → ToldListeners (notice_at self.old.live NoticeKind.Enter (Some id) ++ notice_at self.old.live NoticeKind.Exit (Some id)) self.old.listeners self.new.listeners }
+        ensures told { result ≡ true → ToldListeners (told_of_visit self.old.live id) self.old.listeners self.new.listeners }
         ensures none { result ≡ false → self.new ≡ self.old }
     {
         if !self.tell_at_once(NoticeKind::Enter, id) {

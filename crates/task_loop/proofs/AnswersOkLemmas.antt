@@ -1,4 +1,4 @@
--- What the listeners of a run were told and heeded.
+-- What the listeners of a run were told, and answered with Ok.
 use Rattle.laws_labels.proofs.ListLemmas.{finish_none}
 use Rattle.laws_labels.proofs.RunTells.{data_tells_nothing, data_runs_mild}
 use Rattle.laws_labels.specs.Own.{is_data}
@@ -21,7 +21,7 @@ use Rattle.machine_rules.specs.Stalled.{Setting}
 use Rattle.ops_turns.specs.Does.{label_of_step}
 use Rattle.ops_turns.specs.declared.mains.MainStep.{MainStep}
 
--- ---- What is heeded
+-- ---- What is answered with Ok
 
 -- nothing was told before
 pub answers_ok_late : (ms : List Moment) (a b c : Listeners) → ToldWithHookOk [] a b → AnswersOkAll ms b c → AnswersOkAll ms a c

@@ -256,7 +256,7 @@ module _ {M T H G : Type 0} (says : Says M) (course : H → HostDef) (c : Compon
     pub come_short : (steps : ℕ) (after : List Label) → StopsShort c u.turn u.store.state u.trace n after steps → WasGoing x s a.trace after steps
     come_short steps after short = was_on_short x s a.trace (numbers says course c a) u.turn (says.part u.main) u.store.state u.trace after n steps come.on short
 
-    -- the turns before were heeded whole, and the hook failed in this one
+    -- in the turns before the hook answered no error, and it failed in this one
     stopped : (v : At M T H G) (steps : ℕ) → n < steps → FailsTurn says course c u v → HasStopped says course c steps a v.main v.trace v.store.state v.store.listeners
     stopped v steps room fails =
         let main = fails.main in

@@ -266,7 +266,7 @@ module _ {M T H G : Type 0} (says : Says M) (course : H → HostDef) (c : Compon
     pub order : CoreInOrder c turn left.core
     pub running : running_of left ≡ runs_in turn
 
-  -- A run was added that was heeded whole, and then the hook answered an error, which left the state and the listeners so. Main is as the step
+  -- A run was added without an error of the hook, and then it answered one, which left the state and the listeners so. Main is as the step
   -- left it, or as it was before the start.
   pub record HasStopped (steps : ℕ) (a : At M T H G) (n : M) (after : List Label) (left : StateView) (listeners : Listeners) : Type 0 where
     pub mid : List Label

@@ -48,7 +48,8 @@ impl Instance {
     }
 
     /// Takes the subtask out of its set, and frees its handle. Refused with trap 16 if the handle names no subtask, with trap 7 if
-    /// it is in the set of a sync call, and with trap 6 if it hasn't ended or its end wasn't taken, in this order.
+    /// it is in the set of a sync call, and with trap 6 if it hasn't ended or its end wasn't taken, in this order. A guest has to take
+    /// the end first, as only then it knows that nobody uses what it lent to the call.
     pub fn subtask_drop<T, H, G: TaskGroupHook>(
         self,
         component: &Component,
@@ -73,7 +74,8 @@ impl Instance {
 
     /// Begins a direct call: the callee, of a sync or blocking export of an earlier instance, is made with as many
     /// words as it takes, and its thread, which is answered, runs on top of the current one. Refused with trap 18 where its three
-    /// entries don't fit into the table, and else with trap 17 if no handle may be given.
+    /// entries don't fit into the table, and else with trap 17 if no handle may be given. Such a callee can't pause, so it needs no
+    /// turn of its own.
     pub fn enter_guest_sync_call<T, H, G: TaskGroupHook>(
         self,
         component: &Component,
@@ -121,7 +123,8 @@ impl Instance {
         tell_call(&mut store.state, &mut store.listeners, &before, answer)
     }
 
-    /// Prepares a call of an export of an earlier instance: it is made with as many words as the callee takes, and its
+    /// Prepares a call of an export of an earlier instance, which `start_call` starts. In between its caller may still do what the call
+    /// needs. It is made with as many words as the callee takes, and its
     /// first thread, which is New, is answered. The result of an async caller's call goes to the register, 0 to 15. Refused with
     /// trap 18 exactly where its three entries don't fit into the table. Where it is refused, or it is out of memory, nothing is
     /// changed.

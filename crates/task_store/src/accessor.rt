@@ -103,6 +103,7 @@ impl<T, P> Accessor<T, P> {
     }
 
     /// Returns `Ready` exactly if no task is left that a host waits for, in the slot's store. It is main's op `quiet`.
+    /// A host asks this before it ends, since a call that has returned may still be at work.
     pub fn poll_no_interesting_tasks<H>(
         &self,
         slot: &mut StoreSlot<'_, T, H>,
@@ -124,7 +125,8 @@ impl<T, P> Accessor<T, P> {
         }
     }
 
-    /// Returns `Ready` exactly if a call of the instance could start, in the slot's store. It is main's op `ready`.
+    /// Returns `Ready` exactly if a call of the instance could start, in the slot's store. It is main's op `ready`. A call that is
+    /// started before would only be held.
     pub fn poll_ready_for_concurrent_call<H>(
         &self,
         slot: &mut StoreSlot<'_, T, H>,

@@ -37,7 +37,7 @@ pub(crate) enum Held<'a, T, H> {
 }
 
 /// A place for a store that a host hands on to what it calls. Whoever has the slot takes the store for a
-/// while; in the meantime the slot says that it is taken.
+/// while; in the meantime the slot says that it is taken. So nobody finds a store that another is just changing.
 #[derive(Drop)]
 pub struct StoreSlot<'a, T, H> {
     pub(crate) held: Held<'a, T, H>,

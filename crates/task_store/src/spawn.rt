@@ -44,7 +44,8 @@ impl SpawnHandle {
 
     /// Asks that the work end, and answers the phase that it found: `Running` becomes
     /// `AbortRequested`, and the others stay. The work ends when its next poll is due, without a
-    /// value, and isn't polled again. A core in order stays so, whosever turn it is.
+    /// value, and isn't polled again. It doesn't end at once, since only the loop holds works, and this call may come in the middle of a
+    /// poll. A core in order stays so, whosever turn it is.
     pub fn abort<T, H: HostWork, G: TaskGroupHook>(&self, store: &mut Store<T, H, G>) -> Phase
         requires spawned { IsSpawnedIn self.now store.old.state }
         requires hosts { HoldsHosts H.course store.old }

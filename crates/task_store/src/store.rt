@@ -204,7 +204,8 @@ impl<T, H, G: TaskGroupHook> Store<T, H, G> {
         self.state.trapped()
     }
 
-    /// Traps the store, and finishes all groups, which is told in order of number, as it is of those that have ended and weren't
+    /// Traps the store, so that no guest runs in it again: a trap may have left a guest's data half changed. All groups are finished,
+    /// which is told in order of number, as it is of those that have ended and weren't
     /// told of. Errors of the hook are passed over. No group is tracked then.
     pub fn set_trapped(&mut self)
         ensures rest { self.new ≡ record self.old { state = asked (on_core set_trapped self.old.state); listeners = self.new.listeners } }

@@ -1,7 +1,7 @@
 -- What the calls of a `ResourceTable` answer.
 use Rattle.std.specs.Prelude.{ℕ, ◌&&◌, nat_lt, if◌then◌else◌, Bool, Option, Some, None, Result, Ok, Err, is_some, ok_or}
 use Rattle.std.specs.Borrow.{Bor, MutBor}
-use Rattle.task_table.specs.Table.{Table, Placed, found, children_of}
+use Rattle.task_table.specs.Table.{Table, Placed, found, children_of, is_number}
 use Rattle.task_table.specs.declared.error.ResourceTableError.{ResourceTableError}
 use Rattle.task_table.specs.declared.error.ResourceTableError.TheVariants.{NotPresent, WrongType, HasChildren}
 
@@ -49,3 +49,9 @@ module _ {E : Type 0} where
   abbrev pub parent_of : Option (Placed E) → Option ℕ
   parent_of None = None
   parent_of (Some p) = p.parent
+
+module _ {E C P : Type 0} where
+  -- why a child isn't taken from its parent, where it isn't
+  abbrev pub unlink_refusal : (E → Option C) → (E → Option P) → Table E → (child serial parent parent_serial : ℕ) → Option ResourceTableError
+  unlink_refusal child_in parent_in t child serial parent parent_serial =
+      or_not_child (pair_refusal child_in parent_in (found t child serial) (found t parent parent_serial)) (is_number parent (parent_of (found t child serial)))

@@ -2,7 +2,7 @@ ghost use Rattle.std.specs.Prelude.{◌≡◌, ◌↔◌, ◌<◌, ◌≤◌, �
 ghost use Rattle.std.specs.Option.{option_and_then, option_copied, option_map};
 ghost use Rattle.std.specs.Result.{result_err};
 ghost use Rattle.std.specs.Borrow.{sem};
-ghost use Rattle.task_table.specs.TableAnswers.{item_at, deletion, pair_refusal, parent_of, or_not_child, result_copied, result_copied_mut};
+ghost use Rattle.task_table.specs.TableAnswers.{item_at, deletion, pair_refusal, parent_of, result_copied, result_copied_mut, unlink_refusal};
 ghost use Rattle.task_table.specs.Changes.{Adds, Removes, next_place, pushed, deleted, with_parent, with_capacity};
 ghost use Rattle.task_table.specs.TableCells.{placed};
 ghost use Rattle.task_table.specs.Entries.{entries};
@@ -350,7 +350,7 @@ impl<E> ResourceTable<E> {
         child: TableId<C>,
         parent: TableId<P>,
     ) -> Result<(), ResourceTableError>
-        ensures refusal { result_err result ≡ or_not_child (pair_refusal C.item_of P.item_of (found self.old child.rep child.serial) (found self.old parent.rep parent.serial)) (is_number parent.rep (parent_of (found self.old child.rep child.serial))) }
+        ensures refusal { result_err result ≡ unlink_refusal C.item_of P.item_of self.old child.rep child.serial parent.rep parent.serial }
         ensures ok { OnOk result (self.new ≡ with_parent child.rep None self.old) }
         ensures err { OnErr result (self.new ≡ self.old) }
         ensures sound { IsTable self.new }

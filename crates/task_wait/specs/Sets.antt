@@ -1,10 +1,10 @@
 -- What the calls of a `WaitableSet` change in the links.
-use Rattle.std.specs.Prelude.{◌≡◌, ℕ, ◌==◌, if◌then◌else◌, Bool, false, List, [], ◌∷◌, ◌++◌, Option, Some, None}
+use Rattle.std.specs.Prelude.{◌≡◌, ℕ, ◌==◌, if◌then◌else◌, Bool, false, List, [], ◌∷◌, ◌++◌, Option, Some, None, IfSome}
 use Rattle.std.specs.declared.cmp.Ordering.{Ordering}
 use Rattle.std.specs.List.{list_any}
 use Rattle.std.specs.Ordering.{is_lt}
 use Rattle.task_wait.specs.declared.set.WaitableSet.{WaitableSet}
-use Rattle.table_links.specs.Links.{Spot, entries, head_of, link_of, put_before, removed}
+use Rattle.table_links.specs.Links.{Spot, entries, head_of, link_of, put_before, removed, linked}
 
 -- the chains of the ready members and of the waiters, and the flag
 abbrev pub ready_chain : WaitableSet → ℕ
@@ -66,3 +66,15 @@ module _ {P : Type 0} where
   abbrev pub IsAscending : (P → P → Ordering) → List (ℕ × P) → Type 0
   IsAscending cmp [] = Unit {0}
   IsAscending cmp (e ∷ es) = IsLeast cmp e.1 es × IsAscending cmp es
+
+  -- the links with the node in the chain, after the last entry that is less
+  abbrev pub linked_in_order : (P → P → Ordering) → (chain node : ℕ) → P → List (Spot P) → List (Spot P)
+  linked_in_order cmp chain node value links = linked chain node value (placed cmp (node, value) (entries links chain)) links
+
+  -- A list that was in order is so still.
+  abbrev pub StaysAscending : (P → P → Ordering) → (old new : List (ℕ × P)) → Type 0
+  StaysAscending cmp old new = IsAscending cmp old → IsAscending cmp new
+
+  -- What is found of a list that is in order is the least value.
+  abbrev pub FindsLeast : (P → P → Ordering) → Option P → List (ℕ × P) → Type 0
+  FindsLeast cmp found list = IsAscending cmp list → IfSome found (λ value. IsLeast cmp value list)

@@ -1,7 +1,7 @@
-ghost use Rattle.std.specs.Prelude.{◌≡◌, ◌↔◌, ◌++◌, ◌∷◌, [], true, Some, None, IsSome, is_some, drop, IfSome, OnErr, IfOk};
+ghost use Rattle.std.specs.Prelude.{◌≡◌, ◌↔◌, ◌++◌, ◌∷◌, [], true, Some, None, IsSome, is_some, drop, OnErr, IfOk};
 ghost use Rattle.std.specs.Option.{option_map};
 ghost use Rattle.table_links.specs.Links.{IsLinks, Renames, NamesSame, Unmade, ChainOf, entries, head_of, is_free, is_made, list_of, linked};
-ghost use Rattle.task_wait.specs.Sets.{IsAscending, IsLeast, is_in, placed, place_of, ready_chain, ready_list, sync_flag, taken_out, waiter_chain, waiter_list, without_first};
+ghost use Rattle.task_wait.specs.Sets.{is_in, place_of, ready_chain, ready_list, sync_flag, taken_out, waiter_chain, waiter_list, without_first, FindsLeast, StaysAscending, linked_in_order};
 ghost use Rattle.std.specs.Ordering.{is_lt};
 
 use crate::keys::{Waitable, WaiterKey};
@@ -26,7 +26,7 @@ fn take_out<P: Copy + Ord>(links: &mut Links<P>, chain: usize, node: Node) -> bo
     requires made { is_made links.old node.index ≡ true }
     ensures there { result ≡ is_in chain node.index links.old }
     ensures links { links.new ≡ taken_out chain node.index links.old }
-    ensures order { IsAscending P.cmp (entries links.old chain) → IsAscending P.cmp (entries links.new chain) }
+    ensures order { StaysAscending P.cmp (entries links.old chain) (entries links.new chain) }
 {
     match links.get(node) {
         Some((found, _)) if found == chain => {
@@ -41,7 +41,7 @@ fn take_out<P: Copy + Ord>(links: &mut Links<P>, chain: usize, node: Node) -> bo
 fn first_value<P: Copy + Ord>(links: &Links<P>, chain: usize) -> Option<P>
     requires { IsSome (list_of links.now chain) }
     ensures first { result ≡ option_map (λ e. e.1) (head_of (entries links.now chain)) }
-    ensures least { IsAscending P.cmp (entries links.now chain) → IfSome result (λ value. IsLeast P.cmp value (entries links.now chain)) }
+    ensures least { FindsLeast P.cmp result (entries links.now chain) }
 {
     match links.first(chain) {
         Some((_, value)) => Some(value),
@@ -55,8 +55,8 @@ fn take_first<P: Copy + Ord>(links: &mut Links<P>, chain: usize) -> Option<P>
     ensures first { result ≡ option_map (λ e. e.1) (head_of (entries links.old chain)) }
     ensures links { links.new ≡ without_first chain links.old }
     ensures rest { entries links.new chain ≡ drop 1 (entries links.old chain) }
-    ensures least { IsAscending P.cmp (entries links.old chain) → IfSome result (λ value. IsLeast P.cmp value (entries links.old chain)) }
-    ensures order { IsAscending P.cmp (entries links.old chain) → IsAscending P.cmp (entries links.new chain) }
+    ensures least { FindsLeast P.cmp result (entries links.old chain) }
+    ensures order { StaysAscending P.cmp (entries links.old chain) (entries links.new chain) }
 {
     match links.first(chain) {
         Some((first, value)) => {
@@ -97,8 +97,8 @@ fn place<P: Copy + Ord>(links: &Links<P>, chain: usize, value: P) -> Option<Node
 pub fn put_in_order<P: Copy + Ord>(links: &mut Links<P>, chain: usize, node: Node, value: P)
     requires chain { IsSome (list_of links.old chain) }
     requires free { is_free links.old node.index ≡ true }
-    ensures links { links.new ≡ linked chain node.index value (placed P.cmp (node.index, value) (entries links.old chain)) links.old }
-    ensures order { IsAscending P.cmp (entries links.old chain) → IsAscending P.cmp (entries links.new chain) }
+    ensures links { links.new ≡ linked_in_order P.cmp chain node.index value links.old }
+    ensures order { StaysAscending P.cmp (entries links.old chain) (entries links.new chain) }
 {
     match place(links, chain, value) {
         Some(at) => links.insert_before(at, node, value),
@@ -170,7 +170,7 @@ impl WaitableSet {
     pub fn first_ready(&self, ready: &Links<Waitable>) -> Option<Waitable>
         requires { IsSome (list_of ready.now (ready_chain self.now)) }
         ensures first { result ≡ option_map (λ e. e.1) (head_of (ready_list self.now ready.now)) }
-        ensures least { IsAscending ⟦<Waitable as Ord>⟧.cmp (ready_list self.now ready.now) → IfSome result (λ waitable. IsLeast ⟦<Waitable as Ord>⟧.cmp waitable (ready_list self.now ready.now)) }
+        ensures least { FindsLeast ⟦<Waitable as Ord>⟧.cmp result (ready_list self.now ready.now) }
     {
         first_value(ready, self.ready)
     }
@@ -180,8 +180,8 @@ impl WaitableSet {
     pub fn mark(&mut self, ready: &mut Links<Waitable>, node: Node, waitable: Waitable)
         requires chain { IsSome (list_of ready.old (ready_chain self.old)) }
         requires free { is_free ready.old node.index ≡ true }
-        ensures links { ready.new ≡ linked (ready_chain self.old) node.index waitable (placed ⟦<Waitable as Ord>⟧.cmp (node.index, waitable) (ready_list self.old ready.old)) ready.old }
-        ensures order { IsAscending ⟦<Waitable as Ord>⟧.cmp (ready_list self.old ready.old) → IsAscending ⟦<Waitable as Ord>⟧.cmp (ready_list self.old ready.new) }
+        ensures links { ready.new ≡ linked_in_order ⟦<Waitable as Ord>⟧.cmp (ready_chain self.old) node.index waitable ready.old }
+        ensures order { StaysAscending ⟦<Waitable as Ord>⟧.cmp (ready_list self.old ready.old) (ready_list self.old ready.new) }
         ensures set { self.new ≡ self.old }
     {
         put_in_order(ready, self.ready, node, waitable);
@@ -193,7 +193,7 @@ impl WaitableSet {
         requires made { is_made ready.old node.index ≡ true }
         ensures there { result ≡ is_in (ready_chain self.old) node.index ready.old }
         ensures links { ready.new ≡ taken_out (ready_chain self.old) node.index ready.old }
-        ensures order { IsAscending ⟦<Waitable as Ord>⟧.cmp (ready_list self.old ready.old) → IsAscending ⟦<Waitable as Ord>⟧.cmp (ready_list self.old ready.new) }
+        ensures order { StaysAscending ⟦<Waitable as Ord>⟧.cmp (ready_list self.old ready.old) (ready_list self.old ready.new) }
         ensures set { self.new ≡ self.old }
     {
         take_out(ready, self.ready, node)
@@ -204,8 +204,8 @@ impl WaitableSet {
     pub fn add_waiter(&mut self, waiting: &mut Links<WaiterKey>, node: Node, waiter: WaiterKey)
         requires chain { IsSome (list_of waiting.old (waiter_chain self.old)) }
         requires free { is_free waiting.old node.index ≡ true }
-        ensures links { waiting.new ≡ linked (waiter_chain self.old) node.index waiter (placed ⟦<WaiterKey as Ord>⟧.cmp (node.index, waiter) (waiter_list self.old waiting.old)) waiting.old }
-        ensures order { IsAscending ⟦<WaiterKey as Ord>⟧.cmp (waiter_list self.old waiting.old) → IsAscending ⟦<WaiterKey as Ord>⟧.cmp (waiter_list self.old waiting.new) }
+        ensures links { waiting.new ≡ linked_in_order ⟦<WaiterKey as Ord>⟧.cmp (waiter_chain self.old) node.index waiter waiting.old }
+        ensures order { StaysAscending ⟦<WaiterKey as Ord>⟧.cmp (waiter_list self.old waiting.old) (waiter_list self.old waiting.new) }
         ensures set { self.new ≡ self.old }
     {
         put_in_order(waiting, self.waiters, node, waiter);
@@ -228,8 +228,8 @@ impl WaitableSet {
         ensures first { result ≡ option_map (λ e. e.1) (head_of (waiter_list self.old waiting.old)) }
         ensures links { waiting.new ≡ without_first (waiter_chain self.old) waiting.old }
         ensures rest { waiter_list self.old waiting.new ≡ drop 1 (waiter_list self.old waiting.old) }
-        ensures least { IsAscending ⟦<WaiterKey as Ord>⟧.cmp (waiter_list self.old waiting.old) → IfSome result (λ waiter. IsLeast ⟦<WaiterKey as Ord>⟧.cmp waiter (waiter_list self.old waiting.old)) }
-        ensures order { IsAscending ⟦<WaiterKey as Ord>⟧.cmp (waiter_list self.old waiting.old) → IsAscending ⟦<WaiterKey as Ord>⟧.cmp (waiter_list self.old waiting.new) }
+        ensures least { FindsLeast ⟦<WaiterKey as Ord>⟧.cmp result (waiter_list self.old waiting.old) }
+        ensures order { StaysAscending ⟦<WaiterKey as Ord>⟧.cmp (waiter_list self.old waiting.old) (waiter_list self.old waiting.new) }
         ensures set { self.new ≡ self.old }
     {
         take_first(waiting, self.waiters)
@@ -241,7 +241,7 @@ impl WaitableSet {
         requires made { is_made waiting.old node.index ≡ true }
         ensures there { result ≡ is_in (waiter_chain self.old) node.index waiting.old }
         ensures links { waiting.new ≡ taken_out (waiter_chain self.old) node.index waiting.old }
-        ensures order { IsAscending ⟦<WaiterKey as Ord>⟧.cmp (waiter_list self.old waiting.old) → IsAscending ⟦<WaiterKey as Ord>⟧.cmp (waiter_list self.old waiting.new) }
+        ensures order { StaysAscending ⟦<WaiterKey as Ord>⟧.cmp (waiter_list self.old waiting.old) (waiter_list self.old waiting.new) }
         ensures set { self.new ≡ self.old }
     {
         take_out(waiting, self.waiters, node)

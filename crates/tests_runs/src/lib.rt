@@ -1,5 +1,5 @@
-//! Tests of scenarios and of what runs them: the texts and the program's top call; of join handles, whose works run in threads; and of slots
-//! and accessors.
+//! Tests of scenarios and of what runs them: the texts and the program's top call; of join handles, whose works run in threads; and
+//! of slots and accessors.
 //!
 //! They are in a crate of their own, so that those crates are proved without them.
 #![tactic(auto)]

@@ -53,3 +53,7 @@ read_of false left piece room = if min (min left piece) room == 0 then read.End 
 abbrev pub write_of : Bool → ℕ → ℕ → ℕ → Wrote
 write_of true room piece given = wrote.Failed
 write_of false room piece given = if min (min room piece) given == 0 then wrote.Failed else wrote.Took (min (min room piece) given)
+
+-- the next call does
+abbrev pub fails : List ℕ → (calls : ℕ) → Bool
+fails fail calls = is_to_fail fail (next_call calls)

@@ -1,5 +1,5 @@
 ghost use Rattle.std.specs.Prelude.{◌≡◌, ◌-◌, ◌<◌, ◌≤◌, [], IfOk, Some, drop, length, vec_capacity, vec_len};
-ghost use Rattle.text_bytes.specs.Outside.{HasRisen, IsRead, IsWritten, is_to_fail, next_call, read_of, write_of};
+ghost use Rattle.text_bytes.specs.Outside.{HasRisen, IsRead, IsWritten, next_call, read_of, write_of, fails};
 
 use crate::outside::{Read, Sink, Source, Wrote};
 use machine_data::NoMemory;
@@ -50,7 +50,7 @@ impl Source for MemorySource {
         ensures cause { result ≡ Read.Failed → HasRisen self.old.faults self.new.faults }
         ensures read { IsRead (Some (drop self.old.at self.old.bytes.items)) (Some (drop self.new.at self.new.bytes.items)) buf.new result }
         // It gives at most `piece` bytes, and fails at just the calls that are listed.
-        ensures answer { result ≡ read_of (is_to_fail self.old.fail.items (next_call self.old.calls)) (vec_len self.old.bytes - self.old.at) self.old.piece (length buf.old) }
+        ensures answer { result ≡ read_of (fails self.old.fail.items self.old.calls) (vec_len self.old.bytes - self.old.at) self.old.piece (length buf.old) }
         ensures calls { self.new.calls ≡ next_call self.old.calls }
         ensures piece { self.new.piece ≡ self.old.piece }
         ensures fail { self.new.fail ≡ self.old.fail }
@@ -134,7 +134,7 @@ impl Sink for MemorySink {
         ensures cause { result ≡ Wrote.Failed → HasRisen self.old.faults self.new.faults }
         ensures written { IsWritten (Some self.old.bytes.items) (Some self.new.bytes.items) bytes.now result }
         // It takes at most `piece` bytes, and fails at just the calls that are listed and where its room is full.
-        ensures answer { result ≡ write_of (is_to_fail self.old.fail.items (next_call self.old.calls)) (self.old.capacity - vec_len self.old.bytes) self.old.piece (length bytes.now) }
+        ensures answer { result ≡ write_of (fails self.old.fail.items self.old.calls) (self.old.capacity - vec_len self.old.bytes) self.old.piece (length bytes.now) }
         ensures calls { self.new.calls ≡ next_call self.old.calls }
         ensures room { self.new.capacity ≡ self.old.capacity }
         ensures piece { self.new.piece ≡ self.old.piece }

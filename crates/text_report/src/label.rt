@@ -1,8 +1,9 @@
 //! What is printed of a label and of an outcome, each in one way. A line is written in place, and no
 //! label makes a string of its own.
+ghost use Rattle.text_report.specs.Lines.{call_in};
 ghost use Rattle.std.specs.Prelude.{◌≡◌, ◌+◌, ◌≤◌, ◌<◌, ◌++◌, codes, decimal, length, slice_index, take};
 ghost use Rattle.run_trace.specs.Labels.{label_of};
-ghost use Rattle.run_trace.specs.Opened.{all, call_of, data_of, handle_of, loop_of, main_of, own_of, set_of, take_of, task_of, thread_of};
+ghost use Rattle.run_trace.specs.Opened.{all, data_of, handle_of, loop_of, main_of, own_of, set_of, take_of, task_of, thread_of};
 ghost use Rattle.machine_data.specs.Moves.{given_own};
 ghost use Rattle.machine_data.specs.Statuses.{status_code};
 ghost use Rattle.machine_data.specs.declared.statuses.Given.TheVariants as Given;
@@ -56,7 +57,7 @@ fn phase_token(phase: Phase) -> &'static [u8]
     }
 }
 
-// `take M`: of a text that is known where a line is compiled, a few stores are made.
+// `take M`: of literal that are known where a line is compiled, a few stores are made.
 #[inline(always)]
 fn taken(out: &mut [u8], at: usize, mark: Mark) -> usize
     requires { at + 11 ≤ length out.old }
@@ -86,7 +87,7 @@ fn taken_thread(out: &mut [u8], at: usize, mark: Mark) -> usize
     }
 }
 
-// A text, the handle of a subtask, and its status, which has one digit.
+// Tokens, the handle of a subtask, and its status, which has one digit.
 #[inline(always)]
 fn handed(out: &mut [u8], at: usize, before: &[u8], handle: u32, status: Status) -> usize
     requires { at + length before.now + 27 ≤ length out.old }
@@ -412,7 +413,7 @@ fn call_label(out: &mut [u8], at: usize, kind: CallKind, small: u32, xs: &[u64])
     requires { at + LINE ≤ length out.old }
     ensures end { result < at + LINE }
     ensures room { length out.new ≡ length out.old }
-    ensures text { take result out.new ≡ take at out.old ++ label_text (call_of kind (slice_index (all small xs.now) 0) (slice_index (all small xs.now) 1) (slice_index (all small xs.now) 2)) }
+    ensures text { take result out.new ≡ take at out.old ++ label_text (call_in kind (all small xs.now)) }
 {
     let end = thread_number(out, at, first(small, xs));
     match kind {

@@ -42,8 +42,8 @@ impl Page {
     }
 
     /// Adds lines of the labels that are left, up to a full page, and takes these labels away. Answers whether the page is full;
-    /// else no labels are left. It is a function of its own, and goes over its own labels, so that its loop has all registers and all that it
-    /// keeps is in them.
+    /// else no labels are left. It is a function of its own, and goes over its own labels, so that its loop has all registers and
+    /// all that it keeps is in them.
     #[inline(never)]
     pub fn fill(&mut self, labels: &mut Labels<'_>) -> bool
         ensures lines { self.new ++ lines_of labels.new ≡ self.old ++ lines_of labels.old }

@@ -15,7 +15,7 @@ returns-then-instance-len-clause-new c =
     let a = c.args.parts.now in
     let g = c.index_mut-entry.result.now in
     let same = a.instances.ok.0 in
-    instance_writes a c.args.instance g (record g { instance = record g.instance { memory_cells = c.put_number.new.numbers } }) (read_at a.instances.items c.args.instance g (omega (arith, c.if-instance-len.true, c.len.ensures, same)) c.index_mut-entry.ensures.value) refl _ refl _ (ap (λ (ws : List ℕ). record g.instance { words = ws }) (sym c.put_number.ensures))
+    instance_writes a c.args.instance g (record g { instance = record g.instance { memory_cells = c.put_number.new.numbers } }) (read_at a.instances.items c.args.instance g (omega (arith, c.if-instance-len.true, c.len.ensures, same)) c.index_mut-entry.ensures.value) refl _ refl _ (ap (λ (ws : List ℕ). record g.instance { memory_cells = ws }) (sym c.put_number.ensures))
 
 pub returns-else-instance-len-clause-new : goal.returns-else-instance-len-clause-new
 unfolding set_memory_cell

@@ -7,10 +7,10 @@ use Rattle.core_makes.proofs.calls_with_threads.push_call_with_thread.Goals as g
 use Rattle.core_records.proofs.MakeLemmas.{number_new}
 
 pub one_more-requires-clause-few : goal.one_more-requires-clause-few
-one_more-requires-clause-few c = group_few c.args.parts.now c.requires.sound (record c.args.call { first = next_place c.args.parts.now.threads }) (record c.args.thread { task = next_place c.args.parts.now.calls }) c.args.id c.args.group c.requires.group
+one_more-requires-clause-few c = group_few c.args.parts.now c.requires.sound (record c.args.call { first = next_place c.args.parts.now.threads }) (record c.args.thread { task = next_place c.args.parts.now.calls }) c.args.id c.args.group c.requires.may.group
 
 pub overflow_add-parts-in-Ok-push : goal.overflow_add-parts-in-Ok-push
-overflow_add-parts-in-Ok-push c = let few : c.args.parts.now.kept.used + 3 < 2 ^ 64 = used_few c.args.parts.now c.requires.sound c.requires.room in omega arith
+overflow_add-parts-in-Ok-push c = let few : c.args.parts.now.kept.used + 3 < 2 ^ 64 = used_few c.args.parts.now c.requires.sound c.requires.may.room in omega arith
 
 pub overflow_add-parts-in-Ok-push-2 : goal.overflow_add-parts-in-Ok-push-2
 overflow_add-parts-in-Ok-push-2 c = let few : c.args.parts.now.kept.interesting + 1 < 2 ^ 64 = interesting_few c.args.parts.now c.requires.sound in omega arith
@@ -20,8 +20,8 @@ unfolding IsSoundCore
 drop_call-requires-clause-live c =
     let is : number_of call_key c.push.new.self c.in-Ok.task.rep c.in-Ok.task.serial ≡ c.args.call.number =
     ap (λ (t : Table (Single GuestTask)). number_of call_key t c.in-Ok.task.rep c.in-Ok.task.serial) c.in-Ok.ensures.pushed
-    ∙ number_new (λ (g : GuestTask). g.number) (λ (g : GuestTask). g.call) c.args.parts.now.calls c.args.parts.now.made.threads c.requires.sound.tables.calls (record c.args.call { first = c.in-Some.place }) c.requires.strand.call_next c.in-Ok.task.rep c.in-Ok.task.serial c.in-Ok.ensures.rep c.in-Ok.ensures.serial in
-    let next = c.requires.strand.call_next in
+    ∙ number_new (λ (g : GuestTask). g.number) (λ (g : GuestTask). g.call) c.args.parts.now.calls c.args.parts.now.made.threads c.requires.sound.tables.calls (record c.args.call { first = c.in-Some.place }) c.requires.may.next.call_next c.in-Ok.task.rep c.in-Ok.task.serial c.in-Ok.ensures.rep c.in-Ok.ensures.serial in
+    let next = c.requires.may.next.call_next in
     omega arith
 
 pub drop_call-requires-clause-childless : goal.drop_call-requires-clause-childless
@@ -37,8 +37,8 @@ returns-in-Ok-push-clause-sound c =
     let k = record c.args.call { first = next_place a.threads } in
     let is_c : c.push.new.self ≡ pushed (record { item = k }) a.calls = c.in-Ok.ensures.pushed ∙ ap (λ (n : ℕ). pushed (record { item = record c.args.call { first = n } }) a.calls) c.in-Some.ensures.some in
     let is_t : c.push-in-Ok.new.self ≡ pushed (record { item = g }) a.threads = c.in-Ok-push.ensures.pushed ∙ ap (λ (n : ℕ). pushed (record { item = record c.args.thread { task = n } }) a.threads) (c.rep.ensures ∙ c.in-Ok.ensures.rep) in
-    as_made a c.requires.sound k g c.args.id c.args.group c.requires.group _ _ _ is_t is_c c.one_more.ensures IsSoundCore
-    (call_thread_sound a c.requires.sound k g c.args.id c.args.group c.requires.group c.requires.strand c.requires.loose c.requires.place c.requires.of_group (subst IsTable is_t c.in-Ok-push.ensures.sound) (subst IsTable is_c c.in-Ok.ensures.sound) c.requires.unnamed c.requires.interests)
+    as_made a c.requires.sound k g c.args.id c.args.group c.requires.may.group _ _ _ is_t is_c c.one_more.ensures IsSoundCore
+    (call_thread_sound a c.requires.sound k g c.args.id c.args.group c.requires.may.group c.requires.may.next c.requires.may.loose c.requires.may.place c.requires.may.of_group (subst IsTable is_t c.in-Ok-push.ensures.sound) (subst IsTable is_c c.in-Ok.ensures.sound) c.requires.may.unnamed c.requires.may.interests)
 
 pub returns-in-Ok-push-clause-thread : goal.returns-in-Ok-push-clause-thread
 returns-in-Ok-push-clause-thread c =
@@ -47,8 +47,8 @@ returns-in-Ok-push-clause-thread c =
     let k = record c.args.call { first = next_place a.threads } in
     let is_c : c.push.new.self ≡ pushed (record { item = k }) a.calls = c.in-Ok.ensures.pushed ∙ ap (λ (n : ℕ). pushed (record { item = record c.args.call { first = n } }) a.calls) c.in-Some.ensures.some in
     let is_t : c.push-in-Ok.new.self ≡ pushed (record { item = g }) a.threads = c.in-Ok-push.ensures.pushed ∙ ap (λ (n : ℕ). pushed (record { item = record c.args.thread { task = n } }) a.threads) (c.rep.ensures ∙ c.in-Ok.ensures.rep) in
-    as_made a c.requires.sound k g c.args.id c.args.group c.requires.group _ _ _ is_t is_c c.one_more.ensures (λ b. thread_of (seen b) c.in-Ok-push.first ≡ a.made.threads + 1)
-    (thread_named a c.requires.sound k g c.args.id c.args.group c.requires.group c.requires.strand c.requires.loose c.in-Ok-push.first c.in-Ok-push.ensures.rep c.in-Ok-push.ensures.serial)
+    as_made a c.requires.sound k g c.args.id c.args.group c.requires.may.group _ _ _ is_t is_c c.one_more.ensures (λ b. thread_of (seen b) c.in-Ok-push.first ≡ a.made.threads + 1)
+    (thread_named a c.requires.sound k g c.args.id c.args.group c.requires.may.group c.requires.may.next c.requires.may.loose c.in-Ok-push.first c.in-Ok-push.ensures.rep c.in-Ok-push.ensures.serial)
 
 pub returns-in-Ok-push-clause-call : goal.returns-in-Ok-push-clause-call
 returns-in-Ok-push-clause-call c =
@@ -57,8 +57,8 @@ returns-in-Ok-push-clause-call c =
     let k = record c.args.call { first = next_place a.threads } in
     let is_c : c.push.new.self ≡ pushed (record { item = k }) a.calls = c.in-Ok.ensures.pushed ∙ ap (λ (n : ℕ). pushed (record { item = record c.args.call { first = n } }) a.calls) c.in-Some.ensures.some in
     let is_t : c.push-in-Ok.new.self ≡ pushed (record { item = g }) a.threads = c.in-Ok-push.ensures.pushed ∙ ap (λ (n : ℕ). pushed (record { item = record c.args.thread { task = n } }) a.threads) (c.rep.ensures ∙ c.in-Ok.ensures.rep) in
-    as_made a c.requires.sound k g c.args.id c.args.group c.requires.group _ _ _ is_t is_c c.one_more.ensures (λ b. call_of (seen b) c.in-Ok.task ≡ a.made.threads + 1)
-    (call_named a c.requires.sound k g c.args.id c.args.group c.requires.group c.requires.strand c.requires.loose c.in-Ok.task c.in-Ok.ensures.rep c.in-Ok.ensures.serial)
+    as_made a c.requires.sound k g c.args.id c.args.group c.requires.may.group _ _ _ is_t is_c c.one_more.ensures (λ b. call_of (seen b) c.in-Ok.task ≡ a.made.threads + 1)
+    (call_named a c.requires.sound k g c.args.id c.args.group c.requires.may.group c.requires.may.next c.requires.may.loose c.in-Ok.task c.in-Ok.ensures.rep c.in-Ok.ensures.serial)
 
 pub returns-in-Ok-push-clause-new : goal.returns-in-Ok-push-clause-new
 unfolding seen
@@ -70,8 +70,8 @@ returns-in-Ok-push-clause-new c =
           let k = record c.args.call { first = next_place a.threads } in
           let is_c : c.push.new.self ≡ pushed (record { item = k }) a.calls = c.in-Ok.ensures.pushed ∙ ap (λ (n : ℕ). pushed (record { item = record c.args.call { first = n } }) a.calls) c.in-Some.ensures.some in
           let is_t : c.push-in-Ok.new.self ≡ pushed (record { item = g }) a.threads = c.in-Ok-push.ensures.pushed ∙ ap (λ (n : ℕ). pushed (record { item = record c.args.thread { task = n } }) a.threads) (c.rep.ensures ∙ c.in-Ok.ensures.rep) in
-          as_made a c.requires.sound k g c.args.id c.args.group c.requires.group _ _ _ is_t is_c c.one_more.ensures (λ b. (seen b).core ≡ add_thread c.args.thread.thread (add_call c.args.call.number c.args.call.call (seen a).core))
-          (call_thread_core a c.requires.sound k g c.args.id c.args.group c.requires.group c.requires.strand c.requires.loose);
+          as_made a c.requires.sound k g c.args.id c.args.group c.requires.may.group _ _ _ is_t is_c c.one_more.ensures (λ b. (seen b).core ≡ add_thread c.args.thread.thread (add_call c.args.call.number c.args.call.call (seen a).core))
+          (call_thread_core a c.requires.sound k g c.args.id c.args.group c.requires.may.group c.requires.may.next c.requires.may.loose);
       current = refl;
       tags =
           let a = c.args.parts.now in
@@ -79,8 +79,8 @@ returns-in-Ok-push-clause-new c =
           let k = record c.args.call { first = next_place a.threads } in
           let is_c : c.push.new.self ≡ pushed (record { item = k }) a.calls = c.in-Ok.ensures.pushed ∙ ap (λ (n : ℕ). pushed (record { item = record c.args.call { first = n } }) a.calls) c.in-Some.ensures.some in
           let is_t : c.push-in-Ok.new.self ≡ pushed (record { item = g }) a.threads = c.in-Ok-push.ensures.pushed ∙ ap (λ (n : ℕ). pushed (record { item = record c.args.thread { task = n } }) a.threads) (c.rep.ensures ∙ c.in-Ok.ensures.rep) in
-          as_made a c.requires.sound k g c.args.id c.args.group c.requires.group _ _ _ is_t is_c c.one_more.ensures (λ b. Keeps (seen a).tags (seen b).tags)
-          (call_thread_tags a c.requires.sound k g c.args.id c.args.group c.requires.group c.requires.strand c.requires.loose);
+          as_made a c.requires.sound k g c.args.id c.args.group c.requires.may.group _ _ _ is_t is_c c.one_more.ensures (λ b. Keeps (seen a).tags (seen b).tags)
+          (call_thread_tags a c.requires.sound k g c.args.id c.args.group c.requires.may.group c.requires.may.next c.requires.may.loose);
     }
 
 pub returns-in-Err-push-clause-err : goal.returns-in-Err-push-clause-err

@@ -9,7 +9,7 @@ unfolding seen
 insert_handle-requires-clause-stands c =
     let b = c.push_set.new.parts in
     place_in_bare b c.in-Ok.id.rep (SetOf c.args.set.number)
-    (subst (λ (n : ℕ). AtPlace (parts_of b) c.in-Ok.id.rep (SetOf n)) (c.in-Ok.ensures.set ∙ sym c.requires.next) (set_at_place b c.in-Ok.ensures.sound c.in-Ok.id))
+    (subst (λ (n : ℕ). AtPlace (parts_of b) c.in-Ok.id.rep (SetOf n)) (c.in-Ok.ensures.set ∙ sym c.requires.next.number) (set_at_place b c.in-Ok.ensures.sound c.in-Ok.id))
 
 pub returns-in-Ok-insert_handle-clause-new : goal.returns-in-Ok-insert_handle-clause-new
 unfolding seen
@@ -18,7 +18,7 @@ returns-in-Ok-insert_handle-clause-new c = (
   record {
     core =
         ap (λ (v : StateView). v.core) c.in-Ok-insert_handle.ensures.new
-        ∙ ap₂ (λ (n : ℕ) (s : Core). give_handle c.args.instance (Named.Set n) s) c.requires.next c.in-Ok.ensures.new.core;
+        ∙ ap₂ (λ (n : ℕ) (s : Core). give_handle c.args.instance (Named.Set n) s) c.requires.next.number c.in-Ok.ensures.new.core;
     current = ap (λ (v : StateView). v.current) c.in-Ok-insert_handle.ensures.new ∙ c.in-Ok.ensures.new.current;
     tags = subst (λ (v : StateView). Keeps (seen c.args.parts.now).tags v.tags) (sym c.in-Ok-insert_handle.ensures.new) c.in-Ok.ensures.new.tags;
   },
@@ -26,8 +26,8 @@ returns-in-Ok-insert_handle-clause-new c = (
 
 pub returns-in-Err-insert_handle-clause-sound : goal.returns-in-Err-insert_handle-clause-sound
 unfolding IsSoundCore
-returns-in-Err-insert_handle-clause-sound c = sound_restored (parts_of c.args.parts.now) (parts_of c.take_back.new.parts) (set_restored c.args.parts.now c.push_set.new.parts c.insert_handle.new.parts c.take_back.new.parts c.requires.sound c.in-Ok.ensures.sound c.args.set c.in-Ok.id.rep c.in-Ok.ensures.only c.in-Ok.ensures.pushed c.in-Err-insert_handle.ensures.same c.take_back.ensures.only c.take_back.ensures.deleted c.in-Ok.ensures.rep c.take_back.ensures.table) c.requires.sound
+returns-in-Err-insert_handle-clause-sound c = sound_restored (parts_of c.args.parts.now) (parts_of c.take_back.new.parts) (set_restored c.args.parts.now c.push_set.new.parts c.insert_handle.new.parts c.take_back.new.parts c.requires.sound c.in-Ok.ensures.sound c.args.set c.in-Ok.id.rep c.in-Ok.ensures.pushes.only c.in-Ok.ensures.pushes.sets c.in-Err-insert_handle.ensures.same c.take_back.ensures.only c.take_back.ensures.deleted c.in-Ok.ensures.pushes.rep c.take_back.ensures.table) c.requires.sound
 
 pub returns-in-Err-insert_handle-clause-new : goal.returns-in-Err-insert_handle-clause-new
 unfolding seen
-returns-in-Err-insert_handle-clause-new c = image_restored (parts_of c.args.parts.now) (parts_of c.take_back.new.parts) (set_restored c.args.parts.now c.push_set.new.parts c.insert_handle.new.parts c.take_back.new.parts c.requires.sound c.in-Ok.ensures.sound c.args.set c.in-Ok.id.rep c.in-Ok.ensures.only c.in-Ok.ensures.pushed c.in-Err-insert_handle.ensures.same c.take_back.ensures.only c.take_back.ensures.deleted c.in-Ok.ensures.rep c.take_back.ensures.table)
+returns-in-Err-insert_handle-clause-new c = image_restored (parts_of c.args.parts.now) (parts_of c.take_back.new.parts) (set_restored c.args.parts.now c.push_set.new.parts c.insert_handle.new.parts c.take_back.new.parts c.requires.sound c.in-Ok.ensures.sound c.args.set c.in-Ok.id.rep c.in-Ok.ensures.pushes.only c.in-Ok.ensures.pushes.sets c.in-Err-insert_handle.ensures.same c.take_back.ensures.only c.take_back.ensures.deleted c.in-Ok.ensures.pushes.rep c.take_back.ensures.table)

@@ -10,3 +10,6 @@ call_work-requires-clause-caller c =
     let b = c.new_work_nodes.new.parts in
     subst (λ (m : ℕ). AtPlace (parts_of b) m (ThreadOf c.number.result)) (sym c.rep.ensures)
     (subst (λ (n : ℕ). AtPlace (parts_of b) c.args.thread.rep (ThreadOf n)) (ap (λ (v : StateView). thread_of v c.args.thread) c.in-Ok.ensures.seen ∙ sym c.number.ensures) (thread_at_place b c.in-Ok.ensures.sound c.args.thread))
+
+pub call_work-requires-clause-nodes : goal.call_work-requires-clause-nodes
+call_work-requires-clause-nodes c = record { loose = c.in-Ok.ensures.loose; high = c.in-Ok.ensures.high; live = c.in-Ok.ensures.live }

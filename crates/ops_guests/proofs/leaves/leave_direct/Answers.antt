@@ -1,3 +1,6 @@
+use Rattle.std.proofs.Common.{subst, sym}
+use Rattle.std.specs.Prelude.{◌<◌}
+use Rattle.core_primitives.specs.StateView.{StateView, call_of}
 use Rattle.machine_data.specs.declared.records.Place.TheVariants as place
 use Rattle.ops_guests.proofs.LeaveLemmas.{check_under, checked_explicit, checked_its, restored_explicit, restored_its, restored_runs, restored_under}
 use Rattle.ops_guests.proofs.RunLemmas.{checked_stands}
@@ -15,11 +18,17 @@ leave_to-requires-2-clause-running g c = checked_stands c.args.thread place.Runn
 pub leave_to-requires-2-clause-under : goal.leave_to-requires-2-clause-under
 leave_to-requires-2-clause-under g c = check_under c.args.thread c.in-Some.below _ (g.W.View.view c.args.w.now) _ c.requires.running c.check.ensures c.in-Some.ensures.is
 
-pub leave_to-requires-clause-call : goal.leave_to-requires-clause-call
-leave_to-requires-clause-call g c = restored_its c.args.thread c.args.call (g.W.View.view c.args.w.now) _ c.requires.call c.restore.ensures
+pub leave_to-requires-clause-task : goal.leave_to-requires-clause-task
+leave_to-requires-clause-task g c = record {
+  named = subst (λ (x : StateView). 0 < call_of x c.args.call) (sym c.restore.ensures) c.requires.named;
+  is = restored_its c.args.thread c.args.call (g.W.View.view c.args.w.now) _ c.requires.call c.restore.ensures;
+}
 
-pub leave_to-requires-2-clause-call : goal.leave_to-requires-2-clause-call
-leave_to-requires-2-clause-call g c = checked_its c.args.thread c.args.call (g.W.View.view c.args.w.now) _ c.requires.call _ c.check.ensures
+pub leave_to-requires-2-clause-task : goal.leave_to-requires-2-clause-task
+leave_to-requires-2-clause-task g c = record {
+  named = subst (λ (x : StateView). 0 < call_of x c.args.call) (sym c.check.ensures) c.requires.named;
+  is = checked_its c.args.thread c.args.call (g.W.View.view c.args.w.now) _ c.requires.call _ c.check.ensures;
+}
 
 pub leave_to-requires-clause-known : goal.leave_to-requires-clause-known
 leave_to-requires-clause-known g c = restored_explicit c.args.thread c.explicit_unchecked-explicit.result (g.W.View.view c.args.w.now) _ c.explicit_unchecked-explicit.ensures c.restore.ensures
