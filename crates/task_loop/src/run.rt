@@ -412,7 +412,10 @@ impl RunConcurrent {
                 return Ok(Stop::Yields);
             }
             let rests = rests_with::<P>(self.turn, next);
-            let turned = self.turn(component, store, main, trace, &mut running)?;
+            let turned = match self.turn(component, store, main, trace, &mut running) {
+                Ok(turned) => turned,
+                Err(why) => return Err(why),
+            };
             match turned {
                 None => return Ok(self.ends::<P>(Outcome::Idle, false)),
                 Some(stepped) => {
@@ -469,21 +472,21 @@ impl RunConcurrent {
             self.now main.old store.old trace.old main.new store.new trace.new }
     {
         match self.turn {
-            Turn::Main => {
-                let stepped = step_main(component, store, main, trace)?;
-                Ok(Some(stepped))
-            }
-            Turn::Futures { polled } => {
-                let stepped = poll_work(component, store, polled, trace, running)?;
-                Ok(Some(stepped))
-            }
+            Turn::Main => match step_main(component, store, main, trace) {
+                Ok(stepped) => Ok(Some(stepped)),
+                Err(why) => Err(why),
+            },
+            Turn::Futures { polled } => match poll_work(component, store, polled, trace, running) {
+                Ok(stepped) => Ok(Some(stepped)),
+                Err(why) => Err(why),
+            },
             Turn::Take { ended } => {
                 take_entry(component, store, ended, self.trap_on_idle, trace, running)
             }
-            Turn::Run { thread } => {
-                let stepped = run_thread(component, store, thread, trace, running)?;
-                Ok(Some(stepped))
-            }
+            Turn::Run { thread } => match run_thread(component, store, thread, trace, running) {
+                Ok(stepped) => Ok(Some(stepped)),
+                Err(why) => Err(why),
+            },
             Turn::Over => unreachable!(),
         }
     }

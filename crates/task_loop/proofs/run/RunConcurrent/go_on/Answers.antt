@@ -64,7 +64,7 @@ compute-all-requires-clause-order g c =
     let v = at c.turns.self c.turn.new.main c.turn.new.store c.turn.new.trace in
     let r = c.turn.new.running in
     let q = c.in-Some.stepped in
-    let op_result = turned_as says course d u v r _ (Some q) c.in-Some.is c.in_ok-turned.ensures.turned in
+    let op_result = turned_as says course d u v r _ (Some q) c.in-Some.is c.in-Ok.ensures.turned in
     let open = opens (is_open (turn_of q)) (sym c.is_over.ensures ∙ c.if-is_over.false) in
     let goes = come_goes says course d a u n come v r q open op_result c.turn.ensures.keeps in
     goes.on.at.order
@@ -81,7 +81,7 @@ compute-all-requires-clause-runs g c =
     let v = at c.turns.self c.turn.new.main c.turn.new.store c.turn.new.trace in
     let r = c.turn.new.running in
     let q = c.in-Some.stepped in
-    let op_result = turned_as says course d u v r _ (Some q) c.in-Some.is c.in_ok-turned.ensures.turned in
+    let op_result = turned_as says course d u v r _ (Some q) c.in-Some.is c.in-Ok.ensures.turned in
     let open = opens (is_open (turn_of q)) (sym c.is_over.ensures ∙ c.if-is_over.false) in
     let goes = come_goes says course d a u n come v r q open op_result c.turn.ensures.keeps in
     goes.on.at.running
@@ -103,7 +103,7 @@ turns-preserved g c =
     let v = at c.turns.self c.turn.new.main c.turn.new.store c.turn.new.trace in
     let r = c.turn.new.running in
     let q = c.in-Some.stepped in
-    let op_result = turned_as says course d u v r _ (Some q) c.in-Some.is c.in_ok-turned.ensures.turned in
+    let op_result = turned_as says course d u v r _ (Some q) c.in-Some.is c.in-Ok.ensures.turned in
     let open = opens (is_open (turn_of q)) (sym c.is_over.ensures ∙ c.if-is_over.false) in
     let goes = come_goes says course d a u n come v r q open op_result c.turn.ensures.keeps in
     let all = c.in-Ok-all.ensures.ok in
@@ -160,7 +160,7 @@ returns-in-None-clause-gone g c =
     let spent = c.turns.invariant.spent in
     let v = at c.turns.self c.turn.new.main c.turn.new.store c.turn.new.trace in
     let r = c.turn.new.running in
-    let op_result = turned_as says course d u v r _ None c.in-None.is c.in_ok-turned.ensures.turned in
+    let op_result = turned_as says course d u v r _ None c.in-None.is c.in-Ok.ensures.turned in
     let yield_budget' = c.ends.new.self.yield_budget in
     rw c.ends.ensures.stop
     (subst (λ (w : RunConcurrent). GoesTo says course d stops c.args.steps (stop.Ends outcome.Idle) yield_budget a (at w c.turn.new.main c.turn.new.store c.turn.new.trace) yield_budget') (sym c.ends.ensures.new)
@@ -177,7 +177,7 @@ outcome_in-requires g c =
     let v = at c.turns.self c.turn.new.main c.turn.new.store c.turn.new.trace in
     let r = c.turn.new.running in
     let q = c.in-Some.stepped in
-    let op_result = turned_as says course d u v r _ (Some q) c.in-Some.is c.in_ok-turned.ensures.turned in
+    let op_result = turned_as says course d u v r _ (Some q) c.in-Some.is c.in-Ok.ensures.turned in
     over_told says course d a u c.turns.added c.turns.invariant.come v r q (closes (turn_of q) (sym c.is_over.ensures ∙ c.if-is_over.true)) op_result
 
 pub returns-then-is_over-clause-gone : goal.returns-then-is_over-clause-gone
@@ -198,7 +198,7 @@ returns-then-is_over-clause-gone g c =
     let r = c.turn.new.running in
     let q = c.in-Some.stepped in
     let o = c.outcome_in.result in
-    let op_result = turned_as says course d u v r _ (Some q) c.in-Some.is c.in_ok-turned.ensures.turned in
+    let op_result = turned_as says course d u v r _ (Some q) c.in-Some.is c.in-Ok.ensures.turned in
     let over = closes (turn_of q) (sym c.is_over.ensures ∙ c.if-is_over.true) in
     let ends = c.ends-then-is_over in
     let yield_budget' = ends.new.self.yield_budget in
@@ -225,7 +225,7 @@ returns-then-rests-clause-gone g c =
     let v = at c.turns.self c.turn.new.main c.turn.new.store c.turn.new.trace in
     let r = c.turn.new.running in
     let q = c.in-Some.stepped in
-    let op_result = turned_as says course d u v r _ (Some q) c.in-Some.is c.in_ok-turned.ensures.turned in
+    let op_result = turned_as says course d u v r _ (Some q) c.in-Some.is c.in-Ok.ensures.turned in
     let open = opens (is_open (turn_of q)) (sym c.is_over.ensures ∙ c.if-is_over.false) in
     let goes = come_goes says course d a u n come v r q open op_result c.turn.ensures.keeps in
     let both = and_parts stops (rests_by c.turns.self.turn c.next_mark-next.result) (sym c.rests_with-rests.ensures ∙ c.if-rests.true) in
@@ -283,15 +283,15 @@ returns-clause-gone g c =
 
 -- ---- It is out of memory, or the hook fails
 
-pub returns-in_err-turned-clause-gone : goal.returns-in_err-turned-clause-gone
-returns-in_err-turned-clause-gone g c =
+pub returns-in-Err-clause-gone : goal.returns-in-Err-clause-gone
+returns-in-Err-clause-gone g c =
     let says = g.M.MainTask.says in
     let course = g.H.HostWork.course in
     let d = c.args.component.now in
     let a = at c.args.self.now c.args.main.now c.args.store.now c.args.trace.now in
     let u = at c.turns.self c.turns.main c.turns.store c.turns.trace in
     let v = at c.turns.self c.turn.new.main c.turn.new.store c.turn.new.trace in
-    gives_halt says course d g.P.Policy.YIELDS c.args.steps _ _ _ _ _ _ _ _ c.in_err-turned.error (come_halts says course d a u c.turns.added c.turns.invariant.come v c.in_err-turned.error c.args.steps (omega arith) c.in_err-turned.ensures.turned)
+    gives_halt says course d g.P.Policy.YIELDS c.args.steps _ _ _ _ _ _ _ _ c.in-Err.why (come_halts says course d a u c.turns.added c.turns.invariant.come v c.in-Err.why c.args.steps (omega arith) c.in-Err.ensures.turned)
 
 pub returns-in_default-all-clause-gone : goal.returns-in_default-all-clause-gone
 returns-in_default-all-clause-gone g c =
@@ -305,15 +305,15 @@ returns-in_default-all-clause-gone g c =
     let v = at c.turns.self c.turn.new.main c.turn.new.store c.turn.new.trace in
     let r = c.turn.new.running in
     let q = c.in-Some.stepped in
-    let op_result = turned_as says course d u v r _ (Some q) c.in-Some.is c.in_ok-turned.ensures.turned in
+    let op_result = turned_as says course d u v r _ (Some q) c.in-Some.is c.in-Ok.ensures.turned in
     let open = opens (is_open (turn_of q)) (sym c.is_over.ensures ∙ c.if-is_over.false) in
     let goes = come_goes says course d a u n come v r q open op_result c.turn.ensures.keeps in
     come_short says course d a (record v { turn = turn_of q }) (n + 1) goes c.args.steps c.compute-all.new.trace c.in_default-all.ensures.err
 
 -- ---- What stays
 
-pub returns-in_err-turned-clause-keeps : goal.returns-in_err-turned-clause-keeps
-returns-in_err-turned-clause-keeps g c =
+pub returns-in-Err-clause-keeps : goal.returns-in-Err-clause-keeps
+returns-in-Err-clause-keeps g c =
     let come = c.turns.invariant.come in
     let kept = c.turn.ensures.keeps in
     record { script = kept.script ∙ come.keeps.script; idle = come.keeps.idle; constants = kept.constants ∙ come.keeps.constants }
@@ -358,8 +358,8 @@ returns-clause-keeps g c =
     record { script = come.keeps.script; idle = ap (λ (r : RunConcurrent). r.trap_on_idle) c.ends-2.ensures.new ∙ come.keeps.idle; constants = come.keeps.constants }
 
 -- the yield budget stays if the policy never stops the turns
-pub returns-in_err-turned-clause-kept : goal.returns-in_err-turned-clause-kept
-returns-in_err-turned-clause-kept g c = λ driven. c.turns.invariant.kept driven
+pub returns-in-Err-clause-kept : goal.returns-in-Err-clause-kept
+returns-in-Err-clause-kept g c = λ driven. c.turns.invariant.kept driven
 
 pub returns-in_default-all-clause-kept : goal.returns-in_default-all-clause-kept
 returns-in_default-all-clause-kept g c = λ driven. c.spent_by-self.ensures.kept driven ∙ c.turns.invariant.kept driven

@@ -46,8 +46,8 @@ step_main-requires-clause-may g c =
       few = may.few;
     }
 
-pub returns-in_ok-stepped-clause-turned : goal.returns-in_ok-stepped-clause-turned
-returns-in_ok-stepped-clause-turned g c =
+pub returns-in-Ok-clause-turned : goal.returns-in-Ok-clause-turned
+returns-in-Ok-clause-turned g c =
     let says = g.M.MainTask.says in
     let course = g.H.HostWork.course in
     let d = c.args.component.now in
@@ -55,13 +55,13 @@ returns-in_ok-stepped-clause-turned g c =
     let may = c.requires.may in
     let u = at c.args.self.now main c.args.store.now c.args.trace.now in
     let v = at c.args.self.now c.step_main.new.main c.step_main.new.store c.step_main.new.trace in
-    let q = Some c.in_ok-stepped.stepped in
+    let q = Some c.in-Ok.stepped in
     let none : c.args.running.now ≡ 0 = may.group ∙ ap (λ (p : Turn). group_running c.args.store.now.state p) c.in-Main.is in
-    let turned = subst (λ (p : Turn). HasTurned says course d q 0 (record u { turn = p }) (record v { turn = p })) (sym c.in-Main.is) (c.in_ok-stepped.ensures.turned c.args.self.now.trap_on_idle) in
+    let turned = subst (λ (p : Turn). HasTurned says course d q 0 (record u { turn = p }) (record v { turn = p })) (sym c.in-Main.is) (c.in-Ok.ensures.turned c.args.self.now.trap_on_idle) in
     subst (λ (r : ℕ). HasTurned says course d q r u v) (sym none) turned
 
-pub returns-in_err-stepped-clause-turned : goal.returns-in_err-stepped-clause-turned
-returns-in_err-stepped-clause-turned g c =
+pub returns-in-Err-clause-turned : goal.returns-in-Err-clause-turned
+returns-in-Err-clause-turned g c =
     let says = g.M.MainTask.says in
     let course = g.H.HostWork.course in
     let d = c.args.component.now in
@@ -69,7 +69,7 @@ returns-in_err-stepped-clause-turned g c =
     let may = c.requires.may in
     let u = at c.args.self.now main c.args.store.now c.args.trace.now in
     let v = at c.args.self.now c.step_main.new.main c.step_main.new.store c.step_main.new.trace in
-    subst (λ (p : Turn). HasHalted says course d c.in_err-stepped.error (record u { turn = p }) (record v { turn = p })) (sym c.in-Main.is) (c.in_err-stepped.ensures.turned c.args.self.now.trap_on_idle)
+    subst (λ (p : Turn). HasHalted says course d c.in-Err.why (record u { turn = p }) (record v { turn = p })) (sym c.in-Main.is) (c.in-Err.ensures.turned c.args.self.now.trap_on_idle)
 
 -- ---- A thread takes a step
 
@@ -95,8 +95,8 @@ run_thread-requires-clause-running g c = subst (λ (p : Turn). c.args.running.no
 pub run_thread-requires-clause-asked : goal.run_thread-requires-clause-asked
 run_thread-requires-clause-asked g c = c.requires.may.stands.asked
 
-pub returns-in_ok-stepped-in-Run-clause-turned : goal.returns-in_ok-stepped-in-Run-clause-turned
-returns-in_ok-stepped-in-Run-clause-turned g c =
+pub returns-in-Ok-run_thread-clause-turned : goal.returns-in-Ok-run_thread-clause-turned
+returns-in-Ok-run_thread-clause-turned g c =
     let says = g.M.MainTask.says in
     let course = g.H.HostWork.course in
     let d = c.args.component.now in
@@ -108,14 +108,14 @@ returns-in_ok-stepped-in-Run-clause-turned g c =
     let s = c.args.store.now.state in
     let t = c.run_thread.new.store.state in
     let x = setting_of d (says.script main) c.args.self.now.trap_on_idle in
-    let e = c.in_ok-stepped-in-Run.ensures in
+    let e = c.in-Ok-run_thread.ensures in
     let steps = e.ran.steps in
     let made = steps.makes in
     record {
       turn = refl;
-      told = subst (λ (p : Turn). Added (λ (made : MadeStep). TurnTold x p part s c.args.store.now.listeners (Some made) part t c.run_thread.new.store.listeners) c.in_ok-stepped-in-Run.stepped c.args.trace.now c.run_thread.new.trace) (sym c.in-Run.is)
-          (told_turn x n part s c.args.store.now.listeners t c.run_thread.new.store.listeners c.in_ok-stepped-in-Run.stepped c.args.trace.now c.run_thread.new.trace e.ran.told);
-      did = added_as (λ (made : MadeStep). MakesStep d (turn.Run n) s made t × IsFree made.turn) (λ (made : MadeStep). DoesStep says.does main s.core (step_shown made.label) main t.core) c.in_ok-stepped-in-Run.stepped c.args.trace.now c.run_thread.new.trace
+      told = subst (λ (p : Turn). Added (λ (made : MadeStep). TurnTold x p part s c.args.store.now.listeners (Some made) part t c.run_thread.new.store.listeners) c.in-Ok-run_thread.stepped c.args.trace.now c.run_thread.new.trace) (sym c.in-Run.is)
+          (told_turn x n part s c.args.store.now.listeners t c.run_thread.new.store.listeners c.in-Ok-run_thread.stepped c.args.trace.now c.run_thread.new.trace e.ran.told);
+      did = added_as (λ (made : MadeStep). MakesStep d (turn.Run n) s made t × IsFree made.turn) (λ (made : MadeStep). DoesStep says.does main s.core (step_shown made.label) main t.core) c.in-Ok-run_thread.stepped c.args.trace.now c.run_thread.new.trace
           (λ made h. still_run says.does main x part s t n made h.0) made;
       group = e.ran.group;
       suits = may.stands.suits;
@@ -124,8 +124,8 @@ returns-in_ok-stepped-in-Run-clause-turned g c =
       asked = e.ran.asked;
     }
 
-pub returns-in_err-stepped-in-Run-clause-turned : goal.returns-in_err-stepped-in-Run-clause-turned
-returns-in_err-stepped-in-Run-clause-turned g c =
+pub returns-in-Err-run_thread-clause-turned : goal.returns-in-Err-run_thread-clause-turned
+returns-in-Err-run_thread-clause-turned g c =
     let says = g.M.MainTask.says in
     let course = g.H.HostWork.course in
     let d = c.args.component.now in
@@ -140,7 +140,7 @@ returns-in_err-stepped-in-Run-clause-turned g c =
     let x = setting_of d (says.script main) c.args.self.now.trap_on_idle in
     let before = c.args.trace.now in
     let after = c.run_thread.new.trace in
-    halts_by says course d c.in_err-stepped-in-Run.error u v (λ k. RunsTo course d n c.args.store.now (Err k) c.run_thread.new.running c.run_thread.new.store before after) (λ lost. lost) (λ failed.
+    halts_by says course d c.in-Err-run_thread.why u v (λ k. RunsTo course d n c.args.store.now (Err k) c.run_thread.new.running c.run_thread.new.store before after) (λ lost. lost) (λ failed.
     let fails = failed.0 in
     let q = failed.1 in
     let made = q.1.makes in
@@ -150,7 +150,7 @@ returns-in_err-stepped-in-Run-clause-turned g c =
       main = refl;
       knows = by_run (says.knows main) s t (λ last. g.met.M.MainTask.stays main s t last may.stands.knows) x part n made.0 (subst (λ (p : Turn). CoreInOrder d p s.core) c.in-Run.is may.stands.order) made.1.1.0 q.1.works;
       works = q.1.hosts;
-    }) c.in_err-stepped-in-Run.ensures.ran
+    }) c.in-Err-run_thread.ensures.ran
 
 -- ---- A work is polled
 
@@ -170,8 +170,8 @@ poll_work-requires-clause-asked g c = c.requires.may.stands.asked
 pub poll_work-requires-clause-hosts : goal.poll_work-requires-clause-hosts
 poll_work-requires-clause-hosts g c = c.requires.may.stands.works
 
-pub returns-in_ok-stepped-in-Futures-clause-turned : goal.returns-in_ok-stepped-in-Futures-clause-turned
-returns-in_ok-stepped-in-Futures-clause-turned g c =
+pub returns-in-Ok-poll_work-clause-turned : goal.returns-in-Ok-poll_work-clause-turned
+returns-in-Ok-poll_work-clause-turned g c =
     let says = g.M.MainTask.says in
     let course = g.H.HostWork.course in
     let d = c.args.component.now in
@@ -187,8 +187,8 @@ returns-in_ok-stepped-in-Futures-clause-turned g c =
     let after = c.poll_work.new.trace in
     let old = c.args.store.now.listeners in
     let new = c.poll_work.new.store.listeners in
-    let q = c.in_ok-stepped-in-Futures.stepped in
-    let e = c.in_ok-stepped-in-Futures.ensures in
+    let q = c.in-Ok-poll_work.stepped in
+    let e = c.in-Ok-poll_work.ensures in
     let pends : PendsIn x s.core m p = subst (λ (w : Turn). PendsIn x s.core m w) c.in-Futures.is may.stands.pends in
     let made : Added (λ (made : MadeStep). Turns x p m s made m t) q before after = any_turns x p m s t q before after pends e.polled.0 in
     let told = e.polled.1 in
@@ -203,8 +203,8 @@ returns-in_ok-stepped-in-Futures-clause-turned g c =
       asked = told.asked;
     }
 
-pub returns-in_err-stepped-in-Futures-clause-turned : goal.returns-in_err-stepped-in-Futures-clause-turned
-returns-in_err-stepped-in-Futures-clause-turned g c =
+pub returns-in-Err-poll_work-clause-turned : goal.returns-in-Err-poll_work-clause-turned
+returns-in-Err-poll_work-clause-turned g c =
     let says = g.M.MainTask.says in
     let course = g.H.HostWork.course in
     let d = c.args.component.now in
@@ -220,7 +220,7 @@ returns-in_err-stepped-in-Futures-clause-turned g c =
     let before = c.args.trace.now in
     let after = c.poll_work.new.trace in
     let pends : PendsIn x s.core m p = subst (λ (w : Turn). PendsIn x s.core m w) c.in-Futures.is may.stands.pends in
-    halts_by says course d c.in_err-stepped-in-Futures.error u v (λ k. WorkPollsTo p c.args.store.now (Err k) c.poll_work.new.running c.poll_work.new.store before after) (λ lost. lost) (λ failed.
+    halts_by says course d c.in-Err-poll_work.why u v (λ k. WorkPollsTo p c.args.store.now (Err k) c.poll_work.new.running c.poll_work.new.store before after) (λ lost. lost) (λ failed.
     let fails = failed.0 in
     let q = failed.1 in
     let made = any_turns x p m s t q.0 before after pends q.1 in
@@ -229,7 +229,7 @@ returns-in_err-stepped-in-Futures-clause-turned g c =
       main = refl;
       knows = by_poll (says.knows main) s t (λ last. g.met.M.MainTask.stays main s t last may.stands.knows) x m c.in-Futures.polled made.0 (subst (λ (w : Turn). CoreInOrder d w s.core) c.in-Futures.is may.stands.order) made.1.1 c.poll_work.ensures.works.0;
       works = c.poll_work.ensures.works.1;
-    }) c.in_err-stepped-in-Futures.ensures.polled
+    }) c.in-Err-poll_work.ensures.polled
 
 -- ---- An entry is taken
 
@@ -260,23 +260,23 @@ returns-in-Take-clause-turned g c =
 
 -- ---- What stays
 
-pub returns-in_ok-stepped-clause-keeps : goal.returns-in_ok-stepped-clause-keeps
-returns-in_ok-stepped-clause-keeps g c = record { script = c.step_main.ensures.script; idle = refl; constants = c.step_main.ensures.stands }
+pub returns-in-Ok-clause-keeps : goal.returns-in-Ok-clause-keeps
+returns-in-Ok-clause-keeps g c = record { script = c.step_main.ensures.script; idle = refl; constants = c.step_main.ensures.stands }
 
-pub returns-in_err-stepped-clause-keeps : goal.returns-in_err-stepped-clause-keeps
-returns-in_err-stepped-clause-keeps g c = record { script = c.step_main.ensures.script; idle = refl; constants = c.step_main.ensures.stands }
+pub returns-in-Err-clause-keeps : goal.returns-in-Err-clause-keeps
+returns-in-Err-clause-keeps g c = record { script = c.step_main.ensures.script; idle = refl; constants = c.step_main.ensures.stands }
 
-pub returns-in_ok-stepped-in-Futures-clause-keeps : goal.returns-in_ok-stepped-in-Futures-clause-keeps
-returns-in_ok-stepped-in-Futures-clause-keeps g c = record { script = refl; idle = refl; constants = c.poll_work.ensures.stands }
+pub returns-in-Ok-poll_work-clause-keeps : goal.returns-in-Ok-poll_work-clause-keeps
+returns-in-Ok-poll_work-clause-keeps g c = record { script = refl; idle = refl; constants = c.poll_work.ensures.stands }
 
-pub returns-in_err-stepped-in-Futures-clause-keeps : goal.returns-in_err-stepped-in-Futures-clause-keeps
-returns-in_err-stepped-in-Futures-clause-keeps g c = record { script = refl; idle = refl; constants = c.poll_work.ensures.stands }
+pub returns-in-Err-poll_work-clause-keeps : goal.returns-in-Err-poll_work-clause-keeps
+returns-in-Err-poll_work-clause-keeps g c = record { script = refl; idle = refl; constants = c.poll_work.ensures.stands }
 
-pub returns-in_ok-stepped-in-Run-clause-keeps : goal.returns-in_ok-stepped-in-Run-clause-keeps
-returns-in_ok-stepped-in-Run-clause-keeps g c = record { script = refl; idle = refl; constants = c.run_thread.ensures.stands }
+pub returns-in-Ok-run_thread-clause-keeps : goal.returns-in-Ok-run_thread-clause-keeps
+returns-in-Ok-run_thread-clause-keeps g c = record { script = refl; idle = refl; constants = c.run_thread.ensures.stands }
 
-pub returns-in_err-stepped-in-Run-clause-keeps : goal.returns-in_err-stepped-in-Run-clause-keeps
-returns-in_err-stepped-in-Run-clause-keeps g c = record { script = refl; idle = refl; constants = c.run_thread.ensures.stands }
+pub returns-in-Err-run_thread-clause-keeps : goal.returns-in-Err-run_thread-clause-keeps
+returns-in-Err-run_thread-clause-keeps g c = record { script = refl; idle = refl; constants = c.run_thread.ensures.stands }
 
 pub returns-in-Take-clause-keeps : goal.returns-in-Take-clause-keeps
 returns-in-Take-clause-keeps g c = record { script = refl; idle = refl; constants = ap (λ (st : Store _ _ _). constants st) c.take_entry.ensures.rest }
