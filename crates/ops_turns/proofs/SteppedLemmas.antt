@@ -120,9 +120,10 @@ module _ (c : Component) (id : TableId ThreadKey) (n : ℕ) (s t : StateView) (n
 
   pub run_steps : (before after : List Label) (r : Result (Option StepResult) NoMemory) → IfOk r (λ q. OpStep c o id s before q t after) → IfOk r (λ q. OpPolls c o id s q) → IfOk r (λ q. RunStepped c n s q t before after)
   run_steps before after (Err e) step polls = tt
-  run_steps before after (Ok (Some q)) step polls =
-      (run_added id s t q before after c n number (rule_as id s t q before after (λ op_result. scripted_op_rule c (thread_of s id) s.core (choice_of (label_of (thread_of s id) op_result)) o) (λ op_result. did c (thread_of s id) s.core (choice_of (label_of (thread_of s id) op_result))) same step),
-      sym (polled_at None (sym polls)))
+  run_steps before after (Ok (Some q)) step polls = (
+    run_added id s t q before after c n number (rule_as id s t q before after (λ op_result. scripted_op_rule c (thread_of s id) s.core (choice_of (label_of (thread_of s id) op_result)) o) (λ op_result. did c (thread_of s id) s.core (choice_of (label_of (thread_of s id) op_result))) same step),
+    sym (polled_at None (sym polls)),
+  )
   run_steps before after (Ok None) step polls =
       ((step.0, subst (λ k. calls_host (op_of c k s.core) ≡ true) number (ap calls_host is ∙ polls)), step.1)
 
@@ -205,7 +206,7 @@ not_none (Some k) e = refl
 module _ (x : Setting) (p : Turn) (m : Main) (t : StateView) (mid : List Label) (m' : Main) (t' : StateView) (after : List Label) where
   -- the run goes on after it
   pub added_open : (q : StepResult) → is_open (turn_of q) ≡ true → Added (λ made. Turns x p m t made m' t') q mid after → AddedTo (λ made. Turns x p m t made m' t') (turn_of q) None mid after
-  added_open q open h = (h.0, ((h.1.0.0, (h.1.0.1, none_of (outcome_of_label h.0.label) (h.1.1.over ∙ (ap is_open h.1.0.1 ∙ open)))), h.1.1))
+  added_open q ongoing h = (h.0, ((h.1.0.0, (h.1.0.1, none_of (outcome_of_label h.0.label) (h.1.1.over ∙ (ap is_open h.1.0.1 ∙ ongoing)))), h.1.1))
 
   -- it is over, and the last label says how
   pub outcome_told : (q : StepResult) → turn_of q ≡ turn.Over → Added (λ made. Turns x p m t made m' t') q mid after → is_some (last_outcome after) ≡ true

@@ -1,6 +1,6 @@
 -- The thread that runs is there.
 use Rattle.std.proofs.Common.{ap, refl, subst, sym, ◌∙◌}
-use Rattle.std.specs.Prelude.{Bool, List, None, Some, is_some, option_map, true, ℕ, ◌≡◌}
+use Rattle.std.specs.Prelude.{Bool, List, Some, is_some, option_map, true, ℕ, ◌≡◌}
 use Rattle.machine_data.specs.Core.{Unscripted}
 use Rattle.machine_data.specs.Maps.{get}
 use Rattle.machine_data.specs.declared.component.Component.{Component}
@@ -36,16 +36,14 @@ pub idle_there : (t : StateView) → t.current ≡ None → RunnerThere t
 idle_there t idle n e = none_some (ap (option_map (λ i. thread_of t i)) idle) e
 
 -- after an entry was taken
-pub took_there : (c : Component) (ended : Bool) (s t : StateView) → CoreInOrder c (turn.Take ended) s.core → (q : Option StepResult) (before after : List Label) → (q ≡ None → ⊥)
-    → TookShown c ended s before q t after → RunnerThere t
-took_there c ended s t sits None before after some h = absurd (some refl)
-took_there c ended s t sits (Some q) before after some h =
+pub took_there : (c : Component) (ended : Bool) (s t : StateView) → CoreInOrder c (turn.Take ended) s.core → (q : StepResult) (before after : List Label)
+    → TookShown c ended s before (Some q) t after → RunnerThere t
+took_there c ended s t sits q before after h =
     let makes = h.1.1.0 in
     core_in_order_there c h.0.turn t (made_in_order c (turn.Take ended) s h.0 t sits makes) makes.running
 
 -- which is no matter of main
-pub took_beside : (c : Component) (b ended : Bool) (s : StateView) (before : List Label) (q : Option StepResult) (t : StateView) (after : List Label) → (q ≡ None → ⊥)
-    → TookShown c ended s before q t after → TakesBeside c b ended s q t before after
-took_beside c b ended s before None t after some h = absurd (some refl)
-took_beside c b ended s before (Some q) t after some h =
+pub took_beside : (c : Component) (b ended : Bool) (s : StateView) (before : List Label) (q : StepResult) (t : StateView) (after : List Label)
+    → TookShown c ended s before (Some q) t after → TakesBeside c b ended s (Some q) t before after
+took_beside c b ended s before q t after h =
     (h.0, (h.1.0, λ x component idle m pends. makes_turns x (turn.Take ended) s h.0 t (subst (λ (d : Component). MakesStep d (turn.Take ended) s h.0 t) (sym component) h.1.1.0) m (h.1.1.1 x t.core m)))

@@ -1,5 +1,5 @@
 //! What a step made.
-ghost use Rattle.std.specs.Prelude.{◌≡◌, ◌<◌, IfOk, None, OnErr, Some, is_none, is_some, not, true};
+ghost use Rattle.std.specs.Prelude.{◌≡◌, ◌<◌, IfOk, None, OnErr, Some, is_none, is_some, true};
 ghost use Rattle.ops_guests.specs.Steps.{core_after, label_of, turn_after};
 ghost use Rattle.ops_guests.specs.Running.{IsTopmost};
 ghost use Rattle.ops_guests.specs.Works.{KeepsTold};
@@ -55,14 +55,6 @@ pub fn turn_of(stepped: StepResult) -> Turn
         StepResult::Computes(thread) => Turn::Run { thread },
         StepResult::Over => Turn::Over,
     }
-}
-
-/// Returns whether the run is over after a step that was made.
-#[inline(always)]
-pub fn is_over(stepped: StepResult) -> bool
-    ensures { result ≡ not (is_open (turn_of stepped)) }
-{
-    matches!(stepped, StepResult::Over)
 }
 
 // What a step results in after which it is this one's turn.

@@ -203,11 +203,15 @@ fn run_by<W: Primitives>(
         Op::Call(call) if is_host_call(call) => Ok(None),
         Op::Data(data) => {
             let more = matches!(op_at(script, position.saturating_add(1)), Some(Op::Data(_)));
-            let stepped = run_data(component, w, thread, data, end, trace, more)?;
+            let Ok(stepped) = run_data(component, w, thread, data, end, trace, more) else {
+                return Err(NoMemory);
+            };
             Ok(Some(stepped))
         }
         _ => {
-            let stepped = run_plain(component, w, thread, op, trace)?;
+            let Ok(stepped) = run_plain(component, w, thread, op, trace) else {
+                return Err(NoMemory);
+            };
             Ok(Some(stepped))
         }
     }
@@ -249,7 +253,9 @@ pub fn step_run<W: Primitives>(
             trace,
         ),
         None => {
-            let stepped = run_exit(w, thread, trace)?;
+            let Ok(stepped) = run_exit(w, thread, trace) else {
+                return Err(NoMemory);
+            };
             Ok(Some(stepped))
         }
     }

@@ -182,18 +182,24 @@ pub(crate) fn step_take<W: Primitives>(
     match w.take_next() {
         None => Ok(None),
         Some((mark, EntryId::Thread(thread))) => {
-            let stepped = step_thread(w, mark, thread, trace)?;
+            let Ok(stepped) = step_thread(w, mark, thread, trace) else {
+                return Err(NoMemory);
+            };
             Ok(Some(stepped))
         }
         Some((mark, EntryId::Push(work))) => {
             let made = step_push(w, mark, work);
-            let stepped = put(trace, made)?;
+            let Ok(stepped) = put(trace, made) else {
+                return Err(NoMemory);
+            };
             Ok(Some(stepped))
         }
         Some((mark, EntryId::Host(work))) => {
             *worked = w.work_group(work);
             let made = step_host(w, mark, work);
-            let stepped = put(trace, made)?;
+            let Ok(stepped) = put(trace, made) else {
+                return Err(NoMemory);
+            };
             Ok(Some(stepped))
         }
     }

@@ -85,10 +85,12 @@ pub fn take<W: Primitives>(
     ensures works { OnOk result (KeepsTold (W.view w.old) (W.view w.new)) }
     ensures err { OnErr result (trace.new ≡ trace.old) }
 {
-    let taken = step_take(component, w, ended, trace, worked)?;
-    let None = taken else {
-        return Ok(taken);
+    let Ok(taken) = step_take(component, w, ended, trace, worked) else {
+        return Err(NoMemory);
     };
+    if let Some(stepped) = taken {
+        return Ok(Some(stepped));
+    }
     if ended {
         unreachable!()
     }

@@ -112,8 +112,8 @@ module _ {M T H G : Type 0} (says : Says M) (course : H → HostDef) (c : Compon
     pub polled_rests : (q : StepResult) → is_open (turn_of q) ≡ true → n < steps → HasTurned says course c (Some q) r u v → Keeps says u v → yields_before b' k' (next_mark u.turn u.store.state.core) ≡ false →
         rests_by u.turn (next_mark u.turn u.store.state.core) ≡ true → yield_budget'.since ≡ counted k' (next_mark u.turn u.store.state.core) → yield_budget'.passes ≡ false →
         HasPolled says course c steps (Ok poll.Rest) yield_budget a (record v { turn = turn_of q }) yield_budget'
-    polled_rests q open room op_result kept stays rests since passes =
-        let goes = come_goes says course c a u n come v r q open op_result kept in
+    polled_rests q ongoing room op_result kept stays rests since passes =
+        let goes = come_goes says course c a u n come v r q ongoing op_result kept in
         has_polled says course c a (record v { turn = turn_of q }) steps (Ok poll.Rest) yield_budget yield_budget'
-        (poll_rests x s a.trace given yield_budget steps u.turn (says.part u.main) u.store.state u.trace n b' k' come.on so_far (says.part v.main) v.store.state v.trace (turn_of q) (opened says course c a u n come v r q open op_result) stays yield_budget' room rests since passes)
+        (poll_rests x s a.trace given yield_budget steps u.turn (says.part u.main) u.store.state u.trace n b' k' come.on so_far (says.part v.main) v.store.state v.trace (turn_of q) (opened says course c a u n come v r q ongoing op_result) stays yield_budget' room rests since passes)
         goes.ran goes.suits goes.knows goes.works goes.asked

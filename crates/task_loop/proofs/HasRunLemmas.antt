@@ -174,12 +174,12 @@ module _ {M T H G : Type 0} (says : Says M) (course : H → HostDef) (c : Compon
       turned q op_result = let t = told (Some q) op_result in (t.0, (t.1.0, t.1.1.turned))
 
       pub opened : (q : StepResult) → is_open (turn_of q) ≡ true → HasTurned says course c (Some q) r u v → AddedTo (λ (made : MadeStep). Turns x u.turn (says.part u.main) u.store.state made (says.part v.main) v.store.state) (turn_of q) None u.trace v.trace
-      opened q open op_result = added_open x u.turn (says.part u.main) u.store.state u.trace (says.part v.main) v.store.state v.trace q open (turned q op_result)
+      opened q ongoing op_result = added_open x u.turn (says.part u.main) u.store.state u.trace (says.part v.main) v.store.state v.trace q ongoing (turned q op_result)
 
       -- it goes on in that turn
       pub come_goes : (q : StepResult) → is_open (turn_of q) ≡ true → HasTurned says course c (Some q) r u v → Keeps says u v → HasCome says course c a (turned_to (turn_of q)) (n + 1)
-      come_goes q open op_result kept = record {
-        on = added_more x s a.trace (numbers says course c a) u.turn (says.part u.main) u.store.state u.trace n come.on (says.part v.main) v.store.state v.trace (turn_of q) (opened q open op_result);
+      come_goes q ongoing op_result kept = record {
+        on = added_more x s a.trace (numbers says course c a) u.turn (says.part u.main) u.store.state u.trace n come.on (says.part v.main) v.store.state v.trace (turn_of q) (opened q ongoing op_result);
         ran = ran_more says.does x s a.main a.trace a.store.listeners says.part u.turn u.main u.store.state u.trace u.store.listeners v.main v.store.state v.store.listeners q v.trace come.ran (told (Some q) op_result) op_result.did;
         keeps = let k = keeps_on a u v come.keeps kept in record { script = k.script; idle = k.idle; constants = k.constants };
         suits = op_result.suits;

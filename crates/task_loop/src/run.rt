@@ -1,4 +1,4 @@
-ghost use Rattle.std.specs.Prelude.{◌≡◌, IfErr, IfOk, OnErr, OnOk, false, true};
+ghost use Rattle.std.specs.Prelude.{◌≡◌, IfErr, IfOk, OnErr, OnOk, false, not, true};
 ghost use Rattle.laws_labels.specs.Own.{next_mark};
 ghost use Rattle.ops_dispatch.specs.Fits.{calls_host};
 ghost use Rattle.run_trace.specs.YieldBudget.{unless_yielded};
@@ -9,7 +9,8 @@ ghost use Rattle.task_loop.specs.Told.{group_running};
 ghost use Rattle.ops_guests.specs.Works.{KeepsWorks};
 ghost use Rattle.machine_rules.specs.Scripts.{op_of};
 ghost use Rattle.task_store.specs.Hosts.{HoldsHosts};
-ghost use Rattle.ops_turns.specs.Turn.{IsAtTurn};
+ghost use Rattle.ops_turns.specs.StepResult.{turn_of};
+ghost use Rattle.ops_turns.specs.Turn.{IsAtTurn, is_open};
 ghost use Rattle.core_primitives.specs.Groups.{IsAsked};
 
 use crate::main_task::MainTask;
@@ -19,8 +20,8 @@ use core_primitives::{QueuePrimitives, View};
 use machine_data::{Component, Mark, NoMemory, Outcome, Trap, Turn};
 use ops_calls::{TaskError, host_called};
 use ops_turns::{
-    MainStep, StepResult, compute, is_idle, is_over, made_by_main, outcome_in, put, step_call,
-    step_run, take, turn_of,
+    MainStep, StepResult, compute, is_idle, made_by_main, outcome_in, put, step_call, step_run,
+    take, turn_of,
 };
 use run_trace::{
     Driven, PackedLabels, Policy, YieldBudget, ended_by, rests_with, spent_by, yields_by,
@@ -299,6 +300,14 @@ fn take_entry<T, H: AccessorTask<T> + FromHost, G: TaskGroupHook>(
             Ok(Some(stepped))
         }
     }
+}
+
+// Whether the run is over after this step.
+#[inline(always)]
+fn is_over(stepped: StepResult) -> bool
+    ensures { result ≡ not (is_open (turn_of stepped)) }
+{
+    matches!(stepped, StepResult::Over)
 }
 
 // The mark of the entry that is taken next in this turn, for a policy that looks at it.

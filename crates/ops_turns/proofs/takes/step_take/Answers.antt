@@ -50,8 +50,8 @@ step_thread-requires-clause-finds g c =
     subst (λ (x : StateView). FindsSet (thread_of x q.thread) x.core) (sym (left_is s u c.take_next.result q.mark (entries.Thread q.thread) c.take_next.ensures.taken at))
     (finds c.args.component.now c.args.ended s.core c.requires.order q.mark (thread_of s q.thread))
 
-pub returns-in_ok-stepped-clause-took : goal.returns-in_ok-stepped-clause-took
-returns-in_ok-stepped-clause-took g c =
+pub returns-in-Ok-clause-took : goal.returns-in-Ok-clause-took
+returns-in-Ok-clause-took g c =
     let v = g.W.View.view in
     let s = v c.args.w.now in
     let u = v c.take_next.new.self in
@@ -62,14 +62,14 @@ returns-in_ok-stepped-clause-took g c =
     let t = v c.step_thread.new.w in
     let before = c.args.trace.now in
     let after = c.step_thread.new.trace in
-    let h = c.in_ok-stepped.ensures.shown in
-    take_added c.args.component.now c.args.ended q.mark q.thread (thread_of s q.thread) s (with_current (Some q.thread) u) h.left t h.op_result c.in_ok-stepped.stepped before after
+    let h = c.in-Ok.ensures.shown in
+    take_added c.args.component.now c.args.ended q.mark q.thread (thread_of s q.thread) s (with_current (Some q.thread) u) h.left t h.op_result c.in-Ok.stepped before after
     (ap (λ (x : StateView). thread_of x q.thread) left) (ap (λ (x : StateView). x.core) left) next h.implements h.stays h.shown
 
 -- ---- A push
 
-pub returns-in_ok-stepped-in-Some-default-Push-clause-took : goal.returns-in_ok-stepped-in-Some-default-Push-clause-took
-returns-in_ok-stepped-in-Some-default-Push-clause-took g c =
+pub returns-in-Ok-put-clause-took : goal.returns-in-Ok-put-clause-took
+returns-in-Ok-put-clause-took g c =
     let v = g.W.View.view in
     let s = v c.args.w.now in
     let u = v c.take_next.new.self in
@@ -79,7 +79,7 @@ returns-in_ok-stepped-in-Some-default-Push-clause-took g c =
     (next_is s c.take_next.result q.mark (entries.Push q.work) c.take_next.ensures.next at) c.step_push-made.ensures.made c.step_push-made.ensures.new in
     let t = v c.step_push-made.new.w in
     let before = c.args.trace.now in
-    (c.step_push-made.result, (c.in_ok-stepped-in-Some-default-Push.ensures.stands, makes))
+    (c.step_push-made.result, (c.in-Ok-put.ensures.stands, makes))
 
 -- ---- An ended host work
 
@@ -115,8 +115,8 @@ step_host-made-requires-clause-there g c =
     subst (λ (x : StateView). IsJoinThere (subtask.Host (work_of x q.work)) x.core) (sym (left_is s u c.take_next.result q.mark (entries.Host q.work) c.take_next.ensures.taken at))
     (host_joined c.args.component.now c.args.ended s.core c.requires.order c.none_is_zero.ensures.works q.mark (work_of s q.work))
 
-pub returns-in_ok-stepped-in-Some-default-Host-clause-took : goal.returns-in_ok-stepped-in-Some-default-Host-clause-took
-returns-in_ok-stepped-in-Some-default-Host-clause-took g c =
+pub returns-in-Ok-put-in-Some-default-Host-clause-took : goal.returns-in-Ok-put-in-Some-default-Host-clause-took
+returns-in-Ok-put-in-Some-default-Host-clause-took g c =
     let v = g.W.View.view in
     let s = v c.args.w.now in
     let u = v c.take_next.new.self in
@@ -126,7 +126,7 @@ returns-in_ok-stepped-in-Some-default-Host-clause-took g c =
     (next_is s c.take_next.result q.mark (entries.Host q.work) c.take_next.ensures.next at) c.step_host-made.ensures.implements c.step_host-made.ensures.current c.step_host-made.ensures.turn in
     let t = v c.step_host-made.new.w in
     let before = c.args.trace.now in
-    (c.step_host-made.result, (c.in_ok-stepped-in-Some-default-Host.ensures.stands, makes))
+    (c.step_host-made.result, (c.in-Ok-put-in-Some-default-Host.ensures.stands, makes))
 
 -- ---- The group that is worked on
 

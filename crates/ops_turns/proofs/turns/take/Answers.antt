@@ -18,7 +18,7 @@ rest-requires-clause-works g c =
     let s = v c.args.w.now in
     let u = v c.step_take.new.w in
     let comp = c.args.component.now in
-    let took : TookShown comp c.args.ended s c.args.trace.now None u c.step_take.new.trace = subst (λ (q : Option StepResult). TookShown comp c.args.ended s c.args.trace.now q u c.step_take.new.trace) c.in-None.is c.in_ok-taken.ensures.took in
+    let took : TookShown comp c.args.ended s c.args.trace.now None u c.step_take.new.trace = subst (λ (q : Option StepResult). TookShown comp c.args.ended s c.args.trace.now q u c.step_take.new.trace) (none_of c.in-Ok.taken c.in_default-taken.not-Some) c.in-Ok.ensures.took in
     subst (λ (s : StateView). WorksQueued s.core) (sym took.0.1) (c.requires.at.order.order Unscripted).works
 
 pub returns-in_default-clause-turned : goal.returns-in_default-clause-turned

@@ -65,8 +65,8 @@ compute-all-requires-clause-order g c =
     let r = c.turn.new.running in
     let q = c.in-Some.stepped in
     let op_result = turned_as says course d u v r _ (Some q) c.in-Some.is c.in-Ok.ensures.turned in
-    let open = opens (is_open (turn_of q)) (sym c.is_over.ensures ∙ c.if-is_over.false) in
-    let goes = come_goes says course d a u n come v r q open op_result c.turn.ensures.keeps in
+    let ongoing = opens (is_open (turn_of q)) (sym c.is_over.ensures ∙ c.if-is_over.false) in
+    let goes = come_goes says course d a u n come v r q ongoing op_result c.turn.ensures.keeps in
     goes.on.at.order
 
 pub compute-all-requires-clause-runs : goal.compute-all-requires-clause-runs
@@ -82,8 +82,8 @@ compute-all-requires-clause-runs g c =
     let r = c.turn.new.running in
     let q = c.in-Some.stepped in
     let op_result = turned_as says course d u v r _ (Some q) c.in-Some.is c.in-Ok.ensures.turned in
-    let open = opens (is_open (turn_of q)) (sym c.is_over.ensures ∙ c.if-is_over.false) in
-    let goes = come_goes says course d a u n come v r q open op_result c.turn.ensures.keeps in
+    let ongoing = opens (is_open (turn_of q)) (sym c.is_over.ensures ∙ c.if-is_over.false) in
+    let goes = come_goes says course d a u n come v r q ongoing op_result c.turn.ensures.keeps in
     goes.on.at.running
 
 pub turns-preserved : goal.turns-preserved
@@ -104,10 +104,10 @@ turns-preserved g c =
     let r = c.turn.new.running in
     let q = c.in-Some.stepped in
     let op_result = turned_as says course d u v r _ (Some q) c.in-Some.is c.in-Ok.ensures.turned in
-    let open = opens (is_open (turn_of q)) (sym c.is_over.ensures ∙ c.if-is_over.false) in
-    let goes = come_goes says course d a u n come v r q open op_result c.turn.ensures.keeps in
+    let ongoing = opens (is_open (turn_of q)) (sym c.is_over.ensures ∙ c.if-is_over.false) in
+    let goes = come_goes says course d a u n come v r q ongoing op_result c.turn.ensures.keeps in
     let all = c.in-Ok-all.ensures.ok in
-    record {
+    rw c.turn_of-self.ensures (record {
       come = come_computed says course d a (record v { turn = turn_of q }) (n + 1) goes c.compute-all.new.w c.compute-all.new.trace c.in-Ok-all.all all.on all.computes all.still c.in-Ok-all.ensures.works
           (λ last knows. g.met.M.MainTask.stays c.turn.new.main c.turn.new.store.state c.compute-all.new.w last knows);
       kept = λ driven. c.spent_by-self.ensures.kept driven ∙ c.turns.invariant.kept driven;
@@ -117,11 +117,11 @@ turns-preserved g c =
           let rests = subst (λ (o : Option Mark). rests_by c.turns.self.turn o ≡ false) next (and_false stops (rests_by c.turns.self.turn c.next_mark-next.result) polled (sym c.rests_with-rests.ensures ∙ c.if-rests.false)) in
           let since = c.spent_by-self.ensures.since polled ∙ ap (λ (o : Option Mark). counted k o) next in
           let more = poll_goes (setting says course d a) (state says course d a) a.trace (numbers says course d a) yield_budget c.args.steps u.turn (says.part u.main) u.store.state u.trace n b k come.on (spent polled) (says.part v.main) v.store.state v.trace (turn_of q)
-          (opened says course d a u n come v r q open op_result) stays c.spent_by-self.result.passes c.spent_by-self.result.since rests since (c.spent_by-self.ensures.passes polled) in
+          (opened says course d a u n come v r q ongoing op_result) stays c.spent_by-self.result.passes c.spent_by-self.result.since rests since (c.spent_by-self.ensures.passes polled) in
           spent_data yield_budget.passes yield_budget.since a.trace c.turn.new.trace c.spent_by-self.result.passes c.spent_by-self.result.since more all.computes.labels c.compute-all.new.trace all.computes.computing all.computes.trace (c.spent_by-self.ensures.passes polled);
       few = all.few;
       running = op_result.group ∙ sym (group_computed d c.turn.new.store.state c.turn.new.trace (n + 1) c.compute-all.new.w c.compute-all.new.trace c.in-Ok-all.all (setting says course d a) refl (ap (λ (ts : Tags). ts.tracked) c.in-Ok-all.ensures.works.tags) (turn_of q) all.computes all.still);
-    }
+    })
 
 -- ---- What it has resulted in
 
@@ -204,7 +204,7 @@ returns-then-is_over-clause-gone g c =
     let yield_budget' = ends.new.self.yield_budget in
     rw ends.ensures.stop
     (subst (λ (w : RunConcurrent). GoesTo says course d stops c.args.steps (stop.Ends o) yield_budget a (at w c.turn.new.main c.turn.new.store c.turn.new.trace) yield_budget') (sym ends.ensures.new)
-    (subst (λ (p : Turn). GoesTo says course d stops c.args.steps (stop.Ends o) yield_budget a (record v { turn = p }) yield_budget') (sym over)
+    (subst (λ (p : Turn). GoesTo says course d stops c.args.steps (stop.Ends o) yield_budget a (record v { turn = p }) yield_budget') (sym (c.turn_of-self.ensures ∙ over))
     (goes_on_by says course d a (record v { turn = turn.Over }) c.args.steps stops (stop.Ends o) yield_budget yield_budget' (λ driven. come_over says course d a u n come v r c.args.steps q o (omega arith) over c.outcome_in.ensures op_result)
     (λ polled. polled_over says course d a u n come yield_budget c.args.steps b k (spent polled) yield_budget' v r q o (omega arith) over c.outcome_in.ensures op_result (ends.ensures.since polled) (ends.ensures.passes polled)))))
 
@@ -226,16 +226,16 @@ returns-then-rests-clause-gone g c =
     let r = c.turn.new.running in
     let q = c.in-Some.stepped in
     let op_result = turned_as says course d u v r _ (Some q) c.in-Some.is c.in-Ok.ensures.turned in
-    let open = opens (is_open (turn_of q)) (sym c.is_over.ensures ∙ c.if-is_over.false) in
-    let goes = come_goes says course d a u n come v r q open op_result c.turn.ensures.keeps in
+    let ongoing = opens (is_open (turn_of q)) (sym c.is_over.ensures ∙ c.if-is_over.false) in
+    let goes = come_goes says course d a u n come v r q ongoing op_result c.turn.ensures.keeps in
     let both = and_parts stops (rests_by c.turns.self.turn c.next_mark-next.result) (sym c.rests_with-rests.ensures ∙ c.if-rests.true) in
     let polled = both.0 in
     let next = c.next_mark-next.ensures polled in
     let stays = subst (λ (o : Option Mark). yields_before b k o ≡ false) next (and_false stops (yields_before b k c.next_mark-next.result) polled (sym c.yields_by.ensures ∙ c.if-yields_by.false)) in
     let rests = subst (λ (o : Option Mark). rests_by c.turns.self.turn o ≡ true) next both.1 in
     let since = c.spent_by-self.ensures.since polled ∙ ap (λ (o : Option Mark). counted k o) next in
-    stops_by says course d a (record v { turn = turn_of q }) c.args.steps stops stop.Rests yield_budget c.spent_by-self.result polled
-    (polled_rests says course d a u n come yield_budget c.args.steps b k (spent polled) c.spent_by-self.result v r q open (omega arith) op_result c.turn.ensures.keeps stays rests since (c.spent_by-self.ensures.passes polled))
+    rw c.turn_of-self.ensures (stops_by says course d a (record v { turn = turn_of q }) c.args.steps stops stop.Rests yield_budget c.spent_by-self.result polled
+    (polled_rests says course d a u n come yield_budget c.args.steps b k (spent polled) c.spent_by-self.result v r q ongoing (omega arith) op_result c.turn.ensures.keeps stays rests since (c.spent_by-self.ensures.passes polled)))
 
 pub returns-then-is_idle-clause-gone : goal.returns-then-is_idle-clause-gone
 returns-then-is_idle-clause-gone g c =
@@ -306,8 +306,8 @@ returns-in_default-all-clause-gone g c =
     let r = c.turn.new.running in
     let q = c.in-Some.stepped in
     let op_result = turned_as says course d u v r _ (Some q) c.in-Some.is c.in-Ok.ensures.turned in
-    let open = opens (is_open (turn_of q)) (sym c.is_over.ensures ∙ c.if-is_over.false) in
-    let goes = come_goes says course d a u n come v r q open op_result c.turn.ensures.keeps in
+    let ongoing = opens (is_open (turn_of q)) (sym c.is_over.ensures ∙ c.if-is_over.false) in
+    let goes = come_goes says course d a u n come v r q ongoing op_result c.turn.ensures.keeps in
     come_short says course d a (record v { turn = turn_of q }) (n + 1) goes c.args.steps c.compute-all.new.trace c.in_default-all.ensures.err
 
 -- ---- What stays
