@@ -88,18 +88,20 @@ pub fn take<W: Primitives>(
     let Ok(taken) = step_take(component, w, ended, trace, worked) else {
         return Err(NoMemory);
     };
-    if let Some(stepped) = taken {
-        return Ok(Some(stepped));
-    }
-    if ended {
-        unreachable!()
-    }
-    match rest(w, trap_on_idle) {
-        Some(made) => {
-            let stepped = put(trace, made)?;
-            Ok(Some(stepped))
+    match taken {
+        Some(stepped) => Ok(Some(stepped)),
+        None => {
+            if ended {
+                unreachable!()
+            }
+            match rest(w, trap_on_idle) {
+                Some(made) => {
+                    let stepped = put(trace, made)?;
+                    Ok(Some(stepped))
+                }
+                None => Ok(None),
+            }
         }
-        None => Ok(None),
     }
 }
 
