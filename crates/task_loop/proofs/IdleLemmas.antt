@@ -1,6 +1,6 @@
 -- No thread runs after a poll, and after the entry of a host call was taken.
 use Rattle.std.proofs.Common.{ap, refl, ◌∙◌}
-use Rattle.std.specs.Prelude.{Bool, None, Option, Some, false, true, ℕ, ◌≡◌}
+use Rattle.std.specs.Prelude.{Bool, None, Option, Some, false, option_map, true, ℕ, ◌≡◌}
 use Rattle.machine_data.specs.Core.{Core, Main, State}
 use Rattle.machine_data.specs.declared.label.Label.{Label}
 use Rattle.machine_data.specs.declared.records.Turn.TheVariants as turn
@@ -11,7 +11,7 @@ use Rattle.machine_rules.specs.Turns.{at_turn, queues_are_empty, settled_futures
 use Rattle.machine_rules.specs.Works.{Asked, Ends, FailsNow, Poll, StillPends, next_polled, poll_of}
 use Rattle.ops_turns.specs.Turn.{Turns, running_of, runs_in, state_at}
 use Rattle.ops_turns.specs.declared.made.MadeStep.{MadeStep}
-use Rattle.core_primitives.specs.StateView.{StateView}
+use Rattle.core_primitives.specs.StateView.{StateView, thread_of}
 
 pub main_idle : (s : State) (new : Core) (m : Main) → runs_in (at_turn s new m turn.Main).turn ≡ None
 unfolding at_turn
