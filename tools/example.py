@@ -382,7 +382,8 @@ def definitions(name, scenario, labels):
     return (f'-- {scenario.summary()}\nabbrev pub {name} : ScenarioDef\n'
             + filled(f'{name} = {scenario.term()}') + '\n\n'
             + f'abbrev pub {name}_labels : List Label\n'
-            + filled(f'{name}_labels = {" ∷ ".join([*labels, "[]"])}') + '\n')
+            + filled(f'{name}_labels = {" ∷ ".join([*labels, "[]"])}') + '\n\n'
+            + f'abbrev pub {name}_run : ScenarioDef × List Label\n{name}_run = ({name}, {name}_labels)\n')
 
 
 def proof(name, steps, end, exchanges):
@@ -395,7 +396,7 @@ def function(name, steps, end, file):
     """The piece for a file of src/."""
     shown = end.strip('()').replace('outcome.', 'Outcome.').replace('trap.', 'Trap.')
     return (f'#[tactic(auto, using(crate::proofs::{file}Shown::{name}_shown))]\npub fn {name}()\n'
-            f'    ensures {{ Example the.{name} {steps} the.{name}_labels ({shown}) }}\n{{}}\n')
+            f'    ensures {{ Runs the.{name}_run {steps} ({shown}) }}\n{{}}\n')
 
 
 def pieces(name, steps, text, report, file='FILE', exchanges=()):

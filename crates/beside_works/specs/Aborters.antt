@@ -1,6 +1,7 @@
 -- What an aborter is at first, and what it has done.
-use Rattle.std.specs.Prelude.{List, Some, [], count_by, false, length, replicate, slice_get, take, ℕ, ◌+◌, ◌++◌, ◌<◌, ◌==◌, ◌∷◌, ◌≡◌, ◌⊎◌}
-use Rattle.beside_works.specs.Counts.{added_each, cells_in, counts_in, later, places_in, with_each}
+use Rattle.beside_works.specs.declared.cells.SharedSpawn.{SharedSpawn}
+use Rattle.std.specs.Prelude.{List, Some, [], count_by, false, length, replicate, slice_get, take, ℕ, ◌+◌, ◌++◌, ◌<◌, ◌==◌, ◌∷◌, ◌≡◌, ◌⊎◌, map, true}
+use Rattle.beside_works.specs.Counts.{added_each, cells_in, counts_in, later, places_in, with_each, added, met_of}
 use Rattle.beside_works.specs.Lines.{line_at}
 use Rattle.beside_works.specs.declared.line.Aborter.{Aborter}
 use Rattle.task_abort.specs.Cells.{CellId}
@@ -84,3 +85,14 @@ AbortsAreMet =
     (ids : List CellId) (splits : List ℕ) (lines : List (List ℕ)) (olds news : List Aborter) (mss : List (List (ℕ × ℕ))) (i : ℕ)
     (ms : List (ℕ × ℕ)) → AreNew ids splits 0 olds → length olds ≡ length lines → HaveRun lines olds news → NoneOutOfMemory news →
     i < length splits → slice_get mss i ≡ Some ms → slice_get (with_all news mss) i ≡ Some (ms ++ briefs lines 1 (i + 1))
+
+-- ---- Of one abort, and of one aborter whose passes are taken in
+
+-- It is counted for that spawn, or there was no memory for it.
+abbrev pub CountsAbort : (spawn : ℕ) → (old new : Aborter) → Type 0
+CountsAbort spawn a b = ((b.out_of_memory ≡ a.out_of_memory) × (counts_in b.passes.items ≡ added spawn (counts_in a.passes.items)))
+    ⊎ ((b.out_of_memory ≡ true) × (counts_in b.passes.items ≡ counts_in a.passes.items))
+
+-- Only its passes of the first cells, so many as may be, were taken in.
+abbrev pub MeetsSome : Aborter → (old new : List SharedSpawn) → Type 0
+MeetsSome a old new = (k : ℕ) × (map met_of new ≡ with_each a.number (take k (counts_in a.passes.items)) (map met_of old))

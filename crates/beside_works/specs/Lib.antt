@@ -3,3 +3,4 @@ pub mod Views
 pub mod Lines
 pub mod Counts
 pub mod Aborters
+pub mod SpawnCalls

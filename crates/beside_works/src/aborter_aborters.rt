@@ -1,6 +1,6 @@
 //! One aborter, which aborts the works of its line.
-ghost use Rattle.std.specs.Prelude.{◌≡◌, ◌++◌, ◌∷◌, ◌⊎◌, [], IfOk, OnErr, OnOk, false, length, map, replicate, true, ℕ};
-ghost use Rattle.beside_works.specs.Aborters.{HasRun};
+ghost use Rattle.std.specs.Prelude.{◌≡◌, ◌++◌, ◌∷◌, [], IfOk, OnErr, OnOk, false, length, map, replicate, true, ℕ};
+ghost use Rattle.beside_works.specs.Aborters.{HasRun, CountsAbort};
 ghost use Rattle.beside_works.specs.Counts.{added, cells_in, counts_in, later, places_in, raised};
 ghost use Rattle.beside_works.specs.Views.{met_list, own_list, spawn_cell, split_count};
 
@@ -72,9 +72,7 @@ impl Aborter {
         ensures number { self.new.number ≡ self.old.number }
         ensures cells { cells_in self.new.passes.items ≡ cells_in self.old.passes.items }
         ensures places { places_in self.new.passes.items ≡ places_in self.old.passes.items }
-        ensures made { ((self.new.out_of_memory ≡ self.old.out_of_memory)
-            × (counts_in self.new.passes.items ≡ added spawn (counts_in self.old.passes.items)))
-            ⊎ ((self.new.out_of_memory ≡ true) × (counts_in self.new.passes.items ≡ counts_in self.old.passes.items)) }
+        ensures made { CountsAbort spawn self.old self.new }
     {
         match abort_one(&mut self.passes, spawn) {
             Ok(()) => {}

@@ -1,6 +1,6 @@
 //! The aborters of a run, from when their passes are split off to when these are met.
-ghost use Rattle.std.specs.Prelude.{◌≡◌, IfOk, OnErr, OnOk, false, length, map, take, ℕ};
-ghost use Rattle.beside_works.specs.Aborters.{AreNew, CanMeet, MetInPart, NoneOutOfMemory, with_all};
+ghost use Rattle.std.specs.Prelude.{◌≡◌, IfOk, OnErr, OnOk, false, length, map, ℕ};
+ghost use Rattle.beside_works.specs.Aborters.{AreNew, CanMeet, MetInPart, NoneOutOfMemory, with_all, MeetsSome};
 ghost use Rattle.beside_works.specs.Counts.{cells_in, counts_in, later, met_count, met_of, places_in, raised, with_each};
 ghost use Rattle.beside_works.specs.Views.{met_list, own_list, spawn_cell, split_count};
 
@@ -50,8 +50,7 @@ fn meet_each(cells: &mut Vec<SharedSpawn>, aborter: Aborter) -> Result<(), NoMem
     ensures met { OnOk result (map met_of cells.new.items
         ≡ with_each aborter.number (counts_in aborter.passes.items) (map met_of cells.old.items)) }
     ensures out_of_memory { OnOk result (aborter.out_of_memory ≡ false) }
-    ensures refused { OnErr result ((k : ℕ) × (map met_of cells.new.items
-        ≡ with_each aborter.number (take k (counts_in aborter.passes.items)) (map met_of cells.old.items))) }
+    ensures refused { OnErr result (MeetsSome aborter cells.old.items cells.new.items) }
 {
     let Aborter {
         number,

@@ -1,12 +1,13 @@
 //! The cell of a spawn, as the run has it.
-ghost use Rattle.std.specs.Prelude.{◌≡◌, ◌≢◌, ◌++◌, ◌+◌, ◌∷◌, ◌↔◌, [], IfOk, MatchBool, None, OnErr, OnOk, false, length, map, true, ℕ};
-ghost use Rattle.beside_works.specs.Shared.{aborters_from, listed, phases_in};
+ghost use Rattle.beside_works.specs.SpawnCalls.{FinishesSpawn, PollsSpawn};
+ghost use Rattle.std.specs.Prelude.{◌≡◌, ◌++◌, ◌+◌, ◌∷◌, [], IfOk, None, OnErr, OnOk, false, length, true, ℕ};
+ghost use Rattle.beside_works.specs.Shared.{listed};
 ghost use Rattle.beside_works.specs.Views.{HasMetEach, aborter_view, found_list, is_finished, met_list, own_list, pass_cell_of, place_of, spawn_cell, spawn_view, split_count};
 ghost use Rattle.beside_works.specs.declared.log.Found.{Found};
-ghost use Rattle.task_abort.specs.Cells.{TellsComplete, handle_cell, pass_cell, view_of, work_cell};
+ghost use Rattle.task_abort.specs.Cells.{TellsComplete};
 ghost use Rattle.task_abort.specs.PhaseLog.{IsLegal, first_view, split_left, split_right};
 ghost use Rattle.task_abort.specs.Rule.{Calls, Meets};
-ghost use Rattle.task_abort.specs.Staged.{LastRound, made, staged, told};
+ghost use Rattle.task_abort.specs.Staged.{LastRound, made, staged};
 ghost use Rattle.task_abort.specs.declared.log.PhaseCall.TheVariants.{Abort, Finish, PollFuture, PollHandle};
 ghost use Rattle.machine_data.specs.declared.statuses.Phase.{Phase};
 ghost use Rattle.machine_data.specs.declared.statuses.Phase.TheVariants.{Complete};
@@ -71,7 +72,7 @@ impl SharedSpawn {
     /// `Complete`. If it is out of memory for the list, nothing is done.
     pub fn poll(&mut self) -> Result<Phase, NoMemory>
         ensures cell { spawn_cell self.new ≡ spawn_cell self.old }
-        ensures call { IfOk result (λ found. MatchBool (is_finished self.old) ((found ≡ Complete) × (spawn_view self.new ≡ spawn_view self.old)) (Calls PollFuture (spawn_view self.old) found (spawn_view self.new))) }
+        ensures call { IfOk result (λ found. PollsSpawn found self.old self.new) }
         ensures rest { (is_finished self.new ≡ is_finished self.old) × ((split_count self.new ≡ split_count self.old) × (met_list self.new ≡ met_list self.old)) }
         ensures err { OnErr result (spawn_view self.new ≡ spawn_view self.old) }
         // What was made when all aborts had been stays so.
@@ -93,7 +94,7 @@ impl SharedSpawn {
     /// Says that the work is over; where it was, nothing is done. If it is out of memory for the list, nothing is done either.
     pub fn finish(&mut self) -> Result<(), NoMemory>
         ensures cell { spawn_cell self.new ≡ spawn_cell self.old }
-        ensures call { OnOk result (MatchBool (is_finished self.old) (spawn_view self.new ≡ spawn_view self.old) ((found : Phase) × Calls Finish (spawn_view self.old) found (spawn_view self.new))) }
+        ensures call { OnOk result (FinishesSpawn self.old self.new) }
         ensures over { OnOk result (is_finished self.new ≡ true) }
         ensures rest { (split_count self.new ≡ split_count self.old) × (met_list self.new ≡ met_list self.old) }
         ensures err { OnErr result ((spawn_view self.new ≡ spawn_view self.old) × (is_finished self.new ≡ is_finished self.old)) }

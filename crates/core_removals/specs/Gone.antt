@@ -1,5 +1,5 @@
 -- What goes with a record that is deleted.
-use Rattle.std.specs.Prelude.{◌≡◌, ℕ, Ok, Some, if◌then◌else◌}
+use Rattle.std.specs.Prelude.{◌≡◌, ℕ, Ok, Some, if◌then◌else◌, ◌⊎◌}
 use Rattle.machine_data.specs.Core.{Core}
 use Rattle.machine_data.specs.Read.{is_host_call, place_of}
 use Rattle.machine_data.specs.declared.records.Place.TheVariants as place

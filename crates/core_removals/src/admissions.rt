@@ -7,6 +7,7 @@ ghost use Rattle.machine_data.specs.Read.{admits, admitted_held, is_held_admitte
 ghost use Rattle.machine_data.specs.declared.records.Why.TheVariants as whys;
 ghost use Rattle.core_records.specs.Seen.{IsSoundCore, seen};
 ghost use Rattle.core_primitives.specs.Held.{held_in};
+ghost use Rattle.core_removals.specs.Held.{is_admitted};
 ghost use Rattle.core_primitives.specs.StateView.{thread_of};
 ghost use Rattle.core_removals.specs.Walks.{of_chain};
 

@@ -42,6 +42,9 @@ abbrev pub callback_returns_its_parameter_labels : List Label
 callback_returns_its_parameter_labels = label.Main (main_label.Start 1 1) ∷ label.Loop loop_label.MainPends ∷ label.Take (take.Thread mark.High 1) ∷
     label.Task (task_label.Ret 1 7) ∷ label.Task (task_label.Exit 1) ∷ label.Main (main_label.Finish 1 7) ∷ label.Main (main_label.Answer 7) ∷ []
 
+abbrev pub callback_returns_its_parameter_run : ScenarioDef × List Label
+callback_returns_its_parameter_run = (callback_returns_its_parameter, callback_returns_its_parameter_labels)
+
 -- a: f
 abbrev pub exit_without_return_traps : ScenarioDef
 exit_without_return_traps = record {
@@ -66,6 +69,9 @@ abbrev pub exit_without_return_traps_labels : List Label
 exit_without_return_traps_labels = label.Main (main_label.Start 1 1) ∷ label.Loop loop_label.MainPends ∷ label.Take (take.Thread mark.High 1) ∷
     label.Loop (loop_label.Trap trap.NoAsyncResult 1) ∷ []
 
+abbrev pub exit_without_return_traps_run : ScenarioDef × List Label
+exit_without_return_traps_run = (exit_without_return_traps, exit_without_return_traps_labels)
+
 -- a: f
 abbrev pub run_stops_when_steps_are_used_up : ScenarioDef
 run_stops_when_steps_are_used_up = record {
@@ -89,6 +95,9 @@ run_stops_when_steps_are_used_up = record {
 abbrev pub run_stops_when_steps_are_used_up_labels : List Label
 run_stops_when_steps_are_used_up_labels = label.Main (main_label.Start 1 1) ∷ label.Loop loop_label.MainPends ∷ label.Take (take.Thread mark.High 1) ∷
     label.Task (task_label.Ret 1 7) ∷ label.Task (task_label.Exit 1) ∷ label.Main (main_label.Finish 1 7) ∷ []
+
+abbrev pub run_stops_when_steps_are_used_up_run : ScenarioDef × List Label
+run_stops_when_steps_are_used_up_run = (run_stops_when_steps_are_used_up, run_stops_when_steps_are_used_up_labels)
 
 -- a: f
 abbrev pub second_return_traps : ScenarioDef
@@ -122,6 +131,9 @@ abbrev pub second_return_traps_labels : List Label
 second_return_traps_labels = label.Main (main_label.Start 1 1) ∷ label.Loop loop_label.MainPends ∷ label.Take (take.Thread mark.High 1) ∷ label.Task (task_label.Ret 1 7) ∷
     label.Loop (loop_label.Trap trap.TaskCancelOrReturnTwice 1) ∷ []
 
+abbrev pub second_return_traps_run : ScenarioDef × List Label
+second_return_traps_run = (second_return_traps, second_return_traps_labels)
+
 -- a: f
 abbrev pub return_of_the_wrong_type_traps : ScenarioDef
 return_of_the_wrong_type_traps = record {
@@ -146,6 +158,9 @@ return_of_the_wrong_type_traps = record {
 abbrev pub return_of_the_wrong_type_traps_labels : List Label
 return_of_the_wrong_type_traps_labels = label.Main (main_label.Start 1 1) ∷ label.Loop loop_label.MainPends ∷ label.Take (take.Thread mark.High 1) ∷
     label.Loop (loop_label.Trap trap.TaskReturnInvalid 1) ∷ []
+
+abbrev pub return_of_the_wrong_type_traps_run : ScenarioDef × List Label
+return_of_the_wrong_type_traps_run = (return_of_the_wrong_type_traps, return_of_the_wrong_type_traps_labels)
 
 -- a: f
 abbrev pub return_of_the_wrong_type_after_an_end_traps : ScenarioDef
@@ -180,6 +195,10 @@ abbrev pub return_of_the_wrong_type_after_an_end_traps_labels : List Label
 return_of_the_wrong_type_after_an_end_traps_labels = label.Main (main_label.Start 1 1) ∷ label.Loop loop_label.MainPends ∷ label.Take (take.Thread mark.High 1) ∷
     label.Task (task_label.Ret 1 1) ∷ label.Loop (loop_label.Trap trap.TaskCancelOrReturnTwice 1) ∷ []
 
+abbrev pub return_of_the_wrong_type_after_an_end_traps_run : ScenarioDef × List Label
+return_of_the_wrong_type_after_an_end_traps_run =
+    (return_of_the_wrong_type_after_an_end_traps, return_of_the_wrong_type_after_an_end_traps_labels)
+
 -- a: f
 abbrev pub main_waits_until_an_instance_lets_calls_in : ScenarioDef
 main_waits_until_an_instance_lets_calls_in = record {
@@ -210,6 +229,10 @@ main_waits_until_an_instance_lets_calls_in_labels = label.Main (main_label.Start
     label.Task (task_label.BpInc 1) ∷ label.Task (task_label.Ret 1 4) ∷ label.Task (task_label.CbYield 1) ∷ label.Main (main_label.Finish 1 4) ∷
     label.Loop loop_label.MainPends ∷ label.Take (take.Event mark.Low given.Nothing 1) ∷ label.Task (task_label.BpDec 1) ∷ label.Task (task_label.Exit 1) ∷
     label.Main main_label.Ready ∷ label.Main (main_label.Answer 4) ∷ []
+
+abbrev pub main_waits_until_an_instance_lets_calls_in_run : ScenarioDef × List Label
+main_waits_until_an_instance_lets_calls_in_run =
+    (main_waits_until_an_instance_lets_calls_in, main_waits_until_an_instance_lets_calls_in_labels)
 
 -- a: shut, f, open
 abbrev pub held_starts_are_released_in_either_order : ScenarioDef
@@ -252,3 +275,6 @@ held_starts_are_released_in_either_order_labels = label.Main (main_label.Start 1
     label.Take (take.Thread mark.High 3) ∷ label.Task (task_label.Ret 3 1) ∷ label.Task (task_label.Exit 3) ∷ label.Main (main_label.Finish 3 1) ∷
     label.Loop loop_label.MainPends ∷ label.Take (take.Thread mark.High 2) ∷ label.Task (task_label.Ret 2 1) ∷ label.Task (task_label.Exit 2) ∷
     label.Main (main_label.Finish 2 1) ∷ label.Main (main_label.Answer 1) ∷ []
+
+abbrev pub held_starts_are_released_in_either_order_run : ScenarioDef × List Label
+held_starts_are_released_in_either_order_run = (held_starts_are_released_in_either_order, held_starts_are_released_in_either_order_labels)

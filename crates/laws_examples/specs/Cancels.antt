@@ -64,6 +64,10 @@ cancel_of_a_subtask_joined_to_a_set_traps_labels = label.Main (main_label.Start 
     label.Task (task_label.CbWait 2) ∷ label.Loop loop_label.MainPends ∷ label.Take (take.Thread mark.Switch 1) ∷ label.Call (call_label.Call 17 1) ∷
     label.Set (set_label.New 2 1) ∷ label.Set (set_label.Join 1) ∷ label.Loop (loop_label.Trap trap.WaitableSyncAndAsync 1) ∷ []
 
+abbrev pub cancel_of_a_subtask_joined_to_a_set_traps_run : ScenarioDef × List Label
+cancel_of_a_subtask_joined_to_a_set_traps_run =
+    (cancel_of_a_subtask_joined_to_a_set_traps, cancel_of_a_subtask_joined_to_a_set_traps_labels)
+
 -- a: up, down, f; b: g
 abbrev pub cancel_withdraws_a_held_start : ScenarioDef
 cancel_withdraws_a_held_start = record {
@@ -123,6 +127,9 @@ cancel_withdraws_a_held_start_labels = label.Main (main_label.Start 1 1) ∷ lab
     label.Take (take.Thread mark.High 4) ∷ label.Task (task_label.BpDec 4) ∷ label.Task (task_label.Exit 4) ∷ label.Main (main_label.Finish 3 0) ∷
     label.Main (main_label.Answer 3) ∷ []
 
+abbrev pub cancel_withdraws_a_held_start_run : ScenarioDef × List Label
+cancel_withdraws_a_held_start_run = (cancel_withdraws_a_held_start, cancel_withdraws_a_held_start_labels)
+
 -- a: f; b: g
 abbrev pub sync_cancel_of_a_waiting_callback : ScenarioDef
 sync_cancel_of_a_waiting_callback = record {
@@ -166,6 +173,9 @@ sync_cancel_of_a_waiting_callback_labels = label.Main (main_label.Start 1 1) ∷
     label.Call (call_label.Drop 1) ∷ label.Task (task_label.Ret 1 4) ∷ label.Task (task_label.Exit 1) ∷ label.Main (main_label.Finish 1 4) ∷
     label.Main (main_label.Answer 4) ∷ []
 
+abbrev pub sync_cancel_of_a_waiting_callback_run : ScenarioDef × List Label
+sync_cancel_of_a_waiting_callback_run = (sync_cancel_of_a_waiting_callback, sync_cancel_of_a_waiting_callback_labels)
+
 -- a: f
 abbrev pub task_cancel_without_a_request_traps : ScenarioDef
 task_cancel_without_a_request_traps = record {
@@ -189,3 +199,6 @@ task_cancel_without_a_request_traps = record {
 abbrev pub task_cancel_without_a_request_traps_labels : List Label
 task_cancel_without_a_request_traps_labels = label.Main (main_label.Start 1 1) ∷ label.Loop loop_label.MainPends ∷ label.Take (take.Thread mark.High 1) ∷
     label.Loop (loop_label.Trap trap.TaskCancelNotCancelled 1) ∷ []
+
+abbrev pub task_cancel_without_a_request_traps_run : ScenarioDef × List Label
+task_cancel_without_a_request_traps_run = (task_cancel_without_a_request_traps, task_cancel_without_a_request_traps_labels)

@@ -67,6 +67,10 @@ exit_of_a_stackful_export_with_nothing_to_promote_traps_labels = label.Main (mai
     label.Loop loop_label.MainPends ∷ label.Take (take.Thread mark.High 3) ∷ label.Task (task_label.Ret 3 0) ∷ label.Loop (loop_label.Trap trap.CannotBlockSyncTask 3) ∷
     []
 
+abbrev pub exit_of_a_stackful_export_with_nothing_to_promote_traps_run : ScenarioDef × List Label
+exit_of_a_stackful_export_with_nothing_to_promote_traps_run =
+    (exit_of_a_stackful_export_with_nothing_to_promote_traps, exit_of_a_stackful_export_with_nothing_to_promote_traps_labels)
+
 -- a: s, w, f
 abbrev pub exit_of_a_blocking_export_with_nothing_to_promote_traps : ScenarioDef
 exit_of_a_blocking_export_with_nothing_to_promote_traps = record {
@@ -104,6 +108,10 @@ exit_of_a_blocking_export_with_nothing_to_promote_traps_labels = label.Main (mai
     label.Loop loop_label.MainPends ∷ label.Take (take.Thread mark.High 1) ∷ label.Set (set_label.New 1 1) ∷ label.Thread (thread_label.Pauses 1) ∷
     label.Loop loop_label.MainPends ∷ label.Take (take.Thread mark.Switch 2) ∷ label.Set (set_label.New 2 2) ∷ label.Task (task_label.CbWait 2) ∷
     label.Loop loop_label.MainPends ∷ label.Take (take.Thread mark.High 3) ∷ label.Loop (loop_label.Trap trap.CannotBlockSyncTask 3) ∷ []
+
+abbrev pub exit_of_a_blocking_export_with_nothing_to_promote_traps_run : ScenarioDef × List Label
+exit_of_a_blocking_export_with_nothing_to_promote_traps_run =
+    (exit_of_a_blocking_export_with_nothing_to_promote_traps, exit_of_a_blocking_export_with_nothing_to_promote_traps_labels)
 
 -- a: s, w, f; b: d
 abbrev pub exit_of_a_direct_call_with_nothing_to_promote_traps : ScenarioDef
@@ -153,6 +161,10 @@ exit_of_a_direct_call_with_nothing_to_promote_traps_labels = label.Main (main_la
     label.Loop loop_label.MainPends ∷ label.Take (take.Thread mark.High 3) ∷ label.Call (call_label.Enters 3 4) ∷ label.Loop (loop_label.Trap trap.CannotBlockSyncTask 4) ∷
     []
 
+abbrev pub exit_of_a_direct_call_with_nothing_to_promote_traps_run : ScenarioDef × List Label
+exit_of_a_direct_call_with_nothing_to_promote_traps_run =
+    (exit_of_a_direct_call_with_nothing_to_promote_traps, exit_of_a_direct_call_with_nothing_to_promote_traps_labels)
+
 -- a: s, w, x
 abbrev pub suspend_with_nothing_to_promote_traps : ScenarioDef
 suspend_with_nothing_to_promote_traps = record {
@@ -180,6 +192,9 @@ suspend_with_nothing_to_promote_traps_labels = label.Main (main_label.Start 1 1)
     label.Loop loop_label.MainPends ∷ label.Take (take.Thread mark.High 1) ∷ label.Set (set_label.New 1 1) ∷ label.Thread (thread_label.Pauses 1) ∷
     label.Loop loop_label.MainPends ∷ label.Take (take.Thread mark.Switch 2) ∷ label.Set (set_label.New 2 2) ∷ label.Task (task_label.CbWait 2) ∷
     label.Loop loop_label.MainPends ∷ label.Take (take.Thread mark.High 3) ∷ label.Loop (loop_label.Trap trap.CannotBlockSyncTask 3) ∷ []
+
+abbrev pub suspend_with_nothing_to_promote_traps_run : ScenarioDef × List Label
+suspend_with_nothing_to_promote_traps_run = (suspend_with_nothing_to_promote_traps, suspend_with_nothing_to_promote_traps_labels)
 
 -- a: h; b: s
 abbrev pub sync_call_of_a_waiting_callee_with_nothing_to_promote_traps : ScenarioDef
@@ -222,6 +237,10 @@ sync_call_of_a_waiting_callee_with_nothing_to_promote_traps_labels = label.Main 
     label.Call (call_label.Calls 1 2) ∷ label.Loop loop_label.MainPends ∷ label.Take (take.Thread mark.Switch 2) ∷ label.Set (set_label.New 1 2) ∷
     label.Thread (thread_label.Pauses 2) ∷ label.Loop loop_label.MainPends ∷ label.Take (take.Thread mark.Switch 1) ∷ label.Loop (loop_label.Trap trap.CannotBlockSyncTask 1) ∷
     []
+
+abbrev pub sync_call_of_a_waiting_callee_with_nothing_to_promote_traps_run : ScenarioDef × List Label
+sync_call_of_a_waiting_callee_with_nothing_to_promote_traps_run =
+    (sync_call_of_a_waiting_callee_with_nothing_to_promote_traps, sync_call_of_a_waiting_callee_with_nothing_to_promote_traps_labels)
 
 -- a: h; b: s
 abbrev pub sync_cancel_with_nothing_to_promote_traps : ScenarioDef
@@ -266,6 +285,10 @@ sync_cancel_with_nothing_to_promote_traps_labels = label.Main (main_label.Start 
     label.Thread (thread_label.Pauses 2) ∷ label.Loop loop_label.MainPends ∷ label.Take (take.Thread mark.Switch 1) ∷ label.Call (call_label.Call 17 1) ∷
     label.Data (data_label.Handle 1 1) ∷ label.Loop (loop_label.Trap trap.CannotBlockSyncTask 1) ∷ []
 
+abbrev pub sync_cancel_with_nothing_to_promote_traps_run : ScenarioDef × List Label
+sync_cancel_with_nothing_to_promote_traps_run =
+    (sync_cancel_with_nothing_to_promote_traps, sync_cancel_with_nothing_to_promote_traps_labels)
+
 -- a: f
 abbrev pub callback_wait_on_no_set_traps : ScenarioDef
 callback_wait_on_no_set_traps = record {
@@ -290,3 +313,6 @@ callback_wait_on_no_set_traps = record {
 abbrev pub callback_wait_on_no_set_traps_labels : List Label
 callback_wait_on_no_set_traps_labels = label.Main (main_label.Start 1 1) ∷ label.Loop loop_label.MainPends ∷ label.Take (take.Thread mark.High 1) ∷
     label.Loop (loop_label.Trap trap.BadHandle 1) ∷ []
+
+abbrev pub callback_wait_on_no_set_traps_run : ScenarioDef × List Label
+callback_wait_on_no_set_traps_run = (callback_wait_on_no_set_traps, callback_wait_on_no_set_traps_labels)

@@ -48,6 +48,9 @@ abbrev pub backpressure_lowered_below_zero_traps_labels : List Label
 backpressure_lowered_below_zero_traps_labels = label.Main (main_label.Start 1 1) ∷ label.Loop loop_label.MainPends ∷ label.Take (take.Thread mark.High 1) ∷
     label.Loop (loop_label.Trap trap.BackpressureOverflow 1) ∷ []
 
+abbrev pub backpressure_lowered_below_zero_traps_run : ScenarioDef × List Label
+backpressure_lowered_below_zero_traps_run = (backpressure_lowered_below_zero_traps, backpressure_lowered_below_zero_traps_labels)
+
 -- a: s; b: g
 abbrev pub direct_sync_call_answers_its_result : ScenarioDef
 direct_sync_call_answers_its_result = record {
@@ -84,6 +87,9 @@ abbrev pub direct_sync_call_answers_its_result_labels : List Label
 direct_sync_call_answers_its_result_labels = label.Main (main_label.Start 1 1) ∷ label.Loop loop_label.MainPends ∷ label.Take (take.Thread mark.High 1) ∷
     label.Call (call_label.Enters 1 2) ∷ label.Data (data_label.Add 2 8) ∷ label.Task (task_label.Exit 2) ∷ label.Call (call_label.CallSync 1 8) ∷
     label.Task (task_label.Ret 1 8) ∷ label.Task (task_label.Exit 1) ∷ label.Main (main_label.Finish 1 8) ∷ label.Main (main_label.Answer 8) ∷ []
+
+abbrev pub direct_sync_call_answers_its_result_run : ScenarioDef × List Label
+direct_sync_call_answers_its_result_run = (direct_sync_call_answers_its_result, direct_sync_call_answers_its_result_labels)
 
 -- a: up, down, f; b: g
 abbrev pub held_start_runs_when_backpressure_falls_to_zero : ScenarioDef
@@ -144,6 +150,10 @@ held_start_runs_when_backpressure_falls_to_zero_labels = label.Main (main_label.
     label.Take (take.Thread mark.High 5) ∷ label.Task (task_label.Ret 5 1) ∷ label.Task (task_label.Exit 5) ∷ label.Main (main_label.Finish 4 1) ∷
     label.Main (main_label.Answer 16) ∷ []
 
+abbrev pub held_start_runs_when_backpressure_falls_to_zero_run : ScenarioDef × List Label
+held_start_runs_when_backpressure_falls_to_zero_run =
+    (held_start_runs_when_backpressure_falls_to_zero, held_start_runs_when_backpressure_falls_to_zero_labels)
+
 -- a: s; b: g; c: m
 abbrev pub outer_caller_is_resumed_while_a_direct_callee_blocks : ScenarioDef
 outer_caller_is_resumed_while_a_direct_callee_blocks = record {
@@ -196,3 +206,7 @@ outer_caller_is_resumed_while_a_direct_callee_blocks_labels = label.Main (main_l
     label.Set (set_label.New 1 3) ∷ label.Thread (thread_label.Pauses 3) ∷ label.Loop loop_label.MainPends ∷ label.Take (take.Thread mark.Switch 1) ∷
     label.Call (call_label.Call 17 1) ∷ label.Task (task_label.Ret 1 17) ∷ label.Task (task_label.Exit 1) ∷ label.Main (main_label.Finish 1 17) ∷
     label.Main (main_label.Answer 17) ∷ []
+
+abbrev pub outer_caller_is_resumed_while_a_direct_callee_blocks_run : ScenarioDef × List Label
+outer_caller_is_resumed_while_a_direct_callee_blocks_run =
+    (outer_caller_is_resumed_while_a_direct_callee_blocks, outer_caller_is_resumed_while_a_direct_callee_blocks_labels)

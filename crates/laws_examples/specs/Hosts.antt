@@ -62,6 +62,9 @@ async_host_calls_ready_at_once_and_later_labels = label.Main (main_label.Start 1
     label.Take (take.HostWakes mark.High 2 1) ∷ label.Loop loop_label.MainPends ∷ label.Take (take.Event mark.High (given.Subtask status.Returned 2) 1) ∷
     label.Task (task_label.Ret 1 9) ∷ label.Task (task_label.Exit 1) ∷ label.Main (main_label.Finish 1 9) ∷ label.Main (main_label.Answer 9) ∷ []
 
+abbrev pub async_host_calls_ready_at_once_and_later_run : ScenarioDef × List Label
+async_host_calls_ready_at_once_and_later_run = (async_host_calls_ready_at_once_and_later, async_host_calls_ready_at_once_and_later_labels)
+
 -- no instance
 abbrev pub awaited_never_ending_spawn_is_idle : ScenarioDef
 awaited_never_ending_spawn_is_idle = record {
@@ -82,6 +85,9 @@ abbrev pub awaited_never_ending_spawn_is_idle_labels : List Label
 awaited_never_ending_spawn_is_idle_labels = label.Main (main_label.Spawn 1 1) ∷ label.Loop loop_label.MainPends ∷ label.Take (take.Push mark.High 1) ∷
     label.Loop loop_label.MainPends ∷ label.Loop (loop_label.FuturePends 1) ∷ []
 
+abbrev pub awaited_never_ending_spawn_is_idle_run : ScenarioDef × List Label
+awaited_never_ending_spawn_is_idle_run = (awaited_never_ending_spawn_is_idle, awaited_never_ending_spawn_is_idle_labels)
+
 -- no instance
 abbrev pub failing_spawn_fails_the_run : ScenarioDef
 failing_spawn_fails_the_run = record {
@@ -100,6 +106,9 @@ failing_spawn_fails_the_run = record {
 abbrev pub failing_spawn_fails_the_run_labels : List Label
 failing_spawn_fails_the_run_labels = label.Main (main_label.Spawn 1 1) ∷ label.Loop loop_label.MainPends ∷ label.Take (take.Push mark.High 1) ∷
     label.Loop loop_label.MainPends ∷ label.Loop (loop_label.FutureFails 1) ∷ []
+
+abbrev pub failing_spawn_fails_the_run_run : ScenarioDef × List Label
+failing_spawn_fails_the_run_run = (failing_spawn_fails_the_run, failing_spawn_fails_the_run_labels)
 
 -- a: f
 abbrev pub live_never_ending_spawn_is_idle_under_idle_trap : ScenarioDef
@@ -133,6 +142,10 @@ live_never_ending_spawn_is_idle_under_idle_trap_labels = label.Main (main_label.
     label.Set (set_label.New 1 1) ∷ label.Thread (thread_label.Pauses 1) ∷ label.Loop loop_label.MainPends ∷ label.Loop (loop_label.FuturePends 1) ∷
     []
 
+abbrev pub live_never_ending_spawn_is_idle_under_idle_trap_run : ScenarioDef × List Label
+live_never_ending_spawn_is_idle_under_idle_trap_run =
+    (live_never_ending_spawn_is_idle_under_idle_trap, live_never_ending_spawn_is_idle_under_idle_trap_labels)
+
 -- a: f
 abbrev pub live_never_ending_spawn_is_idle_under_idle_wait : ScenarioDef
 live_never_ending_spawn_is_idle_under_idle_wait = record {
@@ -165,6 +178,10 @@ live_never_ending_spawn_is_idle_under_idle_wait_labels = label.Main (main_label.
     label.Set (set_label.New 1 1) ∷ label.Thread (thread_label.Pauses 1) ∷ label.Loop loop_label.MainPends ∷ label.Loop (loop_label.FuturePends 1) ∷
     []
 
+abbrev pub live_never_ending_spawn_is_idle_under_idle_wait_run : ScenarioDef × List Label
+live_never_ending_spawn_is_idle_under_idle_wait_run =
+    (live_never_ending_spawn_is_idle_under_idle_wait, live_never_ending_spawn_is_idle_under_idle_wait_labels)
+
 -- no instance
 abbrev pub main_aborts_a_never_ending_spawn : ScenarioDef
 main_aborts_a_never_ending_spawn = record {
@@ -186,6 +203,9 @@ abbrev pub main_aborts_a_never_ending_spawn_labels : List Label
 main_aborts_a_never_ending_spawn_labels = label.Main (main_label.Spawn 1 1) ∷ label.Main (main_label.Abort phase.Running 1) ∷ label.Loop loop_label.MainPends ∷
     label.Take (take.Push mark.High 1) ∷ label.Loop loop_label.MainPends ∷ label.Loop (loop_label.FutureEnds 1) ∷ label.Main (main_label.Await 1) ∷
     label.Main (main_label.Answer 4) ∷ []
+
+abbrev pub main_aborts_a_never_ending_spawn_run : ScenarioDef × List Label
+main_aborts_a_never_ending_spawn_run = (main_aborts_a_never_ending_spawn, main_aborts_a_never_ending_spawn_labels)
 
 -- a: f
 abbrev pub set_drop_with_a_member_and_no_waiter_traps : ScenarioDef
@@ -217,6 +237,10 @@ abbrev pub set_drop_with_a_member_and_no_waiter_traps_labels : List Label
 set_drop_with_a_member_and_no_waiter_traps_labels = label.Main (main_label.Start 1 1) ∷ label.Loop loop_label.MainPends ∷ label.Take (take.Thread mark.High 1) ∷
     label.Set (set_label.New 1 1) ∷ label.Call (call_label.CallPolls 33 1 1) ∷ label.Set (set_label.Join 1) ∷ label.Loop (loop_label.Trap trap.TableHasChildren 1) ∷
     []
+
+abbrev pub set_drop_with_a_member_and_no_waiter_traps_run : ScenarioDef × List Label
+set_drop_with_a_member_and_no_waiter_traps_run =
+    (set_drop_with_a_member_and_no_waiter_traps, set_drop_with_a_member_and_no_waiter_traps_labels)
 
 -- a: f
 abbrev pub sync_host_calls_are_answered_at_once_and_later : ScenarioDef
@@ -250,6 +274,10 @@ sync_host_calls_are_answered_at_once_and_later_labels = label.Main (main_label.S
     label.Data (data_label.Add 1 11) ∷ label.Task (task_label.Ret 1 11) ∷ label.Task (task_label.Exit 1) ∷ label.Main (main_label.Finish 1 11) ∷
     label.Main (main_label.Answer 11) ∷ []
 
+abbrev pub sync_host_calls_are_answered_at_once_and_later_run : ScenarioDef × List Label
+sync_host_calls_are_answered_at_once_and_later_run =
+    (sync_host_calls_are_answered_at_once_and_later, sync_host_calls_are_answered_at_once_and_later_labels)
+
 -- no instance
 abbrev pub abort_answers_the_phase_that_it_found : ScenarioDef
 abort_answers_the_phase_that_it_found = record {
@@ -270,3 +298,6 @@ abbrev pub abort_answers_the_phase_that_it_found_labels : List Label
 abort_answers_the_phase_that_it_found_labels = label.Main (main_label.Spawn 1 1) ∷ label.Main (main_label.Abort phase.Running 1) ∷ label.Main (main_label.Abort phase.AbortRequested 1) ∷
     label.Loop loop_label.MainPends ∷ label.Take (take.Push mark.High 1) ∷ label.Loop loop_label.MainPends ∷ label.Loop (loop_label.FutureEnds 1) ∷
     label.Main (main_label.Await 1) ∷ label.Main (main_label.Abort phase.Complete 1) ∷ label.Main (main_label.Answer 3) ∷ []
+
+abbrev pub abort_answers_the_phase_that_it_found_run : ScenarioDef × List Label
+abort_answers_the_phase_that_it_found_run = (abort_answers_the_phase_that_it_found, abort_answers_the_phase_that_it_found_labels)

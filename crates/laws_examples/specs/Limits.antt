@@ -47,6 +47,10 @@ full_table_refuses_a_start_and_the_run_goes_on_labels = label.Main (main_label.S
     label.Main (main_label.StartRefused trap.CannotEnterComponent 3) ∷ label.Loop loop_label.MainPends ∷ label.Take (take.Thread mark.High 1) ∷
     label.Task (task_label.Ret 1 1) ∷ label.Task (task_label.Exit 1) ∷ label.Main (main_label.Finish 1 1) ∷ label.Main (main_label.Answer 1) ∷ []
 
+abbrev pub full_table_refuses_a_start_and_the_run_goes_on_run : ScenarioDef × List Label
+full_table_refuses_a_start_and_the_run_goes_on_run =
+    (full_table_refuses_a_start_and_the_run_goes_on, full_table_refuses_a_start_and_the_run_goes_on_labels)
+
 -- a: f
 abbrev pub handle_limit_one_suffices_for_one_thread : ScenarioDef
 handle_limit_one_suffices_for_one_thread = record {
@@ -70,6 +74,9 @@ handle_limit_one_suffices_for_one_thread = record {
 abbrev pub handle_limit_one_suffices_for_one_thread_labels : List Label
 handle_limit_one_suffices_for_one_thread_labels = label.Main (main_label.Start 1 1) ∷ label.Loop loop_label.MainPends ∷ label.Take (take.Thread mark.High 1) ∷
     label.Task (task_label.Ret 1 7) ∷ label.Task (task_label.Exit 1) ∷ label.Main (main_label.Finish 1 7) ∷ label.Main (main_label.Answer 7) ∷ []
+
+abbrev pub handle_limit_one_suffices_for_one_thread_run : ScenarioDef × List Label
+handle_limit_one_suffices_for_one_thread_run = (handle_limit_one_suffices_for_one_thread, handle_limit_one_suffices_for_one_thread_labels)
 
 -- a: f
 abbrev pub handle_limit_zero_traps_the_first_start : ScenarioDef
@@ -95,6 +102,9 @@ abbrev pub handle_limit_zero_traps_the_first_start_labels : List Label
 handle_limit_zero_traps_the_first_start_labels = label.Main (main_label.Start 1 1) ∷ label.Loop loop_label.MainPends ∷ label.Loop (loop_label.Trap trap.HandleLimit 1) ∷
     []
 
+abbrev pub handle_limit_zero_traps_the_first_start_run : ScenarioDef × List Label
+handle_limit_zero_traps_the_first_start_run = (handle_limit_zero_traps_the_first_start, handle_limit_zero_traps_the_first_start_labels)
+
 -- a: f
 abbrev pub small_table_refuses_the_only_start : ScenarioDef
 small_table_refuses_the_only_start = record {
@@ -118,6 +128,9 @@ small_table_refuses_the_only_start = record {
 abbrev pub small_table_refuses_the_only_start_labels : List Label
 small_table_refuses_the_only_start_labels = label.Main (main_label.StartRefused trap.TableFull 1) ∷ label.Main (main_label.FinishRefused trap.TableFull 1) ∷
     label.Main (main_label.Answer 0) ∷ []
+
+abbrev pub small_table_refuses_the_only_start_run : ScenarioDef × List Label
+small_table_refuses_the_only_start_run = (small_table_refuses_the_only_start, small_table_refuses_the_only_start_labels)
 
 -- a: f
 abbrev pub full_table_traps_a_pending_host_call : ScenarioDef
@@ -145,3 +158,6 @@ full_table_traps_a_pending_host_call = record {
 abbrev pub full_table_traps_a_pending_host_call_labels : List Label
 full_table_traps_a_pending_host_call_labels = label.Main (main_label.Start 1 1) ∷ label.Loop loop_label.MainPends ∷ label.Take (take.Thread mark.High 1) ∷
     label.Loop (loop_label.Trap trap.TableFull 1) ∷ []
+
+abbrev pub full_table_traps_a_pending_host_call_run : ScenarioDef × List Label
+full_table_traps_a_pending_host_call_run = (full_table_traps_a_pending_host_call, full_table_traps_a_pending_host_call_labels)

@@ -139,3 +139,7 @@ pub record Example (x : ScenarioDef) (steps : ℕ) (labels : List Label) (o : Ou
   pub last : State
   pub run : Run (setting_of x) (opens x) labels last
   pub ends : IsOutcome (setting_of x) last labels steps o
+
+-- the same of a scenario and its labels
+abbrev pub Runs : ScenarioDef × List Label → (steps : ℕ) → Outcome → Type 0
+Runs run steps o = Example run.0 steps run.1 o

@@ -100,3 +100,7 @@ generated_scenario_of_one_request_runs_to_done_labels = label.Main (main_label.S
     label.Task (task_label.Exit 2) ∷ label.Loop loop_label.MainPends ∷ label.Take (take.Thread mark.High 1) ∷ label.Call (call_label.CallSync 1 102) ∷
     label.Task (task_label.Ret 1 102) ∷ label.Task (task_label.Exit 1) ∷ label.Main (main_label.Finish 1 102) ∷ label.Main (main_label.Answer 102) ∷
     []
+
+abbrev pub generated_scenario_of_one_request_runs_to_done_run : ScenarioDef × List Label
+generated_scenario_of_one_request_runs_to_done_run =
+    (generated_scenario_of_one_request_runs_to_done, generated_scenario_of_one_request_runs_to_done_labels)

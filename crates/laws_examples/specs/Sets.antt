@@ -49,6 +49,9 @@ callback_wait_on_empty_set_deadlocks_labels = label.Main (main_label.Start 1 1) 
     label.Set (set_label.New 1 1) ∷ label.Task (task_label.CbWait 1) ∷ label.Loop loop_label.MainPends ∷ label.Loop (loop_label.Deadlock trap.AsyncDeadlock) ∷
     []
 
+abbrev pub callback_wait_on_empty_set_deadlocks_run : ScenarioDef × List Label
+callback_wait_on_empty_set_deadlocks_run = (callback_wait_on_empty_set_deadlocks, callback_wait_on_empty_set_deadlocks_labels)
+
 -- a: f
 abbrev pub callback_wait_on_empty_set_is_idle_under_idle_wait : ScenarioDef
 callback_wait_on_empty_set_is_idle_under_idle_wait = record {
@@ -82,6 +85,10 @@ abbrev pub callback_wait_on_empty_set_is_idle_under_idle_wait_labels : List Labe
 callback_wait_on_empty_set_is_idle_under_idle_wait_labels = label.Main (main_label.Start 1 1) ∷ label.Loop loop_label.MainPends ∷ label.Take (take.Thread mark.High 1) ∷
     label.Set (set_label.New 1 1) ∷ label.Task (task_label.CbWait 1) ∷ label.Loop loop_label.MainPends ∷ []
 
+abbrev pub callback_wait_on_empty_set_is_idle_under_idle_wait_run : ScenarioDef × List Label
+callback_wait_on_empty_set_is_idle_under_idle_wait_run =
+    (callback_wait_on_empty_set_is_idle_under_idle_wait, callback_wait_on_empty_set_is_idle_under_idle_wait_labels)
+
 -- a: f
 abbrev pub freed_set_handle_is_given_again_up_to_the_limit : ScenarioDef
 freed_set_handle_is_given_again_up_to_the_limit = record {
@@ -113,6 +120,10 @@ freed_set_handle_is_given_again_up_to_the_limit_labels = label.Main (main_label.
     label.Set (set_label.New 1 1) ∷ label.Set (set_label.Drop 1) ∷ label.Set (set_label.New 1 1) ∷ label.Loop (loop_label.Trap trap.HandleLimit 1) ∷
     []
 
+abbrev pub freed_set_handle_is_given_again_up_to_the_limit_run : ScenarioDef × List Label
+freed_set_handle_is_given_again_up_to_the_limit_run =
+    (freed_set_handle_is_given_again_up_to_the_limit, freed_set_handle_is_given_again_up_to_the_limit_labels)
+
 -- a: f
 abbrev pub handle_limit_one_stops_the_first_set : ScenarioDef
 handle_limit_one_stops_the_first_set = record {
@@ -143,6 +154,9 @@ handle_limit_one_stops_the_first_set = record {
 abbrev pub handle_limit_one_stops_the_first_set_labels : List Label
 handle_limit_one_stops_the_first_set_labels = label.Main (main_label.Start 1 1) ∷ label.Loop loop_label.MainPends ∷ label.Take (take.Thread mark.High 1) ∷
     label.Loop (loop_label.Trap trap.HandleLimit 1) ∷ []
+
+abbrev pub handle_limit_one_stops_the_first_set_run : ScenarioDef × List Label
+handle_limit_one_stops_the_first_set_run = (handle_limit_one_stops_the_first_set, handle_limit_one_stops_the_first_set_labels)
 
 -- a: f
 abbrev pub handle_limit_zero_stops_the_start : ScenarioDef
@@ -176,6 +190,9 @@ abbrev pub handle_limit_zero_stops_the_start_labels : List Label
 handle_limit_zero_stops_the_start_labels = label.Main (main_label.Start 1 1) ∷ label.Loop loop_label.MainPends ∷ label.Loop (loop_label.Trap trap.HandleLimit 1) ∷
     []
 
+abbrev pub handle_limit_zero_stops_the_start_run : ScenarioDef × List Label
+handle_limit_zero_stops_the_start_run = (handle_limit_zero_stops_the_start, handle_limit_zero_stops_the_start_labels)
+
 -- a: f
 abbrev pub unknown_callback_code_traps : ScenarioDef
 unknown_callback_code_traps = record {
@@ -200,3 +217,6 @@ unknown_callback_code_traps = record {
 abbrev pub unknown_callback_code_traps_labels : List Label
 unknown_callback_code_traps_labels = label.Main (main_label.Start 1 1) ∷ label.Loop loop_label.MainPends ∷ label.Take (take.Thread mark.High 1) ∷
     label.Loop (loop_label.Trap trap.UnsupportedCallbackCode 1) ∷ []
+
+abbrev pub unknown_callback_code_traps_run : ScenarioDef × List Label
+unknown_callback_code_traps_run = (unknown_callback_code_traps, unknown_callback_code_traps_labels)

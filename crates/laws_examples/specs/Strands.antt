@@ -48,6 +48,9 @@ abbrev pub return_in_a_sync_export_traps_labels : List Label
 return_in_a_sync_export_traps_labels = label.Main (main_label.Start 1 1) ∷ label.Loop loop_label.MainPends ∷ label.Take (take.Thread mark.High 1) ∷
     label.Loop (loop_label.Trap trap.TaskReturnInvalid 1) ∷ []
 
+abbrev pub return_in_a_sync_export_traps_run : ScenarioDef × List Label
+return_in_a_sync_export_traps_run = (return_in_a_sync_export_traps, return_in_a_sync_export_traps_labels)
+
 -- a: f
 abbrev pub sync_export_answers_its_first_register : ScenarioDef
 sync_export_answers_its_first_register = record {
@@ -71,6 +74,9 @@ sync_export_answers_its_first_register = record {
 abbrev pub sync_export_answers_its_first_register_labels : List Label
 sync_export_answers_its_first_register_labels = label.Main (main_label.Start 1 1) ∷ label.Loop loop_label.MainPends ∷ label.Take (take.Thread mark.High 1) ∷
     label.Data (data_label.Add 1 8) ∷ label.Task (task_label.Exit 1) ∷ label.Main (main_label.Finish 1 8) ∷ label.Main (main_label.Answer 8) ∷ []
+
+abbrev pub sync_export_answers_its_first_register_run : ScenarioDef × List Label
+sync_export_answers_its_first_register_run = (sync_export_answers_its_first_register, sync_export_answers_its_first_register_labels)
 
 -- a: g, f
 abbrev pub sync_wait_promotes_a_yield_then_deadlock_nine : ScenarioDef
@@ -106,6 +112,10 @@ sync_wait_promotes_a_yield_then_deadlock_nine_labels = label.Main (main_label.St
     label.Take (take.Event mark.Switch given.Nothing 1) ∷ label.Task (task_label.CbWait 1) ∷ label.Loop loop_label.MainPends ∷ label.Loop (loop_label.Deadlock trap.CannotBlockSyncTask) ∷
     []
 
+abbrev pub sync_wait_promotes_a_yield_then_deadlock_nine_run : ScenarioDef × List Label
+sync_wait_promotes_a_yield_then_deadlock_nine_run =
+    (sync_wait_promotes_a_yield_then_deadlock_nine, sync_wait_promotes_a_yield_then_deadlock_nine_labels)
+
 -- a: g, f
 abbrev pub sync_wait_promotes_a_yield_whose_exit_then_traps : ScenarioDef
 sync_wait_promotes_a_yield_whose_exit_then_traps = record {
@@ -139,6 +149,10 @@ sync_wait_promotes_a_yield_whose_exit_then_traps_labels = label.Main (main_label
     label.Set (set_label.New 1 2) ∷ label.Thread (thread_label.Pauses 2) ∷ label.Loop loop_label.MainPends ∷ label.Take (take.Event mark.Switch given.Nothing 1) ∷
     label.Task (task_label.Ret 1 0) ∷ label.Loop (loop_label.Trap trap.CannotBlockSyncTask 1) ∷ []
 
+abbrev pub sync_wait_promotes_a_yield_whose_exit_then_traps_run : ScenarioDef × List Label
+sync_wait_promotes_a_yield_whose_exit_then_traps_run =
+    (sync_wait_promotes_a_yield_whose_exit_then_traps, sync_wait_promotes_a_yield_whose_exit_then_traps_labels)
+
 -- a: g, f
 abbrev pub wait_in_sync_export_with_nothing_to_promote_traps : ScenarioDef
 wait_in_sync_export_with_nothing_to_promote_traps = record {
@@ -169,6 +183,10 @@ wait_in_sync_export_with_nothing_to_promote_traps = record {
 abbrev pub wait_in_sync_export_with_nothing_to_promote_traps_labels : List Label
 wait_in_sync_export_with_nothing_to_promote_traps_labels = label.Main (main_label.Start 1 1) ∷ label.Loop loop_label.MainPends ∷ label.Take (take.Thread mark.High 1) ∷
     label.Set (set_label.New 1 1) ∷ label.Loop (loop_label.Trap trap.CannotBlockSyncTask 1) ∷ []
+
+abbrev pub wait_in_sync_export_with_nothing_to_promote_traps_run : ScenarioDef × List Label
+wait_in_sync_export_with_nothing_to_promote_traps_run =
+    (wait_in_sync_export_with_nothing_to_promote_traps, wait_in_sync_export_with_nothing_to_promote_traps_labels)
 
 -- a: f
 abbrev pub wait_on_empty_set_deadlocks : ScenarioDef
@@ -204,6 +222,9 @@ wait_on_empty_set_deadlocks_labels = label.Main (main_label.Start 1 1) ∷ label
     label.Set (set_label.New 1 1) ∷ label.Thread (thread_label.Pauses 1) ∷ label.Loop loop_label.MainPends ∷ label.Loop (loop_label.Deadlock trap.AsyncDeadlock) ∷
     []
 
+abbrev pub wait_on_empty_set_deadlocks_run : ScenarioDef × List Label
+wait_on_empty_set_deadlocks_run = (wait_on_empty_set_deadlocks, wait_on_empty_set_deadlocks_labels)
+
 -- a: f
 abbrev pub wait_on_empty_set_is_idle_under_idle_wait : ScenarioDef
 wait_on_empty_set_is_idle_under_idle_wait = record {
@@ -233,3 +254,7 @@ wait_on_empty_set_is_idle_under_idle_wait = record {
 abbrev pub wait_on_empty_set_is_idle_under_idle_wait_labels : List Label
 wait_on_empty_set_is_idle_under_idle_wait_labels = label.Main (main_label.Start 1 1) ∷ label.Loop loop_label.MainPends ∷ label.Take (take.Thread mark.High 1) ∷
     label.Set (set_label.New 1 1) ∷ label.Thread (thread_label.Pauses 1) ∷ label.Loop loop_label.MainPends ∷ []
+
+abbrev pub wait_on_empty_set_is_idle_under_idle_wait_run : ScenarioDef × List Label
+wait_on_empty_set_is_idle_under_idle_wait_run =
+    (wait_on_empty_set_is_idle_under_idle_wait, wait_on_empty_set_is_idle_under_idle_wait_labels)

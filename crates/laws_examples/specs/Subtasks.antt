@@ -93,6 +93,9 @@ cancel_of_a_yield_that_stands_at_switch_labels = label.Main (main_label.Start 1 
     label.Task (task_label.Exit 5) ∷ label.Loop loop_label.MainPends ∷ label.Take (take.Thread mark.Switch 4) ∷ label.Call (call_label.Cancel 4 4) ∷
     label.Task (task_label.Ret 4 4) ∷ label.Task (task_label.Exit 4) ∷ label.Main (main_label.Finish 4 4) ∷ label.Main (main_label.Answer 4) ∷ []
 
+abbrev pub cancel_of_a_yield_that_stands_at_switch_run : ScenarioDef × List Label
+cancel_of_a_yield_that_stands_at_switch_run = (cancel_of_a_yield_that_stands_at_switch, cancel_of_a_yield_that_stands_at_switch_labels)
+
 -- a: s, f, y; b: c, d
 abbrev pub cancel_of_a_yield_that_stands_at_high : ScenarioDef
 cancel_of_a_yield_that_stands_at_high = record {
@@ -160,6 +163,9 @@ cancel_of_a_yield_that_stands_at_high_labels = label.Main (main_label.Start 1 1)
     label.Loop loop_label.MainPends ∷ label.Take (take.Thread mark.Switch 4) ∷ label.Call (call_label.Cancel 4 4) ∷ label.Task (task_label.Ret 4 4) ∷
     label.Task (task_label.Exit 4) ∷ label.Main (main_label.Finish 4 4) ∷ label.Main (main_label.Answer 4) ∷ []
 
+abbrev pub cancel_of_a_yield_that_stands_at_high_run : ScenarioDef × List Label
+cancel_of_a_yield_that_stands_at_high_run = (cancel_of_a_yield_that_stands_at_high, cancel_of_a_yield_that_stands_at_high_labels)
+
 -- a: f
 abbrev pub cancel_of_a_host_call_whose_entry_was_not_taken_leaves_its_value : ScenarioDef
 cancel_of_a_host_call_whose_entry_was_not_taken_leaves_its_value = record {
@@ -199,6 +205,12 @@ cancel_of_a_host_call_whose_entry_was_not_taken_leaves_its_value_labels = label.
     label.Call (call_label.Cancel 4294967295 1) ∷ label.Set (set_label.Join 1) ∷ label.Thread (thread_label.Pauses 1) ∷ label.Loop loop_label.MainPends ∷
     label.Take (take.HostWakes mark.High 2 1) ∷ label.Loop loop_label.MainPends ∷ label.Take (take.Thread mark.High 1) ∷ label.Set (set_label.Wait (given.Subtask status.Returned 3) 1) ∷
     label.Task (task_label.Ret 1 6) ∷ label.Task (task_label.Exit 1) ∷ label.Main (main_label.Finish 1 6) ∷ label.Main (main_label.Answer 6) ∷ []
+
+abbrev pub cancel_of_a_host_call_whose_entry_was_not_taken_leaves_its_value_run : ScenarioDef × List Label
+cancel_of_a_host_call_whose_entry_was_not_taken_leaves_its_value_run = (
+  cancel_of_a_host_call_whose_entry_was_not_taken_leaves_its_value,
+  cancel_of_a_host_call_whose_entry_was_not_taken_leaves_its_value_labels,
+)
 
 -- a: h; b: f
 abbrev pub cancel_after_the_end_was_taken_traps : ScenarioDef
@@ -249,6 +261,9 @@ cancel_after_the_end_was_taken_traps_labels = label.Main (main_label.Start 1 1) 
     label.RetWakes 2 1 1 ∷ label.Task (task_label.Exit 2) ∷ label.Loop loop_label.MainPends ∷ label.Take (take.Thread mark.High 1) ∷ label.Set (set_label.Wait (given.Subtask status.Returned 1) 1) ∷
     label.Set (set_label.Join 1) ∷ label.Loop (loop_label.Trap trap.SubtaskCancelAfterTerminal 1) ∷ []
 
+abbrev pub cancel_after_the_end_was_taken_traps_run : ScenarioDef × List Label
+cancel_after_the_end_was_taken_traps_run = (cancel_after_the_end_was_taken_traps, cancel_after_the_end_was_taken_traps_labels)
+
 -- a: h; b: f
 abbrev pub drop_before_the_end_was_taken_traps : ScenarioDef
 drop_before_the_end_was_taken_traps = record {
@@ -295,6 +310,9 @@ drop_before_the_end_was_taken_traps_labels = label.Main (main_label.Start 1 1) �
     label.Thread (thread_label.Pauses 1) ∷ label.Loop loop_label.MainPends ∷ label.Take (take.Thread mark.Low 1) ∷ label.Thread (thread_label.Yield 1) ∷
     label.Loop (loop_label.Trap trap.SubtaskDropNotResolved 1) ∷ []
 
+abbrev pub drop_before_the_end_was_taken_traps_run : ScenarioDef × List Label
+drop_before_the_end_was_taken_traps_run = (drop_before_the_end_was_taken_traps, drop_before_the_end_was_taken_traps_labels)
+
 -- a: h; b: f
 abbrev pub task_cancel_after_a_return_traps : ScenarioDef
 task_cancel_after_a_return_traps = record {
@@ -336,6 +354,9 @@ task_cancel_after_a_return_traps_labels = label.Main (main_label.Start 1 1) ∷ 
     label.Data (data_label.Handle 1 1) ∷ label.Thread (thread_label.Pauses 1) ∷ label.Loop loop_label.MainPends ∷ label.Take (take.Event mark.Switch given.Cancelled 2) ∷
     label.Task (task_label.Ret 2 1) ∷ label.Loop (loop_label.Trap trap.TaskCancelOrReturnTwice 2) ∷ []
 
+abbrev pub task_cancel_after_a_return_traps_run : ScenarioDef × List Label
+task_cancel_after_a_return_traps_run = (task_cancel_after_a_return_traps, task_cancel_after_a_return_traps_labels)
+
 -- a: f
 abbrev pub set_drop_with_a_waiter_traps : ScenarioDef
 set_drop_with_a_waiter_traps = record {
@@ -372,6 +393,9 @@ set_drop_with_a_waiter_traps_labels = label.Main (main_label.Start 1 1) ∷ labe
     label.Set (set_label.New 1 1) ∷ label.Thread (thread_label.New 2 1 2) ∷ label.Thread (thread_label.ResumeLater 1) ∷ label.Thread (thread_label.Pauses 1) ∷
     label.Loop loop_label.MainPends ∷ label.Take (take.Thread mark.Low 2) ∷ label.Thread (thread_label.Pauses 2) ∷ label.Loop loop_label.MainPends ∷
     label.Take (take.Thread mark.Low 1) ∷ label.Thread (thread_label.Yield 1) ∷ label.Loop (loop_label.Trap trap.WaitableSetDropHasWaiters 1) ∷ []
+
+abbrev pub set_drop_with_a_waiter_traps_run : ScenarioDef × List Label
+set_drop_with_a_waiter_traps_run = (set_drop_with_a_waiter_traps, set_drop_with_a_waiter_traps_labels)
 
 -- b: shut, open, s, c; a: f
 abbrev pub caller_is_woken_by_a_start_and_by_ends : ScenarioDef
@@ -447,3 +471,6 @@ caller_is_woken_by_a_start_and_by_ends_labels = label.Main (main_label.Start 1 1
     label.Take (take.Event mark.Low given.Nothing 5) ∷ label.Data (data_label.SkipEq 5) ∷ label.Task (task_label.TaskCancelWakes 5 1) ∷ label.Task (task_label.Exit 5) ∷
     label.Loop loop_label.MainPends ∷ label.Take (take.Thread mark.High 1) ∷ label.Set (set_label.Wait (given.Subtask status.ReturnCancelled 2) 1) ∷
     label.Task (task_label.Ret 1 8) ∷ label.Task (task_label.Exit 1) ∷ label.Main (main_label.Finish 1 8) ∷ label.Main (main_label.Answer 8) ∷ []
+
+abbrev pub caller_is_woken_by_a_start_and_by_ends_run : ScenarioDef × List Label
+caller_is_woken_by_a_start_and_by_ends_run = (caller_is_woken_by_a_start_and_by_ends, caller_is_woken_by_a_start_and_by_ends_labels)

@@ -74,6 +74,10 @@ join_of_a_subtask_under_sync_cancel_traps_labels = label.Main (main_label.Start 
     label.Thread (thread_label.Pauses 1) ∷ label.Loop loop_label.MainPends ∷ label.Take (take.Thread mark.Low 3) ∷ label.Loop (loop_label.Trap trap.WaitableSyncAndAsync 3) ∷
     []
 
+abbrev pub join_of_a_subtask_under_sync_cancel_traps_run : ScenarioDef × List Label
+join_of_a_subtask_under_sync_cancel_traps_run =
+    (join_of_a_subtask_under_sync_cancel_traps, join_of_a_subtask_under_sync_cancel_traps_labels)
+
 -- a: g
 abbrev pub set_drop_with_a_woken_waiter_that_has_not_run_traps : ScenarioDef
 set_drop_with_a_woken_waiter_that_has_not_run_traps = record {
@@ -110,6 +114,10 @@ set_drop_with_a_woken_waiter_that_has_not_run_traps_labels = label.Main (main_la
     label.Thread (thread_label.Pauses 2) ∷ label.Loop loop_label.MainPends ∷ label.Take (take.Thread mark.Low 1) ∷ label.Thread (thread_label.Yield 1) ∷
     label.Set (set_label.JoinWakes 1 2) ∷ label.Set (set_label.Join 1) ∷ label.Loop (loop_label.Trap trap.WaitableSetDropHasWaiters 1) ∷ []
 
+abbrev pub set_drop_with_a_woken_waiter_that_has_not_run_traps_run : ScenarioDef × List Label
+set_drop_with_a_woken_waiter_that_has_not_run_traps_run =
+    (set_drop_with_a_woken_waiter_that_has_not_run_traps, set_drop_with_a_woken_waiter_that_has_not_run_traps_labels)
+
 -- a: f
 abbrev pub thread_new_from_a_bad_slot_traps : ScenarioDef
 thread_new_from_a_bad_slot_traps = record {
@@ -141,6 +149,9 @@ abbrev pub thread_new_from_a_bad_slot_traps_labels : List Label
 thread_new_from_a_bad_slot_traps_labels = label.Main (main_label.Start 1 1) ∷ label.Loop loop_label.MainPends ∷ label.Take (take.Thread mark.High 1) ∷
     label.Loop (loop_label.Trap trap.ThreadNewIndirectInvalidType 1) ∷ []
 
+abbrev pub thread_new_from_a_bad_slot_traps_run : ScenarioDef × List Label
+thread_new_from_a_bad_slot_traps_run = (thread_new_from_a_bad_slot_traps, thread_new_from_a_bad_slot_traps_labels)
+
 -- a: f
 abbrev pub thread_new_from_a_slot_without_a_line_traps : ScenarioDef
 thread_new_from_a_slot_without_a_line_traps = record {
@@ -170,6 +181,10 @@ thread_new_from_a_slot_without_a_line_traps = record {
 abbrev pub thread_new_from_a_slot_without_a_line_traps_labels : List Label
 thread_new_from_a_slot_without_a_line_traps_labels = label.Main (main_label.Start 1 1) ∷ label.Loop loop_label.MainPends ∷ label.Take (take.Thread mark.High 1) ∷
     label.Loop (loop_label.Trap trap.ThreadNewIndirectUninitialized 1) ∷ []
+
+abbrev pub thread_new_from_a_slot_without_a_line_traps_run : ScenarioDef × List Label
+thread_new_from_a_slot_without_a_line_traps_run =
+    (thread_new_from_a_slot_without_a_line_traps, thread_new_from_a_slot_without_a_line_traps_labels)
 
 -- a: f
 abbrev pub thread_that_resumes_itself_traps : ScenarioDef
@@ -202,6 +217,9 @@ thread_that_resumes_itself_traps = record {
 abbrev pub thread_that_resumes_itself_traps_labels : List Label
 thread_that_resumes_itself_traps_labels = label.Main (main_label.Start 1 1) ∷ label.Loop loop_label.MainPends ∷ label.Take (take.Thread mark.High 1) ∷
     label.Thread (thread_label.Index 1 1) ∷ label.Loop (loop_label.Trap trap.CannotResumeThread 1) ∷ []
+
+abbrev pub thread_that_resumes_itself_traps_run : ScenarioDef × List Label
+thread_that_resumes_itself_traps_run = (thread_that_resumes_itself_traps, thread_that_resumes_itself_traps_labels)
 
 -- a: g
 abbrev pub woken_thread_whose_event_was_taken_waits_again : ScenarioDef
@@ -243,6 +261,10 @@ woken_thread_whose_event_was_taken_waits_again_labels = label.Main (main_label.S
     label.Task (task_label.Exit 1) ∷ label.Loop loop_label.MainPends ∷ label.Take (take.Thread mark.High 2) ∷ label.Thread (thread_label.Pauses 2) ∷
     label.Loop loop_label.MainPends ∷ label.Loop (loop_label.Deadlock trap.AsyncDeadlock) ∷ []
 
+abbrev pub woken_thread_whose_event_was_taken_waits_again_run : ScenarioDef × List Label
+woken_thread_whose_event_was_taken_waits_again_run =
+    (woken_thread_whose_event_was_taken_waits_again, woken_thread_whose_event_was_taken_waits_again_labels)
+
 -- a: f
 abbrev pub yield_then_promote_of_an_unstarted_thread_is_a_plain_yield : ScenarioDef
 yield_then_promote_of_an_unstarted_thread_is_a_plain_yield = record {
@@ -275,6 +297,10 @@ yield_then_promote_of_an_unstarted_thread_is_a_plain_yield_labels = label.Main (
     label.Thread (thread_label.New 2 1 2) ∷ label.Thread (thread_label.Pauses 1) ∷ label.Loop loop_label.MainPends ∷ label.Take (take.Thread mark.Low 1) ∷
     label.Thread (thread_label.YieldThenPromote 1) ∷ label.Task (task_label.Ret 1 0) ∷ label.Task (task_label.Exit 1) ∷ label.Main (main_label.Finish 1 0) ∷
     label.Main (main_label.Answer 0) ∷ []
+
+abbrev pub yield_then_promote_of_an_unstarted_thread_is_a_plain_yield_run : ScenarioDef × List Label
+yield_then_promote_of_an_unstarted_thread_is_a_plain_yield_run =
+    (yield_then_promote_of_an_unstarted_thread_is_a_plain_yield, yield_then_promote_of_an_unstarted_thread_is_a_plain_yield_labels)
 
 -- a: f
 abbrev pub threads_hand_each_other_the_turn : ScenarioDef
@@ -316,3 +342,6 @@ threads_hand_each_other_the_turn_labels = label.Main (main_label.Start 1 1) ∷ 
     label.Take (take.Thread mark.Switch 2) ∷ label.Thread (thread_label.Yield 2) ∷ label.Thread (thread_label.ResumeLater 2) ∷ label.Task (task_label.Exit 2) ∷
     label.Loop loop_label.MainPends ∷ label.Take (take.Thread mark.Low 1) ∷ label.Thread (thread_label.SuspendThenPromote 1) ∷ label.Task (task_label.Ret 1 6) ∷
     label.Task (task_label.Exit 1) ∷ label.Main (main_label.Finish 1 6) ∷ label.Main (main_label.Answer 6) ∷ []
+
+abbrev pub threads_hand_each_other_the_turn_run : ScenarioDef × List Label
+threads_hand_each_other_the_turn_run = (threads_hand_each_other_the_turn, threads_hand_each_other_the_turn_labels)

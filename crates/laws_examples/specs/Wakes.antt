@@ -90,6 +90,10 @@ cancelled_delivery_hands_its_wake_to_the_next_waiter_labels = label.Main (main_l
     label.Take (take.Thread mark.High 3) ∷ label.Set (set_label.Wait (given.Subtask status.Returned 2) 3) ∷ label.Task (task_label.Ret 3 1) ∷
     label.Task (task_label.Exit 3) ∷ label.Main main_label.Quiet ∷ label.Main (main_label.Answer 4294967295) ∷ []
 
+abbrev pub cancelled_delivery_hands_its_wake_to_the_next_waiter_run : ScenarioDef × List Label
+cancelled_delivery_hands_its_wake_to_the_next_waiter_run =
+    (cancelled_delivery_hands_its_wake_to_the_next_waiter, cancelled_delivery_hands_its_wake_to_the_next_waiter_labels)
+
 -- a: f, h; b: g
 abbrev pub held_yield_stays_held_under_a_cancel : ScenarioDef
 held_yield_stays_held_under_a_cancel = record {
@@ -138,6 +142,9 @@ held_yield_stays_held_under_a_cancel_labels = label.Main (main_label.Start 1 1) 
     label.Thread (thread_label.Yield 1) ∷ label.Call (call_label.Cancel 4294967295 1) ∷ label.Task (task_label.Ret 1 4294967295) ∷ label.Task (task_label.Exit 1) ∷
     label.Main (main_label.Finish 1 4294967295) ∷ label.Main (main_label.Answer 4294967295) ∷ []
 
+abbrev pub held_yield_stays_held_under_a_cancel_run : ScenarioDef × List Label
+held_yield_stays_held_under_a_cancel_run = (held_yield_stays_held_under_a_cancel, held_yield_stays_held_under_a_cancel_labels)
+
 -- a: f; b: g
 abbrev pub cancel_leaves_a_stackful_wait_waiting : ScenarioDef
 cancel_leaves_a_stackful_wait_waiting = record {
@@ -184,6 +191,9 @@ cancel_leaves_a_stackful_wait_waiting_labels = label.Main (main_label.Start 1 1)
     label.Thread (thread_label.Pauses 2) ∷ label.Loop loop_label.MainPends ∷ label.Take (take.Thread mark.Switch 1) ∷ label.Call (call_label.Call 17 1) ∷
     label.Thread (thread_label.Pauses 1) ∷ label.Loop loop_label.MainPends ∷ label.Loop (loop_label.Deadlock trap.AsyncDeadlock) ∷ []
 
+abbrev pub cancel_leaves_a_stackful_wait_waiting_run : ScenarioDef × List Label
+cancel_leaves_a_stackful_wait_waiting_run = (cancel_leaves_a_stackful_wait_waiting, cancel_leaves_a_stackful_wait_waiting_labels)
+
 -- a: g
 abbrev pub least_waiter_is_woken : ScenarioDef
 least_waiter_is_woken = record {
@@ -224,6 +234,9 @@ least_waiter_is_woken_labels = label.Main (main_label.Start 1 1) ∷ label.Loop 
     label.Set (set_label.Wait (given.Subtask status.Returned 2) 2) ∷ label.Task (task_label.Exit 2) ∷ label.Loop loop_label.MainPends ∷ label.Loop (loop_label.Deadlock trap.AsyncDeadlock) ∷
     []
 
+abbrev pub least_waiter_is_woken_run : ScenarioDef × List Label
+least_waiter_is_woken_run = (least_waiter_is_woken, least_waiter_is_woken_labels)
+
 -- a: g
 abbrev pub woken_thread_takes_its_event_and_the_other_waits_on : ScenarioDef
 woken_thread_takes_its_event_and_the_other_waits_on = record {
@@ -263,6 +276,10 @@ woken_thread_takes_its_event_and_the_other_waits_on_labels = label.Main (main_la
     label.Thread (thread_label.Yield 1) ∷ label.Set (set_label.JoinWakes 1 2) ∷ label.Task (task_label.Exit 1) ∷ label.Loop loop_label.MainPends ∷
     label.Take (take.Thread mark.High 2) ∷ label.Set (set_label.Wait (given.Subtask status.Returned 2) 2) ∷ label.Task (task_label.Exit 2) ∷
     label.Loop loop_label.MainPends ∷ label.Loop (loop_label.Deadlock trap.AsyncDeadlock) ∷ []
+
+abbrev pub woken_thread_takes_its_event_and_the_other_waits_on_run : ScenarioDef × List Label
+woken_thread_takes_its_event_and_the_other_waits_on_run =
+    (woken_thread_takes_its_event_and_the_other_waits_on, woken_thread_takes_its_event_and_the_other_waits_on_labels)
 
 -- a: f, g
 abbrev pub woken_callback_whose_event_was_taken_waits_again : ScenarioDef
@@ -316,6 +333,10 @@ woken_callback_whose_event_was_taken_waits_again_labels = label.Main (main_label
     label.Task (task_label.Ret 1 2) ∷ label.Task (task_label.Exit 1) ∷ label.Main (main_label.Finish 1 2) ∷ label.Main (main_label.Finish 2 2) ∷
     label.Main (main_label.Answer 2) ∷ []
 
+abbrev pub woken_callback_whose_event_was_taken_waits_again_run : ScenarioDef × List Label
+woken_callback_whose_event_was_taken_waits_again_run =
+    (woken_callback_whose_event_was_taken_waits_again, woken_callback_whose_event_was_taken_waits_again_labels)
+
 -- a: f
 abbrev pub task_event_taken_by_a_woken_thread_hands_the_wake_on : ScenarioDef
 task_event_taken_by_a_woken_thread_hands_the_wake_on = record {
@@ -360,3 +381,7 @@ task_event_taken_by_a_woken_thread_hands_the_wake_on_labels = label.Main (main_l
     label.Take (take.Thread mark.High 3) ∷ label.Set (set_label.Wait (given.Subtask status.Returned 2) 3) ∷ label.Task (task_label.Exit 3) ∷
     label.Loop loop_label.MainPends ∷ label.Take (take.Event mark.Low given.Nothing 1) ∷ label.Task (task_label.Ret 1 9) ∷ label.Task (task_label.Exit 1) ∷
     label.Main (main_label.Finish 1 9) ∷ label.Main main_label.Quiet ∷ label.Main (main_label.Answer 9) ∷ []
+
+abbrev pub task_event_taken_by_a_woken_thread_hands_the_wake_on_run : ScenarioDef × List Label
+task_event_taken_by_a_woken_thread_hands_the_wake_on_run =
+    (task_event_taken_by_a_woken_thread_hands_the_wake_on, task_event_taken_by_a_woken_thread_hands_the_wake_on_labels)

@@ -7,7 +7,7 @@ use Rattle.ops_dispatch.specs.ContinuesDispatch.{DoesOp}
 use Rattle.ops_dispatch.specs.Rules.{calls_here}
 use Rattle.std.proofs.Common.{ap, sym}
 use Rattle.std.specs.Prelude.{length, take}
-use Rattle.ops_subtasks.specs.Named.{LosesCall}
+use Rattle.ops_subtasks.specs.Named.{LosesCallOf}
 use Rattle.ops_subtasks.specs.Rules.{goes_on_with, queues_call}
 use Rattle.machine_data.specs.Labels.{choice_of}
 use Rattle.machine_data.specs.Read.{op_progress_of, registers_of}
@@ -34,8 +34,8 @@ returns-in-Some-clause-does g c =
     let words = values_in (registers_of n s.core) c.args.params.now in
     let far = called_at (op_progress_of n s.core) k (sym c.in-Some.ensures.is) in
     let rule = calls_here comp c.args.register c.args.callee c.args.params.now in
-    ok_then (λ (r : OpResult). DoesRule (LosesCall k) (goes_on_with k) id s r t) (λ (r : OpResult). DoesOp NamesTold rule id s r t) c.go_on_calling.result
-    (λ r h. alike_op (LosesCall k) NamesTold (goes_on_with k) rule id s t r (status_shows n s.core SomeHost k (status_found k s.core)) c.requires.runner.current h.kept.1 e.thread (call_told k s t)
+    ok_then (λ (r : OpResult). DoesRule (LosesCallOf c.in-Some.call) (goes_on_with k) id s r t) (λ (r : OpResult). DoesOp NamesTold rule id s r t) c.go_on_calling.result
+    (λ r h. alike_op (LosesCallOf c.in-Some.call) NamesTold (goes_on_with k) rule id s t r (status_shows n s.core SomeHost k (status_found k s.core)) c.requires.runner.current h.kept.1 e.thread (call_told k s t)
     (λ d ch. ap (λ (f : OpProgress). call_rule d comp n c.args.register c.args.callee words s.core f) far) h) e.does
 
 pub returns-clause-does : goal.returns-clause-does

@@ -4,7 +4,7 @@ use Rattle.ops_dispatch.proofs.SubtaskRules.{sync_status_shows}
 use Rattle.ops_dispatch.proofs.call_dispatch.call_sync.Goals as goal
 use Rattle.ops_dispatch.specs.Rules.{calls_in_sync}
 use Rattle.std.proofs.Common.{ap, refl, sym}
-use Rattle.ops_subtasks.specs.Named.{LosesCall}
+use Rattle.ops_subtasks.specs.Named.{LosesCallOf}
 use Rattle.ops_subtasks.specs.Rules.{answers_value, goes_on_in_sync}
 use Rattle.machine_data.specs.Read.{op_progress_of, registers_of}
 use Rattle.machine_data.specs.declared.records.OpProgress.{OpProgress}
@@ -36,5 +36,5 @@ returns-in-Some-called-clause-does g c =
     let words = values_in (registers_of n s.core) c.args.params.now in
     let far = called_at (op_progress_of n s.core) k (sym c.in-Some-called.ensures.is) in
     let e = c.go_on_calling_sync.ensures in
-    alike_op (LosesCall k) NamesTold (goes_on_in_sync k) (calls_in_sync comp c.args.callee c.args.params.now) c.args.thread s t c.go_on_calling_sync.result (sync_status_shows n s.core SomeHost k (status_found k s.core)) c.requires.runner.current e.does.kept.1 e.thread (call_told k s t)
+    alike_op (LosesCallOf c.in-Some-called.call) NamesTold (goes_on_in_sync k) (calls_in_sync comp c.args.callee c.args.params.now) c.args.thread s t c.go_on_calling_sync.result (sync_status_shows n s.core SomeHost k (status_found k s.core)) c.requires.runner.current e.does.kept.1 e.thread (call_told k s t)
     (λ d ch. ap (λ (f : OpProgress). call_sync_rule d comp n c.args.callee words s.core f) far) e.does
