@@ -135,22 +135,45 @@ returns-in-None-clause-worked g c =
     let s = g.W.View.view c.args.w.now in
     c.requires.unworked ∙ ap (λ (o : Option (Mark × Entry)). tracked_entry_group o s) (sym (ap (option_map (λ (x : Mark × EntryId). (x.0, entry_in s.tags x.1))) c.in-None.is) ∙ c.take_next.ensures.next)
 
-pub returns-in-Some-default-Thread-clause-worked : goal.returns-in-Some-default-Thread-clause-worked
-returns-in-Some-default-Thread-clause-worked g c =
+pub returns-in-Ok-clause-worked : goal.returns-in-Ok-clause-worked
+returns-in-Ok-clause-worked g c =
     let s = g.W.View.view c.args.w.now in
     let q = c.in-Some-default-Thread in
     let at = q.is ∙ ap (λ (e : EntryId). Some (q.mark, e)) q.field-0-1-is in
     c.requires.unworked ∙ ap (λ (o : Option (Mark × Entry)). tracked_entry_group o s) (sym (next_is s c.take_next.result q.mark (entries.Thread q.thread) c.take_next.ensures.next at))
 
-pub returns-in-Some-default-Push-clause-worked : goal.returns-in-Some-default-Push-clause-worked
-returns-in-Some-default-Push-clause-worked g c =
+pub returns-in_default-clause-worked : goal.returns-in_default-clause-worked
+returns-in_default-clause-worked g c =
+    let s = g.W.View.view c.args.w.now in
+    let q = c.in-Some-default-Thread in
+    let at = q.is ∙ ap (λ (e : EntryId). Some (q.mark, e)) q.field-0-1-is in
+    c.requires.unworked ∙ ap (λ (o : Option (Mark × Entry)). tracked_entry_group o s) (sym (next_is s c.take_next.result q.mark (entries.Thread q.thread) c.take_next.ensures.next at))
+
+pub returns-in-Ok-put-clause-worked : goal.returns-in-Ok-put-clause-worked
+returns-in-Ok-put-clause-worked g c =
     let s = g.W.View.view c.args.w.now in
     let q = c.in-Some-default-Push in
     let at = q.is ∙ ap (λ (e : EntryId). Some (q.mark, e)) q.field-0-1-is in
     c.requires.unworked ∙ ap (λ (o : Option (Mark × Entry)). tracked_entry_group o s) (sym (next_is s c.take_next.result q.mark (entries.Push q.work) c.take_next.ensures.next at))
 
-pub returns-in-Some-default-Host-clause-worked : goal.returns-in-Some-default-Host-clause-worked
-returns-in-Some-default-Host-clause-worked g c =
+pub returns-in_default-put-clause-worked : goal.returns-in_default-put-clause-worked
+returns-in_default-put-clause-worked g c =
+    let s = g.W.View.view c.args.w.now in
+    let q = c.in-Some-default-Push in
+    let at = q.is ∙ ap (λ (e : EntryId). Some (q.mark, e)) q.field-0-1-is in
+    c.requires.unworked ∙ ap (λ (o : Option (Mark × Entry)). tracked_entry_group o s) (sym (next_is s c.take_next.result q.mark (entries.Push q.work) c.take_next.ensures.next at))
+
+pub returns-in-Ok-put-in-Some-default-Host-clause-worked : goal.returns-in-Ok-put-in-Some-default-Host-clause-worked
+returns-in-Ok-put-in-Some-default-Host-clause-worked g c =
+    let v = g.W.View.view in
+    let s = v c.args.w.now in
+    let u = v c.take_next.new.self in
+    let q = c.in-Some-default-Host in
+    let at = q.is ∙ ap (λ (e : EntryId). Some (q.mark, e)) q.field-0-1-is in
+    c.work_group.ensures ∙ worked_is s u q.mark q.work (left_is s u c.take_next.result q.mark (entries.Host q.work) c.take_next.ensures.taken at) (next_is s c.take_next.result q.mark (entries.Host q.work) c.take_next.ensures.next at)
+
+pub returns-in_default-put-in-Some-default-Host-clause-worked : goal.returns-in_default-put-in-Some-default-Host-clause-worked
+returns-in_default-put-in-Some-default-Host-clause-worked g c =
     let v = g.W.View.view in
     let s = v c.args.w.now in
     let u = v c.take_next.new.self in
