@@ -9,8 +9,8 @@ use Rattle.ops_state.specs.declared.error.TaskError.TheVariants as task_error
 use Rattle.ops_state.specs.declared.name_calls.QualifiedThreadId.{QualifiedThreadId}
 use Rattle.std.proofs.Common.{ap, arith, refl, subst, sym, ◌∙◌}
 use Rattle.std.proofs.lemmas.Bool.Decides.{nat_tests}
-use Rattle.std.specs.Prelude.{Bool, Err, None, Option, Result, Some, false, if◌then◌else◌, true, ℕ, ◌≡◌}
-use Rattle.ops_calls.specs.Tasks.{Begins, task_begun, task_made}
+use Rattle.std.specs.Prelude.{Bool, Err, None, Option, Result, Some, false, if◌then◌else◌, true, ℕ, ◌≡◌, List, Ok, [], ◌++◌, ◌+◌, ◌∷◌}
+use Rattle.ops_calls.specs.Tasks.{Begins, task_begun, task_made, KeepsFor}
 use Rattle.task_loop.proofs.EndedLemmas.{ended_works}
 use Rattle.task_loop.specs.Told.{current_group}
 use Rattle.machine_data.specs.Core.{Core}
@@ -23,8 +23,8 @@ use Rattle.machine_data.specs.declared.records.Place.TheVariants as place
 use Rattle.machine_rules.specs.Calls.{call_made}
 use Rattle.task_store.proofs.HostLemmas.{holds_same}
 use Rattle.task_store.specs.Hosts.{HoldsWorks}
-use Rattle.core_primitives.specs.Groups.{if_tracked, tracked_group}
-use Rattle.core_primitives.specs.StateView.{StateView, thread_of}
+use Rattle.core_primitives.specs.Groups.{if_tracked, tracked_group, IsAsked}
+use Rattle.core_primitives.specs.StateView.{StateView, thread_of, Tags}
 
 module _ (left : ℕ → Option HeldWork) where
   as_before : (s t : StateView) → t ≡ s → HoldsWorks left s.core → HoldsWorks left t.core
@@ -109,3 +109,21 @@ pub begun_open : (x : ExportKind) (i : ℕ) (f : Option QualifiedThreadId) (s t 
 unfolding call_made add_call add_thread add_group
 begun_open x i None s t is untrapped = ap (λ (u : Core). u.trapped) is ∙ (ap (λ (b : Bool). (if b then set_trapped (task_made x i None s) else task_made x i None s).trapped) untrapped ∙ untrapped)
 begun_open x i (Some id) s t is untrapped = ap (λ (u : Core). u.trapped) is ∙ (ap (λ (b : Bool). (if b then set_trapped (task_made x i (Some id) s) else task_made x i (Some id) s).trapped) untrapped ∙ untrapped)
+
+-- ---- Each group that has ended was told of
+
+-- a group that is made is tracked
+made_asked : (x : ExportKind) (i : ℕ) (f : Option QualifiedThreadId) (s : StateView) (new : Tags) → KeepsFor f s s.tags new → IsAsked s → new.tracked ≡ (task_made x i f s).groups
+unfolding call_made add_call add_thread add_group
+made_asked x i None s new kept is = kept.same ∙ ap (λ (gs : List ℕ). gs ++ (s.core.made.groups + 1) ∷ []) is
+made_asked x i (Some id) s new kept is = kept.same ∙ is
+
+-- a task that is made in a store that isn't trapped
+open_asked : (x : ExportKind) (i : ℕ) (f : Option QualifiedThreadId) (s t : StateView) (trapped : Bool) → t.core ≡ (if trapped then set_trapped (task_made x i f s) else task_made x i f s) → KeepsFor f s s.tags t.tags → t.core.trapped ≡ false → IsAsked s → IsAsked t
+unfolding set_trapped
+open_asked x i f s t true core kept untrapped is = absurd (let no : true ≡ false = sym (ap (λ (u : Core). u.trapped) core) ∙ untrapped in cc)
+open_asked x i f s t false core kept untrapped is = made_asked x i f s t.tags kept is ∙ sym (ap (λ (u : Core). u.groups) core)
+
+pub begun_asked : (x : ExportKind) (i : ℕ) (f : Option QualifiedThreadId) (s t : StateView) (room : Bool) (id : QualifiedThreadId) → Begins x i f s room (Ok id) t → t.core.trapped ≡ false → IsAsked s → IsAsked t
+begun_asked x i f s t false id begins untrapped is = absurd (let refused = begins.0 in cc)
+begun_asked x i f s t true id begins untrapped is = open_asked x i f s t s.core.trapped begins.becomes.core begins.becomes.tags untrapped is

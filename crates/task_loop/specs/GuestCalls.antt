@@ -29,6 +29,7 @@ use Rattle.task_store.specs.declared.store.Store.{Store}
 use Rattle.ops_turns.specs.Turn.{CoreInOrder}
 use Rattle.core_primitives.specs.StateView.{StateView}
 use Rattle.laws_order.specs.Stands.{MayLeave, NoWakeLost}
+use Rattle.core_primitives.specs.Groups.{IsAsked}
 
 -- ---- Another thread runs
 
@@ -116,4 +117,6 @@ pub record MakesTask {T H G : Type 0} (listens : Bool) (x : ExportKind) (i : ℕ
   -- at whatever turn, for a component in which that export has this kind
   pub order : (c : Component) → (p : Turn) → x ≡ export_kind c (first_export i) → CoreInOrder c p s.state.core → CoreInOrder c p t.state.core
   pub works : (course : H → HostDef) → HoldsHosts course s → HoldsHosts course t
+  -- each group that has ended was told of, if so it was before
+  pub asked : IsAsked s.state → IsAsked t.state
   pub rest : t ≡ record s { state = t.state; listeners = t.listeners }

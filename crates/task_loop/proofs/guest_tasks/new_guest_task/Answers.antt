@@ -1,10 +1,10 @@
 -- The call is made, and in a trapped store all groups are finished then.
-use Rattle.std.proofs.Common.{ap, arith, inl, le_refl, subst, sym, ◌∙◌}
+use Rattle.std.proofs.Common.{ap, arith, inl, le_refl, subst, sym, ◌∙◌, refl}
 use Rattle.std.specs.Prelude.{Bool, Ok, is_some, ◌≡◌, ◌≤◌, false, true}
 use Rattle.ops_calls.proofs.TaskLemmas.{begun_in_order}
 use Rattle.task_group.specs.Listeners.{Listeners, errors_of}
 use Rattle.task_loop.proofs.GuestCallLemmas.{hears_of, makes_on, on_ok_of, rest_with, settled_ok}
-use Rattle.task_loop.proofs.GuestTaskLemmas.{begun_hosts, begun_open, still_hosts}
+use Rattle.task_loop.proofs.GuestTaskLemmas.{begun_hosts, begun_open, still_hosts, begun_asked}
 use Rattle.task_loop.proofs.HookStartLemmas.{ok_or_err, if_hook_ok_at}
 use Rattle.task_loop.proofs.NewTaskLemmas.{begins_core, err_is, unmade_heard}
 use Rattle.task_loop.proofs.guest_tasks.new_guest_task.Goals as goal
@@ -16,6 +16,7 @@ use Rattle.ops_state.specs.declared.error.TaskError.TheVariants as task_error
 use Rattle.task_store.specs.Hosts.{HoldsWorks, held_by}
 use Rattle.ops_turns.specs.Turn.{CoreInOrder}
 use Rattle.core_primitives.specs.StateView.{StateView}
+use Rattle.core_primitives.specs.Groups.{IsAsked}
 
 settles_core : (b : Bool) (left t : StateView) (old new : Listeners) → SettlesGroups b left t old new → t.core ≡ left.core
 settles_core true left t old new q = ap (λ (v : StateView). v.core) q.0
@@ -28,6 +29,10 @@ settles_hook false left t old new q = ap (λ (l : Listeners). is_some l.hook) q.
 settles_errors : (b : Bool) (left t : StateView) (old new : Listeners) → SettlesGroups b left t old new → errors_of old ≤ errors_of new
 settles_errors true left t old new q = q.1.errors
 settles_errors false left t old new q = subst (λ (l : Listeners). errors_of old ≤ errors_of l) (sym q.1) (le_refl _)
+
+settles_asked : (b : Bool) (left t : StateView) (old new : Listeners) → SettlesGroups b left t old new → (b ≡ false → IsAsked left) → IsAsked t
+settles_asked true left t old new q h = subst (λ (v : StateView). IsAsked v) (sym q.0) refl
+settles_asked false left t old new q h = subst (λ (v : StateView). IsAsked v) (sym q.0) (h refl)
 
 settles_open : (b : Bool) (left t : StateView) (old new : Listeners) → b ≡ false → SettlesGroups b left t old new → new ≡ old
 settles_open true left t old new is q = absurd (cc)
@@ -62,6 +67,7 @@ returns-in-Ok g c =
         order = λ component p kind sits. subst (CoreInOrder component p) (sym (settles_core b made.state u made.listeners new settle.settles ∙ core)) (begun_in_order component p i s sits x f kind);
         works = λ course h. rw c.in-Ok.ensures.rest
             (subst (λ (d : Core). HoldsWorks (held_by course store) d) (sym (settles_core b made.state u made.listeners new settle.settles)) (begun_hosts (held_by course store) x i f s made.state core h));
+        asked = λ is. settles_asked b made.state u made.listeners new settle.settles (λ untrapped. begun_asked x i f s made.state room c.in-Ok.id e.begins untrapped is);
         rest = rest_with store made u new c.in-Ok.ensures.rest;
       };
     }
@@ -84,6 +90,7 @@ returns-in-Err g c =
         refused = e.unhooked;
         order = λ component p kind sits. subst (λ (v : StateView). CoreInOrder component p v.core) (sym e.state) sits;
         works = λ course h. rw c.in-Err.ensures.rest (still_hosts (held_by course store) s made.state e.state h);
+        asked = λ is. subst (λ (v : StateView). IsAsked v) (sym e.state) is;
         rest = c.in-Err.ensures.rest;
       };
     }
