@@ -9,7 +9,7 @@ use Rattle.machine_data.specs.declared.statuses.Mark.{Mark}
 use Rattle.machine_rules.specs.Picks.{Preference, goes_in_order, held_before, listed_before, thread_before}
 use Rattle.std.proofs.lemmas.List.Sorted.{IsPermutation-refl}
 use Rattle.std.proofs.lemmas.List.{at_drop_all, at_drop_more}
-use Rattle.std.specs.List.{get_or}
+use Rattle.core_records.proofs.Core.{get_or}
 use Rattle.std.specs.Prelude.{drop, length, ◌+◌, ◌<◌, ◌≤◌}
 use Rattle.std.specs.Prelude.{IsPermutation}
 use Rattle.table_lists.proofs.Members.{IsMembers-same, members_permute}
