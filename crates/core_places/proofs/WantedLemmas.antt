@@ -205,7 +205,7 @@ module _ (a : CoreParts) (sound : IsSoundCore a) where
       let one = ready_call_there x k other_ready in
       let two = named_there (λ (g : GuestTask). g.number) (λ (g : GuestTask). g.call) a.calls id.rep id.serial (subst (λ m. 0 < m) (call_shown a id) (positive _ (ready_live x (subtask_ids.Guest id) ready))) in
       ap₂ (λ v w. is_lt (nat_cmp v w)) (ap (call_seat seats) (sym one.1.1.1.0) ∙ call_sits one.0 one.1.0 one.1.1.0) (ap (call_seat seats) (call_shown a id ∙ sym two.1.1.1) ∙ call_sits id.rep two.0 two.1.0)
-      ∙ least.1.1 two.0.entry.item two.1.1.0 one.0 one.1.0 one.1.1.0 one.1.1.1.1
+      ∙ least.1 two.0.entry.item two.1.1.0 one.0 one.1.0 one.1.1.0 one.1.1.1.1
 
   -- ---- What is wanted of them
 

@@ -9,7 +9,7 @@ use Rattle.machine_data.specs.declared.statuses.Mark.{Mark}
 use Rattle.machine_rules.specs.Picks.{Preference, goes_in_order, held_before, listed_before, thread_before}
 use Rattle.std.proofs.lemmas.List.Sorted.{IsPermutation-refl}
 use Rattle.std.proofs.lemmas.List.{at_drop_all, at_drop_more}
-use Rattle.std.specs.List.{get_or}
+use Rattle.core_records.proofs.Core.{get_or}
 use Rattle.std.specs.Prelude.{drop, length, ◌+◌, ◌<◌, ◌≤◌}
 use Rattle.std.specs.Prelude.{IsPermutation}
 use Rattle.table_lists.proofs.Members.{IsMembers-same, members_permute}
@@ -374,17 +374,16 @@ wanted_released a b sound i t mid picks =
 
 -- who is still held once one was put at high has no entry
 pub put_unqueued : (i n : ℕ) (w : Why) (s : Core) → AreHeldUnqueued i s → AreHeldUnqueued i (put_high n w s)
+unfolding put_high push_high set_place on_thread
 put_unqueued i n w s free m held = by (cases_eq m n)
   where
     threads : (m ≡ n → ⊥) → get (put_high n w s).threads m ≡ get s.threads m
-    unfolding put_high push_high set_place on_thread
     threads other = get-change_other s.threads n (λ (x : Thread). record x { place = Place.Ready Mark.High w }) m other
 
     was : (m ≡ n → ⊥) → is_held_in i s m ≡ true
     was other = sym (ap₂ (λ k b. (k == i) && is_some b) (same_instance i m s (put_high n w s) (threads other) (put_calls n w s) (put_instances n w s)) (same_held i m s (put_high n w s) (threads other) (put_calls n w s) (put_instances n w s))) ∙ held
 
     here : m ≡ n → held_why_of m (put_high n w s) ≡ None
-    unfolding put_high push_high set_place on_thread
     here same = ap (λ k. held_why_of k (put_high n w s)) same ∙ (ap (λ o. option_and_then held_why (option_map (λ (x : Thread). x.place) o)) (get-change_same s.threads n (λ (x : Thread). record x { place = Place.Ready Mark.High w })) ∙ none (get s.threads n))
 
     none : (o : Option Thread) → option_and_then held_why (option_map (λ (x : Thread). x.place) (option_map (λ (x : Thread). record x { place = Place.Ready Mark.High w }) o)) ≡ None

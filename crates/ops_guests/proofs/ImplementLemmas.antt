@@ -16,6 +16,7 @@ use Rattle.machine_data.specs.Maps.{Records}
 use Rattle.machine_data.specs.Core.{NameTable}
 use Rattle.machine_data.specs.Read.{instance_of, is_ready_member, is_waiter, subtask_at}
 use Rattle.machine_data.specs.declared.records.Named.{Named}
+use Rattle.machine_data.specs.declared.records.Subtask.TheVariants as subtask
 use Rattle.machine_data.specs.declared.records.Subtask.{Subtask}
 use Rattle.machine_rules.specs.Progress.{Asks, Fails, Continues, Never, Ordered, Progress, Stops, Traps}
 use Rattle.machine_rules.specs.Step.{MainProgresses, MainStep, Progresses, ScriptStep, Step, TakeStep, TurnStep, did, entry_number}
@@ -93,7 +94,8 @@ shows_as p s t l threads calls works handles h = record {
     named_subtask i h m = subtask_at i h (record s { handles = m })
 
     ready : (x : ℕ) (sub : Subtask) → is_ready_member x sub t ≡ is_ready_member x sub s
-    ready x sub = ap₂ (λ m k. is_ready_member x sub (record s { calls = m; works = k })) calls works
+    ready x (subtask.Guest k) = ap (λ m. is_ready_member x (subtask.Guest k) (record s { calls = m })) calls
+    ready x (subtask.Host i) = ap (λ m. is_ready_member x (subtask.Host i) (record s { works = m })) works
 
 -- the taking of an entry moves no thread, no call and no host work
 popped_shows : (p : Preference) (m : Mark) (s : Core) (l : Label) → ShowsFirst p (popped m s) l → ShowsFirst p s l

@@ -2,7 +2,7 @@
 use Rattle.ops_guests.specs.Works.{KeepsTold, NamesTold}
 use Rattle.std.proofs.Common.{ap, arith, inl, inr, refl, subst, sym, ◌∙◌}
 use Rattle.std.specs.Prelude.{List, None, Option, Some, [], is_some, option_map, true, ℕ, ◌+◌, ◌<◌, ◌∷◌, ◌≡◌, ◌⊎◌}
-use Rattle.ops_dispatch.specs.Polls.{MakesWork, Polls, made_work}
+use Rattle.ops_dispatch.specs.Polls.{MakesWork, Polls, made_work, polled_host}
 use Rattle.ops_dispatch.specs.declared.done.Done.{Done}
 use Rattle.ops_subtasks.specs.Queued.{GoesOnWith, queued_work}
 use Rattle.laws_states.specs.Order.{WorksQueued}
@@ -79,8 +79,9 @@ module _ (answer : HostPoll) (id : TableId HostTaskKey) (s u t : StateView) wher
   made_some None r n named goes core tags = absurd (cc)
   made_some (Some host) r n named goes core tags = queued host (first_heard host answer) r n refl named goes core tags
 
-pub ran_work : (answer : HostPoll) (c : Component) (h : OpProgress) (o : Op) (d : Done) (n : ℕ) (s u t : StateView) → WorksQueued s.core → Polls answer c h o s d u → t.core ≡ core_after n d.op_result u.core → (is_going d.op_result ≡ true → t.tags ≡ u.tags) → WorkMade answer d.polled d.work s t
-ran_work answer c h o d n s u t works q core tags = by d.work refl
+pub ran_work : (answer : HostPoll) (c : Component) (h : OpProgress) (o : Op) (d : Done) (n : ℕ) (s u t : StateView) → WorksQueued s.core → Polls answer c h o s d u → t.core ≡ core_after n d.op_result u.core → (is_going d.op_result ≡ true → t.tags ≡ u.tags)
+    → WorkMade answer (polled_host c h o) d.work s t
+ran_work answer c h o d n s u t works q core tags = subst (λ (p : Option HostDef). WorkMade answer p d.work s t) q.polled (by d.work refl)
   where
     by : (w : Option (TableId HostTaskKey)) → d.work ≡ w → WorkMade answer d.polled w s t
     by None e = elim (q.none e) [

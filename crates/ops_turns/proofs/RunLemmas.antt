@@ -147,7 +147,7 @@ push_picks pref c ended mark i s t next core x component m =
     let l = label.Take (take_label.Push mark i) in
     subst (Picks pref x (state_at s.core m (turn.Take ended)) l) (settled (op_result.Stops l) s.core m (turn.Take ended) t.core)
     (taking_is_picked pref x (state_at s.core m (turn.Take ended)) ended (mark, entry.Push i) (op_result.Stops l) t.core refl next
-      (record { shows = silent_shows pref (popped mark s.core) l (refl, refl); order = (refl, core) }))
+    (record { shows = silent_shows pref (popped mark s.core) l (refl, refl); order = (refl, core) }))
 
 pub host_picks : (pref : Preference) (c : Component) (ended : Bool) (mark : Mark) (i : ℕ) (s u t : StateView) (l : Label) → u.core ≡ popped mark s.core → next_entry s.core ≡ Some (mark, entry.Host i) → PicksFirst pref (scripted_host_rule mark i (choice_of l).woken u.core) l u.core (op_result.Stops l) t.core
     → (x : Setting) → x.component ≡ c → (m : Main) → Picks pref x (state_at s.core m (turn.Take ended)) l (state_at t.core m turn.Main)

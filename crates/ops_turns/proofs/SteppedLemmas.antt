@@ -1,8 +1,8 @@
 -- Steps whose labels are in the trace.
 use Rattle.ops_dispatch.specs.Fits.{calls_host}
 use Rattle.ops_dispatch.specs.Polls.{polled_host}
-use Rattle.std.proofs.Common.{ap, inl, refl, subst, sym, ◌∙◌}
-use Rattle.std.specs.Prelude.{Bool, Err, IfOk, IfSome, List, None, Ok, Option, Result, Some, [], false, is_none, option_map, true, ℕ, ◌+◌, ◌++◌, ◌<◌, ◌≡◌, ◌≤◌, ◌∷◌}
+use Rattle.std.proofs.Common.{ap, refl, subst, sym, ◌∙◌}
+use Rattle.std.specs.Prelude.{Bool, Err, IfOk, IfSome, List, None, Ok, Option, Result, Some, [], false, is_none, is_some, not, option_map, true, ℕ, ◌+◌, ◌++◌, ◌<◌, ◌≡◌, ◌≤◌, ◌∷◌}
 use Rattle.machine_data.specs.Core.{Core, Main, State}
 use Rattle.machine_data.specs.Labels.{choice_of}
 use Rattle.machine_data.specs.Read.{op_progress_of, next_entry, place_of}
@@ -39,21 +39,21 @@ use Rattle.ops_turns.proofs.DriveLemmas.{last_outcome-push, on_ends, on_more, on
 use Rattle.ops_turns.proofs.IdleLemmas.{after_free, free_at}
 use Rattle.ops_turns.proofs.RunLemmas.{host_over, host_picks, label_same, picked_at, push_picks, ran_at, took, took_host, took_picks, took_push}
 use Rattle.ops_turns.specs.Drive.{Drove, IsOn}
-use Rattle.ops_turns.specs.Ran.{RanPolls, WorkMade}
-use Rattle.ops_turns.specs.StepResult.{Added, AddedOrNone, CallsHost, RuleRan, RuleShown, RuleStep, RunAdded, Shown, StepPolls, made_by, stepped_by}
+use Rattle.ops_turns.specs.Ran.{OpMade, WorkMade, host_polled, scripted_rule_of}
+use Rattle.ops_turns.specs.StepResult.{Added, AddedOrNone, CallStepped, OpPolls, OpStep, RuleRan, RuleShown, RunStepped, Shown, made_by, turn_of}
 use Rattle.ops_turns.specs.Turn.{IsFree, MakesStep, Turned, Turns, is_open, running_of, runs_in, state_at}
-use Rattle.ops_turns.specs.declared.made.PackedStep.TheVariants as brief
 use Rattle.ops_turns.specs.declared.made.MadeStep.{MadeStep}
-use Rattle.ops_turns.specs.declared.made.Ran.{Ran}
-use Rattle.ops_turns.specs.declared.made.RunStep.{RunStep}
-use Rattle.ops_turns.specs.declared.made.RunStep.TheVariants as run_step
 use Rattle.ops_turns.specs.declared.made.StepResult.{StepResult}
-use Rattle.ops_turns.specs.declared.made.StepResult.TheVariants as stepped
 use Rattle.task_wait.specs.declared.keys.HostTaskKey.{HostTaskKey}
 use Rattle.task_wait.specs.declared.keys.ThreadKey.{ThreadKey}
 use Rattle.core_primitives.specs.Names.{entry_in}
 use Rattle.core_primitives.specs.StateView.{StateView, on_core, thread_of, work_of}
 use Rattle.core_primitives.specs.declared.names.EntryId.{EntryId}
+
+-- a run that isn't over goes on
+pub opens : (b : Bool) → not b ≡ false → b ≡ true
+opens true e = refl
+opens false e = absurd (cc)
 
 -- a turn in which nothing more is made
 pub closed : (p : Turn) → is_open p ≡ false → p ≡ turn.Over
@@ -63,6 +63,13 @@ closed (turn.Futures n) e = absurd (cc)
 closed (turn.Take b) e = absurd (cc)
 closed (turn.Run n) e = absurd (cc)
 
+pub closes : (p : Turn) → not (is_open p) ≡ true → p ≡ turn.Over
+closes p e = closed p (off (is_open p) e)
+  where
+    off : (b : Bool) → not b ≡ true → b ≡ false
+    off false e = refl
+    off true e = absurd (cc)
+
 pub added_as : (P Q : MadeStep → Type 0) (stepped : StepResult) (before after : List Label) → ((made : MadeStep) → P made → Q made) → Added P stepped before after → Added Q stepped before after
 added_as P Q stepped before after f h = (h.0, (h.1.0, f h.0 h.1.1))
 
@@ -70,19 +77,9 @@ pub none_as : (P Q : Option MadeStep → Type 0) (o : Option StepResult) (before
 none_as P Q None before after f h = (f None h.0, h.1)
 none_as P Q (Some q) before after f h = added_as (λ made. P (Some made)) (λ made. Q (Some made)) q before after (λ made. f (Some made)) h
 
-pub some_at : {X : Type 0} (P : X → Type 0) (o : Option X) (x : X) → o ≡ Some x → IfSome o P → P x
-some_at P o x e h = subst (λ o. IfSome o P) e h
-
-some_of : (o : Option Outcome) → is_none o ≡ false → (k : Outcome) × (o ≡ Some k)
-some_of None e = absurd (cc)
-some_of (Some k) e = (k, refl)
-
--- the outcome of a step after which the run is over is that of the last label
-pub fallen : (made : MadeStep) (before after : List Label) → after ≡ before ++ made.label ∷ [] → is_none (outcome_of_label made.label) ≡ is_open made.turn → made.turn ≡ turn.Over
-    → (o : Outcome) × ((stepped_by brief.Over after ≡ Some (stepped.Over o)) × (outcome_of_label made.label ≡ Some o))
-fallen made before after added over turns =
-    let o = some_of (outcome_of_label made.label) (over ∙ ap is_open turns) in
-    (o.0, (ap (option_map (λ k. stepped.Over k)) (ap last_outcome added ∙ (last_outcome-push before made.label ∙ o.1)), o.1))
+pub IfOk_then : {X E : Type 0} (r : Result X E) {P Q : X → Type 0} → IfOk r P → ((x : X) → P x → Q x) → IfOk r Q
+IfOk_then (Ok x) h f = f x h
+IfOk_then (Err e) h f = tt
 
 -- ---- A step of the running thread
 
@@ -109,12 +106,6 @@ module _ (id : TableId ThreadKey) (s t : StateView) (stepped : StepResult) (befo
         over = h.shown.over;
       } in
       (made, (h.shown.stands, (makes, after_free h.op_result)))
-
-  -- an op that polled no host
-  pub unpolled : (c : Component) (n : ℕ) (P : MadeStep → Type 0) → polled_host c (op_progress_of n s.core) (op_of c n s.core) ≡ None → Added P stepped before after
-      → Added (λ made. P made × ((answer : HostPoll) → RanPolls answer c n s (record { made = made; polled = None; work = None }) t)) stepped before after
-  unpolled c n P none = added_as P (λ made. P made × ((answer : HostPoll) → RanPolls answer c n s (record { made = made; polled = None; work = None }) t)) stepped before after
-      (λ made h. (h, λ answer. record { polled = sym none; work = inl refl }))
 
 module _ (id : TableId ThreadKey) (s t : StateView) where
   -- what it picked, by the label that its thread shows
@@ -153,25 +144,22 @@ module _ (c : Component) (id : TableId ThreadKey) (n : ℕ) (s t : StateView) (n
   polled_at : (host : Option HostDef) → host ≡ polled_host c (op_progress_of (thread_of s id) s.core) o → host ≡ polled_host c (op_progress_of n s.core) (op_of c n s.core)
   polled_at host e = subst (λ k. host ≡ polled_host c (op_progress_of k s.core) (op_of c k s.core)) number (e ∙ sym (ap (polled_host c (op_progress_of (thread_of s id) s.core)) is))
 
-  pub run_steps : (before after : List Label) (r : Result RunStep NoMemory)
-      → IfOk r (λ step. RuleStep (λ op_result. scripted_op_rule c (thread_of s id) s.core (choice_of (label_of (thread_of s id) op_result)) o) id s before step t after)
-      → IfOk r (λ step. StepPolls (polled_host c (op_progress_of (thread_of s id) s.core) o) o step)
-      → IfOk r (λ step. RunAdded (λ ran. (MakesStep c (turn.Run n) s ran.made t × IsFree ran.made.turn) × ((answer : HostPoll) → RanPolls answer c n s ran t)) (CallsHost c n s t) step before after)
+  pub run_steps : (before after : List Label) (r : Result (Option StepResult) NoMemory) → IfOk r (λ q. OpStep c o id s before q t after) → IfOk r (λ q. OpPolls c o id s q) → IfOk r (λ q. RunStepped c n s q t before after)
   run_steps before after (Err e) step polls = tt
-  run_steps before after (Ok (run_step.Shown q)) step polls =
-      unpolled id s t q before after c n (λ made. MakesStep c (turn.Run n) s made t × IsFree made.turn) (sym (polled_at None (sym polls)))
-      (run_added id s t q before after c n number (rule_as id s t q before after (λ op_result. scripted_op_rule c (thread_of s id) s.core (choice_of (label_of (thread_of s id) op_result)) o) (λ op_result. did c (thread_of s id) s.core (choice_of (label_of (thread_of s id) op_result))) same step))
-  run_steps before after (Ok run_step.Calls) step polls =
+  run_steps before after (Ok (Some q)) step polls = (
+    run_added id s t q before after c n number (rule_as id s t q before after (λ op_result. scripted_op_rule c (thread_of s id) s.core (choice_of (label_of (thread_of s id) op_result)) o) (λ op_result. did c (thread_of s id) s.core (choice_of (label_of (thread_of s id) op_result))) same step),
+    sym (polled_at None (sym polls)),
+  )
+  run_steps before after (Ok None) step polls =
       ((step.0, subst (λ k. calls_host (op_of c k s.core) ≡ true) number (ap calls_host is ∙ polls)), step.1)
 
   -- so is what one came to that calls a host
-  pub call_steps : (answer : HostPoll) (r : Result Ran NoMemory) → IfOk r (λ ran. RuleRan (λ op_result. scripted_op_rule c (thread_of s id) s.core (choice_of (label_of (thread_of s id) op_result)) o) id s ran.made t)
-      → IfOk r (λ ran. ran.polled ≡ polled_host c (op_progress_of (thread_of s id) s.core) o) → IfOk r (λ ran. WorkMade answer ran.polled ran.work s t)
-      → IfOk r (λ ran. (MakesStep c (turn.Run n) s ran.made t × IsFree ran.made.turn) × RanPolls answer c n s ran t)
-  call_steps answer (Err e) row polled work = tt
-  call_steps answer (Ok ran) row polled work =
-      let did_it = rule_ran_as id s t (λ op_result. scripted_op_rule c (thread_of s id) s.core (choice_of (label_of (thread_of s id) op_result)) o) (λ op_result. did c (thread_of s id) s.core (choice_of (label_of (thread_of s id) op_result))) ran.made same row in
-      (ran_made id s t c n number ran.made did_it, record { polled = polled_at ran.polled polled; work = work })
+  pub call_steps : (answer : HostPoll) (r : Result (MadeStep × Option (TableId HostTaskKey)) NoMemory) → IfOk r (λ q. RuleRan (scripted_rule_of c o id s) id s q.0 t) → IfOk r (λ q. OpMade answer c o id s q.1 t)
+      → IfOk r (λ q. CallStepped answer c n s q t)
+  call_steps answer (Err e) row work = tt
+  call_steps answer (Ok q) row work =
+      let did_it = rule_ran_as id s t (λ op_result. scripted_op_rule c (thread_of s id) s.core (choice_of (label_of (thread_of s id) op_result)) o) (λ op_result. did c (thread_of s id) s.core (choice_of (label_of (thread_of s id) op_result))) q.0 same row in
+      (ran_made id s t c n number q.0 did_it, subst (λ (h : Option HostDef). WorkMade answer h q.1 s t) (polled_at _ refl) work)
 
 -- a taking that did its rule made a step
 pub take_added : (c : Component) (ended : Bool) (mark : Mark) (id : TableId ThreadKey) (n : ℕ) (s u v t : StateView) (r : OpResult) (stepped : StepResult) (before after : List Label) → thread_of u id ≡ n → u.core ≡ popped mark s.core
@@ -236,12 +224,37 @@ module _ (c : Component) (ended : Bool) (mark : Mark) (id : TableId HostTaskKey)
 
 -- ---- A run that is driven
 
+-- A step was added after which it is this turn, and the label gives this outcome, if any.
+abbrev pub AddedTo : (MadeStep → Type 0) → Turn → Option Outcome → List Label → List Label → Type 0
+AddedTo P q o before after = (made : MadeStep) × (((after ≡ before ++ made.label ∷ []) × ((made.turn ≡ q) × (outcome_of_label made.label ≡ o))) × P made)
+
+none_of : (o : Option Outcome) → is_none o ≡ true → o ≡ None
+none_of None e = refl
+none_of (Some k) e = absurd (cc)
+
+not_none : (o : Option Outcome) → is_none o ≡ false → is_some o ≡ true
+not_none None e = absurd (cc)
+not_none (Some k) e = refl
+
+module _ (x : Setting) (p : Turn) (m : Main) (t : StateView) (mid : List Label) (m' : Main) (t' : StateView) (after : List Label) where
+  -- the run goes on after it
+  pub added_open : (q : StepResult) → is_open (turn_of q) ≡ true → Added (λ made. Turns x p m t made m' t') q mid after → AddedTo (λ made. Turns x p m t made m' t') (turn_of q) None mid after
+  added_open q ongoing h = (h.0, ((h.1.0.0, (h.1.0.1, none_of (outcome_of_label h.0.label) (h.1.1.over ∙ (ap is_open h.1.0.1 ∙ ongoing)))), h.1.1))
+
+  -- it is over, and the last label says how
+  pub outcome_told : (q : StepResult) → turn_of q ≡ turn.Over → Added (λ made. Turns x p m t made m' t') q mid after → is_some (last_outcome after) ≡ true
+  outcome_told q is h =
+      ap is_some (ap last_outcome h.1.0.0 ∙ last_outcome-push mid h.0.label) ∙ not_none (outcome_of_label h.0.label) (h.1.1.over ∙ ap is_open (h.1.0.1 ∙ is))
+
+  pub added_over : (q : StepResult) (o : Outcome) → turn_of q ≡ turn.Over → last_outcome after ≡ Some o → Added (λ made. Turns x p m t made m' t') q mid after → AddedTo (λ made. Turns x p m t made m' t') turn.Over (Some o) mid after
+  added_over q o is last h = (h.0, ((h.1.0.0, (h.1.0.1 ∙ is, sym (ap last_outcome h.1.0.0 ∙ last_outcome-push mid h.0.label) ∙ last)), h.1.1))
+
 module _ (x : Setting) (s : State) (before : List Label) (numbers : ℕ) (p : Turn) (m : Main) (t : StateView) (mid : List Label) (n : ℕ) (on : IsOn x s before numbers p m t mid n)
     (m' : Main) (t' : StateView) (after : List Label) where
-  pub added_more : (q : Turn) (computed : Bool) → Added (λ made. Turns x p m t made m' t') (stepped.Continues q computed) mid after → IsOn x s before numbers q m' t' after (n + 1)
-  added_more q computed h = subst (λ k. IsOn x s before numbers k m' t' after (n + 1)) h.1.0.1.0 (on_more x s before numbers p m t mid n on h.0 m' t' h.1.1 after h.1.0.0 h.1.0.1.1)
+  pub added_more : (q : Turn) → AddedTo (λ made. Turns x p m t made m' t') q None mid after → IsOn x s before numbers q m' t' after (n + 1)
+  added_more q h = subst (λ k. IsOn x s before numbers k m' t' after (n + 1)) h.1.0.1.0 (on_more x s before numbers p m t mid n on h.0 m' t' h.1.1 after h.1.0.0 h.1.0.1.1)
 
-  pub added_ends : (o : Outcome) (steps : ℕ) → n < steps → Added (λ made. Turns x p m t made m' t') (stepped.Over o) mid after → Drove x s before numbers turn.Over m' t' after steps o
+  pub added_ends : (o : Outcome) (steps : ℕ) → n < steps → AddedTo (λ made. Turns x p m t made m' t') turn.Over (Some o) mid after → Drove x s before numbers turn.Over m' t' after steps o
   added_ends o steps room h =
       subst (λ k. Drove x s before numbers k m' t' after steps o) h.1.0.1.0 (on_ends x s before numbers p m t mid n on h.0 m' t' h.1.1 after h.1.0.0 steps o room h.1.0.1.1)
 

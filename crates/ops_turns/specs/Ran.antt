@@ -11,12 +11,12 @@ use Rattle.machine_data.specs.Maps.{get}
 use Rattle.machine_data.specs.Read.{course_of, op_progress_of}
 use Rattle.machine_data.specs.declared.component.Component.{Component}
 use Rattle.machine_data.specs.declared.component.HostDef.{HostDef}
+use Rattle.machine_data.specs.declared.op.Op.{Op}
 use Rattle.machine_data.specs.declared.records.Course.TheVariants as course
 use Rattle.machine_data.specs.declared.statuses.HostPoll.{HostPoll}
 use Rattle.machine_rules.specs.Calls.{Later}
 use Rattle.machine_rules.specs.Scripts.{op_of}
 use Rattle.task_table.specs.declared.id.TableId.{TableId}
-use Rattle.ops_turns.specs.declared.made.Ran.{Ran}
 use Rattle.task_wait.specs.declared.keys.HostTaskKey.{HostTaskKey}
 use Rattle.task_wait.specs.declared.keys.ThreadKey.{ThreadKey}
 use Rattle.core_primitives.specs.StateView.{StateView, thread_of, work_of}
@@ -29,9 +29,13 @@ WorkMade answer polled (Some id) s t =
     ((work_of t id ≡ s.core.made.works + 1) × (course_of (work_of t id) t.core ≡ course.Continues left)))))
 WorkMade answer polled None s t = (polled ≡ None) ⊎ (get t.core.works (s.core.made.works + 1) ≡ None)
 
-pub record RanPolls (answer : HostPoll) (c : Component) (n : ℕ) (s : StateView) (ran : Ran) (t : StateView) : Type 0 where
-  pub polled : ran.polled ≡ polled_host c (op_progress_of n s.core) (op_of c n s.core)
-  pub work : WorkMade answer ran.polled ran.work s t
+-- the same of an op, by the host that it polls first
+abbrev pub OpMade : HostPoll → Component → Op → TableId ThreadKey → StateView → Option (TableId HostTaskKey) → StateView → Type 0
+OpMade answer c o id s work t = WorkMade answer (polled_host c (op_progress_of (thread_of s id) s.core) o) work s t
+
+-- what the thread's op polls first
+abbrev pub host_polled : Component → ℕ → Core → Option HostDef
+host_polled c n s = polled_host c (op_progress_of n s) (op_of c n s)
 
 -- ---- The op that is done
 

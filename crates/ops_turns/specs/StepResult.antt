@@ -1,5 +1,5 @@
 -- A step whose label is in the trace.
-use Rattle.std.specs.Prelude.{Bool, List, None, Option, Some, [], false, is_none, option_map, true, ℕ, ◌++◌, ◌≡◌, ◌∷◌}
+use Rattle.std.specs.Prelude.{Bool, List, None, Option, Some, [], false, is_none, true, ℕ, ◌++◌, ◌≡◌, ◌∷◌}
 use Rattle.ops_dispatch.specs.Fits.{calls_host}
 use Rattle.ops_dispatch.specs.Polls.{polled_host}
 use Rattle.machine_data.specs.Read.{op_progress_of}
@@ -10,6 +10,7 @@ use Rattle.machine_data.specs.declared.op.DataOp.{DataOp}
 use Rattle.machine_data.specs.declared.op.Op.{Op}
 use Rattle.machine_data.specs.declared.op.Op.TheVariants as op
 use Rattle.machine_data.specs.declared.op.TaskOp.TheVariants as task_op
+use Rattle.machine_data.specs.declared.records.Turn.{Turn}
 use Rattle.machine_data.specs.declared.records.Turn.TheVariants as turn
 use Rattle.machine_data.specs.declared.statuses.HostPoll.{HostPoll}
 use Rattle.machine_data.specs.declared.statuses.Mark.{Mark}
@@ -17,41 +18,34 @@ use Rattle.ops_guests.specs.OpResult.{Implements, PicksFirst}
 use Rattle.ops_guests.specs.Stays.{StaysAfter}
 use Rattle.ops_guests.specs.Steps.{core_after, label_of, turn_after}
 use Rattle.ops_guests.specs.declared.op_result.OpResult.{OpResult}
-use Rattle.machine_rules.specs.Outcome.{last_outcome, outcome_of_label}
+use Rattle.machine_rules.specs.Outcome.{outcome_of_label}
 use Rattle.machine_rules.specs.Progress.{Progress}
 use Rattle.machine_rules.specs.Scripts.{op_of}
 use Rattle.task_table.specs.declared.id.TableId.{TableId}
-use Rattle.ops_turns.specs.Ran.{RanPolls, scripted_rule_of}
+use Rattle.ops_turns.specs.Ran.{WorkMade, host_polled, scripted_rule_of}
 use Rattle.ops_turns.specs.Taken.{taking_rule}
 use Rattle.ops_turns.specs.Turn.{MakesFree, Took, TurnedBeside, is_going, is_open, running_of, runs_in}
-use Rattle.ops_turns.specs.declared.made.PackedStep.{PackedStep}
-use Rattle.ops_turns.specs.declared.made.PackedStep.TheVariants as brief
 use Rattle.ops_turns.specs.declared.made.MadeStep.{MadeStep}
-use Rattle.ops_turns.specs.declared.made.Ran.{Ran}
-use Rattle.ops_turns.specs.declared.made.RunStep.{RunStep}
-use Rattle.ops_turns.specs.declared.made.RunStep.TheVariants as run_step
 use Rattle.ops_turns.specs.declared.made.StepResult.{StepResult}
 use Rattle.ops_turns.specs.declared.made.StepResult.TheVariants as stepped
+use Rattle.task_wait.specs.declared.keys.HostTaskKey.{HostTaskKey}
 use Rattle.task_wait.specs.declared.keys.ThreadKey.{ThreadKey}
 use Rattle.core_primitives.specs.Preferences.{preference}
 use Rattle.core_primitives.specs.StateView.{StateView, thread_of, with_current}
 
--- The label of the step was added, and what is left to tell is whose turn it is then, or the outcome that the label gives.
-abbrev pub Stands : StepResult → List Label → MadeStep → List Label → Type 0
-Stands (stepped.Continues p computed) before made after =
-    (after ≡ before ++ made.label ∷ []) × ((made.turn ≡ p) × (outcome_of_label made.label ≡ None))
-Stands (stepped.Over o) before made after =
-    (after ≡ before ++ made.label ∷ []) × ((made.turn ≡ turn.Over) × (outcome_of_label made.label ≡ Some o))
+-- whose turn it is then
+abbrev pub turn_of : StepResult → Turn
+turn_of stepped.Main = turn.Main
+turn_of (stepped.Polls n) = turn.Futures n
+turn_of stepped.Takes = turn.Take false
+turn_of stepped.TakesEnded = turn.Take true
+turn_of (stepped.Runs n) = turn.Run n
+turn_of (stepped.Computes n) = turn.Run n
+turn_of stepped.Over = turn.Over
 
--- The step that was made, where a function that isn't inlined answers this and these are the labels then. None where nothing was,
--- and if it was out of memory.
-abbrev pub stepped_by : PackedStep → List Label → Option StepResult
-stepped_by brief.Nothing ls = None
-stepped_by brief.Stops ls = Some (stepped.Continues turn.Main false)
-stepped_by (brief.Runs n) ls = Some (stepped.Continues (turn.Run n) false)
-stepped_by (brief.Computes n) ls = Some (stepped.Continues (turn.Run n) true)
-stepped_by brief.Over ls = option_map (λ o. stepped.Over o) (last_outcome ls)
-stepped_by brief.Full ls = None
+-- The label of the step was added, and it is told whose turn it is then.
+abbrev pub Stands : StepResult → List Label → MadeStep → List Label → Type 0
+Stands stepped before made after = (after ≡ before ++ made.label ∷ []) × (made.turn ≡ turn_of stepped)
 
 -- Such a step was made as this says of it.
 abbrev pub Added : (MadeStep → Type 0) → StepResult → List Label → List Label → Type 0
@@ -102,9 +96,9 @@ abbrev pub TakingShown : Mark → TableId ThreadKey → StateView → List Label
 TakingShown mark id s before stepped t after =
     RuleShown (taking_rule mark (thread_of s id) s.core) id (with_current (Some id) s) before stepped t after
 
--- An entry was taken, and what that shows is in the trace.
-abbrev pub TookShown : Component → (ended : Bool) → StateView → List Label → StepResult → StateView → List Label → Type 0
-TookShown c ended s before stepped t after = Added (λ made. Took c ended s (Some made) t) stepped before after
+-- An entry was taken, and what that shows is in the trace; or nothing is there.
+abbrev pub TookShown : Component → (ended : Bool) → StateView → List Label → Option StepResult → StateView → List Label → Type 0
+TookShown c ended s before q t after = AddedOrNone (λ made. Took c ended s made t) q before after
 
 -- The next entry was taken in this turn, or it was seen that nothing is there.
 abbrev pub TakesBeside : Component → (trap_on_idle ended : Bool) → StateView → Option StepResult → StateView → (before after : List Label) →
@@ -124,41 +118,30 @@ pub record RuleRan (row : OpResult → Progress) (id : TableId ThreadKey) (s : S
   pub running : running_of t ≡ runs_in made.turn
   pub over : is_none (outcome_of_label made.label) ≡ is_open made.turn
 
--- A step of the running thread was made as this says of it: it polled no host and its label was added. Or nothing was done, which is so
--- as this says.
-abbrev pub RunAdded : (Ran → Type 0) → Type 0 → RunStep → List Label → List Label → Type 0
-RunAdded P Q (run_step.Shown stepped) before after =
-    Added (λ made. P (record { made = made; polled = None; work = None })) stepped before after
-RunAdded P Q run_step.Calls before after = Q × (after ≡ before)
-
 -- All is as before, and the op at the thread's place calls a host.
 abbrev pub CallsHost : Component → ℕ → StateView → StateView → Type 0
 CallsHost c n s t = (t ≡ s) × (calls_host (op_of c n s.core) ≡ true)
 
--- either of these
-abbrev pub RuleStep : (OpResult → Progress) → TableId ThreadKey → StateView → List Label → RunStep → StateView → List Label → Type 0
-RuleStep row id s before (run_step.Shown stepped) t after = RuleShown row id s before stepped t after
-RuleStep row id s before run_step.Calls t after = (t ≡ s) × (after ≡ before)
+-- An op of the thread's script was done, and what it shows is in the trace; or it calls a host, and nothing is changed.
+abbrev pub OpStep : Component → Op → TableId ThreadKey → StateView → List Label → Option StepResult → StateView → List Label → Type 0
+OpStep c o id s before None t after = (t ≡ s) × (after ≡ before)
+OpStep c o id s before (Some stepped) t after = OpShown c o id s before stepped t after
 
--- so it is of an op of the thread's script
-abbrev pub OpStep : Component → Op → TableId ThreadKey → StateView → List Label → RunStep → StateView → List Label → Type 0
-OpStep c o id s before step t after = RuleStep (scripted_rule_of c o id s) id s before step t after
-
--- A step polls this host first where its op, which isn't done, calls one; else it polls none.
-abbrev pub StepPolls : Option HostDef → Op → RunStep → Type 0
-StepPolls host o (run_step.Shown stepped) = host ≡ None
-StepPolls host o run_step.Calls = calls_host o ≡ true
+-- An op polls this host first if it calls one, and isn't done; else it polls none.
+abbrev pub StepPolls : Option HostDef → Op → Option StepResult → Type 0
+StepPolls host o None = calls_host o ≡ true
+StepPolls host o (Some stepped) = host ≡ None
 
 -- the host that the op polls which the thread is to do
-abbrev pub OpPolls : Component → Op → TableId ThreadKey → StateView → RunStep → Type 0
-OpPolls c o id s step = StepPolls (polled_host c (op_progress_of (thread_of s id) s.core) o) o step
+abbrev pub OpPolls : Component → Op → TableId ThreadKey → StateView → Option StepResult → Type 0
+OpPolls c o id s q = StepPolls (polled_host c (op_progress_of (thread_of s id) s.core) o) o q
 
--- A step of the running thread made what the machine may make, and polled what its op polls, where the host has answered so.
-abbrev pub RanFree : HostPoll → Component → ℕ → StateView → Ran → StateView → Type 0
-RanFree answer c n s ran t = MakesFree c (turn.Run n) s ran.made t × RanPolls answer c n s ran t
+-- The running thread made a step, and polled no host; or its op calls one, and nothing was made.
+abbrev pub RunStepped : Component → ℕ → StateView → Option StepResult → StateView → (before after : List Label) → Type 0
+RunStepped c n s None t before after = CallsHost c n s t × (after ≡ before)
+RunStepped c n s (Some stepped) t before after =
+    Added (λ made. MakesFree c (turn.Run n) s made t) stepped before after × (host_polled c n s.core ≡ None)
 
--- So it was made, whatever a host answers, as it polled none; or its op calls a host.
-abbrev pub RunStepped : Component → ℕ → StateView → RunStep → StateView → (before after : List Label) → Type 0
-RunStepped c n s step t before after =
-    RunAdded (λ ran. MakesFree c (turn.Run n) s ran.made t × ((answer : HostPoll) → RanPolls answer c n s ran t)) (CallsHost c n s t) step
-    before after
+-- Its op called a host, which has answered so: the step was made, whose label is still to be added, and this work.
+abbrev pub CallStepped : HostPoll → Component → ℕ → StateView → MadeStep × Option (TableId HostTaskKey) → StateView → Type 0
+CallStepped answer c n s q t = MakesFree c (turn.Run n) s q.0 t × WorkMade answer (host_polled c n s.core) q.1 s t

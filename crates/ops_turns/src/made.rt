@@ -1,18 +1,16 @@
 //! What a step made.
-ghost use Rattle.std.specs.Prelude.{◌≡◌, ◌≢◌, ◌<◌, IfNone, IfOk, IfSome, None, OnErr, is_none, option_map, true};
+ghost use Rattle.std.specs.Prelude.{◌≡◌, ◌<◌, IfOk, None, OnErr, Some, is_none, is_some, true};
 ghost use Rattle.ops_guests.specs.Steps.{core_after, label_of, turn_after};
 ghost use Rattle.ops_guests.specs.Running.{IsTopmost};
 ghost use Rattle.ops_guests.specs.Works.{KeepsTold};
 ghost use Rattle.machine_rules.specs.Outcome.{last_outcome, outcome_of_label};
 ghost use Rattle.machine_rules.specs.Step.{unwound};
-ghost use Rattle.ops_turns.specs.StepResult.{Shown, Stands, stepped_by};
+ghost use Rattle.ops_turns.specs.StepResult.{Shown, Stands, turn_of};
 ghost use Rattle.ops_turns.specs.Turn.{CanUnwind, OpGoesOn, is_going, is_open, running_of, runs_in};
 ghost use Rattle.core_primitives.specs.StateView.{thread_of};
 
-use core_primitives::{Primitives, ThreadId, WorkId};
-use machine_data::{
-    CallLabel, HostDef, Label, LoopLabel, MainLabel, NoMemory, Outcome, Trap, Turn,
-};
+use core_primitives::{Primitives, ThreadId};
+use machine_data::{CallLabel, Label, LoopLabel, MainLabel, NoMemory, Outcome, Trap, Turn};
 use ops_guests::{OpResult, unwind_thread};
 use run_trace::PackedLabels;
 
@@ -23,47 +21,55 @@ pub struct MadeStep {
     pub turn: Turn,
 }
 
-/// A step that was made, whose label is in the trace.
+/// What a step of the run results in: whose turn it is then. The label of one that was made is the last one in the trace, which gives
+/// the outcome where the run is over. It is a tag and a number, so that a function answers it in two registers.
 #[derive(Clone, Copy)]
 pub enum StepResult {
-    /// Whose turn it is then. `computed` says that the step did an op on registers and memory cells, which another seems to follow.
-    Continues { turn: Turn, computed: bool },
-    /// The run is over.
-    Over(Outcome),
-}
-
-/// The result of a step in two registers, for a function that isn't inlined: without the outcome, which the label gives.
-#[derive(Clone, Copy)]
-pub(crate) enum PackedStep {
-    /// No entry was, and nothing was made.
-    Nothing,
-    /// Main's turn comes.
-    Stops,
+    /// It is main's turn.
+    Main,
+    /// The live works are polled that have greater numbers.
+    Polls(u64),
+    /// An entry is taken, after no work ended in this turn.
+    Takes,
+    /// An entry is taken, after a work ended.
+    TakesEnded,
     /// The thread runs.
     Runs(u64),
     /// The thread runs, after an op on registers and memory cells, which another seems to follow.
     Computes(u64),
     /// The run is over.
     Over,
-    /// It was out of memory, and nothing was added.
-    Full,
 }
 
-/// A step of the running thread that was made: the host that was polled first in it, and the work that was made.
-#[derive(Clone, Copy)]
-pub struct Ran {
-    pub made: MadeStep,
-    pub polled: Option<HostDef>,
-    pub work: Option<WorkId>,
+/// Returns whose turn it is after a step that was made.
+#[inline(always)]
+pub fn turn_of(stepped: StepResult) -> Turn
+    ensures { result ≡ turn_of stepped }
+{
+    match stepped {
+        StepResult::Main => Turn::Main,
+        StepResult::Polls(polled) => Turn::Futures { polled },
+        StepResult::Takes => Turn::Take { ended: false },
+        StepResult::TakesEnded => Turn::Take { ended: true },
+        StepResult::Runs(thread) => Turn::Run { thread },
+        StepResult::Computes(thread) => Turn::Run { thread },
+        StepResult::Over => Turn::Over,
+    }
 }
 
-/// What came of a step of the running thread.
-#[derive(Clone, Copy)]
-pub enum RunStep {
-    /// It was made, polled no host, and its label is in the trace.
-    Shown(StepResult),
-    /// Its op calls a host, and isn't done.
-    Calls,
+// What a step results in after which it is this one's turn.
+#[inline(always)]
+fn result_of(turn: Turn) -> StepResult
+    ensures { turn_of result ≡ turn }
+{
+    match turn {
+        Turn::Main => StepResult::Main,
+        Turn::Futures { polled } => StepResult::Polls(polled),
+        Turn::Take { ended: false } => StepResult::Takes,
+        Turn::Take { ended: true } => StepResult::TakesEnded,
+        Turn::Run { thread } => StepResult::Runs(thread),
+        Turn::Over => StepResult::Over,
+    }
 }
 
 // The outcome that a label gives.
@@ -83,24 +89,13 @@ fn outcome_of(label: Label) -> Option<Outcome>
 /// Adds the label of a step that was made to the trace. If it is out of memory, nothing is added.
 #[inline(always)]
 pub fn put(trace: &mut PackedLabels, made: MadeStep) -> Result<StepResult, NoMemory>
-    requires over { is_none (outcome_of_label made.label) ≡ is_open made.turn }
     ensures stands { IfOk result (λ stepped. Stands stepped trace.old made trace.new) }
     ensures err { OnErr result (trace.new ≡ trace.old) }
 {
     let Ok(()) = trace.push(made.label) else {
         return Err(NoMemory);
     };
-    // The label is looked at only where the run is over.
-    let Turn::Over = made.turn else {
-        return Ok(StepResult::Continues {
-            turn: made.turn,
-            computed: false,
-        });
-    };
-    match outcome_of(made.label) {
-        Some(outcome) => Ok(StepResult::Over(outcome)),
-        None => unreachable!(),
-    }
+    Ok(result_of(made.turn))
 }
 
 // The outcome that the last label gives. It is a function of its own, as few steps end a run.
@@ -115,56 +110,16 @@ fn last_outcome(trace: &PackedLabels) -> Option<Outcome>
     }
 }
 
-// The step after which the run is over. It is inlined, so that what this needs in memory is made where a run is over.
+/// Returns the outcome of a run that is over.
 #[inline(always)]
-fn over_by(brief: PackedStep, trace: &PackedLabels) -> Option<StepResult>
-    ensures over { brief ≡ PackedStep.Over → result ≡ option_map (λ outcome. StepResult.Over outcome) (last_outcome trace.now) }
-    ensures none { brief ≢ PackedStep.Over → result ≡ None }
+pub fn outcome_in(trace: &PackedLabels) -> Outcome
+    requires { is_some (last_outcome trace.now) ≡ true }
+    ensures { last_outcome trace.now ≡ Some result }
 {
-    let PackedStep::Over = brief else {
-        return None;
-    };
     match last_outcome(trace) {
-        Some(outcome) => Some(StepResult::Over(outcome)),
-        None => None,
+        Some(outcome) => outcome,
+        None => unreachable!(),
     }
-}
-
-/// Returns the step that was made, whose label is the last one in the trace. None where nothing was, and if it was out of memory.
-#[inline(always)]
-pub(crate) fn stepped_by(brief: PackedStep, trace: &PackedLabels) -> Option<StepResult>
-    ensures { result ≡ stepped_by brief trace.now }
-{
-    match brief {
-        PackedStep::Stops => Some(StepResult::Continues {
-            turn: Turn::Main,
-            computed: false,
-        }),
-        PackedStep::Runs(thread) => Some(StepResult::Continues {
-            turn: Turn::Run { thread },
-            computed: false,
-        }),
-        PackedStep::Computes(thread) => Some(StepResult::Continues {
-            turn: Turn::Run { thread },
-            computed: true,
-        }),
-        _ => over_by(brief, trace),
-    }
-}
-
-/// Adds the label of a step after which main's turn comes. If it is out of memory, nothing is added.
-#[inline(always)]
-pub(crate) fn put_stop(trace: &mut PackedLabels, made: MadeStep) -> PackedStep
-    requires over { is_none (outcome_of_label made.label) ≡ is_open made.turn }
-    requires turn { made.turn ≡ Turn.Main }
-    ensures stands { IfSome (stepped_by result trace.new) (λ stepped. Stands stepped trace.old made trace.new) }
-    ensures err { IfNone (stepped_by result trace.new) (trace.new ≡ trace.old) }
-    ensures made { result ≢ PackedStep.Nothing }
-{
-    let Ok(()) = trace.push(made.label) else {
-        return PackedStep::Full;
-    };
-    PackedStep::Stops
 }
 
 // The strand of the thread is gone, and none runs.
@@ -229,20 +184,19 @@ fn show_unwind<W: Primitives>(
     thread: ThreadId,
     trace: &mut PackedLabels,
     op_result: OpResult,
-) -> PackedStep
+) -> Result<StepResult, NoMemory>
     requires unwinds { CanUnwind op_result (thread_of (W.view w.old) thread) (W.view w.old).core }
     requires goes { OpGoesOn op_result (W.view w.old) }
     requires falls { turn_after op_result ≡ Turn.Over }
-    ensures shown { IfSome (stepped_by result trace.new) (λ stepped. Shown thread op_result (W.view w.old) trace.old stepped (W.view w.new) trace.new) }
+    ensures shown { IfOk result (λ stepped. Shown thread op_result (W.view w.old) trace.old stepped (W.view w.new) trace.new) }
     ensures works { KeepsTold (W.view w.old) (W.view w.new) }
-    ensures err { IfNone (stepped_by result trace.new) (trace.new ≡ trace.old) }
-    ensures made { result ≢ PackedStep.Nothing }
+    ensures err { OnErr result (trace.new ≡ trace.old) }
 {
     let made = made_of(w, thread, op_result);
     let Ok(()) = trace.push(made.label) else {
-        return PackedStep::Full;
+        return Err(NoMemory);
     };
-    PackedStep::Over
+    Ok(StepResult::Over)
 }
 
 // Adds what a trap shows to the trace. It is inlined, so that what a trap needs in memory is made where one comes.
@@ -252,13 +206,12 @@ fn show_trap<W: Primitives>(
     thread: ThreadId,
     trace: &mut PackedLabels,
     trap: Trap,
-) -> PackedStep
+) -> Result<StepResult, NoMemory>
     requires unwinds { CanUnwind (OpResult.Traps trap) (thread_of (W.view w.old) thread) (W.view w.old).core }
     requires goes { OpGoesOn (OpResult.Traps trap) (W.view w.old) }
-    ensures shown { IfSome (stepped_by result trace.new) (λ q. Shown thread (OpResult.Traps trap) (W.view w.old) trace.old q (W.view w.new) trace.new) }
+    ensures shown { IfOk result (λ q. Shown thread (OpResult.Traps trap) (W.view w.old) trace.old q (W.view w.new) trace.new) }
     ensures works { KeepsTold (W.view w.old) (W.view w.new) }
-    ensures err { IfNone (stepped_by result trace.new) (trace.new ≡ trace.old) }
-    ensures made { result ≢ PackedStep.Nothing }
+    ensures err { OnErr result (trace.new ≡ trace.old) }
 {
     show_unwind(w, thread, trace, OpResult::Traps(trap))
 }
@@ -270,13 +223,12 @@ fn show_failure<W: Primitives>(
     thread: ThreadId,
     trace: &mut PackedLabels,
     work: u64,
-) -> PackedStep
+) -> Result<StepResult, NoMemory>
     requires unwinds { CanUnwind (OpResult.Fails work) (thread_of (W.view w.old) thread) (W.view w.old).core }
     requires goes { OpGoesOn (OpResult.Fails work) (W.view w.old) }
-    ensures shown { IfSome (stepped_by result trace.new) (λ q. Shown thread (OpResult.Fails work) (W.view w.old) trace.old q (W.view w.new) trace.new) }
+    ensures shown { IfOk result (λ q. Shown thread (OpResult.Fails work) (W.view w.old) trace.old q (W.view w.new) trace.new) }
     ensures works { KeepsTold (W.view w.old) (W.view w.new) }
-    ensures err { IfNone (stepped_by result trace.new) (trace.new ≡ trace.old) }
-    ensures made { result ≢ PackedStep.Nothing }
+    ensures err { OnErr result (trace.new ≡ trace.old) }
 {
     show_unwind(w, thread, trace, OpResult::Fails(work))
 }
@@ -290,26 +242,25 @@ pub(crate) fn show<W: Primitives>(
     trace: &mut PackedLabels,
     op_result: OpResult,
     computed: bool,
-) -> PackedStep
+) -> Result<StepResult, NoMemory>
     requires unwinds { CanUnwind op_result (thread_of (W.view w.old) thread) (W.view w.old).core }
     requires goes { OpGoesOn op_result (W.view w.old) }
-    ensures shown { IfSome (stepped_by result trace.new) (λ stepped. Shown thread op_result (W.view w.old) trace.old stepped (W.view w.new) trace.new) }
+    ensures shown { IfOk result (λ stepped. Shown thread op_result (W.view w.old) trace.old stepped (W.view w.new) trace.new) }
     ensures works { KeepsTold (W.view w.old) (W.view w.new) }
-    ensures err { IfNone (stepped_by result trace.new) (trace.new ≡ trace.old) }
-    ensures made { result ≢ PackedStep.Nothing }
+    ensures err { OnErr result (trace.new ≡ trace.old) }
 {
     let (label, answer) = match op_result {
-        OpResult::Continues(label, next, _) if computed => (label, PackedStep::Computes(next)),
-        OpResult::Continues(label, next, _) => (label, PackedStep::Runs(next)),
+        OpResult::Continues(label, next, _) if computed => (label, StepResult::Computes(next)),
+        OpResult::Continues(label, next, _) => (label, StepResult::Runs(next)),
         OpResult::Stops(label) => {
             w.set_current(None);
-            (label, PackedStep::Stops)
+            (label, StepResult::Main)
         }
         OpResult::Traps(trap) => return show_trap(w, thread, trace, trap),
         OpResult::Fails(work) => return show_failure(w, thread, trace, work),
     };
     let Ok(()) = trace.push(label) else {
-        return PackedStep::Full;
+        return Err(NoMemory);
     };
-    answer
+    Ok(answer)
 }

@@ -1,11 +1,10 @@
 //! What comes where nothing is there, and nothing can go on.
-ghost use Rattle.std.specs.Prelude.{◌≡◌, None, false, is_none, true};
+ghost use Rattle.std.specs.Prelude.{◌≡◌, None, false, true};
 ghost use Rattle.machine_data.specs.Read.{next_entry};
 ghost use Rattle.ops_guests.specs.Works.{KeepsTold};
-ghost use Rattle.machine_rules.specs.Outcome.{outcome_of_label};
 ghost use Rattle.machine_rules.specs.Stalled.{works_rest};
 ghost use Rattle.machine_rules.specs.Works.{has_live_work, has_moving_work};
-ghost use Rattle.ops_turns.specs.Turn.{Deadlocks, is_open};
+ghost use Rattle.ops_turns.specs.Turn.{Deadlocks};
 
 use crate::made::MadeStep;
 use core_primitives::Primitives;
@@ -20,7 +19,6 @@ pub(crate) fn step_deadlock<W: Primitives>(w: &mut W) -> MadeStep
     requires live { has_live_work (W.view w.old).core ≡ false }
     requires rest { works_rest (W.view w.old).core ≡ true }
     ensures turns { Deadlocks (W.view w.old) result (W.view w.new) }
-    ensures over { is_none (outcome_of_label result.label) ≡ is_open result.turn }
     ensures current { (W.view w.new).current ≡ None }
     ensures works { KeepsTold (W.view w.old) (W.view w.new) }
 {

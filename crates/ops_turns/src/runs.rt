@@ -2,19 +2,19 @@
 ghost use Rattle.ops_dispatch.specs.Fits.{HasHandles, HasInstances, calls_host, is_plain, op_fits};
 ghost use Rattle.ops_dispatch.specs.Polls.{polled_host};
 ghost use Rattle.ops_dispatch.specs.RunnerDispatch.{Runner};
-ghost use Rattle.std.specs.Prelude.{◌≡◌, ◌+◌, ◌<◌, ◌^◌, IfNone, IfOk, IfSome, OnErr, OnOk, OnSome, Some, is_some, true};
+ghost use Rattle.std.specs.Prelude.{◌≡◌, ◌+◌, ◌<◌, ◌^◌, IfOk, OnErr, OnOk, Some, is_some, true};
 ghost use Rattle.machine_data.specs.Maps.{get};
 ghost use Rattle.machine_data.specs.Read.{op_progress_of, instance_of, position_of};
 ghost use Rattle.ops_guests.specs.Works.{KeepsTold, NamesTold};
 ghost use Rattle.machine_rules.specs.Scripts.{op_of};
-ghost use Rattle.ops_turns.specs.Ran.{DidHere, MakesFew, StandsBefore, WantsMemory, WorkMade, scripted_rule_of};
-ghost use Rattle.ops_turns.specs.StepResult.{DataShown, ExitShown, OpPolls, OpShown, OpStep, RanFree, RuleRan, RunStepped, Shown, stepped_by};
+ghost use Rattle.ops_turns.specs.Ran.{DidHere, MakesFew, OpMade, StandsBefore, WantsMemory, scripted_rule_of};
+ghost use Rattle.ops_turns.specs.StepResult.{CallStepped, DataShown, ExitShown, OpPolls, OpShown, OpStep, RuleRan, RunStepped, Shown};
 ghost use Rattle.ops_turns.specs.Turn.{CanUnwind, OpGoesOn, CoreInOrder, given, running_of};
 ghost use Rattle.ops_turns.specs.WellFormed.{IsWellFormed};
 ghost use Rattle.core_primitives.specs.StateView.{thread_of};
 
-use crate::made::{PackedStep, Ran, RunStep, made_of, show, stepped_by};
-use core_primitives::{Primitives, ThreadId};
+use crate::made::{MadeStep, StepResult, made_of, show};
+use core_primitives::{Primitives, ThreadId, WorkId};
 use machine_data::{Component, DataOp, HostPoll, Label, NoMemory, Op, TaskLabel, Turn};
 use ops_dispatch::{
     Done, do_host_call, do_op, do_plain_op, exit, finish, is_host_call, op_at, script_ops,
@@ -60,12 +60,12 @@ fn run_data<W: Primitives>(
     end: u32,
     trace: &mut PackedLabels,
     more: bool,
-) -> PackedStep
+) -> Result<StepResult, NoMemory>
     requires runner { Runner thread (W.view w.old) }
     requires within { StandsBefore end component.now (thread_of (W.view w.old) thread) (W.view w.old).core }
-    ensures shown { IfSome (stepped_by result trace.new) (λ q. DataShown component.now op.now thread (W.view w.old) trace.old q (W.view w.new) trace.new) }
-    ensures works { OnSome (stepped_by result trace.new) (KeepsTold (W.view w.old) (W.view w.new)) }
-    ensures err { IfNone (stepped_by result trace.new) (trace.new ≡ trace.old) }
+    ensures shown { IfOk result (λ q. DataShown component.now op.now thread (W.view w.old) trace.old q (W.view w.new) trace.new) }
+    ensures works { OnOk result (KeepsTold (W.view w.old) (W.view w.new)) }
+    ensures err { OnErr result (trace.new ≡ trace.old) }
 {
     // only the contract speaks of `component`
     let _component = component;
@@ -87,7 +87,7 @@ fn run_plain<W: Primitives>(
     thread: ThreadId,
     op: &Op,
     trace: &mut PackedLabels,
-) -> PackedStep
+) -> Result<StepResult, NoMemory>
     requires runner { Runner thread (W.view w.old) }
     requires plain { is_plain op.now ≡ true }
     requires fits { op_fits component.now op.now ≡ true }
@@ -95,9 +95,9 @@ fn run_plain<W: Primitives>(
     requires position { position_of (thread_of (W.view w.old) thread) (W.view w.old).core + 1 < 2 ^ 32 }
     requires handles { is_some (get (W.view w.old).core.handles (instance_of (thread_of (W.view w.old) thread) (W.view w.old).core)) ≡ true }
     requires few { given (W.view w.old).core < 2 ^ 61 }
-    ensures shown { IfSome (stepped_by result trace.new) (λ q. OpShown component.now op.now thread (W.view w.old) trace.old q (W.view w.new) trace.new) }
-    ensures works { OnSome (stepped_by result trace.new) (NamesTold (W.view w.old) (W.view w.new)) }
-    ensures err { IfNone (stepped_by result trace.new) (trace.new ≡ trace.old) }
+    ensures shown { IfOk result (λ q. OpShown component.now op.now thread (W.view w.old) trace.old q (W.view w.new) trace.new) }
+    ensures works { OnOk result (NamesTold (W.view w.old) (W.view w.new)) }
+    ensures err { OnErr result (trace.new ≡ trace.old) }
 {
     // The thread is there, which is asked once for all that its op looks up.
     match w.number(thread) {
@@ -105,7 +105,7 @@ fn run_plain<W: Primitives>(
         _ => {}
     }
     let Ok(op_result) = do_plain_op(component, w, thread, op) else {
-        return PackedStep::Full;
+        return Err(NoMemory);
     };
     finish(w, thread, op, op_result);
     show(w, thread, trace, op_result, false)
@@ -119,12 +119,12 @@ fn show_exit<W: Primitives>(
     thread: ThreadId,
     trace: &mut PackedLabels,
     op_result: OpResult,
-) -> PackedStep
+) -> Result<StepResult, NoMemory>
     requires unwinds { CanUnwind op_result (thread_of (W.view w.old) thread) (W.view w.old).core }
     requires goes { OpGoesOn op_result (W.view w.old) }
-    ensures shown { IfSome (stepped_by result trace.new) (λ stepped. Shown thread op_result (W.view w.old) trace.old stepped (W.view w.new) trace.new) }
+    ensures shown { IfOk result (λ stepped. Shown thread op_result (W.view w.old) trace.old stepped (W.view w.new) trace.new) }
     ensures works { KeepsTold (W.view w.old) (W.view w.new) }
-    ensures err { IfNone (stepped_by result trace.new) (trace.new ≡ trace.old) }
+    ensures err { OnErr result (trace.new ≡ trace.old) }
 {
     if let OpResult::Continues(Label::Task(TaskLabel::Exit(number)), next, answer) = op_result {
         let op_result = OpResult::Continues(Label::Task(TaskLabel::Exit(number)), next, answer);
@@ -135,11 +135,15 @@ fn show_exit<W: Primitives>(
 
 // The thread exits at its script's end.
 #[inline(never)]
-fn run_exit<W: Primitives>(w: &mut W, thread: ThreadId, trace: &mut PackedLabels) -> PackedStep
+fn run_exit<W: Primitives>(
+    w: &mut W,
+    thread: ThreadId,
+    trace: &mut PackedLabels,
+) -> Result<StepResult, NoMemory>
     requires runner { Runner thread (W.view w.old) }
-    ensures shown { IfSome (stepped_by result trace.new) (λ q. ExitShown thread (W.view w.old) trace.old q (W.view w.new) trace.new) }
-    ensures works { OnSome (stepped_by result trace.new) (KeepsTold (W.view w.old) (W.view w.new)) }
-    ensures err { IfNone (stepped_by result trace.new) (trace.new ≡ trace.old) }
+    ensures shown { IfOk result (λ q. ExitShown thread (W.view w.old) trace.old q (W.view w.new) trace.new) }
+    ensures works { OnOk result (KeepsTold (W.view w.old) (W.view w.new)) }
+    ensures err { OnErr result (trace.new ≡ trace.old) }
 {
     let op_result = exit(w, thread);
     show_exit(w, thread, trace, op_result)
@@ -154,14 +158,13 @@ fn run_host<W: Primitives>(
     op: &Op,
     end: u32,
     answer: HostPoll,
-) -> Result<Ran, NoMemory>
+) -> Result<(MadeStep, Option<WorkId>), NoMemory>
     requires runner { Runner thread (W.view w.old) }
     requires calls { calls_host op.now ≡ true }
     requires within { position_of (thread_of (W.view w.old) thread) (W.view w.old).core < end }
     requires few { given (W.view w.old).core < 2 ^ 61 }
-    ensures ran { IfOk result (λ ran. RuleRan (scripted_rule_of component.now op.now thread (W.view w.old)) thread (W.view w.old) ran.made (W.view w.new)) }
-    ensures polled { IfOk result (λ ran. ran.polled ≡ polled_host component.now (op_progress_of (thread_of (W.view w.old) thread) (W.view w.old).core) op.now) }
-    ensures work { IfOk result (λ ran. WorkMade answer ran.polled ran.work (W.view w.old) (W.view w.new)) }
+    ensures ran { IfOk result (λ q. RuleRan (scripted_rule_of component.now op.now thread (W.view w.old)) thread (W.view w.old) q.0 (W.view w.new)) }
+    ensures work { IfOk result (λ q. OpMade answer component.now op.now thread (W.view w.old) q.1 (W.view w.new)) }
     ensures works { OnOk result (NamesTold (W.view w.old) (W.view w.new)) }
 {
     // only the contract speaks of `end`
@@ -169,11 +172,7 @@ fn run_host<W: Primitives>(
     let Op::Call(call) = op else { unreachable!() };
     let done = do_host_call(component, w, thread, call, answer)?;
     finish(w, thread, op, done.op_result);
-    Ok(Ran {
-        made: made_of(w, thread, done.op_result),
-        polled: done.polled,
-        work: done.work,
-    })
+    Ok((made_of(w, thread, done.op_result), done.work))
 }
 
 // The op at this position of the thread's script is done, unless it calls a host. It is inlined, so that a step isn't copied. After
@@ -188,7 +187,7 @@ fn run_by<W: Primitives>(
     script: &[Op],
     position: u32,
     trace: &mut PackedLabels,
-) -> Result<RunStep, NoMemory>
+) -> Result<Option<StepResult>, NoMemory>
     requires runner { Runner thread (W.view w.old) }
     requires fits { op_fits component.now op.now ≡ true }
     requires instances { HasInstances component.now (W.view w.old).core }
@@ -201,21 +200,19 @@ fn run_by<W: Primitives>(
     ensures err { OnErr result (trace.new ≡ trace.old) }
 {
     match op {
-        Op::Call(call) if is_host_call(call) => Ok(RunStep::Calls),
+        Op::Call(call) if is_host_call(call) => Ok(None),
         Op::Data(data) => {
             let more = matches!(op_at(script, position.saturating_add(1)), Some(Op::Data(_)));
-            let brief = run_data(component, w, thread, data, end, trace, more);
-            let Some(stepped) = stepped_by(brief, trace) else {
+            let Ok(stepped) = run_data(component, w, thread, data, end, trace, more) else {
                 return Err(NoMemory);
             };
-            Ok(RunStep::Shown(stepped))
+            Ok(Some(stepped))
         }
         _ => {
-            let brief = run_plain(component, w, thread, op, trace);
-            let Some(stepped) = stepped_by(brief, trace) else {
+            let Ok(stepped) = run_plain(component, w, thread, op, trace) else {
                 return Err(NoMemory);
             };
-            Ok(RunStep::Shown(stepped))
+            Ok(Some(stepped))
         }
     }
 }
@@ -229,12 +226,12 @@ pub fn step_run<W: Primitives>(
     w: &mut W,
     number: u64,
     trace: &mut PackedLabels,
-) -> Result<RunStep, NoMemory>
+) -> Result<Option<StepResult>, NoMemory>
     requires covered { IsWellFormed component.now }
     requires order { CoreInOrder component.now (Turn.Run number) (W.view w.old).core }
     requires runs { running_of (W.view w.old) ≡ Some number }
     requires few { given (W.view w.old).core < 2 ^ 61 }
-    ensures ran { IfOk result (λ step. RunStepped component.now number (W.view w.old) step (W.view w.new) trace.old trace.new) }
+    ensures ran { IfOk result (λ q. RunStepped component.now number (W.view w.old) q (W.view w.new) trace.old trace.new) }
     ensures works { OnOk result (NamesTold (W.view w.old) (W.view w.new)) }
     ensures err { OnErr result (trace.new ≡ trace.old) }
 {
@@ -256,17 +253,16 @@ pub fn step_run<W: Primitives>(
             trace,
         ),
         None => {
-            let brief = run_exit(w, thread, trace);
-            let Some(stepped) = stepped_by(brief, trace) else {
+            let Ok(stepped) = run_exit(w, thread, trace) else {
                 return Err(NoMemory);
             };
-            Ok(RunStep::Shown(stepped))
+            Ok(Some(stepped))
         }
     }
 }
 
-/// Has the running thread, which has this number, do its op, which calls a host: the step, the host that was polled first, which
-/// has answered so if it is open, and the work that was made are answered, and the label is still to be added. If it is out of
+/// Has the running thread, which has this number, do its op, which calls a host: the step, whose label is still to be
+/// added, and the work that was made are answered. The host is polled first, and has answered so if it is open. If it is out of
 /// memory, nothing is said of the state. It is a function of its own, so that what it answers is there only where a host is called.
 #[inline(never)]
 pub fn step_call<W: Primitives>(
@@ -274,13 +270,13 @@ pub fn step_call<W: Primitives>(
     w: &mut W,
     number: u64,
     answer: HostPoll,
-) -> Result<Ran, NoMemory>
+) -> Result<(MadeStep, Option<WorkId>), NoMemory>
     requires covered { IsWellFormed component.now }
     requires order { CoreInOrder component.now (Turn.Run number) (W.view w.old).core }
     requires runs { running_of (W.view w.old) ≡ Some number }
     requires calls { calls_host (op_of component.now number (W.view w.old).core) ≡ true }
     requires few { given (W.view w.old).core < 2 ^ 61 }
-    ensures ran { IfOk result (λ ran. RanFree answer component.now number (W.view w.old) ran (W.view w.new)) }
+    ensures ran { IfOk result (λ q. CallStepped answer component.now number (W.view w.old) q (W.view w.new)) }
     ensures works { OnOk result (NamesTold (W.view w.old) (W.view w.new)) }
 {
     // only the contract speaks of `number`

@@ -1,6 +1,6 @@
 //! The taking of an entry of a thread.
 ghost use Rattle.ops_turns.specs.Worked.{tracked_entry_group};
-ghost use Rattle.std.specs.Prelude.{◌≡◌, ◌≢◌, ◌<◌, IfNone, IfOk, IfSome, None, OnOk, OnSome, Some};
+ghost use Rattle.std.specs.Prelude.{◌≡◌, ◌<◌, IfOk, None, OnErr, OnOk, Some};
 ghost use Rattle.machine_data.specs.Moves.{why_of};
 ghost use Rattle.machine_data.specs.Read.{next_entry};
 ghost use Rattle.machine_data.specs.declared.label.Label.TheVariants as labels;
@@ -12,12 +12,12 @@ ghost use Rattle.ops_guests.specs.Stays.{StaysAfter};
 ghost use Rattle.ops_guests.specs.Works.{KeepsTold};
 ghost use Rattle.machine_rules.specs.Places.{Placed};
 ghost use Rattle.machine_rules.specs.Takes.{pushed};
-ghost use Rattle.ops_turns.specs.StepResult.{Shown, TakingShown, TookShown, stepped_by};
+ghost use Rattle.ops_turns.specs.StepResult.{Shown, TakingShown, TookShown};
 ghost use Rattle.ops_turns.specs.Taken.{FindsSet, Taken, TakesDelivery, TakesHost, TakesThread};
 ghost use Rattle.ops_turns.specs.Turn.{CanUnwind, OpGoesOn, Shows, CoreInOrder, Took};
 ghost use Rattle.core_primitives.specs.StateView.{on_core, thread_of, work_of};
 
-use crate::made::{MadeStep, PackedStep, put_stop, show};
+use crate::made::{MadeStep, StepResult, put, show};
 use core_primitives::{EntryId, Primitives, ThreadId, WorkId};
 use machine_data::{Component, Delivery, Label, Mark, NoMemory, TakeLabel, Turn, Why};
 use ops_guests::{
@@ -85,13 +85,12 @@ fn show_taken<W: Primitives>(
     thread: ThreadId,
     trace: &mut PackedLabels,
     op_result: OpResult,
-) -> PackedStep
+) -> Result<StepResult, NoMemory>
     requires unwinds { CanUnwind op_result (thread_of (W.view w.old) thread) (W.view w.old).core }
     requires goes { OpGoesOn op_result (W.view w.old) }
-    ensures shown { IfSome (stepped_by result trace.new) (λ stepped. Shown thread op_result (W.view w.old) trace.old stepped (W.view w.new) trace.new) }
+    ensures shown { IfOk result (λ stepped. Shown thread op_result (W.view w.old) trace.old stepped (W.view w.new) trace.new) }
     ensures works { KeepsTold (W.view w.old) (W.view w.new) }
-    ensures err { IfNone (stepped_by result trace.new) (trace.new ≡ trace.old) }
-    ensures made { result ≢ PackedStep.Nothing }
+    ensures err { OnErr result (trace.new ≡ trace.old) }
 {
     if let OpResult::Continues(Label::Take(label), next, answer) = op_result {
         return show(
@@ -112,17 +111,16 @@ fn step_thread<W: Primitives>(
     mark: Mark,
     thread: ThreadId,
     trace: &mut PackedLabels,
-) -> PackedStep
+) -> Result<StepResult, NoMemory>
     requires taken { Taken mark (thread_of (W.view w.old) thread) (W.view w.old).core }
     requires finds { FindsSet (thread_of (W.view w.old) thread) (W.view w.old).core }
-    ensures shown { IfSome (stepped_by result trace.new) (λ q. TakingShown mark thread (W.view w.old) trace.old q (W.view w.new) trace.new) }
-    ensures works { OnSome (stepped_by result trace.new) (KeepsTold (W.view w.old) (W.view w.new)) }
-    ensures err { IfNone (stepped_by result trace.new) (trace.new ≡ trace.old) }
-    ensures made { result ≢ PackedStep.Nothing }
+    ensures shown { IfOk result (λ q. TakingShown mark thread (W.view w.old) trace.old q (W.view w.new) trace.new) }
+    ensures works { OnOk result (KeepsTold (W.view w.old) (W.view w.new)) }
+    ensures err { OnErr result (trace.new ≡ trace.old) }
 {
     w.set_current(Some(thread));
     let Ok(op_result) = take_thread(w, mark, thread) else {
-        return PackedStep::Full;
+        return Err(NoMemory);
     };
     show_taken(w, thread, trace, op_result)
 }
@@ -169,30 +167,40 @@ pub(crate) fn step_take<W: Primitives>(
     ended: bool,
     trace: &mut PackedLabels,
     worked: &mut Option<u64>,
-) -> PackedStep
+) -> Result<Option<StepResult>, NoMemory>
     requires unworked { worked.old ≡ None }
     requires order { CoreInOrder component.now (Turn.Take ended) (W.view w.old).core }
     requires current { (W.view w.old).current ≡ None }
     ensures worked { worked.new ≡ tracked_entry_group (next_entry (W.view w.old).core) (W.view w.old) }
-    ensures none { result ≡ PackedStep.Nothing → Took component.now ended (W.view w.old) None (W.view w.new) }
-    ensures took { IfSome (stepped_by result trace.new) (λ q. TookShown component.now ended (W.view w.old) trace.old q (W.view w.new) trace.new) }
-    ensures works { OnSome (stepped_by result trace.new) (KeepsTold (W.view w.old) (W.view w.new)) }
-    ensures err { IfNone (stepped_by result trace.new) (trace.new ≡ trace.old) }
+    ensures took { IfOk result (λ q. TookShown component.now ended (W.view w.old) trace.old q (W.view w.new) trace.new) }
+    ensures works { OnOk result (KeepsTold (W.view w.old) (W.view w.new)) }
+    ensures err { OnErr result (trace.new ≡ trace.old) }
 {
     // only the contract speaks of `component`
     let _component = component;
     w.none_is_zero();
     match w.take_next() {
-        None => PackedStep::Nothing,
-        Some((mark, EntryId::Thread(thread))) => step_thread(w, mark, thread, trace),
+        None => Ok(None),
+        Some((mark, EntryId::Thread(thread))) => {
+            let Ok(stepped) = step_thread(w, mark, thread, trace) else {
+                return Err(NoMemory);
+            };
+            Ok(Some(stepped))
+        }
         Some((mark, EntryId::Push(work))) => {
             let made = step_push(w, mark, work);
-            put_stop(trace, made)
+            let Ok(stepped) = put(trace, made) else {
+                return Err(NoMemory);
+            };
+            Ok(Some(stepped))
         }
         Some((mark, EntryId::Host(work))) => {
             *worked = w.work_group(work);
             let made = step_host(w, mark, work);
-            put_stop(trace, made)
+            let Ok(stepped) = put(trace, made) else {
+                return Err(NoMemory);
+            };
+            Ok(Some(stepped))
         }
     }
 }

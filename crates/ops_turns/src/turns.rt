@@ -1,20 +1,19 @@
 //! The turns of a run in which main has no part.
 ghost use Rattle.ops_turns.specs.Worked.{MayPoll, PollsWork, TellsOfNext, tracked_worked_group};
-ghost use Rattle.std.specs.Prelude.{◌≡◌, ◌≤◌, IfOk, IfSome, None, is_none, OnErr, OnOk};
+ghost use Rattle.std.specs.Prelude.{◌≡◌, ◌≤◌, IfOk, None, OnErr, OnOk};
 ghost use Rattle.laws_states.specs.Order.{WorksQueued};
 ghost use Rattle.machine_data.specs.Read.{next_entry};
 ghost use Rattle.ops_guests.specs.Works.{KeepsTold};
-ghost use Rattle.machine_rules.specs.Outcome.{outcome_of_label};
 ghost use Rattle.machine_rules.specs.Stalled.{is_unended_take};
 ghost use Rattle.ops_turns.specs.Later.{SameWorks};
 ghost use Rattle.ops_turns.specs.WellFormed.{IsWellFormed};
 ghost use Rattle.ops_turns.specs.Drive.{Computed, StopsShort};
-ghost use Rattle.ops_turns.specs.StepResult.{TakesBeside};
-ghost use Rattle.ops_turns.specs.Turn.{IsAtTurn, RunnerThere, CoreInOrder, Rested, TellsRest, TurnsBeside, is_open, running_of, runs_in};
+ghost use Rattle.ops_turns.specs.StepResult.{TakesBeside, turn_of};
+ghost use Rattle.ops_turns.specs.Turn.{IsAtTurn, RunnerThere, CoreInOrder, Rested, TellsRest, TurnsBeside, running_of, runs_in};
 ghost use Rattle.core_primitives.specs.StateView.{work_of};
 
 use crate::futures::step_poll;
-use crate::made::{MadeStep, PackedStep, StepResult, put, stepped_by};
+use crate::made::{MadeStep, StepResult, put};
 use crate::rests::step_deadlock;
 use crate::settles::queues_are_empty;
 use crate::stretches::stretch;
@@ -50,7 +49,6 @@ fn rest<W: Primitives>(w: &mut W, trap_on_idle: bool) -> Option<MadeStep>
     requires current { (W.view w.old).current ≡ None }
     requires none { next_entry (W.view w.old).core ≡ None }
     ensures turned { Rested trap_on_idle (W.view w.old) result (W.view w.new) }
-    ensures over { IfSome result (λ made. is_none (outcome_of_label made.label) ≡ is_open made.turn) }
     ensures current { (W.view w.new).current ≡ None }
     ensures works { KeepsTold (W.view w.old) (W.view w.new) }
 {
@@ -87,22 +85,23 @@ pub fn take<W: Primitives>(
     ensures works { OnOk result (KeepsTold (W.view w.old) (W.view w.new)) }
     ensures err { OnErr result (trace.new ≡ trace.old) }
 {
-    let brief = step_take(component, w, ended, trace, worked);
-    let PackedStep::Nothing = brief else {
-        let Some(stepped) = stepped_by(brief, trace) else {
-            return Err(NoMemory);
-        };
-        return Ok(Some(stepped));
+    let Ok(taken) = step_take(component, w, ended, trace, worked) else {
+        return Err(NoMemory);
     };
-    if ended {
-        unreachable!()
-    }
-    match rest(w, trap_on_idle) {
-        Some(made) => {
-            let stepped = put(trace, made)?;
-            Ok(Some(stepped))
+    match taken {
+        Some(stepped) => Ok(Some(stepped)),
+        None => {
+            if ended {
+                unreachable!()
+            }
+            match rest(w, trap_on_idle) {
+                Some(made) => {
+                    let stepped = put(trace, made)?;
+                    Ok(Some(stepped))
+                }
+                None => Ok(None),
+            }
         }
-        None => Ok(None),
     }
 }
 
@@ -112,25 +111,21 @@ pub fn take<W: Primitives>(
 pub fn compute<W: Primitives>(
     component: &Component,
     w: &mut W,
-    computed: bool,
-    turn: Turn,
+    stepped: StepResult,
     trace: &mut PackedLabels,
     added: u32,
     steps: u32,
 ) -> Result<u32, NoMemory>
     requires covered { IsWellFormed component.now }
-    requires order { CoreInOrder component.now turn (W.view w.old).core }
-    requires runs { running_of (W.view w.old) ≡ runs_in turn }
+    requires order { CoreInOrder component.now (turn_of stepped) (W.view w.old).core }
+    requires runs { running_of (W.view w.old) ≡ runs_in (turn_of stepped) }
     requires few { added ≤ steps }
-    ensures ok { IfOk result (λ k. Computed component.now turn (W.view w.old) trace.old added (W.view w.new) trace.new steps k) }
-    ensures err { OnErr result (StopsShort component.now turn (W.view w.old) trace.old added trace.new steps) }
+    ensures ok { IfOk result (λ k. Computed component.now (turn_of stepped) (W.view w.old) trace.old added (W.view w.new) trace.new steps k) }
+    ensures err { OnErr result (StopsShort component.now (turn_of stepped) (W.view w.old) trace.old added trace.new steps) }
     ensures works { SameWorks (W.view w.old) (W.view w.new) }
 {
-    if !computed {
-        return Ok(added);
-    }
-    match turn {
-        Turn::Run { thread } => stretch(component, w, thread, trace, added, steps),
+    match stepped {
+        StepResult::Computes(thread) => stretch(component, w, thread, trace, added, steps),
         _ => Ok(added),
     }
 }

@@ -41,7 +41,7 @@ use Rattle.machine_data.specs.declared.records.Turn.{Turn}
 use Rattle.machine_data.specs.declared.records.Turn.TheVariants as turn
 use Rattle.machine_data.specs.declared.scenario.MainOpDef.{MainOpDef}
 use Rattle.machine_data.specs.declared.trap.Trap.TheVariants as trap
-use Rattle.machine_rules.specs.Outcome.{IsOutcome, is_at_rest}
+use Rattle.machine_rules.specs.Outcome.{IsOutcome, is_at_rest, last_outcome}
 use Rattle.machine_rules.specs.Stalled.{Setting}
 use Rattle.task_store.proofs.HostLemmas.{holds_same}
 use Rattle.store_notices.specs.Moves.{finishes}
@@ -51,15 +51,14 @@ use Rattle.task_store.specs.declared.store.Store.{Store}
 use Rattle.ops_turns.proofs.DriveLemmas.{on_begins, on_out_at, on_rests, was_on, was_on_short}
 use Rattle.ops_turns.proofs.KeptLemmas.{core_in_order_after}
 use Rattle.ops_turns.proofs.LaterLemmas.{last_by_works}
-use Rattle.ops_turns.proofs.SteppedLemmas.{added_ends, added_more, added_none}
+use Rattle.ops_turns.proofs.SteppedLemmas.{AddedTo, added_ends, added_more, added_none, added_open, added_over, outcome_told}
 use Rattle.ops_turns.specs.Drive.{Computes, Drives, Drove, IsOn, KeepsOn, StopsShort, WasGoing}
 use Rattle.ops_turns.specs.Later.{SameWorks, WorksLast}
-use Rattle.ops_turns.specs.StepResult.{Added, AddedOrNone}
-use Rattle.ops_turns.specs.Turn.{IsAtTurn, PendsIn, Turns, runs_in, setting_of, state_at}
+use Rattle.ops_turns.specs.StepResult.{Added, AddedOrNone, turn_of}
+use Rattle.ops_turns.specs.Turn.{IsAtTurn, PendsIn, Turns, is_open, runs_in, setting_of, state_at}
 use Rattle.ops_turns.specs.WellFormed.{IsWellFormed}
 use Rattle.ops_turns.specs.declared.made.MadeStep.{MadeStep}
 use Rattle.ops_turns.specs.declared.made.StepResult.{StepResult}
-use Rattle.ops_turns.specs.declared.made.StepResult.TheVariants as stepped
 use Rattle.core_primitives.specs.StateView.{StateView, Tags, on_core}
 
 -- ---- The turns of the run
@@ -85,13 +84,14 @@ module _ {M T H G : Type 0} (says : Says M) (course : H → HostDef) (c : Compon
   pub turned_as : (u v : At M T H G) (r : ℕ) (w o : Option StepResult) → w ≡ o → HasTurned says course c w r u v → HasTurned says course c o r u v
   turned_as u v r w o is op_result = subst (λ (q : Option StepResult). HasTurned says course c q r u v) is op_result
 
-  pub halted_by : (why : Halt) (u v : At M T H G) → (why ≡ halt.NoMemory → v.trace ≡ u.trace) → (why ≡ halt.HookFailed → FailsTurn says course c u v) → HasHalted says course c why u v
-  halted_by halt.NoMemory u v lost failed = lost refl
-  halted_by halt.HookFailed u v lost failed = failed refl
+  -- by what a part of the turn gives in each case
+  pub halts_by : (why : Halt) (u v : At M T H G) (Gives : Halt → Type 0) → (Gives halt.NoMemory → v.trace ≡ u.trace) → (Gives halt.HookFailed → FailsTurn says course c u v) → Gives why → HasHalted says course c why u v
+  halts_by halt.NoMemory u v Gives lost failed h = lost h
+  halts_by halt.HookFailed u v Gives lost failed h = failed h
 
   -- how the store is at the turn
-  pub at_turn : (r : ℕ) (why : Halt) (u : At M T H G) → MayTurn says course c r why u → IsAtTurn c u.turn u.store.state
-  at_turn r why u may = record { order = may.stands.order; running = may.stands.running; settled = may.stands.settled; unfinished = may.unfinished }
+  pub at_turn : (r : ℕ) (u : At M T H G) → MayTurn says course c r u → IsAtTurn c u.turn u.store.state
+  at_turn r u may = record { order = may.stands.order; running = may.stands.running; settled = may.stands.settled; unfinished = may.unfinished }
 
   pub come_first : (a : At M T H G) → MayRun says course c a → HasCome says course c a a 0
   come_first a may =
@@ -143,8 +143,8 @@ module _ {M T H G : Type 0} (says : Says M) (course : H → HostDef) (c : Compon
     come_pends = subst (λ (y : Setting). PendsIn y u.store.state.core (says.part u.main) u.turn) (sym (setting_kept a u come.keeps)) come.on.pends
 
     -- the next turn may be taken
-    pub come_may : (r : ℕ) (why : Halt) → IsWellFormed c → numbers says course c u + 4 < 2 ^ 61 → r ≡ group_running u.store.state u.turn → why ≡ halt.NoMemory → MayTurn says course c r why u
-    come_may r why covered few group unstopped = record {
+    pub come_may : (r : ℕ) → IsWellFormed c → numbers says course c u + 4 < 2 ^ 61 → r ≡ group_running u.store.state u.turn → MayTurn says course c r u
+    come_may r covered few group = record {
       covered = covered;
       stands = record {
         order = come.on.at.order;
@@ -159,7 +159,6 @@ module _ {M T H G : Type 0} (says : Says M) (course : H → HostDef) (c : Compon
       unfinished = come.on.at.unfinished;
       few = few;
       group = group;
-      unstopped = unstopped;
     }
 
     module _ (v : At M T H G) (r : ℕ) where
@@ -174,29 +173,33 @@ module _ {M T H G : Type 0} (says : Says M) (course : H → HostDef) (c : Compon
       pub turned : (q : StepResult) → HasTurned says course c (Some q) r u v → Added (λ (made : MadeStep). Turns x u.turn (says.part u.main) u.store.state made (says.part v.main) v.store.state) q u.trace v.trace
       turned q op_result = let t = told (Some q) op_result in (t.0, (t.1.0, t.1.1.turned))
 
-      come_on : (q : Turn) (computed : Bool) → HasTurned says course c (Some (stepped.Continues q computed)) r u v →
-          IsOn x s a.trace (numbers says course c a) q (says.part v.main) v.store.state v.trace (n + 1)
-      come_on q computed op_result =
-          added_more x s a.trace (numbers says course c a) u.turn (says.part u.main) u.store.state u.trace n come.on (says.part v.main) v.store.state v.trace q computed (turned (stepped.Continues q computed) op_result)
+      pub opened : (q : StepResult) → is_open (turn_of q) ≡ true → HasTurned says course c (Some q) r u v → AddedTo (λ (made : MadeStep). Turns x u.turn (says.part u.main) u.store.state made (says.part v.main) v.store.state) (turn_of q) None u.trace v.trace
+      opened q ongoing op_result = added_open x u.turn (says.part u.main) u.store.state u.trace (says.part v.main) v.store.state v.trace q ongoing (turned q op_result)
 
       -- it goes on in that turn
-      pub come_goes : (q : Turn) (computed : Bool) → HasTurned says course c (Some (stepped.Continues q computed)) r u v → Keeps says u v → HasCome says course c a (turned_to q) (n + 1)
-      come_goes q computed op_result kept =
-          let p = stepped.Continues q computed in
-          record {
-            on = come_on q computed op_result;
-            ran = ran_more says.does x s a.main a.trace a.store.listeners says.part u.turn u.main u.store.state u.trace u.store.listeners v.main v.store.state v.store.listeners p v.trace come.ran (told (Some p) op_result) op_result.did;
-            keeps = let k = keeps_on a u v come.keeps kept in record { script = k.script; idle = k.idle; constants = k.constants };
-            suits = op_result.suits;
-            knows = op_result.knows;
-            works = op_result.works;
-            asked = op_result.asked;
-          }
+      pub come_goes : (q : StepResult) → is_open (turn_of q) ≡ true → HasTurned says course c (Some q) r u v → Keeps says u v → HasCome says course c a (turned_to (turn_of q)) (n + 1)
+      come_goes q ongoing op_result kept = record {
+        on = added_more x s a.trace (numbers says course c a) u.turn (says.part u.main) u.store.state u.trace n come.on (says.part v.main) v.store.state v.trace (turn_of q) (opened q ongoing op_result);
+        ran = ran_more says.does x s a.main a.trace a.store.listeners says.part u.turn u.main u.store.state u.trace u.store.listeners v.main v.store.state v.store.listeners q v.trace come.ran (told (Some q) op_result) op_result.did;
+        keeps = let k = keeps_on a u v come.keeps kept in record { script = k.script; idle = k.idle; constants = k.constants };
+        suits = op_result.suits;
+        knows = op_result.knows;
+        works = op_result.works;
+        asked = op_result.asked;
+      }
 
-      pub ran_over : (o : Outcome) → HasTurned says course c (Some (stepped.Over o)) r u v → RanTo says course c a (turned_to turn.Over)
-      ran_over o op_result =
-          let p = stepped.Over o in
-          ran_more says.does x s a.main a.trace a.store.listeners says.part u.turn u.main u.store.state u.trace u.store.listeners v.main v.store.state v.store.listeners p v.trace come.ran (told (Some p) op_result) op_result.did
+      pub ran_over : (q : StepResult) → turn_of q ≡ turn.Over → HasTurned says course c (Some q) r u v → RanTo says course c a (turned_to turn.Over)
+      ran_over q is op_result =
+          subst (λ (p : Turn). RanTo says course c a (turned_to p)) is
+          (ran_more says.does x s a.main a.trace a.store.listeners says.part u.turn u.main u.store.state u.trace u.store.listeners v.main v.store.state v.store.listeners q v.trace come.ran (told (Some q) op_result) op_result.did)
+
+      -- the last label says how the run has ended
+      pub over_told : (q : StepResult) → turn_of q ≡ turn.Over → HasTurned says course c (Some q) r u v → is_some (last_outcome v.trace) ≡ true
+      over_told q is op_result = outcome_told x u.turn (says.part u.main) u.store.state u.trace (says.part v.main) v.store.state v.trace q is (turned q op_result)
+
+      pub over_added : (q : StepResult) (o : Outcome) → turn_of q ≡ turn.Over → last_outcome v.trace ≡ Some o → HasTurned says course c (Some q) r u v
+          → AddedTo (λ (made : MadeStep). Turns x u.turn (says.part u.main) u.store.state made (says.part v.main) v.store.state) turn.Over (Some o) u.trace v.trace
+      over_added q o is last op_result = added_over x u.turn (says.part u.main) u.store.state u.trace (says.part v.main) v.store.state v.trace q o is last (turned q op_result)
 
       pub ran_kept : HasTurned says course c None r u v → RanTo says course c a v
       ran_kept op_result =
@@ -204,11 +207,11 @@ module _ {M T H G : Type 0} (says : Says M) (course : H → HostDef) (c : Compon
           (ran_still says.does x s a.main a.trace a.store.listeners says.part u.turn u.main u.store.state u.trace u.store.listeners v.main v.store.state v.store.listeners v.trace come.ran (told None op_result) op_result.did.0)
 
       -- it is over
-      pub come_over : (steps : ℕ) (o : Outcome) → n < steps → HasTurned says course c (Some (stepped.Over o)) r u v → HasGone says course c steps o a (turned_to turn.Over)
-      come_over steps o room op_result =
+      pub come_over : (steps : ℕ) (q : StepResult) (o : Outcome) → n < steps → turn_of q ≡ turn.Over → last_outcome v.trace ≡ Some o → HasTurned says course c (Some q) r u v → HasGone says course c steps o a (turned_to turn.Over)
+      come_over steps q o room is last op_result =
           gone steps o (turned_to turn.Over)
-          (added_ends x s a.trace (numbers says course c a) u.turn (says.part u.main) u.store.state u.trace n come.on (says.part v.main) v.store.state v.trace o steps room (turned (stepped.Over o) op_result))
-          (ran_over o op_result) op_result.suits op_result.knows op_result.works op_result.asked
+          (added_ends x s a.trace (numbers says course c a) u.turn (says.part u.main) u.store.state u.trace n come.on (says.part v.main) v.store.state v.trace o steps room (over_added q o is last op_result))
+          (ran_over q is op_result) op_result.suits op_result.knows op_result.works op_result.asked
 
       -- nothing can go on, and that is no deadlock
       pub come_none : (steps : ℕ) → n ≤ steps → HasTurned says course c None r u v → HasGone says course c steps outcome.Idle a v
@@ -252,10 +255,6 @@ module _ {M T H G : Type 0} (says : Says M) (course : H → HostDef) (c : Compon
 
     pub come_short : (steps : ℕ) (after : List Label) → StopsShort c u.turn u.store.state u.trace n after steps → WasGoing x s a.trace after steps
     come_short steps after short = was_on_short x s a.trace (numbers says course c a) u.turn (says.part u.main) u.store.state u.trace after n steps come.on short
-
-    -- in this turn
-    pub come_lost : (v : At M T H G) (why : Halt) (steps : ℕ) → n ≤ steps → why ≡ halt.NoMemory → HasHalted says course c why u v → IsLost says course c steps a v
-    come_lost v why steps few is halted = lost steps v.trace few (subst (λ (k : Halt). HasHalted says course c k u v) is halted)
 
     -- in the turns before the hook answered no error, and it failed in this one
     stopped : (v : At M T H G) (steps : ℕ) → n < steps → FailsTurn says course c u v → HasStopped says course c steps a v.main v.trace v.store.state v.store.listeners
@@ -303,10 +302,10 @@ module _ {M T H G : Type 0} (says : Says M) (course : H → HostDef) (c : Compon
           suits = subst (λ (m : M). says.suits m c) (sym main) come.suits;
         }
 
-    pub come_stopped : (v : At M T H G) (why : Halt) (steps : ℕ) → n < steps → why ≡ halt.HookFailed → HasHalted says course c why u v → IsStopped says course c steps a v
-    come_stopped v why steps room is halted =
-        let fails : FailsTurn says course c u v = subst (λ (k : Halt). HasHalted says course c k u v) is halted in
-        (stopped v steps room fails, (fails.knows, fails.works))
+    -- the turns stop before the run does, by why
+    pub come_halts : (v : At M T H G) (why : Halt) (steps : ℕ) → n < steps → HasHalted says course c why u v → (why ≡ halt.NoMemory → IsLost says course c steps a v) × (why ≡ halt.HookFailed → IsStopped says course c steps a v)
+    come_halts v halt.NoMemory steps room same = (λ is. lost steps v.trace (omega (arith, room)) same, λ is. absurd (cc))
+    come_halts v halt.HookFailed steps room fails = (λ is. absurd (cc), λ is. (stopped v steps room fails, (fails.knows, fails.works)))
 
 -- ---- What a call gives
 
@@ -434,7 +433,7 @@ module _ {M T H G : Type 0} (says : Says M) (course : H → HostDef) (c : Compon
 -- where they stop before the run does, by why
 module _ {M T H G : Type 0} (says : Says M) (course : H → HostDef) (c : Component) (yields : Bool) (steps : ℕ) where
   pub gives_halt : (run : RunConcurrent) (m : M) (s : Store T H G) (before : List Label) (run' : RunConcurrent) (n : M) (t : Store T H G) (after : List Label) (why : Halt) →
-      (why ≡ halt.NoMemory → IsLost says course c steps (at run m s before) (at run' n t after)) → (why ≡ halt.HookFailed → IsStopped says course c steps (at run m s before) (at run' n t after)) →
+      (why ≡ halt.NoMemory → IsLost says course c steps (at run m s before) (at run' n t after)) × (why ≡ halt.HookFailed → IsStopped says course c steps (at run m s before) (at run' n t after)) →
       TurnsGive says course c yields steps (Err why) run m s before run' n t after
-  gives_halt run m s before run' n t after halt.NoMemory lost stopped = lost refl
-  gives_halt run m s before run' n t after halt.HookFailed lost stopped = stopped refl
+  gives_halt run m s before run' n t after halt.NoMemory h = h.0 refl
+  gives_halt run m s before run' n t after halt.HookFailed h = h.1 refl

@@ -35,10 +35,10 @@ use Rattle.machine_rules.specs.Stalled.{Setting}
 use Rattle.task_store.proofs.HostLemmas.{holds_as, holds_made, holds_quiet, holds_unmade, running_stays, runs_works, taken_stays}
 use Rattle.task_store.specs.Hosts.{HoldsWorks, held_after_call, running}
 use Rattle.task_table.specs.declared.id.TableId.{TableId}
-use Rattle.ops_turns.specs.Ran.{RanPolls, WorkMade}
+use Rattle.ops_turns.specs.Ran.{WorkMade, host_polled}
+use Rattle.ops_turns.specs.declared.made.MadeStep.{MadeStep}
 use Rattle.ops_turns.specs.StepResult.{AddedOrNone}
 use Rattle.ops_turns.specs.Turn.{MakesStep, PendsIn, CoreInOrder, Turned, TurnedBeside, idle_line_of, state_at}
-use Rattle.ops_turns.specs.declared.made.Ran.{Ran}
 use Rattle.ops_turns.specs.declared.made.StepResult.{StepResult}
 use Rattle.task_wait.specs.declared.keys.HostTaskKey.{HostTaskKey}
 use Rattle.core_primitives.specs.StateView.{StateView, work_of}
@@ -86,7 +86,7 @@ first_left host_def.Open l host_poll.Pending h = same_left host_def.Open l h
 first_left host_def.Open l (host_poll.Value v) h = absurd (cc)
 first_left host_def.Open l host_poll.Failed h = absurd (cc)
 
-module _ (answer : HostPoll) (c : Component) (n : ℕ) (s t : StateView) (ran : Ran) (sits : CoreInOrder c (turn.Run n) s.core) (makes : MakesStep c (turn.Run n) s ran.made t) (polls : RanPolls answer c n s ran t)
+module _ (answer : HostPoll) (c : Component) (n : ℕ) (s t : StateView) (made : MadeStep) (work : Option (TableId HostTaskKey)) (sits : CoreInOrder c (turn.Run n) s.core) (makes : MakesStep c (turn.Run n) s made t) (polls : WorkMade answer (host_polled c n s.core) work s t)
     (left : ℕ → Option HeldWork) (h : HoldsWorks left s.core) where
   x : Setting
   x = record { component = c; script = []; idle = idle_line.Wait }
@@ -97,43 +97,43 @@ module _ (answer : HostPoll) (c : Component) (n : ℕ) (s t : StateView) (ran : 
   own_ops : ℕ → Op
   own_ops = ops_of c s.core
 
-  walked : WalkedAs own_ops x before ran.made.label (state_at t.core Unscripted ran.made.turn)
+  walked : WalkedAs own_ops x before made.label (state_at t.core Unscripted made.turn)
   unfolding x before own_ops
-  walked = step_walks x before ran.made.label (state_at t.core Unscripted ran.made.turn) (makes.step x refl Unscripted)
+  walked = step_walks x before made.label (state_at t.core Unscripted made.turn) (makes.step x refl Unscripted)
 
-  makes_none : ran.polled ≡ None → MakesWork own_ops before → ⊥
+  makes_none : (host_polled c n s.core) ≡ None → MakesWork own_ops before → ⊥
   unfolding x before own_ops
   makes_none none (Spawns main) = cc
   makes_none none (CallsHost k runs queues) =
       let same : n ≡ k = cc in
-      polls_first c (op_progress_of k s.core) (op_of c k s.core) queues (subst (λ (i : ℕ). polled_host c (op_progress_of i s.core) (op_of c i s.core) ≡ None) same (sym polls.polled ∙ none))
+      polls_first c (op_progress_of k s.core) (op_of c k s.core) queues (subst (λ (i : ℕ). polled_host c (op_progress_of i s.core) (op_of c i s.core) ≡ None) same none)
 
   after : State
-  after = state_at t.core Unscripted ran.made.turn
+  after = state_at t.core Unscripted made.turn
 
   stays : (i : ℕ) → StaysWork (get s.core.works i) (get t.core.works i)
   unfolding x before after
-  stays = running_stays x before ran.made.label after n (runs_works c n s.core (sits.order Unscripted)) (makes.step x refl Unscripted) refl left h
+  stays = running_stays x before made.label after n (runs_works c n s.core (sits.order Unscripted)) (makes.step x refl Unscripted) refl left h
 
-  unmade : WorkMade answer ran.polled None s t → HoldsWorks left t.core
+  unmade : WorkMade answer (host_polled c n s.core) None s t → HoldsWorks left t.core
   unfolding x before after
-  unmade (inl none) = holds_quiet own_ops x before ran.made.label after walked (Runs n) (sits.order Unscripted).works.made stays left h (makes_none none)
-  unmade (inr gone) = holds_unmade own_ops x before ran.made.label after walked (Runs n) (sits.order Unscripted).works.made stays left h gone
+  unmade (inl none) = holds_quiet own_ops x before made.label after walked (Runs n) (sits.order Unscripted).works.made stays left h (makes_none none)
+  unmade (inr gone) = holds_unmade own_ops x before made.label after walked (Runs n) (sits.order Unscripted).works.made stays left h gone
 
-  made_held : (id : TableId HostTaskKey) (right : ℕ → Option HeldWork) → WorkMade answer ran.polled (Some id) s t → ((i : ℕ) → right i ≡ held_after_call (Some (work_of t id)) (option_map one_fewer ran.polled) left i) → HoldsWorks right t.core
+  made_held : (id : TableId HostTaskKey) (right : ℕ → Option HeldWork) → WorkMade answer (host_polled c n s.core) (Some id) s t → ((i : ℕ) → right i ≡ held_after_call (Some (work_of t id)) (option_map one_fewer (host_polled c n s.core)) left i) → HoldsWorks right t.core
   unfolding x before after
   made_held id right m is =
       let d = m.0 in let l = m.1.0 in let polled = m.1.1.0 in let first = m.1.1.1.0 in let number = m.1.1.1.1.0 in let goes = m.1.1.1.1.1 in
-      holds_made own_ops x before ran.made.label after walked (Runs n) (sits.order Unscripted).works.made stays left h l right
+      holds_made own_ops x before made.label after walked (Runs n) (sits.order Unscripted).works.made stays left h l right
       (subst (λ (k : ℕ). course_of k t.core ≡ courses.Continues l) number goes)
       (λ i. is i ∙ (ap (λ (o : Option HostDef). held_after_call (Some (work_of t id)) (option_map one_fewer o) left i) polled ∙ (ap (λ (k : ℕ). cond (k == i) (running (one_fewer d)) (left i)) number
       ∙ ap (λ (e : HostDef). cond (s.core.made.works + 1 == i) (running e) (left i)) (first_left d l answer first))))
 
-  pub held_run : (right : ℕ → Option HeldWork) → ((i : ℕ) → right i ≡ held_after_call (option_map (λ id. work_of t id) ran.work) (option_map one_fewer ran.polled) left i) → HoldsWorks right t.core
-  held_run right is = by ran.work refl
+  pub held_run : (right : ℕ → Option HeldWork) → ((i : ℕ) → right i ≡ held_after_call (option_map (λ id. work_of t id) work) (option_map one_fewer (host_polled c n s.core)) left i) → HoldsWorks right t.core
+  held_run right is = by work refl
     where
-      by : (w : Option (TableId HostTaskKey)) → ran.work ≡ w → HoldsWorks right t.core
-      by None e = holds_as t.core left right (λ i. is i ∙ ap (λ (o : Option (TableId HostTaskKey)). held_after_call (option_map (λ id. work_of t id) o) (option_map one_fewer ran.polled) left i) e)
-          (unmade (subst (λ (o : Option (TableId HostTaskKey)). WorkMade answer ran.polled o s t) e polls.work))
-      by (Some id) e = made_held id right (subst (λ (o : Option (TableId HostTaskKey)). WorkMade answer ran.polled o s t) e polls.work)
-          (λ i. is i ∙ ap (λ (o : Option (TableId HostTaskKey)). held_after_call (option_map (λ id. work_of t id) o) (option_map one_fewer ran.polled) left i) e)
+      by : (w : Option (TableId HostTaskKey)) → work ≡ w → HoldsWorks right t.core
+      by None e = holds_as t.core left right (λ i. is i ∙ ap (λ (o : Option (TableId HostTaskKey)). held_after_call (option_map (λ id. work_of t id) o) (option_map one_fewer (host_polled c n s.core)) left i) e)
+          (unmade (subst (λ (o : Option (TableId HostTaskKey)). WorkMade answer (host_polled c n s.core) o s t) e polls))
+      by (Some id) e = made_held id right (subst (λ (o : Option (TableId HostTaskKey)). WorkMade answer (host_polled c n s.core) o s t) e polls)
+          (λ i. is i ∙ ap (λ (o : Option (TableId HostTaskKey)). held_after_call (option_map (λ id. work_of t id) o) (option_map one_fewer (host_polled c n s.core)) left i) e)

@@ -32,10 +32,9 @@ use Rattle.ops_turns.proofs.DriveLemmas.{Run-more, label_ends}
 use Rattle.ops_turns.proofs.KeptLemmas.{core_in_order_after}
 use Rattle.ops_turns.proofs.SettleLemmas.{step_settles}
 use Rattle.ops_turns.specs.Drive.{IsOn}
-use Rattle.ops_turns.specs.StepResult.{Added}
+use Rattle.ops_turns.proofs.SteppedLemmas.{AddedTo}
 use Rattle.ops_turns.specs.Turn.{IsSettled, PendsIn, CoreInOrder, Turned, Turns, given, goes_on, is_open, running_of, runs_in, state_at}
 use Rattle.ops_turns.specs.declared.made.MadeStep.{MadeStep}
-use Rattle.ops_turns.specs.declared.made.StepResult.TheVariants as stepped
 use Rattle.core_primitives.specs.StateView.{StateView}
 
 -- ---- What the turns of a poll result in
@@ -326,7 +325,7 @@ module _ (x : Setting) (s : State) (before : List Label) (numbers : ℕ) (yield_
   abbrev next : Option Mark
   next = next_mark p t.core
 
-  pub poll_ends : (yield_budget' : YieldBudget) (o : Outcome) → n < steps → Added (λ made. Turns x p m t made m' t') (stepped.Over o) mid after → yield_budget'.since ≡ k' → yield_budget'.passes ≡ false
+  pub poll_ends : (yield_budget' : YieldBudget) (o : Outcome) → n < steps → AddedTo (λ made. Turns x p m t made m' t') turn.Over (Some o) mid after → yield_budget'.since ≡ k' → yield_budget'.passes ≡ false
       → Paused x s before numbers yield_budget steps (run_answer o) turn.Over m' t' after yield_budget'
   poll_ends yield_budget' o room h since passes =
       let l = h.0.label in
@@ -335,7 +334,7 @@ module _ (x : Setting) (s : State) (before : List Label) (numbers : ℕ) (yield_
       (ends_now x s before numbers yield_budget steps p m t mid n b' k' on so_far yield_budget' h.0 m' t' h.1.1 after h.1.0.0 (run_answer o) room (ends_answer l o h.1.0.1.1)
       (ap (λ (q : Option Mark). yields_before b' k' q) none) (since ∙ sym (ap (λ (q : Option Mark). counted k' q) none)) passes)
 
-  module _ (q : Turn) (computed : Bool) (h : Added (λ made. Turns x p m t made m' t') (stepped.Continues q computed) mid after) (stays : yields_before b' k' (next_mark p t.core) ≡ false) where
+  module _ (q : Turn) (h : AddedTo (λ made. Turns x p m t made m' t') q None mid after) (stays : yields_before b' k' (next_mark p t.core) ≡ false) where
     shows : (mark_taken h.0.label ≡ next) × (is_rest h.0.label ≡ rests_by p next)
     shows = goings_show_next x (state_at t.core m p) h.0.label (state_at t'.core m' h.0.turn) h.1.1.step h.1.0.1.1
 

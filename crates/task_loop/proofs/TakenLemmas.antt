@@ -18,13 +18,11 @@ use Rattle.ops_turns.specs.StepResult.{Added, AddedOrNone, Stands}
 use Rattle.ops_turns.specs.Turn.{PendsIn, Turned, TurnedBeside, Turns, idle_line_of, setting_of}
 use Rattle.ops_turns.specs.declared.made.MadeStep.{MadeStep}
 use Rattle.ops_turns.specs.declared.made.StepResult.{StepResult}
-use Rattle.ops_turns.specs.declared.made.StepResult.TheVariants as stepped
 use Rattle.core_primitives.specs.StateView.{StateView}
 
 -- the label of what was made was added
 pub stands_adds : (q : StepResult) (before : List Label) (made : MadeStep) (after : List Label) → Stands q before made after → after ≡ before ++ made.label ∷ []
-stands_adds (stepped.Continues p computed) before made after h = h.0
-stands_adds (stepped.Over o) before made after h = h.0
+stands_adds q before made after h = h.0
 
 -- a step of whatever main is one of this
 pub any_turns : (x : Setting) (p : Turn) (m : Main) (s t : StateView) (q : StepResult) (before after : List Label) → PendsIn x s.core m p →

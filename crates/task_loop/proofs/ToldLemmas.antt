@@ -49,7 +49,6 @@ use Rattle.ops_turns.specs.StepResult.{Added, AddedOrNone, Stands}
 use Rattle.ops_turns.specs.Turn.{IsFree, MakesStep, PendsIn, CoreInOrder, Turned, Turns, running_of, runs_in, setting_of, state_at}
 use Rattle.ops_turns.specs.declared.made.MadeStep.{MadeStep}
 use Rattle.ops_turns.specs.declared.made.StepResult.{StepResult}
-use Rattle.ops_turns.specs.declared.made.StepResult.TheVariants as stepped
 use Rattle.ops_turns.specs.declared.mains.MainStep.{MainStep}
 use Rattle.ops_turns.specs.declared.mains.MainStep.TheVariants as step
 use Rattle.core_primitives.specs.Groups.{IsAsked, asked, ended_groups, if_tracked, tracked_group, CountsEnded}
@@ -96,8 +95,7 @@ idle_running t turn.Over e none = refl
 
 -- the turn after a step whose label is in the trace
 pub stands_turn : (q : StepResult) (before : List Label) (made : MadeStep) (after : List Label) → Stands q before made after → made.turn ≡ turn_of q
-stands_turn (stepped.Continues p computed) before made after h = h.1.0
-stands_turn (stepped.Over o) before made after h = h.1.0
+stands_turn q before made after h = h.1
 
 -- ---- A thread that runs on
 

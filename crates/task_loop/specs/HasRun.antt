@@ -16,7 +16,6 @@ use Rattle.task_loop.specs.Told.{StartFails, TurnTold, group_running, main_notic
 use Rattle.task_loop.specs.declared.poll_methods.RunPoll.{RunPoll}
 use Rattle.task_loop.specs.declared.run.Halt.{Halt}
 use Rattle.task_loop.specs.declared.run.Halt.TheVariants as halt
-use Rattle.task_loop.specs.declared.run.Halted.{Halted}
 use Rattle.task_loop.specs.declared.run.RunConcurrent.{RunConcurrent}
 use Rattle.task_loop.specs.declared.run.Stop.{Stop}
 use Rattle.task_loop.specs.declared.run.Stop.TheVariants as stop
@@ -141,15 +140,13 @@ module _ {M T H G : Type 0} (says : Says M) (course : H → HostDef) (c : Compon
 
   -- ---- A turn
 
-  -- What a turn asks. The thread that runs is of this group, if one runs, and so far nothing has stopped the turns but lack of
-  -- memory.
-  pub record MayTurn (running : ℕ) (why : Halt) (a : At M T H G) : Type 0 where
+  -- What a turn asks. The thread that runs is of this group, if one runs.
+  pub record MayTurn (running : ℕ) (a : At M T H G) : Type 0 where
     pub covered : IsWellFormed c
     pub stands : Stands (setting a) a
     pub unfinished : is_open a.turn ≡ true
     pub few : numbers a + 4 < 2 ^ 61
     pub group : running ≡ group_running a.store.state a.turn
-    pub unstopped : why ≡ halt.NoMemory
 
   -- A step was made, or none if nothing can go on. The run is where it was, but for whose turn it is.
   pub record HasTurned (q : Option StepResult) (running : ℕ) (a b : At M T H G) : Type 0 where
@@ -183,16 +180,15 @@ module _ {M T H G : Type 0} (says : Says M) (course : H → HostDef) (c : Compon
   HasHalted halt.NoMemory a b = b.trace ≡ a.trace
   HasHalted halt.HookFailed a b = FailsTurn a b
 
+  abbrev pub TurnsTo : Result (Option StepResult) Halt → (running : ℕ) → (a b : At M T H G) → Type 0
+  TurnsTo (Ok q) running a b = HasTurned q running a b
+  TurnsTo (Err why) running a b = HasHalted why a b
+
   -- so it is of main's turn, whatever the idle line is
-  abbrev pub MainTurned : StepResult → (m : M) (s : Store T H G) (before : List Label) (n : M) (t : Store T H G) (after : List Label) → Type 0
-  MainTurned q m s before n t after = (idle : Bool) → HasTurned (Some q) 0 (at_main idle m s before) (at_main idle n t after)
-
-  abbrev pub MainHalted : Halt → (m : M) (s : Store T H G) (before : List Label) (n : M) (t : Store T H G) (after : List Label) → Type 0
-  MainHalted why m s before n t after = (idle : Bool) → HasHalted why (at_main idle m s before) (at_main idle n t after)
-
-  abbrev pub TurnsTo : Result (Option StepResult) Halted → (running : ℕ) → (why : Halt) → (a b : At M T H G) → Type 0
-  TurnsTo (Ok q) running why a b = HasTurned q running a b × (why ≡ halt.NoMemory)
-  TurnsTo (Err e) running why a b = HasHalted why a b
+  abbrev pub MainTurned : Result StepResult Halt → (m : M) (s : Store T H G) (before : List Label) (n : M) (t : Store T H G) (after : List Label) →
+      Type 0
+  MainTurned (Ok q) m s before n t after = (idle : Bool) → HasTurned (Some q) 0 (at_main idle m s before) (at_main idle n t after)
+  MainTurned (Err why) m s before n t after = (idle : Bool) → HasHalted why (at_main idle m s before) (at_main idle n t after)
 
   -- ---- What a call gives
 
@@ -337,9 +333,9 @@ module _ {M T H G : Type 0} (says : Says M) (course : H → HostDef) (c : Compon
       PollsTo listens steps r run.yield_budget (at run m s before) (at run' n t after) run'.yield_budget
 
   -- of one turn, which the run stands at before and after it
-  abbrev pub TurnGives : Result (Option StepResult) Halted → (running : ℕ) → (why : Halt) → RunConcurrent → M → Store T H G →
-      List Label → M → Store T H G → List Label → Type 0
-  TurnGives r running why run m s before n t after = TurnsTo r running why (at run m s before) (at run n t after)
+  abbrev pub TurnGives : Result (Option StepResult) Halt → (running : ℕ) → RunConcurrent → M → Store T H G → List Label → M →
+      Store T H G → List Label → Type 0
+  TurnGives r running run m s before n t after = TurnsTo r running (at run m s before) (at run n t after)
 
   -- of all that the policy lets be taken
   abbrev pub TurnsGive : (yields : Bool) → ℕ → Result Stop Halt → RunConcurrent → M → Store T H G → List Label →

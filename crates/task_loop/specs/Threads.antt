@@ -1,8 +1,10 @@
 -- What those parts of a turn result in in which main has no part: a step of the thread that runs, the poll of a work, the taking of an entry.
-use Rattle.std.specs.Prelude.{Bool, List, None, Option, Some, is_some, ℕ, ◌+◌, ◌<◌, ◌^◌, ◌≡◌}
+use Rattle.std.specs.Prelude.{Bool, Err, List, None, Ok, Option, Result, Some, ℕ, is_some, ◌+◌, ◌<◌, ◌^◌, ◌≡◌}
 use Rattle.task_group.specs.Listeners.{Listeners, errors_of}
 use Rattle.task_loop.specs.Hooked.{TellsInPart}
 use Rattle.task_loop.specs.Told.{RunTold, TellsTurn, current_group, group_running, turn_of}
+use Rattle.task_loop.specs.declared.run.Halt.{Halt}
+use Rattle.task_loop.specs.declared.run.Halt.TheVariants as halt
 use Rattle.machine_data.specs.Core.{Core}
 use Rattle.machine_data.specs.declared.component.Component.{Component}
 use Rattle.machine_data.specs.declared.component.HostDef.{HostDef}
@@ -76,6 +78,13 @@ abbrev pub FailsThread : {T H G : Type 0} → (H → HostDef) → Component → 
 FailsThread course c n s t before after =
     FailsTold s.state.core (turn.Run n) t.state s.listeners t.listeners × ((q : StepResult) × StepsThread course c n s q t before after)
 
+-- So it took its step; or it is out of memory, and no label was added; or the hook failed.
+abbrev pub RunsTo : {T H G : Type 0} → (H → HostDef) → Component → ℕ → (s : Store T H G) → Result StepResult Halt → (running : ℕ) →
+    (t : Store T H G) → (before after : List Label) → Type 0
+RunsTo course c n s (Ok q) running t before after = RanThread course c n s q running t before after
+RunsTo course c n s (Err halt.NoMemory) running t before after = after ≡ before
+RunsTo course c n s (Err halt.HookFailed) running t before after = FailsThread course c n s t before after
+
 -- A work was polled, and that was told; or the hook answered an error as it was.
 abbrev pub PollsTold : {T H G : Type 0} → Turn → (running : ℕ) → (s : Store T H G) → StepResult → (t : Store T H G) →
     (before after : List Label) → Type 0
@@ -95,9 +104,23 @@ TakesTold c b ended running s (Some q) t before after =
     Takes c b ended s.state (Some q) t.state before after
     × ToldBeside s.state s.listeners (turn.Take ended) running t.state t.listeners
 
+-- in each case
+abbrev pub WorkPollsTo : {T H G : Type 0} → Turn → (s : Store T H G) → Result StepResult Halt → (running : ℕ) → (t : Store T H G) →
+    (before after : List Label) → Type 0
+WorkPollsTo p s (Ok q) running t before after = PollsTold p running s q t before after
+WorkPollsTo p s (Err halt.NoMemory) running t before after = after ≡ before
+WorkPollsTo p s (Err halt.HookFailed) running t before after = FailsPoll p s t before after
+
 -- It answered one as the taking of an entry was told.
 abbrev pub FailsTake : {T H G : Type 0} → Component → (trap_on_idle ended : Bool) → (s t : Store T H G) →
     (before after : List Label) → Type 0
 FailsTake c b ended s t before after =
     FailsTold s.state.core (turn.Take ended) t.state s.listeners t.listeners
     × ((q : StepResult) × Takes c b ended s.state (Some q) t.state before after)
+
+-- in each case
+abbrev pub TakesTo : {T H G : Type 0} → Component → (trap_on_idle ended : Bool) → (s : Store T H G) → Result (Option StepResult) Halt →
+    (running : ℕ) → (t : Store T H G) → (before after : List Label) → Type 0
+TakesTo c b ended s (Ok q) running t before after = TakesTold c b ended running s q t before after
+TakesTo c b ended s (Err halt.NoMemory) running t before after = after ≡ before
+TakesTo c b ended s (Err halt.HookFailed) running t before after = FailsTake c b ended s t before after

@@ -20,8 +20,7 @@ use Rattle.machine_rules.specs.Notices.{finish_notices, is_in, moment_notices, s
 use Rattle.machine_rules.specs.Stalled.{Setting}
 use Rattle.ops_turns.specs.Turn.{Turned, running_of, state_at}
 use Rattle.ops_turns.specs.declared.made.MadeStep.{MadeStep}
-use Rattle.ops_turns.specs.declared.made.StepResult.{StepResult}
-use Rattle.ops_turns.specs.declared.made.StepResult.TheVariants as stepped
+pub use Rattle.ops_turns.specs.StepResult.{turn_of}
 use Rattle.ops_turns.specs.declared.mains.MainStep.{MainStep}
 use Rattle.ops_turns.specs.declared.mains.MainStep.TheVariants as step
 use Rattle.core_primitives.specs.Groups.{asked, ended_groups, tracked_group, CountsEnded}
@@ -36,11 +35,6 @@ main_notices _ s t = []
 abbrev pub runs_on : Turn → Turn → Bool
 runs_on (turn.Run n) (turn.Run m) = n == m
 runs_on _ _ = false
-
--- whose turn it is after the step
-abbrev pub turn_of : StepResult → Turn
-turn_of (stepped.Continues p computed) = p
-turn_of (stepped.Over o) = turn.Over
 
 -- the group of the thread that runs at this turn, as long as it is tracked; default: 0
 abbrev pub group_running : StateView → Turn → ℕ

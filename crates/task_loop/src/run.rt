@@ -1,16 +1,16 @@
-ghost use Rattle.std.specs.Prelude.{◌≡◌, IfErr, IfOk, OnErr, OnOk, false, true};
+ghost use Rattle.std.specs.Prelude.{◌≡◌, IfErr, IfOk, OnErr, OnOk, false, not, true};
 ghost use Rattle.laws_labels.specs.Own.{next_mark};
 ghost use Rattle.ops_dispatch.specs.Fits.{calls_host};
 ghost use Rattle.run_trace.specs.YieldBudget.{unless_yielded};
-ghost use Rattle.task_loop.specs.HasRun.{DriveGives, Keeps, MainHalted, MainTurned, MayRun, MayStep, MayTurn, StepsTo, TurnGives, TurnsGive, at};
+ghost use Rattle.task_loop.specs.HasRun.{DriveGives, Keeps, MainTurned, MayRun, MayStep, MayTurn, StepsTo, TurnGives, TurnsGive, at};
 ghost use Rattle.task_loop.specs.Constants.{constants};
-ghost use Rattle.task_loop.specs.Threads.{FailsPoll, FailsTake, FailsThread, PollsTold, RanThread, RunsThread};
-ghost use Rattle.task_loop.specs.Threads.{StepsUntold, TakesTold};
+ghost use Rattle.task_loop.specs.Threads.{RunsThread, RunsTo, StepsUntold, TakesTo, WorkPollsTo};
 ghost use Rattle.task_loop.specs.Told.{group_running};
 ghost use Rattle.ops_guests.specs.Works.{KeepsWorks};
 ghost use Rattle.machine_rules.specs.Scripts.{op_of};
 ghost use Rattle.task_store.specs.Hosts.{HoldsHosts};
-ghost use Rattle.ops_turns.specs.Turn.{IsAtTurn};
+ghost use Rattle.ops_turns.specs.StepResult.{turn_of};
+ghost use Rattle.ops_turns.specs.Turn.{IsAtTurn, is_open};
 ghost use Rattle.core_primitives.specs.Groups.{IsAsked};
 
 use crate::main_task::MainTask;
@@ -20,7 +20,8 @@ use core_primitives::{QueuePrimitives, View};
 use machine_data::{Component, Mark, NoMemory, Outcome, Trap, Turn};
 use ops_calls::{TaskError, host_called};
 use ops_turns::{
-    MainStep, RunStep, StepResult, compute, is_idle, made_by_main, put, step_call, step_run, take,
+    MainStep, StepResult, compute, is_idle, made_by_main, outcome_in, put, step_call, step_run,
+    take, turn_of,
 };
 use run_trace::{
     Driven, PackedLabels, Policy, YieldBudget, ended_by, rests_with, spent_by, yields_by,
@@ -81,10 +82,6 @@ pub(crate) enum Stop {
     Yields,
 }
 
-/// The turns stop before the run is over. Why they do is told beside, so that each turn's answer stays small.
-#[derive(Clone, Copy)]
-pub(crate) struct Halted;
-
 // Lends the store to main for an op.
 fn ask_main<T, H: HostWork, G: TaskGroupHook, M: MainTask<T, H, G>>(
     component: &Component,
@@ -106,37 +103,28 @@ fn step_main<T, H: HostWork, G: TaskGroupHook, M: MainTask<T, H, G>>(
     store: &mut Store<T, H, G>,
     main: &mut M,
     trace: &mut PackedLabels,
-    why: &mut Halt,
-) -> Result<StepResult, Halted>
+) -> Result<StepResult, Halt>
     requires may { MayStep M.says H.course component.now main.old store.old }
-    requires why { why.old ≡ Halt.NoMemory }
     ensures stands { constants store.new ≡ constants store.old }
     ensures script { M.says.script main.new ≡ M.says.script main.old }
-    ensures turned { IfOk result (λ q.
-        MainTurned M.says H.course component.now q main.old store.old trace.old main.new store.new trace.new) }
-    ensures why { OnOk result (why.new ≡ Halt.NoMemory) }
-    ensures halted { OnErr result (
-        MainHalted M.says H.course component.now why.new main.old store.old trace.old main.new store.new trace.new) }
+    ensures turned { MainTurned M.says H.course component.now result main.old store.old trace.old main.new store.new trace.new }
 {
     let step = match ask_main(component, store, main) {
         Ok(step) => step,
-        Err(TaskError::Trap(_)) => {
-            *why = Halt::HookFailed;
-            return Err(Halted);
-        }
-        Err(_) => return Err(Halted),
+        Err(TaskError::Trap(_)) => return Err(Halt::HookFailed),
+        Err(_) => return Err(Halt::NoMemory),
     };
     // Most steps of a main pend: the label of this one is known here.
     if let MainStep::Pends = step {
         let pends = made_by_main(&store.state, MainStep::Pends);
         let Ok(stepped) = put(trace, pends) else {
-            return Err(Halted);
+            return Err(Halt::NoMemory);
         };
         return Ok(stepped);
     }
     let made = made_by_main(&store.state, step);
     let Ok(stepped) = put(trace, made) else {
-        return Err(Halted);
+        return Err(Halt::NoMemory);
     };
     Ok(stepped)
 }
@@ -160,9 +148,9 @@ fn call_host_outlined<T, H: AccessorTask<T> + FromHost, G: TaskGroupHook>(
     // The host's work is polled before its call is done: what the call results in is what it answers.
     let host = host_called(component, &store.state, thread);
     let (called, answer) = store.first_called(host);
-    let ran = step_call(component, &mut store.state, thread, answer)?;
-    store.hold_called(called, ran.work)?;
-    put(trace, ran.made)
+    let stepped = step_call(component, &mut store.state, thread, answer)?;
+    store.hold_called(called, stepped.1)?;
+    put(trace, stepped.0)
 }
 
 // Does the step in line: room for its answer is made only if a host is called.
@@ -202,8 +190,8 @@ fn step_thread<T, H: AccessorTask<T> + FromHost, G: TaskGroupHook>(
         return Err(NoMemory);
     };
     match step {
-        RunStep::Shown(stepped) => Ok(stepped),
-        RunStep::Calls => call_host(component, store, thread, trace),
+        None => call_host(component, store, thread, trace),
+        Some(stepped) => Ok(stepped),
     }
 }
 
@@ -216,23 +204,16 @@ fn run_thread<T, H: AccessorTask<T> + FromHost, G: TaskGroupHook>(
     thread: u64,
     trace: &mut PackedLabels,
     running: &mut u64,
-    why: &mut Halt,
-) -> Result<StepResult, Halted>
+) -> Result<StepResult, Halt>
     requires runs { RunsThread H.course component.now thread store.old }
     requires running { running.old ≡ group_running store.old.state (Turn.Run thread) }
     requires asked { IsAsked store.old.state }
-    requires why { why.old ≡ Halt.NoMemory }
     ensures stands { constants store.new ≡ constants store.old }
-    ensures ran { IfOk result (λ stepped.
-        RanThread H.course component.now thread store.old stepped running.new store.new trace.old trace.new) }
-    ensures why { OnOk result (why.new ≡ Halt.NoMemory) }
-    ensures err { OnErr result (why.new ≡ Halt.NoMemory → trace.new ≡ trace.old) }
-    ensures failed { OnErr result (why.new ≡ Halt.HookFailed →
-        FailsThread H.course component.now thread store.old store.new trace.old trace.new) }
+    ensures ran { RunsTo H.course component.now thread store.old result running.new store.new trace.old trace.new }
 {
     store.state.none_is_zero();
     let Ok(stepped) = step_thread(component, store, thread, trace) else {
-        return Err(Halted);
+        return Err(Halt::NoMemory);
     };
     store.state.count_ended();
     let told = tell_run(
@@ -243,8 +224,7 @@ fn run_thread<T, H: AccessorTask<T> + FromHost, G: TaskGroupHook>(
         *running,
     );
     let Ok(next) = told else {
-        *why = Halt::HookFailed;
-        return Err(Halted);
+        return Err(Halt::HookFailed);
     };
     *running = next;
     Ok(stepped)
@@ -258,20 +238,13 @@ fn poll_work<T, H: AccessorTask<T> + FromHost, G: TaskGroupHook>(
     polled: u64,
     trace: &mut PackedLabels,
     running: &mut u64,
-    why: &mut Halt,
-) -> Result<StepResult, Halted>
+) -> Result<StepResult, Halt>
     requires at { IsAtTurn component.now (Turn.Futures polled) store.old.state }
     requires hosts { HoldsHosts H.course store.old }
     requires asked { IsAsked store.old.state }
-    requires why { why.old ≡ Halt.NoMemory }
     ensures stands { constants store.new ≡ constants store.old }
     ensures works { KeepsWorks store.old.state store.new.state × HoldsHosts H.course store.new }
-    ensures polled { IfOk result (λ stepped.
-        PollsTold (Turn.Futures polled) running.new store.old stepped store.new trace.old trace.new) }
-    ensures why { OnOk result (why.new ≡ Halt.NoMemory) }
-    ensures err { OnErr result (why.new ≡ Halt.NoMemory → trace.new ≡ trace.old) }
-    ensures failed { OnErr result (why.new ≡ Halt.HookFailed →
-        FailsPoll (Turn.Futures polled) store.old store.new trace.old trace.new) }
+    ensures polled { WorkPollsTo (Turn.Futures polled) store.old result running.new store.new trace.old trace.new }
 {
     // only the contract speaks of `component`
     let _component = component;
@@ -279,12 +252,11 @@ fn poll_work<T, H: AccessorTask<T> + FromHost, G: TaskGroupHook>(
     let mut worked = None;
     let made = store.poll_next(polled, &mut worked);
     let Ok(stepped) = put(trace, made) else {
-        return Err(Halted);
+        return Err(Halt::NoMemory);
     };
     store.state.count_ended();
     let Ok(next) = tell_poll(&mut store.state, &mut store.listeners, worked) else {
-        *why = Halt::HookFailed;
-        return Err(Halted);
+        return Err(Halt::HookFailed);
     };
     *running = next;
     Ok(stepped)
@@ -299,17 +271,10 @@ fn take_entry<T, H: AccessorTask<T> + FromHost, G: TaskGroupHook>(
     trap_on_idle: bool,
     trace: &mut PackedLabels,
     running: &mut u64,
-    why: &mut Halt,
-) -> Result<Option<StepResult>, Halted>
+) -> Result<Option<StepResult>, Halt>
     requires at { IsAtTurn component.now (Turn.Take ended) store.old.state }
     requires asked { IsAsked store.old.state }
-    requires why { why.old ≡ Halt.NoMemory }
-    ensures taken { IfOk result (λ q.
-        TakesTold component.now trap_on_idle ended running.new store.old q store.new trace.old trace.new) }
-    ensures why { OnOk result (why.new ≡ Halt.NoMemory) }
-    ensures err { OnErr result (why.new ≡ Halt.NoMemory → trace.new ≡ trace.old) }
-    ensures failed { OnErr result (why.new ≡ Halt.HookFailed →
-        FailsTake component.now trap_on_idle ended store.old store.new trace.old trace.new) }
+    ensures taken { TakesTo component.now trap_on_idle ended store.old result running.new store.new trace.old trace.new }
     ensures rest { store.new ≡ record store.old { state = store.new.state; listeners = store.new.listeners } }
 {
     store.state.none_is_zero();
@@ -322,20 +287,27 @@ fn take_entry<T, H: AccessorTask<T> + FromHost, G: TaskGroupHook>(
         trace,
         &mut worked,
     ) else {
-        return Err(Halted);
+        return Err(Halt::NoMemory);
     };
     match taken {
         None => Ok(None),
         Some(stepped) => {
             store.state.count_ended();
             let Ok(next) = tell_work(&mut store.state, &mut store.listeners, worked) else {
-                *why = Halt::HookFailed;
-                return Err(Halted);
+                return Err(Halt::HookFailed);
             };
             *running = next;
             Ok(Some(stepped))
         }
     }
+}
+
+// Whether the run is over after this step.
+#[inline(always)]
+fn is_over(stepped: StepResult) -> bool
+    ensures { result ≡ not (is_open (turn_of stepped)) }
+{
+    matches!(stepped, StepResult::Over)
 }
 
 // The mark of the entry that is taken next in this turn, for a policy that looks at it.
@@ -442,7 +414,6 @@ impl RunConcurrent {
     {
         let mut added = 0;
         let mut running = group_now(&store.state);
-        let mut why = Halt::NoMemory;
         'turns: while added < steps {
             let next = next_mark::<P, T, H, G>(store, self.turn);
             if yields_by::<P>(self.yield_budget, next) {
@@ -450,24 +421,23 @@ impl RunConcurrent {
                 return Ok(Stop::Yields);
             }
             let rests = rests_with::<P>(self.turn, next);
-            let Ok(stepped) = self.turn(component, store, main, trace, &mut running, &mut why)
-            else {
-                return Err(why);
+            let turned = match self.turn(component, store, main, trace, &mut running) {
+                Ok(turned) => turned,
+                Err(why) => return Err(why),
             };
-            match stepped {
+            match turned {
                 None => return Ok(self.ends::<P>(Outcome::Idle, false)),
-                Some(StepResult::Over(outcome)) => {
-                    self.turn = Turn::Over;
-                    return Ok(self.ends::<P>(outcome, false));
-                }
-                Some(StepResult::Continues { turn, computed }) => {
-                    self.turn = turn;
+                Some(stepped) => {
+                    self.turn = turn_of(stepped);
+                    if is_over(stepped) {
+                        return Ok(self.ends::<P>(outcome_in(trace), false));
+                    }
                     self.yield_budget = spent_by::<P>(self.yield_budget, next);
                     if rests {
                         return Ok(Stop::Rests);
                     }
                     let core = &mut store.state;
-                    let all = compute(component, core, computed, turn, trace, added + 1, steps);
+                    let all = compute(component, core, stepped, trace, added + 1, steps);
                     let Ok(all) = all else {
                         return Err(Halt::NoMemory);
                     };
@@ -495,7 +465,7 @@ impl RunConcurrent {
     }
 
     // Makes a step, adds its label to the trace, and tells what it gave of groups; none where nothing can go on and that is no
-    // deadlock. `running` is the group of the thread that runs, 0 if none does. Where the turns stop, `why` says why.
+    // deadlock. `running` is the group of the thread that runs, 0 if none does.
     #[inline(always)]
     pub(crate) fn turn<T, H: AccessorTask<T> + FromHost, G: TaskGroupHook, M: MainTask<T, H, G>>(
         &self,
@@ -504,36 +474,28 @@ impl RunConcurrent {
         main: &mut M,
         trace: &mut PackedLabels,
         running: &mut u64,
-        why: &mut Halt,
-    ) -> Result<Option<StepResult>, Halted>
-        requires may { MayTurn M.says H.course component.now running.old why.old (at self.now main.old store.old trace.old) }
+    ) -> Result<Option<StepResult>, Halt>
+        requires may { MayTurn M.says H.course component.now running.old (at self.now main.old store.old trace.old) }
         ensures keeps { Keeps M.says (at self.now main.old store.old trace.old) (at self.now main.new store.new trace.new) }
-        ensures turned { TurnGives M.says H.course component.now result running.new why.new
+        ensures turned { TurnGives M.says H.course component.now result running.new
             self.now main.old store.old trace.old main.new store.new trace.new }
     {
         match self.turn {
-            Turn::Main => {
-                let Ok(stepped) = step_main(component, store, main, trace, why) else {
-                    return Err(Halted);
-                };
-                Ok(Some(stepped))
-            }
-            Turn::Futures { polled } => {
-                let Ok(stepped) = poll_work(component, store, polled, trace, running, why) else {
-                    return Err(Halted);
-                };
-                Ok(Some(stepped))
-            }
+            Turn::Main => match step_main(component, store, main, trace) {
+                Ok(stepped) => Ok(Some(stepped)),
+                Err(why) => Err(why),
+            },
+            Turn::Futures { polled } => match poll_work(component, store, polled, trace, running) {
+                Ok(stepped) => Ok(Some(stepped)),
+                Err(why) => Err(why),
+            },
             Turn::Take { ended } => {
-                let idle = self.trap_on_idle;
-                take_entry(component, store, ended, idle, trace, running, why)
+                take_entry(component, store, ended, self.trap_on_idle, trace, running)
             }
-            Turn::Run { thread } => {
-                let Ok(stepped) = run_thread(component, store, thread, trace, running, why) else {
-                    return Err(Halted);
-                };
-                Ok(Some(stepped))
-            }
+            Turn::Run { thread } => match run_thread(component, store, thread, trace, running) {
+                Ok(stepped) => Ok(Some(stepped)),
+                Err(why) => Err(why),
+            },
             Turn::Over => unreachable!(),
         }
     }

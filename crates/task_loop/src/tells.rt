@@ -42,11 +42,9 @@ fn runner_group(core: &TaskCore) -> u64
 fn goes_on(thread: u64, stepped: &StepResult) -> bool
     ensures { result ≡ runs_on (turns.Run thread) (turn_of stepped.now) }
 {
-    match stepped {
-        StepResult::Continues {
-            turn: Turn::Run { thread: next },
-            computed: _,
-        } => *next == thread,
+    match *stepped {
+        StepResult::Runs(next) => next == thread,
+        StepResult::Computes(next) => next == thread,
         _ => false,
     }
 }

@@ -1,4 +1,4 @@
-use core_primitives::{QueuePrimitives, ResultPrimitives, View};
+use core_primitives::{QueuePrimitives, ResultPrimitives, View, WantedId};
 use core_state::TaskCore;
 
 #[test]
@@ -18,6 +18,12 @@ fn nothing_is_in_a_new_core_which_has_its_limits(rt: HostRuntime) {
     assert!(rt; core.ended().is_empty());
     core.forget_ended();
     assert!(rt; !core.has_ended());
+    core.want(WantedId {
+        waiter: None,
+        member: None,
+        held: Vec::new(rt.alloc()),
+    });
+    assert!(rt; core.next_entry().is_none());
     core.set_trapped();
     assert!(rt; core.trapped());
 }

@@ -1,12 +1,12 @@
 use Rattle.ops_dispatch.proofs.GoesLemmasDispatch.{same_goes}
 use Rattle.ops_dispatch.proofs.RuleLemmas.{data_shows}
 use Rattle.ops_dispatch.proofs.StayLemmas.{same_stays}
-use Rattle.std.proofs.lemmas.Option.{IfSome_then}
+use Rattle.ops_turns.proofs.SteppedLemmas.{IfOk_then}
 use Rattle.machine_data.specs.declared.op.Op.TheVariants as op
 use Rattle.ops_turns.proofs.OrderLemmas.{unwinds}
 use Rattle.ops_turns.proofs.runs.run_data.Goals as goal
 use Rattle.ops_turns.specs.Ran.{scripted_rule_of}
-use Rattle.ops_turns.specs.StepResult.{RuleShown, stepped_by}
+use Rattle.ops_turns.specs.StepResult.{RuleShown}
 use Rattle.ops_turns.specs.declared.made.StepResult.{StepResult}
 
 pub show-requires-clause-unwinds : goal.show-requires-clause-unwinds
@@ -29,7 +29,7 @@ returns-clause-shown g c =
     let u = v c.compute-op_result.new.w in
     let t = v c.show.new.w in
     let o = op.Data c.args.op.now in
-    IfSome_then (stepped_by c.show.result c.show.new.trace) {Q = λ (q : StepResult). RuleShown (scripted_rule_of c.args.component.now o c.args.thread s) c.args.thread s c.args.trace.now q t c.show.new.trace} c.show.ensures.shown
+    IfOk_then c.show.result {Q = λ (q : StepResult). RuleShown (scripted_rule_of c.args.component.now o c.args.thread s) c.args.thread s c.args.trace.now q t c.show.new.trace} c.show.ensures.shown
     (λ q h. record {
       op_result = c.compute-op_result.result;
       left = u;

@@ -1,4 +1,4 @@
-use Rattle.std.proofs.lemmas.Option.{IfSome_then}
+use Rattle.ops_turns.proofs.SteppedLemmas.{IfOk_then}
 use Rattle.machine_data.specs.declared.component.Component.{Component}
 use Rattle.machine_data.specs.declared.op.Op.TheVariants as op
 use Rattle.machine_data.specs.declared.op.TaskOp.TheVariants as task
@@ -6,7 +6,7 @@ use Rattle.ops_dispatch.proofs.EndLemmas.{exit_implements}
 use Rattle.ops_turns.proofs.OrderLemmas.{unwinds}
 use Rattle.ops_turns.proofs.runs.run_exit.Goals as goal
 use Rattle.ops_turns.specs.Ran.{scripted_rule_of}
-use Rattle.ops_turns.specs.StepResult.{RuleShown, stepped_by}
+use Rattle.ops_turns.specs.StepResult.{RuleShown}
 use Rattle.ops_turns.specs.declared.made.StepResult.{StepResult}
 
 pub show_exit-requires-clause-unwinds : goal.show_exit-requires-clause-unwinds
@@ -25,5 +25,5 @@ returns-clause-shown g c =
     let t = v c.show_exit.new.w in
     let did = c.exit-op_result.ensures.does in
     let implements = exit_implements c.args.thread s u c.exit-op_result.result did in
-    IfSome_then (stepped_by c.show_exit.result c.show_exit.new.trace) {Q = λ (q : StepResult). (d : Component) → RuleShown (scripted_rule_of d (op.Task task.Exit) c.args.thread s) c.args.thread s c.args.trace.now q t c.show_exit.new.trace} c.show_exit.ensures.shown
+    IfOk_then c.show_exit.result {Q = λ (q : StepResult). (d : Component) → RuleShown (scripted_rule_of d (op.Task task.Exit) c.args.thread s) c.args.thread s c.args.trace.now q t c.show_exit.new.trace} c.show_exit.ensures.shown
     (λ q h d. record { op_result = c.exit-op_result.result; left = u; implements = implements; stays = did.stays; shown = h })

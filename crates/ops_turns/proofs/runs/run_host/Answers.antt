@@ -57,9 +57,6 @@ returns-clause-ran g c =
       over = c.made_of.ensures.over;
     }
 
-pub returns-clause-polled : goal.returns-clause-polled
-returns-clause-polled g c = rw c.in-Call.is c.in_ok-done.ensures.does.polls.polled
-
 pub returns-clause-work : goal.returns-clause-work
 returns-clause-work g c =
     let v = g.W.View.view in

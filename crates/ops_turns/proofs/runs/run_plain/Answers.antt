@@ -1,7 +1,7 @@
 use Rattle.ops_dispatch.proofs.StandsLemmas.{answers_right, event_fits, stands_below}
 use Rattle.ops_dispatch.specs.Rules.{rule_of}
 use Rattle.std.proofs.Common.{arith}
-use Rattle.std.proofs.lemmas.Option.{IfSome_then}
+use Rattle.ops_turns.proofs.SteppedLemmas.{IfOk_then}
 use Rattle.ops_guests.specs.Works.{NamesTold}
 use Rattle.machine_rules.specs.Step.{own_script}
 use Rattle.ops_dispatch.proofs.EndLemmas.{end_goes, end_implements, end_stays, end_works, plain_other}
@@ -9,7 +9,7 @@ use Rattle.ops_turns.proofs.OrderLemmas.{unwinds}
 use Rattle.ops_turns.proofs.RanLemmas.{works_told}
 use Rattle.ops_turns.proofs.runs.run_plain.Goals as goal
 use Rattle.ops_turns.specs.Ran.{scripted_rule_of}
-use Rattle.ops_turns.specs.StepResult.{RuleShown, stepped_by}
+use Rattle.ops_turns.specs.StepResult.{RuleShown}
 use Rattle.ops_turns.specs.declared.made.StepResult.{StepResult}
 use Rattle.core_primitives.specs.StateView.{thread_of}
 
@@ -54,7 +54,7 @@ returns-clause-shown g c =
     let t = v c.show.new.w in
     let o = c.args.op.now in
     let k = c.args.component.now in
-    IfSome_then (stepped_by c.show.result c.show.new.trace) {Q = λ (q : StepResult). RuleShown (scripted_rule_of k o c.args.thread s) c.args.thread s c.args.trace.now q t c.show.new.trace} c.show.ensures.shown
+    IfOk_then c.show.result {Q = λ (q : StepResult). RuleShown (scripted_rule_of k o c.args.thread s) c.args.thread s c.args.trace.now q t c.show.new.trace} c.show.ensures.shown
     (λ q h. record {
       op_result = c.in-Ok.op_result;
       left = u;
@@ -72,5 +72,5 @@ returns-clause-works g c =
     let o = c.args.op.now in
     let did = c.in-Ok.ensures.does in
     let told = end_works NamesTold (rule_of c.args.component.now o) (own_script o) c.args.thread s (v c.do_plain_op.new.w) u c.in-Ok.op_result did c.finish.ensures did.kept in
-    IfSome_then (stepped_by c.show.result c.show.new.trace) {Q = λ (q : StepResult). NamesTold s t} c.show.ensures.shown
+    IfOk_then c.show.result {Q = λ (q : StepResult). NamesTold s t} c.show.ensures.shown
     (λ q h. works_told (thread_of u c.args.thread) c.in-Ok.op_result s u t h.core told c.show.ensures.works)

@@ -62,4 +62,4 @@ returns-clause-ran g c =
     let is = op_is comp n s.core q.thread q.here c.script_ops-body.result.now c.at-point.result.callee (task_of n s.core) c.at-point.result.position c.at-point.result.script c.at-point.ensures.callee refl (c.at-point.ensures.script q.thread q.here) c.script_ops-body.ensures c.at-point.ensures.position (Some o) e in
     call_steps comp c.in-Some.thread c.args.number s t number o is
     (λ r. row_at comp n s.core q.thread q.here c.script_ops-body.result.now c.at-point.result.callee (task_of n s.core) c.at-point.result.position c.at-point.result.script c.at-point.ensures.callee refl (c.at-point.ensures.script q.thread q.here) c.script_ops-body.ensures c.at-point.ensures.position (Some o) e (choice_of (label_of n r)))
-    c.args.answer c.run_host.result c.run_host.ensures.ran c.run_host.ensures.polled c.run_host.ensures.work
+    c.args.answer c.run_host.result c.run_host.ensures.ran c.run_host.ensures.work

@@ -7,20 +7,14 @@ use Rattle.machine_data.specs.Read.{callee_of, op_progress_of, instance_of, task
 use Rattle.machine_data.specs.declared.component.Callee.{Callee}
 use Rattle.machine_data.specs.declared.op.Op.TheVariants as op
 use Rattle.machine_data.specs.declared.op.TaskOp.TheVariants as task
-use Rattle.machine_data.specs.declared.records.Turn.TheVariants as turn
 use Rattle.ops_guests.specs.Steps.{label_of}
 use Rattle.machine_rules.specs.Scripts.{op_of}
 use Rattle.machine_rules.specs.Step.{did, scripted_op_rule}
 use Rattle.ops_turns.proofs.CoveredLemmas.{home_below}
 use Rattle.ops_turns.proofs.OrderLemmas.{number_at, runner}
 use Rattle.ops_turns.proofs.RunLemmas.{op_is, row_at, script_is}
-use Rattle.ops_turns.proofs.SteppedLemmas.{rule_as, run_added, run_steps, some_at, unpolled}
+use Rattle.ops_turns.proofs.SteppedLemmas.{rule_as, run_added, run_steps}
 use Rattle.ops_turns.proofs.runs.step_run.Goals as goal
-use Rattle.machine_data.specs.declared.component.Component.{Component}
-use Rattle.ops_turns.specs.StepResult.{RuleShown, stepped_by}
-use Rattle.ops_turns.specs.declared.made.StepResult.{StepResult}
-use Rattle.ops_turns.specs.Turn.{IsFree, MakesStep}
-use Rattle.ops_turns.specs.declared.made.MadeStep.{MadeStep}
 use Rattle.core_primitives.specs.StateView.{thread_of}
 
 pub at-point-requires : goal.at-point-requires
@@ -33,8 +27,8 @@ run_by-requires-clause-runner g c =
     let s = g.W.View.view c.args.w.now in
     runner c.args.component.now c.args.number s c.requires.order c.none_is_zero.ensures.threads c.requires.runs c.in-Some.thread (sym c.current.ensures ∙ c.in-Some.is)
 
-pub run_exit-brief-requires : goal.run_exit-brief-requires
-run_exit-brief-requires g c =
+pub run_exit-requires : goal.run_exit-requires
+run_exit-requires g c =
     let s = g.W.View.view c.args.w.now in
     record { runner = runner c.args.component.now c.args.number s c.requires.order c.none_is_zero.ensures.threads c.requires.runs c.in-Some.thread (sym c.current.ensures ∙ c.in-Some.is) }
 
@@ -74,21 +68,21 @@ returns-in-Some-op_at-clause-ran g c =
     (λ r. row_at c.args.component.now n s.core q.thread q.here c.script_ops-script.result.now c.at-point.result.callee (task_of n s.core) c.at-point.result.position c.at-point.result.script c.at-point.ensures.callee refl (c.at-point.ensures.script q.thread q.here) c.script_ops-script.ensures c.at-point.ensures.position (Some o) e (choice_of (label_of n r)))
     c.args.trace.now c.run_by.new.trace c.run_by.result c.run_by.ensures.step c.run_by.ensures.polls
 
-pub returns-in-Some-stepped_by-clause-ran : goal.returns-in-Some-stepped_by-clause-ran
-returns-in-Some-stepped_by-clause-ran g c =
+pub returns-in-Ok-clause-ran : goal.returns-in-Ok-clause-ran
+returns-in-Ok-clause-ran g c =
     let s = g.W.View.view c.args.w.now in
     let n = thread_of s c.in-Some.thread in
     let q = runner c.args.component.now c.args.number s c.requires.order c.none_is_zero.ensures.threads c.requires.runs c.in-Some.thread (sym c.current.ensures ∙ c.in-Some.is) in
-    let t = g.W.View.view c.run_exit-brief.new.w in
+    let t = g.W.View.view c.run_exit.new.w in
     let comp = c.args.component.now in
     let number = number_at c.args.number s c.requires.runs c.in-Some.thread (sym c.current.ensures ∙ c.in-Some.is) in
     let e = sym (ap option_copied c.in-None.is) ∙ c.op_at.ensures in
     let is = op_is c.args.component.now n s.core q.thread q.here c.script_ops-script.result.now c.at-point.result.callee (task_of n s.core) c.at-point.result.position c.at-point.result.script c.at-point.ensures.callee refl (c.at-point.ensures.script q.thread q.here) c.script_ops-script.ensures c.at-point.ensures.position None e in
     let before = c.args.trace.now in
-    let after = c.run_exit-brief.new.trace in
-    let shown = some_at (λ (p : StepResult). (d : Component) → RuleShown (λ r. scripted_op_rule d n s.core (choice_of (label_of n r)) (op.Task task.Exit)) c.in-Some.thread s before p t after) (stepped_by c.run_exit-brief.result after) c.in-Some-stepped_by.stepped (sym c.stepped_by.ensures ∙ c.in-Some-stepped_by.is) c.run_exit-brief.ensures.shown in
-    let did_it = rule_as c.in-Some.thread s t c.in-Some-stepped_by.stepped before after (λ r. scripted_op_rule comp n s.core (choice_of (label_of n r)) (op.Task task.Exit)) (λ r. did comp n s.core (choice_of (label_of n r)))
-    (λ r. row_at c.args.component.now n s.core q.thread q.here c.script_ops-script.result.now c.at-point.result.callee (task_of n s.core) c.at-point.result.position c.at-point.result.script c.at-point.ensures.callee refl (c.at-point.ensures.script q.thread q.here) c.script_ops-script.ensures c.at-point.ensures.position None e (choice_of (label_of n r))) (shown comp) in
-    unpolled c.in-Some.thread s t c.in-Some-stepped_by.stepped before after comp c.args.number (λ (made : MadeStep). MakesStep comp (turn.Run c.args.number) s made t × IsFree made.turn)
-    (subst (λ k. polled_host comp (op_progress_of k s.core) (op_of comp k s.core) ≡ None) number (ap (polled_host comp (op_progress_of n s.core)) is))
-    (run_added c.in-Some.thread s t c.in-Some-stepped_by.stepped before after comp c.args.number number did_it)
+    let after = c.run_exit.new.trace in
+    let shown = c.in-Ok.ensures.shown comp in
+    let did_it = rule_as c.in-Some.thread s t c.in-Ok.stepped before after (λ r. scripted_op_rule comp n s.core (choice_of (label_of n r)) (op.Task task.Exit)) (λ r. did comp n s.core (choice_of (label_of n r)))
+    (λ r. row_at c.args.component.now n s.core q.thread q.here c.script_ops-script.result.now c.at-point.result.callee (task_of n s.core) c.at-point.result.position c.at-point.result.script c.at-point.ensures.callee refl (c.at-point.ensures.script q.thread q.here) c.script_ops-script.ensures c.at-point.ensures.position None e (choice_of (label_of n r))) shown in (
+      run_added c.in-Some.thread s t c.in-Ok.stepped before after comp c.args.number number did_it,
+      subst (λ k. polled_host comp (op_progress_of k s.core) (op_of comp k s.core) ≡ None) number (ap (polled_host comp (op_progress_of n s.core)) is),
+    )

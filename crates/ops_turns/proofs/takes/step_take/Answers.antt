@@ -1,6 +1,5 @@
 use Rattle.std.proofs.Common.{ap, subst, sym, ◌∙◌}
 use Rattle.std.specs.Prelude.{Option, Some, option_map, ◌<◌}
-use Rattle.std.proofs.lemmas.Option.{IfSome_then}
 use Rattle.machine_data.specs.declared.records.Entry.{Entry}
 use Rattle.machine_data.specs.declared.records.Subtask.TheVariants as subtask
 use Rattle.machine_data.specs.declared.statuses.Mark.{Mark}
@@ -20,10 +19,6 @@ use Rattle.machine_rules.specs.Takes.{thread_taken}
 use Rattle.core_primitives.specs.Preferences.{preference}
 use Rattle.machine_rules.specs.Picks.{Preference}
 use Rattle.ops_guests.specs.OpResult.{PicksFirst}
-use Rattle.ops_turns.specs.StepResult.{Added, stepped_by}
-use Rattle.ops_turns.specs.Turn.{Took}
-use Rattle.ops_turns.specs.declared.made.MadeStep.{MadeStep}
-use Rattle.ops_turns.specs.declared.made.StepResult.{StepResult}
 use Rattle.ops_turns.specs.Taken.{FindsSet, Taken}
 use Rattle.core_primitives.specs.Names.{entry_in}
 use Rattle.core_primitives.specs.StateView.{StateView, thread_of, with_current, work_of}
@@ -53,8 +48,8 @@ step_thread-requires-clause-finds g c =
     subst (λ (x : StateView). FindsSet (thread_of x q.thread) x.core) (sym (left_is s u c.take_next.result q.mark (entries.Thread q.thread) c.take_next.ensures.taken at))
     (finds c.args.component.now c.args.ended s.core c.requires.order q.mark (thread_of s q.thread))
 
-pub returns-in-Some-default-Thread-clause-took : goal.returns-in-Some-default-Thread-clause-took
-returns-in-Some-default-Thread-clause-took g c =
+pub returns-in-Ok-clause-took : goal.returns-in-Ok-clause-took
+returns-in-Ok-clause-took g c =
     let v = g.W.View.view in
     let s = v c.args.w.now in
     let u = v c.take_next.new.self in
@@ -66,25 +61,14 @@ returns-in-Some-default-Thread-clause-took g c =
     let before = c.args.trace.now in
     let after = c.step_thread.new.trace in
     let row : OpResult → Progress = λ r. thread_taken q.mark (thread_of u q.thread) (choice_of (label_of (thread_of u q.thread) r)) u.core (place_of (thread_of u q.thread) u.core) in
-    IfSome_then (stepped_by c.step_thread.result after) {Q = λ (p : StepResult). Added (λ made. Took c.args.component.now c.args.ended s (Some made) t) p before after} c.step_thread.ensures.shown
-    (λ p h. take_added c.args.component.now c.args.ended q.mark q.thread (thread_of s q.thread) s (with_current (Some q.thread) u) h.left t h.op_result p before after
-    (ap (λ (x : StateView). thread_of x q.thread) left) (ap (λ (x : StateView). x.core) left) next h.implements (subst (λ (f : Preference). PicksFirst f (row h.op_result) (label_of (thread_of u q.thread) h.op_result) u.core h.op_result h.left.core) (ap preference left) h.picks) h.stays h.shown)
+    let h = c.in-Ok.ensures.shown in
+    take_added c.args.component.now c.args.ended q.mark q.thread (thread_of s q.thread) s (with_current (Some q.thread) u) h.left t h.op_result c.in-Ok.stepped before after
+    (ap (λ (x : StateView). thread_of x q.thread) left) (ap (λ (x : StateView). x.core) left) next h.implements (subst (λ (f : Preference). PicksFirst f (row h.op_result) (label_of (thread_of u q.thread) h.op_result) u.core h.op_result h.left.core) (ap preference left) h.picks) h.stays h.shown
 
 -- ---- A push
 
-pub put_stop-requires : goal.put_stop-requires
-put_stop-requires g c =
-    let v = g.W.View.view in
-    let s = v c.args.w.now in
-    let u = v c.take_next.new.self in
-    let q = c.in-Some-default-Push in
-    let at = q.is ∙ ap (λ (e : EntryId). Some (q.mark, e)) q.field-0-1-is in
-    let makes = push_makes c.args.component.now c.args.ended q.mark q.work s u (v c.step_push-made.new.w) c.step_push-made.result c.requires.current (left_is s u c.take_next.result q.mark (entries.Push q.work) c.take_next.ensures.taken at)
-    (next_is s c.take_next.result q.mark (entries.Push q.work) c.take_next.ensures.next at) c.step_push-made.ensures.made c.step_push-made.ensures.new in
-    record { over = makes.0.over; turn = ap (λ (m : MadeStep). m.turn) c.step_push-made.ensures.made }
-
-pub returns-in-Some-default-Push-clause-took : goal.returns-in-Some-default-Push-clause-took
-returns-in-Some-default-Push-clause-took g c =
+pub returns-in-Ok-put-clause-took : goal.returns-in-Ok-put-clause-took
+returns-in-Ok-put-clause-took g c =
     let v = g.W.View.view in
     let s = v c.args.w.now in
     let u = v c.take_next.new.self in
@@ -94,9 +78,7 @@ returns-in-Some-default-Push-clause-took g c =
     (next_is s c.take_next.result q.mark (entries.Push q.work) c.take_next.ensures.next at) c.step_push-made.ensures.made c.step_push-made.ensures.new in
     let t = v c.step_push-made.new.w in
     let before = c.args.trace.now in
-    let after = c.put_stop.new.trace in
-    IfSome_then (stepped_by c.put_stop.result after) {Q = λ (p : StepResult). Added (λ made. Took c.args.component.now c.args.ended s (Some made) t) p before after} c.put_stop.ensures.stands
-    (λ p h. (c.step_push-made.result, (h, makes)))
+    (c.step_push-made.result, (c.in-Ok-put.ensures.stands, makes))
 
 -- ---- An ended host work
 
@@ -132,19 +114,8 @@ step_host-made-requires-clause-there g c =
     subst (λ (x : StateView). IsJoinThere (subtask.Host (work_of x q.work)) x.core) (sym (left_is s u c.take_next.result q.mark (entries.Host q.work) c.take_next.ensures.taken at))
     (host_joined c.args.component.now c.args.ended s.core c.requires.order c.none_is_zero.ensures.works q.mark (work_of s q.work))
 
-pub put_stop-requires-in-Some-default-Host : goal.put_stop-requires-in-Some-default-Host
-put_stop-requires-in-Some-default-Host g c =
-    let v = g.W.View.view in
-    let s = v c.args.w.now in
-    let u = v c.take_next.new.self in
-    let q = c.in-Some-default-Host in
-    let at = q.is ∙ ap (λ (e : EntryId). Some (q.mark, e)) q.field-0-1-is in
-    let makes = host_makes c.args.component.now c.args.ended q.mark q.work s u (v c.step_host-made.new.w) c.step_host-made.result c.requires.current (left_is s u c.take_next.result q.mark (entries.Host q.work) c.take_next.ensures.taken at)
-    (next_is s c.take_next.result q.mark (entries.Host q.work) c.take_next.ensures.next at) c.step_host-made.ensures.picks c.step_host-made.ensures.current c.step_host-made.ensures.turn in
-    record { over = makes.0.over; turn = c.step_host-made.ensures.turn }
-
-pub returns-in-Some-default-Host-clause-took : goal.returns-in-Some-default-Host-clause-took
-returns-in-Some-default-Host-clause-took g c =
+pub returns-in-Ok-put-in-Some-default-Host-clause-took : goal.returns-in-Ok-put-in-Some-default-Host-clause-took
+returns-in-Ok-put-in-Some-default-Host-clause-took g c =
     let v = g.W.View.view in
     let s = v c.args.w.now in
     let u = v c.take_next.new.self in
@@ -154,9 +125,7 @@ returns-in-Some-default-Host-clause-took g c =
     (next_is s c.take_next.result q.mark (entries.Host q.work) c.take_next.ensures.next at) c.step_host-made.ensures.picks c.step_host-made.ensures.current c.step_host-made.ensures.turn in
     let t = v c.step_host-made.new.w in
     let before = c.args.trace.now in
-    let after = c.put_stop-in-Some-default-Host.new.trace in
-    IfSome_then (stepped_by c.put_stop-in-Some-default-Host.result after) {Q = λ (p : StepResult). Added (λ made. Took c.args.component.now c.args.ended s (Some made) t) p before after} c.put_stop-in-Some-default-Host.ensures.stands
-    (λ p h. (c.step_host-made.result, (h, makes)))
+    (c.step_host-made.result, (c.in-Ok-put-in-Some-default-Host.ensures.stands, makes))
 
 -- ---- The group that is worked on
 
@@ -165,22 +134,45 @@ returns-in-None-clause-worked g c =
     let s = g.W.View.view c.args.w.now in
     c.requires.unworked ∙ ap (λ (o : Option (Mark × Entry)). tracked_entry_group o s) (sym (ap (option_map (λ (x : Mark × EntryId). (x.0, entry_in s.tags x.1))) c.in-None.is) ∙ c.take_next.ensures.next)
 
-pub returns-in-Some-default-Thread-clause-worked : goal.returns-in-Some-default-Thread-clause-worked
-returns-in-Some-default-Thread-clause-worked g c =
+pub returns-in-Ok-clause-worked : goal.returns-in-Ok-clause-worked
+returns-in-Ok-clause-worked g c =
     let s = g.W.View.view c.args.w.now in
     let q = c.in-Some-default-Thread in
     let at = q.is ∙ ap (λ (e : EntryId). Some (q.mark, e)) q.field-0-1-is in
     c.requires.unworked ∙ ap (λ (o : Option (Mark × Entry)). tracked_entry_group o s) (sym (next_is s c.take_next.result q.mark (entries.Thread q.thread) c.take_next.ensures.next at))
 
-pub returns-in-Some-default-Push-clause-worked : goal.returns-in-Some-default-Push-clause-worked
-returns-in-Some-default-Push-clause-worked g c =
+pub returns-in_default-clause-worked : goal.returns-in_default-clause-worked
+returns-in_default-clause-worked g c =
+    let s = g.W.View.view c.args.w.now in
+    let q = c.in-Some-default-Thread in
+    let at = q.is ∙ ap (λ (e : EntryId). Some (q.mark, e)) q.field-0-1-is in
+    c.requires.unworked ∙ ap (λ (o : Option (Mark × Entry)). tracked_entry_group o s) (sym (next_is s c.take_next.result q.mark (entries.Thread q.thread) c.take_next.ensures.next at))
+
+pub returns-in-Ok-put-clause-worked : goal.returns-in-Ok-put-clause-worked
+returns-in-Ok-put-clause-worked g c =
     let s = g.W.View.view c.args.w.now in
     let q = c.in-Some-default-Push in
     let at = q.is ∙ ap (λ (e : EntryId). Some (q.mark, e)) q.field-0-1-is in
     c.requires.unworked ∙ ap (λ (o : Option (Mark × Entry)). tracked_entry_group o s) (sym (next_is s c.take_next.result q.mark (entries.Push q.work) c.take_next.ensures.next at))
 
-pub returns-in-Some-default-Host-clause-worked : goal.returns-in-Some-default-Host-clause-worked
-returns-in-Some-default-Host-clause-worked g c =
+pub returns-in_default-put-clause-worked : goal.returns-in_default-put-clause-worked
+returns-in_default-put-clause-worked g c =
+    let s = g.W.View.view c.args.w.now in
+    let q = c.in-Some-default-Push in
+    let at = q.is ∙ ap (λ (e : EntryId). Some (q.mark, e)) q.field-0-1-is in
+    c.requires.unworked ∙ ap (λ (o : Option (Mark × Entry)). tracked_entry_group o s) (sym (next_is s c.take_next.result q.mark (entries.Push q.work) c.take_next.ensures.next at))
+
+pub returns-in-Ok-put-in-Some-default-Host-clause-worked : goal.returns-in-Ok-put-in-Some-default-Host-clause-worked
+returns-in-Ok-put-in-Some-default-Host-clause-worked g c =
+    let v = g.W.View.view in
+    let s = v c.args.w.now in
+    let u = v c.take_next.new.self in
+    let q = c.in-Some-default-Host in
+    let at = q.is ∙ ap (λ (e : EntryId). Some (q.mark, e)) q.field-0-1-is in
+    c.work_group.ensures ∙ worked_is s u q.mark q.work (left_is s u c.take_next.result q.mark (entries.Host q.work) c.take_next.ensures.taken at) (next_is s c.take_next.result q.mark (entries.Host q.work) c.take_next.ensures.next at)
+
+pub returns-in_default-put-in-Some-default-Host-clause-worked : goal.returns-in_default-put-in-Some-default-Host-clause-worked
+returns-in_default-put-in-Some-default-Host-clause-worked g c =
     let v = g.W.View.view in
     let s = v c.args.w.now in
     let u = v c.take_next.new.self in

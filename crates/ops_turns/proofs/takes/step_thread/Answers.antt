@@ -1,6 +1,6 @@
 use Rattle.std.proofs.Common.{subst, sym}
 use Rattle.std.specs.Prelude.{Some}
-use Rattle.std.proofs.lemmas.Option.{IfSome_then}
+use Rattle.ops_turns.proofs.SteppedLemmas.{IfOk_then}
 use Rattle.machine_data.specs.Labels.{choice_of}
 use Rattle.machine_data.specs.Read.{place_of}
 use Rattle.ops_guests.proofs.CalmLemmas.{picks_implements}
@@ -10,7 +10,7 @@ use Rattle.ops_guests.specs.declared.op_result.OpResult.{OpResult}
 use Rattle.machine_rules.specs.Takes.{thread_taken}
 use Rattle.ops_turns.proofs.ShowLemmas.{taken_unwinds}
 use Rattle.ops_turns.proofs.takes.step_thread.Goals as goal
-use Rattle.ops_turns.specs.StepResult.{RuleShown, stepped_by}
+use Rattle.ops_turns.specs.StepResult.{RuleShown}
 use Rattle.ops_turns.specs.Taken.{TakesThread, Taken}
 use Rattle.ops_turns.specs.declared.made.StepResult.{StepResult}
 use Rattle.core_primitives.specs.StateView.{StateView, thread_of, with_current}
@@ -34,5 +34,5 @@ returns-clause-shown g c =
     let op_result = c.in-Ok.op_result in
     let picks = subst (λ (u : StateView). TakesThread c.args.mark (thread_of u id) u op_result w) c.set_current.ensures c.in-Ok.ensures.picks in
     let stays = subst (λ (u : StateView). StaysAfter op_result u w) c.set_current.ensures c.in-Ok.ensures.stays in
-    IfSome_then (stepped_by c.show_taken.result c.show_taken.new.trace) {Q = λ (q : StepResult). RuleShown (λ (r : OpResult). thread_taken c.args.mark (thread_of s id) (choice_of (label_of (thread_of s id) r)) s.core (place_of (thread_of s id) s.core)) id (with_current (Some id) s) c.args.trace.now q t c.show_taken.new.trace} c.show_taken.ensures.shown
+    IfOk_then c.show_taken.result {Q = λ (q : StepResult). RuleShown (λ (r : OpResult). thread_taken c.args.mark (thread_of s id) (choice_of (label_of (thread_of s id) r)) s.core (place_of (thread_of s id) s.core)) id (with_current (Some id) s) c.args.trace.now q t c.show_taken.new.trace} c.show_taken.ensures.shown
     (λ q shown. record { op_result = op_result; left = w; implements = picks_implements picks; picks = picks; stays = stays; shown = shown })

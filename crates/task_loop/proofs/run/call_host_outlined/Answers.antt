@@ -1,7 +1,7 @@
 -- A host that the thread called is held.
 use Rattle.store_works.specs.Course.{one_fewer}
 use Rattle.store_works.specs.KeptWorks.{held}
-use Rattle.std.proofs.Common.{ap, arith, refl, sym, ◌∙◌}
+use Rattle.std.proofs.Common.{ap, arith, refl, ◌∙◌}
 use Rattle.std.specs.Prelude.{None, Option, Some, option_map, ℕ, ◌≡◌}
 use Rattle.machine_data.specs.declared.component.HostDef.{HostDef}
 use Rattle.ops_dispatch.proofs.StayLemmas.{ok_then}
@@ -31,9 +31,6 @@ step_call-requires-clause-calls g c = rw c.first_called-called.ensures.rest c.re
 pub step_call-requires-clause-few : goal.step_call-requires-clause-few
 step_call-requires-clause-few g c = rw c.first_called-called.ensures.rest (let few = c.requires.runs.few in omega (arith, few))
 
-pub put-requires : goal.put-requires
-put-requires g c = record { over = c.in_ok-ran.ensures.ran.0.0.over }
-
 pub returns-clause-steps : goal.returns-clause-steps
 returns-clause-steps g c =
     let store = c.args.store.now in
@@ -44,14 +41,14 @@ returns-clause-steps g c =
     let n = c.args.thread in
     let before = c.args.trace.now in
     let after = c.put.new.trace in
-    let ran = rw c.first_called-called.ensures.rest at c.in_ok-ran.ensures.ran in
-    let works = rw c.first_called-called.ensures.rest at c.in_ok-ran.ensures.works in
+    let ran = rw c.first_called-called.ensures.rest at c.in_ok-stepped.ensures.ran in
+    let works = rw c.first_called-called.ensures.rest at c.in_ok-stepped.ensures.works in
     let held_then = rw c.first_called-called.ensures.rest at c.in_ok-hold_called.ensures.held in
     rw (c.in_ok-hold_called.ensures.rest, c.first_called-called.ensures.rest)
-    (ok_then (λ (q : StepResult). Stands q before c.in_ok-ran.ran.made after) (λ (q : StepResult). StepsUntold course comp n store q (record store { value = polled.value; state = t; works = c.hold_called.new.self.works }) before after) c.put.result
+    (ok_then (λ (q : StepResult). Stands q before c.in_ok-stepped.stepped.0 after) (λ (q : StepResult). StepsUntold course comp n store q (record store { value = polled.value; state = t; works = c.hold_called.new.self.works }) before after) c.put.result
     (λ q h. record {
-      makes = (c.in_ok-ran.ran.made, (h, ran.0));
+      makes = (c.in_ok-stepped.stepped.0, (h, ran.0));
       works = works;
-      hosts = held_run c.first_called-called.result.1 comp n store.state t c.in_ok-ran.ran c.requires.runs.order ran.0.0 ran.1 (held_by course store) c.requires.runs.hosts (held course c.hold_called.new.self.works)
-          (λ i. held_then i ∙ ap (λ (o : Option HostDef). held_after_call (option_map (λ id. work_of t id) c.in_ok-ran.ran.work) o (held_by course store) i) (c.first_called-called.ensures.left ∙ (fewer_of c.host_called-host.result ∙ ap (option_map one_fewer) (c.host_called-host.ensures ∙ sym ran.1.polled))));
+      hosts = held_run c.first_called-called.result.1 comp n store.state t c.in_ok-stepped.stepped.0 c.in_ok-stepped.stepped.1 c.requires.runs.order ran.0.0 ran.1 (held_by course store) c.requires.runs.hosts (held course c.hold_called.new.self.works)
+          (λ i. held_then i ∙ ap (λ (o : Option HostDef). held_after_call (option_map (λ id. work_of t id) c.in_ok-stepped.stepped.1) o (held_by course store) i) (c.first_called-called.ensures.left ∙ (fewer_of c.host_called-host.result ∙ ap (option_map one_fewer) c.host_called-host.ensures)));
     }) c.put.ensures.stands)

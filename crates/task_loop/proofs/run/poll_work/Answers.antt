@@ -17,9 +17,6 @@ poll_next-made-requires-clause-may g c =
     let order = c.requires.at.order.order Unscripted in
     record { placed = order.in_place.placed; works = order.works; current = none_current c.args.store.now.state c.requires.at.running; settled = c.requires.at.settled }
 
-pub put-requires : goal.put-requires
-put-requires g c = record { over = (c.poll_next-made.ensures.turns (setting_of c.args.component.now [] true) Unscripted refl).over }
-
 pub tell_poll-requires : goal.tell_poll-requires
 tell_poll-requires g c =
     let x = setting_of c.args.component.now [] true in
@@ -70,8 +67,8 @@ returns-in_default-tell_poll-clause-works g c =
       subst (λ (d : Core). HoldsWorks (held_by g.H.HostWork.course t) d) (sym (part_core a t.state u t.listeners c.tell_poll.new.listeners part)) c.poll_next-made.ensures.hosts,
     )
 
-pub returns-in_default-tell_poll-clause-failed : goal.returns-in_default-tell_poll-clause-failed
-returns-in_default-tell_poll-clause-failed g c = λ stopped.
+pub returns-in_default-tell_poll-clause-polled : goal.returns-in_default-tell_poll-clause-polled
+returns-in_default-tell_poll-clause-polled g c =
     let s = c.args.store.now in
     let t = c.poll_next-made.new.self in
     let u = c.tell_poll.new.core in
@@ -96,3 +93,6 @@ returns-in_default-tell_poll-clause-failed g c = λ stopped.
         ),
       ),
     )
+
+pub returns-in_default-clause-polled : goal.returns-in_default-clause-polled
+returns-in_default-clause-polled g c = c.in_default.ensures.err

@@ -64,8 +64,8 @@ returns-clause-ran g c =
     }
 
 -- the step was made, and the hook failed in what it gave
-pub returns-in_default-told-clause-failed : goal.returns-in_default-told-clause-failed
-returns-in_default-told-clause-failed g c = λ stopped.
+pub returns-in_default-told-clause-ran : goal.returns-in_default-told-clause-ran
+returns-in_default-told-clause-ran g c =
     let s = c.args.store.now in
     let d = c.args.component.now in
     let n = c.args.thread in
@@ -91,3 +91,6 @@ returns-in_default-told-clause-failed g c = λ stopped.
         },
       ),
     )
+
+pub returns-in_default-clause-ran : goal.returns-in_default-clause-ran
+returns-in_default-clause-ran g c = c.in_default.ensures.err

@@ -1,13 +1,7 @@
 -- A step that pends is made apart.
-use Rattle.std.proofs.Common.{refl, subst, ◌∙◌, ◌≡◌}
-use Rattle.std.specs.Prelude.{true}
-use Rattle.task_loop.proofs.HasRunLemmas.{halted_by}
+use Rattle.std.proofs.Common.{refl, ◌∙◌}
 use Rattle.task_loop.proofs.MainStepLemmas.{step_failed, step_turned}
 use Rattle.task_loop.proofs.run.step_main.Goals as goal
-use Rattle.task_loop.specs.declared.run.Halt.TheVariants as halt
-use Rattle.ops_turns.specs.Main.{Steps}
-use Rattle.ops_turns.specs.Turn.{setting_of}
-use Rattle.ops_turns.specs.declared.mains.MainStep.{MainStep}
 use Rattle.ops_turns.specs.declared.mains.MainStep.TheVariants as step
 
 pub ask_main-requires : goal.ask_main-requires
@@ -18,21 +12,6 @@ made_by_main-pends-requires g c = c.in-Ok.ensures.steps.idle ∙ c.requires.may.
 
 pub made_by_main-made-requires : goal.made_by_main-made-requires
 made_by_main-made-requires g c = c.in-Ok.ensures.steps.idle ∙ c.requires.may.idle
-
-pub put-requires : goal.put-requires
-put-requires g c =
-    let main = c.args.main.now in
-    let ops = g.M.MainTask.says.script main in
-    let part = g.M.MainTask.says.part in
-    let s = c.args.store.now.state in
-    let ok = subst (λ (w : MainStep). Steps c.args.component.now ops (part main) s.core w (part c.ask_main.new.main) c.ask_main.new.store.state.core) c.in-Pends.is c.in-Ok.ensures.steps.steps in
-    record { over = (c.made_by_main-pends.ensures.turns (setting_of c.args.component.now ops true) (part main) (part c.ask_main.new.main) s ok).over }
-
-pub put-requires-2 : goal.put-requires-2
-put-requires-2 g c =
-    let main = c.args.main.now in
-    let part = g.M.MainTask.says.part in
-    record { over = (c.made_by_main-made.ensures.turns (setting_of c.args.component.now (g.M.MainTask.says.script main) true) (part main) (part c.ask_main.new.main) c.args.store.now.state c.in-Ok.ensures.steps.steps).over }
 
 pub returns-in-Pends-clause-turned : goal.returns-in-Pends-clause-turned
 returns-in-Pends-clause-turned g c =
@@ -46,38 +25,22 @@ returns g c = record {
   turned =
       step_turned g.M.MainTask.says g.H.HostWork.course c.args.component.now c.in-Ok.step c.in-Ok.step refl c.args.main.now c.args.store.now c.ask_main.new.main c.ask_main.new.store c.in-Ok.ensures.steps c.requires.may.idle
       c.made_by_main-made.result c.made_by_main-made.ensures.label c.made_by_main-made.ensures.turns c.in-Ok-put-2.stepped c.args.trace.now c.put-2.new.trace c.in-Ok-put-2.ensures.stands;
-  why = c.requires.why;
-  halted = tt;
 }
 
 -- ---- It isn't made
 
-pub returns-in-Err-Trap-clause-halted : goal.returns-in-Err-Trap-clause-halted
-returns-in-Err-Trap-clause-halted g c =
+pub returns-in-Err-Trap-clause-turned : goal.returns-in-Err-Trap-clause-turned
+returns-in-Err-Trap-clause-turned g c =
     let main = c.args.main.now in
     let s = c.args.store.now in
     step_failed g.M.MainTask.says g.H.HostWork.course c.args.component.now _ _ c.in-Err-Trap.field-0-is main s c.ask_main.new.main c.ask_main.new.store c.in-Err-Trap.ensures.steps
     (λ u last. g.met.M.MainTask.stays main s.state u last) c.requires.may.knows c.args.trace.now c.args.trace.now refl
 
 pub returns-in-Err : goal.returns-in-Err
-returns-in-Err g c = record {
-  stands = c.in-Err.ensures.stands;
-  script = c.in-Err.ensures.script;
-  turned = tt;
-  why = tt;
-  halted = λ b. halted_by g.M.MainTask.says g.H.HostWork.course c.args.component.now c.args.why.now _ _ (λ is. refl) (λ is. let no : c.args.why.now ≡ halt.NoMemory = c.requires.why in absurd (cc));
-}
+returns-in-Err g c = record { stands = c.in-Err.ensures.stands; script = c.in-Err.ensures.script; turned = λ b. refl }
 
-pub returns-in_default-put-clause-halted : goal.returns-in_default-put-clause-halted
-returns-in_default-put-clause-halted g c = λ b.
-    halted_by g.M.MainTask.says g.H.HostWork.course c.args.component.now c.args.why.now _ _ (λ is. c.in_default-put.ensures.err) (λ is. let no : c.args.why.now ≡ halt.NoMemory = c.requires.why in absurd (cc))
+pub returns-in_default-put-clause-turned : goal.returns-in_default-put-clause-turned
+returns-in_default-put-clause-turned g c = λ b. c.in_default-put.ensures.err
 
 pub returns-in_default-put-2 : goal.returns-in_default-put-2
-returns-in_default-put-2 g c = record {
-  stands = c.in-Ok.ensures.stands;
-  script = c.in-Ok.ensures.script;
-  turned = tt;
-  why = tt;
-  halted = λ b.
-      halted_by g.M.MainTask.says g.H.HostWork.course c.args.component.now c.args.why.now _ _ (λ is. c.in_default-put-2.ensures.err) (λ is. let no : c.args.why.now ≡ halt.NoMemory = c.requires.why in absurd (cc));
-}
+returns-in_default-put-2 g c = record { stands = c.in-Ok.ensures.stands; script = c.in-Ok.ensures.script; turned = λ b. c.in_default-put-2.ensures.err }

@@ -1,41 +1,29 @@
 -- A step that calls a host is made apart.
 use Rattle.ops_dispatch.specs.Fits.{calls_host}
-use Rattle.std.proofs.Common.{refl, subst, sym}
-use Rattle.std.specs.Prelude.{IfOk, List, None, OnErr, true, ℕ, ◌≡◌}
+use Rattle.std.proofs.Common.{inl, refl, subst, sym}
+use Rattle.std.specs.Prelude.{IfOk, List, None, OnErr, Option, Some, true, ◌≡◌}
 use Rattle.task_loop.proofs.HoldLemmas.{held_run}
 use Rattle.task_loop.proofs.run.step_thread.Goals as goal
 use Rattle.task_loop.specs.Threads.{RunsThread, StepsUntold}
-use Rattle.machine_data.specs.declared.component.Component.{Component}
 use Rattle.machine_data.specs.declared.label.Label.{Label}
-use Rattle.machine_data.specs.declared.statuses.HostPoll.{HostPoll}
 use Rattle.machine_data.specs.declared.statuses.HostPoll.TheVariants as host_poll
-use Rattle.machine_data.specs.declared.records.Turn.TheVariants as turn
 use Rattle.machine_rules.specs.Scripts.{op_of}
 use Rattle.task_store.specs.Hosts.{held_by}
-use Rattle.ops_turns.specs.Ran.{RanPolls}
-use Rattle.ops_turns.specs.StepResult.{CallsHost, RunAdded}
-use Rattle.ops_turns.specs.Turn.{IsFree, MakesStep}
-use Rattle.ops_turns.specs.declared.made.Ran.{Ran}
-use Rattle.ops_turns.specs.declared.made.RunStep.{RunStep}
+use Rattle.ops_turns.specs.StepResult.{RunStepped}
 use Rattle.ops_turns.specs.declared.made.StepResult.{StepResult}
 use Rattle.core_primitives.specs.StateView.{StateView}
 
--- what came of the step
-abbrev Came : Component → ℕ → (s t : StateView) → (before after : List Label) → RunStep → Type 0
-Came comp n s t before after r = RunAdded (λ (q : Ran). (MakesStep comp (turn.Run n) s q.made t × IsFree q.made.turn) × ((answer : HostPoll) → RanPolls answer comp n s q t)) (CallsHost comp n s t) r before after
-
-pub returns-in-Shown-clause-steps : goal.returns-in-Shown-clause-steps
-returns-in-Shown-clause-steps g c =
+pub returns-in-Some-clause-steps : goal.returns-in-Some-clause-steps
+returns-in-Some-clause-steps g c =
     let store = c.args.store.now in
     let t = c.step_run.new.w in
     let comp = c.args.component.now in
     let n = c.args.thread in
-    let ran = subst (λ (r : RunStep). Came comp n store.state t c.args.trace.now c.step_run.new.trace r) c.in-Shown.is c.in-Ok.ensures.ran in
-    let q : Ran = record { made = ran.0; polled = None; work = None } in
+    let ran = subst (λ (r : Option StepResult). RunStepped comp n store.state r t c.args.trace.now c.step_run.new.trace) c.in-Some.is c.in-Ok.ensures.ran in
     record {
-      makes = (ran.0, (ran.1.0, ran.1.1.0));
+      makes = ran.0;
       works = c.in-Ok.ensures.works;
-      hosts = held_run host_poll.Pending comp n store.state t q c.requires.runs.order ran.1.1.0.0 (ran.1.1.1 host_poll.Pending) (held_by g.H.HostWork.course store) c.requires.runs.hosts (held_by g.H.HostWork.course store) (λ i. refl);
+      hosts = held_run host_poll.Pending comp n store.state t ran.0.0 None c.requires.runs.order ran.0.1.1.0 (inl ran.1) (held_by g.H.HostWork.course store) c.requires.runs.hosts (held_by g.H.HostWork.course store) (λ i. refl);
     }
 
 -- ---- Where the op calls a host nothing is done before
@@ -45,29 +33,29 @@ call_host-requires-clause-runs g c =
     let store = c.args.store.now in
     let comp = c.args.component.now in
     let n = c.args.thread in
-    let same = subst (λ (r : RunStep). Came comp n store.state c.step_run.new.w c.args.trace.now c.step_run.new.trace r) c.in-Calls.is c.in-Ok.ensures.ran in
+    let same = subst (λ (r : Option StepResult). RunStepped comp n store.state r c.step_run.new.w c.args.trace.now c.step_run.new.trace) c.in-None.is c.in-Ok.ensures.ran in
     subst (λ (v : StateView). RunsThread g.H.HostWork.course comp n (record store { state = v })) (sym same.0.0) c.requires.runs
 
 pub call_host-requires-clause-calls : goal.call_host-requires-clause-calls
 call_host-requires-clause-calls g c =
     let comp = c.args.component.now in
     let n = c.args.thread in
-    let same = subst (λ (r : RunStep). Came comp n c.args.store.now.state c.step_run.new.w c.args.trace.now c.step_run.new.trace r) c.in-Calls.is c.in-Ok.ensures.ran in
+    let same = subst (λ (r : Option StepResult). RunStepped comp n c.args.store.now.state r c.step_run.new.w c.args.trace.now c.step_run.new.trace) c.in-None.is c.in-Ok.ensures.ran in
     subst (λ (v : StateView). calls_host (op_of comp n v.core) ≡ true) (sym same.0.0) same.0.1
 
-pub returns-in-Calls-clause-steps : goal.returns-in-Calls-clause-steps
-returns-in-Calls-clause-steps g c =
+pub returns-in-None-clause-steps : goal.returns-in-None-clause-steps
+returns-in-None-clause-steps g c =
     let store = c.args.store.now in
     let course = g.H.HostWork.course in
     let comp = c.args.component.now in
     let n = c.args.thread in
     let mid = c.step_run.new.trace in
     let after = c.call_host.new.trace in
-    let same = subst (λ (r : RunStep). Came comp n store.state c.step_run.new.w c.args.trace.now mid r) c.in-Calls.is c.in-Ok.ensures.ran in
+    let same = subst (λ (r : Option StepResult). RunStepped comp n store.state r c.step_run.new.w c.args.trace.now mid) c.in-None.is c.in-Ok.ensures.ran in
     subst (λ (l : List Label). IfOk c.call_host.result (λ (q : StepResult). StepsUntold course comp n store q c.call_host.new.store l after)) same.1
     (subst (λ (v : StateView). IfOk c.call_host.result (λ (q : StepResult). StepsUntold course comp n (record store { state = v }) q c.call_host.new.store mid after)) same.0.0 c.call_host.ensures.steps)
 
-pub returns-in-Calls-clause-err : goal.returns-in-Calls-clause-err
-returns-in-Calls-clause-err g c =
-    let same = subst (λ (r : RunStep). Came c.args.component.now c.args.thread c.args.store.now.state c.step_run.new.w c.args.trace.now c.step_run.new.trace r) c.in-Calls.is c.in-Ok.ensures.ran in
+pub returns-in-None-clause-err : goal.returns-in-None-clause-err
+returns-in-None-clause-err g c =
+    let same = subst (λ (r : Option StepResult). RunStepped c.args.component.now c.args.thread c.args.store.now.state r c.step_run.new.w c.args.trace.now c.step_run.new.trace) c.in-None.is c.in-Ok.ensures.ran in
     subst (λ (l : List Label). OnErr c.call_host.result (c.call_host.new.trace ≡ l)) same.1 c.call_host.ensures.err

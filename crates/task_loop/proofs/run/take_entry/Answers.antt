@@ -39,8 +39,8 @@ returns-in-None-clause-taken g c =
     ((turned, c.in-Ok.ensures.works.0), (refl, asked))
 
 -- the step was made, and the hook failed in what it gave
-pub returns-in_default-tell_work-clause-failed : goal.returns-in_default-tell_work-clause-failed
-returns-in_default-tell_work-clause-failed g c = λ stopped.
+pub returns-in_default-tell_work-clause-taken : goal.returns-in_default-tell_work-clause-taken
+returns-in_default-tell_work-clause-taken g c =
     let s = c.args.store.now in
     let a = groups_before_work c.take.new.worked in
     let told = c.in_default-tell_work.ensures.told in (
@@ -58,3 +58,6 @@ returns-in_default-tell_work-clause-failed g c = λ stopped.
         ),
       ),
     )
+
+pub returns-in_default-clause-taken : goal.returns-in_default-clause-taken
+returns-in_default-clause-taken g c = c.in_default.ensures.err

@@ -4,7 +4,7 @@ use Rattle.run_trace.specs.YieldBudget.{counted, yields_before}
 use Rattle.std.proofs.Common.{ap, arith, refl, subst, sym, ◌∙◌}
 use Rattle.std.specs.Prelude.{None, Option, Some, false, true, ◌+◌, ◌<◌, ◌^◌, ◌≡◌}
 use Rattle.task_loop.proofs.HasPolledLemmas.{polled_idles, polled_none, polled_out, polled_over, polled_rests, polled_yields}
-use Rattle.task_loop.proofs.HasRunLemmas.{come_computed, come_first, come_goes, come_lost, come_may, come_none, come_out, come_over, come_rests, come_short, come_stopped, gives_halt, goes_on_by, stops_by, turned, turned_as}
+use Rattle.task_loop.proofs.HasRunLemmas.{come_computed, come_first, come_goes, come_halts, come_may, come_none, come_out, come_over, come_rests, come_short, gives_halt, goes_on_by, opened, over_told, stops_by, turned_as}
 use Rattle.task_loop.proofs.PausedLemmas.{spent_data, spent_none, poll_goes}
 use Rattle.task_loop.proofs.RunPollLemmas.{and_false}
 use Rattle.task_loop.proofs.ToldLemmas.{current_is, group_computed}
@@ -16,9 +16,10 @@ use Rattle.machine_data.specs.declared.outcome.Outcome.TheVariants as outcome
 use Rattle.machine_data.specs.declared.records.Turn.TheVariants as turn
 use Rattle.machine_data.specs.declared.statuses.Mark.{Mark}
 use Rattle.machine_rules.proofs.Machine.{and_parts}
-use Rattle.ops_turns.specs.Turn.{given, idle_line_of}
-use Rattle.ops_turns.specs.declared.made.StepResult.{StepResult}
-use Rattle.ops_turns.specs.declared.made.StepResult.TheVariants as stepped
+use Rattle.ops_turns.specs.Turn.{given, idle_line_of, is_open}
+use Rattle.machine_data.specs.declared.records.Turn.{Turn}
+use Rattle.ops_turns.proofs.SteppedLemmas.{closes, opens}
+use Rattle.ops_turns.specs.StepResult.{turn_of}
 use Rattle.core_primitives.specs.StateView.{Tags}
 
 pub turns-init : goal.turns-init
@@ -28,7 +29,6 @@ turns-init g c =
       kept = λ driven. refl;
       spent = λ polled. spent_none c.args.self.now.yield_budget.passes c.args.self.now.yield_budget.since c.args.trace.now;
       few = omega arith;
-      why = refl;
       running = c.group_now-running.ensures ∙ current_is c.args.store.now.state c.args.self.now.turn c.requires.may.stands.running;
     }
 
@@ -44,7 +44,7 @@ turn-requires g c =
     let few = c.turns.invariant.come.on.few in
     let first = c.requires.may.few in
     let room : given c.turns.store.state.core + 4 < 2 ^ 61 = omega (arith, few, first) in
-    record { may = come_may says course d a u n come c.turns.running c.turns.why c.requires.may.covered room c.turns.invariant.running c.turns.invariant.why }
+    record { may = come_may says course d a u n come c.turns.running c.requires.may.covered room c.turns.invariant.running }
 
 pub spent_by-self-requires : goal.spent_by-self-requires
 spent_by-self-requires g c = sym c.yields_by.ensures ∙ c.if-yields_by.false
@@ -63,12 +63,10 @@ compute-all-requires-clause-order g c =
     let come = c.turns.invariant.come in
     let v = at c.turns.self c.turn.new.main c.turn.new.store c.turn.new.trace in
     let r = c.turn.new.running in
-    let e = c.in-Ok.ensures in
-    let q = c.in-Some-Continues.turn in
-    let computed = c.in-Some-Continues.computed in
-    let is = c.in-Some-Continues.is ∙ ap (λ (q : StepResult). Some q) (rw c.in-Some-Continues.is at c.in-Some-Continues.field-0-is) in
-    let op_result = turned_as says course d u v r _ (Some (stepped.Continues q computed)) is e.turned.0 in
-    let goes = come_goes says course d a u n come v r q computed op_result c.turn.ensures.keeps in
+    let q = c.in-Some.stepped in
+    let op_result = turned_as says course d u v r _ (Some q) c.in-Some.is c.in-Ok.ensures.turned in
+    let ongoing = opens (is_open (turn_of q)) (sym c.is_over.ensures ∙ c.if-is_over.false) in
+    let goes = come_goes says course d a u n come v r q ongoing op_result c.turn.ensures.keeps in
     goes.on.at.order
 
 pub compute-all-requires-clause-runs : goal.compute-all-requires-clause-runs
@@ -82,12 +80,10 @@ compute-all-requires-clause-runs g c =
     let come = c.turns.invariant.come in
     let v = at c.turns.self c.turn.new.main c.turn.new.store c.turn.new.trace in
     let r = c.turn.new.running in
-    let e = c.in-Ok.ensures in
-    let q = c.in-Some-Continues.turn in
-    let computed = c.in-Some-Continues.computed in
-    let is = c.in-Some-Continues.is ∙ ap (λ (q : StepResult). Some q) (rw c.in-Some-Continues.is at c.in-Some-Continues.field-0-is) in
-    let op_result = turned_as says course d u v r _ (Some (stepped.Continues q computed)) is e.turned.0 in
-    let goes = come_goes says course d a u n come v r q computed op_result c.turn.ensures.keeps in
+    let q = c.in-Some.stepped in
+    let op_result = turned_as says course d u v r _ (Some q) c.in-Some.is c.in-Ok.ensures.turned in
+    let ongoing = opens (is_open (turn_of q)) (sym c.is_over.ensures ∙ c.if-is_over.false) in
+    let goes = come_goes says course d a u n come v r q ongoing op_result c.turn.ensures.keeps in
     goes.on.at.running
 
 pub turns-preserved : goal.turns-preserved
@@ -106,15 +102,13 @@ turns-preserved g c =
     let spent = c.turns.invariant.spent in
     let v = at c.turns.self c.turn.new.main c.turn.new.store c.turn.new.trace in
     let r = c.turn.new.running in
-    let e = c.in-Ok.ensures in
-    let q = c.in-Some-Continues.turn in
-    let computed = c.in-Some-Continues.computed in
-    let is = c.in-Some-Continues.is ∙ ap (λ (q : StepResult). Some q) (rw c.in-Some-Continues.is at c.in-Some-Continues.field-0-is) in
-    let op_result = turned_as says course d u v r _ (Some (stepped.Continues q computed)) is e.turned.0 in
-    let goes = come_goes says course d a u n come v r q computed op_result c.turn.ensures.keeps in
+    let q = c.in-Some.stepped in
+    let op_result = turned_as says course d u v r _ (Some q) c.in-Some.is c.in-Ok.ensures.turned in
+    let ongoing = opens (is_open (turn_of q)) (sym c.is_over.ensures ∙ c.if-is_over.false) in
+    let goes = come_goes says course d a u n come v r q ongoing op_result c.turn.ensures.keeps in
     let all = c.in-Ok-all.ensures.ok in
-    record {
-      come = come_computed says course d a (record v { turn = q }) (n + 1) goes c.compute-all.new.w c.compute-all.new.trace c.in-Ok-all.all all.on all.computes all.still c.in-Ok-all.ensures.works
+    rw c.turn_of-self.ensures (record {
+      come = come_computed says course d a (record v { turn = turn_of q }) (n + 1) goes c.compute-all.new.w c.compute-all.new.trace c.in-Ok-all.all all.on all.computes all.still c.in-Ok-all.ensures.works
           (λ last knows. g.met.M.MainTask.stays c.turn.new.main c.turn.new.store.state c.compute-all.new.w last knows);
       kept = λ driven. c.spent_by-self.ensures.kept driven ∙ c.turns.invariant.kept driven;
       spent = λ polled.
@@ -122,13 +116,12 @@ turns-preserved g c =
           let stays = subst (λ (o : Option Mark). yields_before b k o ≡ false) next (and_false stops (yields_before b k c.next_mark-next.result) polled (sym c.yields_by.ensures ∙ c.if-yields_by.false)) in
           let rests = subst (λ (o : Option Mark). rests_by c.turns.self.turn o ≡ false) next (and_false stops (rests_by c.turns.self.turn c.next_mark-next.result) polled (sym c.rests_with-rests.ensures ∙ c.if-rests.false)) in
           let since = c.spent_by-self.ensures.since polled ∙ ap (λ (o : Option Mark). counted k o) next in
-          let more = poll_goes (setting says course d a) (state says course d a) a.trace (numbers says course d a) yield_budget c.args.steps u.turn (says.part u.main) u.store.state u.trace n b k come.on (spent polled) (says.part v.main) v.store.state v.trace q computed
-          (turned says course d a u n come v r (stepped.Continues q computed) op_result) stays c.spent_by-self.result.passes c.spent_by-self.result.since rests since (c.spent_by-self.ensures.passes polled) in
+          let more = poll_goes (setting says course d a) (state says course d a) a.trace (numbers says course d a) yield_budget c.args.steps u.turn (says.part u.main) u.store.state u.trace n b k come.on (spent polled) (says.part v.main) v.store.state v.trace (turn_of q)
+          (opened says course d a u n come v r q ongoing op_result) stays c.spent_by-self.result.passes c.spent_by-self.result.since rests since (c.spent_by-self.ensures.passes polled) in
           spent_data yield_budget.passes yield_budget.since a.trace c.turn.new.trace c.spent_by-self.result.passes c.spent_by-self.result.since more all.computes.labels c.compute-all.new.trace all.computes.computing all.computes.trace (c.spent_by-self.ensures.passes polled);
       few = all.few;
-      why = e.turned.1;
-      running = op_result.group ∙ sym (group_computed d c.turn.new.store.state c.turn.new.trace (n + 1) c.compute-all.new.w c.compute-all.new.trace c.in-Ok-all.all (setting says course d a) refl (ap (λ (ts : Tags). ts.tracked) c.in-Ok-all.ensures.works.tags) q all.computes all.still);
-    }
+      running = op_result.group ∙ sym (group_computed d c.turn.new.store.state c.turn.new.trace (n + 1) c.compute-all.new.w c.compute-all.new.trace c.in-Ok-all.all (setting says course d a) refl (ap (λ (ts : Tags). ts.tracked) c.in-Ok-all.ensures.works.tags) (turn_of q) all.computes all.still);
+    })
 
 -- ---- What it has resulted in
 
@@ -167,16 +160,28 @@ returns-in-None-clause-gone g c =
     let spent = c.turns.invariant.spent in
     let v = at c.turns.self c.turn.new.main c.turn.new.store c.turn.new.trace in
     let r = c.turn.new.running in
-    let e = c.in-Ok.ensures in
-    let op_result = turned_as says course d u v r _ None c.in-None.is e.turned.0 in
+    let op_result = turned_as says course d u v r _ None c.in-None.is c.in-Ok.ensures.turned in
     let yield_budget' = c.ends.new.self.yield_budget in
     rw c.ends.ensures.stop
     (subst (λ (w : RunConcurrent). GoesTo says course d stops c.args.steps (stop.Ends outcome.Idle) yield_budget a (at w c.turn.new.main c.turn.new.store c.turn.new.trace) yield_budget') (sym c.ends.ensures.new)
     (goes_on_by says course d a v c.args.steps stops (stop.Ends outcome.Idle) yield_budget yield_budget' (λ driven. come_none says course d a u n come v r c.args.steps (omega arith) op_result)
     (λ polled. polled_none says course d a u n come yield_budget c.args.steps b k (spent polled) yield_budget' v r (omega arith) op_result (c.ends.ensures.since polled) (c.ends.ensures.passes polled))))
 
-pub returns-in-Some-Over-clause-gone : goal.returns-in-Some-Over-clause-gone
-returns-in-Some-Over-clause-gone g c =
+pub outcome_in-requires : goal.outcome_in-requires
+outcome_in-requires g c =
+    let says = g.M.MainTask.says in
+    let course = g.H.HostWork.course in
+    let d = c.args.component.now in
+    let a = at c.args.self.now c.args.main.now c.args.store.now c.args.trace.now in
+    let u = at c.turns.self c.turns.main c.turns.store c.turns.trace in
+    let v = at c.turns.self c.turn.new.main c.turn.new.store c.turn.new.trace in
+    let r = c.turn.new.running in
+    let q = c.in-Some.stepped in
+    let op_result = turned_as says course d u v r _ (Some q) c.in-Some.is c.in-Ok.ensures.turned in
+    over_told says course d a u c.turns.added c.turns.invariant.come v r q (closes (turn_of q) (sym c.is_over.ensures ∙ c.if-is_over.true)) op_result
+
+pub returns-then-is_over-clause-gone : goal.returns-then-is_over-clause-gone
+returns-then-is_over-clause-gone g c =
     let says = g.M.MainTask.says in
     let course = g.H.HostWork.course in
     let d = c.args.component.now in
@@ -191,16 +196,17 @@ returns-in-Some-Over-clause-gone g c =
     let spent = c.turns.invariant.spent in
     let v = at c.turns.self c.turn.new.main c.turn.new.store c.turn.new.trace in
     let r = c.turn.new.running in
-    let e = c.in-Ok.ensures in
-    let o = c.in-Some-Over.outcome in
-    let is = c.in-Some-Over.is ∙ ap (λ (q : StepResult). Some q) (rw c.in-Some-Over.is at c.in-Some-Over.field-0-is) in
-    let op_result = turned_as says course d u v r _ (Some (stepped.Over o)) is e.turned.0 in
-    let ends = c.ends-in-Some-Over in
+    let q = c.in-Some.stepped in
+    let o = c.outcome_in.result in
+    let op_result = turned_as says course d u v r _ (Some q) c.in-Some.is c.in-Ok.ensures.turned in
+    let over = closes (turn_of q) (sym c.is_over.ensures ∙ c.if-is_over.true) in
+    let ends = c.ends-then-is_over in
     let yield_budget' = ends.new.self.yield_budget in
     rw ends.ensures.stop
     (subst (λ (w : RunConcurrent). GoesTo says course d stops c.args.steps (stop.Ends o) yield_budget a (at w c.turn.new.main c.turn.new.store c.turn.new.trace) yield_budget') (sym ends.ensures.new)
-    (goes_on_by says course d a (record v { turn = turn.Over }) c.args.steps stops (stop.Ends o) yield_budget yield_budget' (λ driven. come_over says course d a u n come v r c.args.steps o (omega arith) op_result)
-    (λ polled. polled_over says course d a u n come yield_budget c.args.steps b k (spent polled) yield_budget' v r o (omega arith) op_result (ends.ensures.since polled) (ends.ensures.passes polled))))
+    (subst (λ (p : Turn). GoesTo says course d stops c.args.steps (stop.Ends o) yield_budget a (record v { turn = p }) yield_budget') (sym (c.turn_of-self.ensures ∙ over))
+    (goes_on_by says course d a (record v { turn = turn.Over }) c.args.steps stops (stop.Ends o) yield_budget yield_budget' (λ driven. come_over says course d a u n come v r c.args.steps q o (omega arith) over c.outcome_in.ensures op_result)
+    (λ polled. polled_over says course d a u n come yield_budget c.args.steps b k (spent polled) yield_budget' v r q o (omega arith) over c.outcome_in.ensures op_result (ends.ensures.since polled) (ends.ensures.passes polled)))))
 
 pub returns-then-rests-clause-gone : goal.returns-then-rests-clause-gone
 returns-then-rests-clause-gone g c =
@@ -218,20 +224,18 @@ returns-then-rests-clause-gone g c =
     let spent = c.turns.invariant.spent in
     let v = at c.turns.self c.turn.new.main c.turn.new.store c.turn.new.trace in
     let r = c.turn.new.running in
-    let e = c.in-Ok.ensures in
-    let q = c.in-Some-Continues.turn in
-    let computed = c.in-Some-Continues.computed in
-    let is = c.in-Some-Continues.is ∙ ap (λ (q : StepResult). Some q) (rw c.in-Some-Continues.is at c.in-Some-Continues.field-0-is) in
-    let op_result = turned_as says course d u v r _ (Some (stepped.Continues q computed)) is e.turned.0 in
-    let goes = come_goes says course d a u n come v r q computed op_result c.turn.ensures.keeps in
+    let q = c.in-Some.stepped in
+    let op_result = turned_as says course d u v r _ (Some q) c.in-Some.is c.in-Ok.ensures.turned in
+    let ongoing = opens (is_open (turn_of q)) (sym c.is_over.ensures ∙ c.if-is_over.false) in
+    let goes = come_goes says course d a u n come v r q ongoing op_result c.turn.ensures.keeps in
     let both = and_parts stops (rests_by c.turns.self.turn c.next_mark-next.result) (sym c.rests_with-rests.ensures ∙ c.if-rests.true) in
     let polled = both.0 in
     let next = c.next_mark-next.ensures polled in
     let stays = subst (λ (o : Option Mark). yields_before b k o ≡ false) next (and_false stops (yields_before b k c.next_mark-next.result) polled (sym c.yields_by.ensures ∙ c.if-yields_by.false)) in
     let rests = subst (λ (o : Option Mark). rests_by c.turns.self.turn o ≡ true) next both.1 in
     let since = c.spent_by-self.ensures.since polled ∙ ap (λ (o : Option Mark). counted k o) next in
-    stops_by says course d a (record v { turn = q }) c.args.steps stops stop.Rests yield_budget c.spent_by-self.result polled
-    (polled_rests says course d a u n come yield_budget c.args.steps b k (spent polled) c.spent_by-self.result v r q computed (omega arith) op_result c.turn.ensures.keeps stays rests since (c.spent_by-self.ensures.passes polled))
+    rw c.turn_of-self.ensures (stops_by says course d a (record v { turn = turn_of q }) c.args.steps stops stop.Rests yield_budget c.spent_by-self.result polled
+    (polled_rests says course d a u n come yield_budget c.args.steps b k (spent polled) c.spent_by-self.result v r q ongoing (omega arith) op_result c.turn.ensures.keeps stays rests since (c.spent_by-self.ensures.passes polled)))
 
 pub returns-then-is_idle-clause-gone : goal.returns-then-is_idle-clause-gone
 returns-then-is_idle-clause-gone g c =
@@ -279,19 +283,15 @@ returns-clause-gone g c =
 
 -- ---- It is out of memory, or the hook fails
 
-pub returns-in_default-clause-gone : goal.returns-in_default-clause-gone
-returns-in_default-clause-gone g c =
+pub returns-in-Err-clause-gone : goal.returns-in-Err-clause-gone
+returns-in-Err-clause-gone g c =
     let says = g.M.MainTask.says in
     let course = g.H.HostWork.course in
     let d = c.args.component.now in
     let a = at c.args.self.now c.args.main.now c.args.store.now c.args.trace.now in
     let u = at c.turns.self c.turns.main c.turns.store c.turns.trace in
-    let n = c.turns.added in
-    let come = c.turns.invariant.come in
     let v = at c.turns.self c.turn.new.main c.turn.new.store c.turn.new.trace in
-    gives_halt says course d g.P.Policy.YIELDS c.args.steps _ _ _ _ _ _ _ _ c.turn.new.why
-    (λ short. come_lost says course d a u n come v c.turn.new.why c.args.steps c.turns.invariant.few short c.in_default.ensures.turned)
-    (λ fails. come_stopped says course d a u n come v c.turn.new.why c.args.steps (omega arith) fails c.in_default.ensures.turned)
+    gives_halt says course d g.P.Policy.YIELDS c.args.steps _ _ _ _ _ _ _ _ c.in-Err.why (come_halts says course d a u c.turns.added c.turns.invariant.come v c.in-Err.why c.args.steps (omega arith) c.in-Err.ensures.turned)
 
 pub returns-in_default-all-clause-gone : goal.returns-in_default-all-clause-gone
 returns-in_default-all-clause-gone g c =
@@ -304,18 +304,16 @@ returns-in_default-all-clause-gone g c =
     let come = c.turns.invariant.come in
     let v = at c.turns.self c.turn.new.main c.turn.new.store c.turn.new.trace in
     let r = c.turn.new.running in
-    let e = c.in-Ok.ensures in
-    let q = c.in-Some-Continues.turn in
-    let computed = c.in-Some-Continues.computed in
-    let is = c.in-Some-Continues.is ∙ ap (λ (q : StepResult). Some q) (rw c.in-Some-Continues.is at c.in-Some-Continues.field-0-is) in
-    let op_result = turned_as says course d u v r _ (Some (stepped.Continues q computed)) is e.turned.0 in
-    let goes = come_goes says course d a u n come v r q computed op_result c.turn.ensures.keeps in
-    come_short says course d a (record v { turn = q }) (n + 1) goes c.args.steps c.compute-all.new.trace c.in_default-all.ensures.err
+    let q = c.in-Some.stepped in
+    let op_result = turned_as says course d u v r _ (Some q) c.in-Some.is c.in-Ok.ensures.turned in
+    let ongoing = opens (is_open (turn_of q)) (sym c.is_over.ensures ∙ c.if-is_over.false) in
+    let goes = come_goes says course d a u n come v r q ongoing op_result c.turn.ensures.keeps in
+    come_short says course d a (record v { turn = turn_of q }) (n + 1) goes c.args.steps c.compute-all.new.trace c.in_default-all.ensures.err
 
 -- ---- What stays
 
-pub returns-in_default-clause-keeps : goal.returns-in_default-clause-keeps
-returns-in_default-clause-keeps g c =
+pub returns-in-Err-clause-keeps : goal.returns-in-Err-clause-keeps
+returns-in-Err-clause-keeps g c =
     let come = c.turns.invariant.come in
     let kept = c.turn.ensures.keeps in
     record { script = kept.script ∙ come.keeps.script; idle = come.keeps.idle; constants = kept.constants ∙ come.keeps.constants }
@@ -332,11 +330,11 @@ returns-in-None-clause-keeps g c =
     let kept = c.turn.ensures.keeps in
     record { script = kept.script ∙ come.keeps.script; idle = ap (λ (r : RunConcurrent). r.trap_on_idle) c.ends.ensures.new ∙ come.keeps.idle; constants = kept.constants ∙ come.keeps.constants }
 
-pub returns-in-Some-Over-clause-keeps : goal.returns-in-Some-Over-clause-keeps
-returns-in-Some-Over-clause-keeps g c =
+pub returns-then-is_over-clause-keeps : goal.returns-then-is_over-clause-keeps
+returns-then-is_over-clause-keeps g c =
     let come = c.turns.invariant.come in
     let kept = c.turn.ensures.keeps in
-    record { script = kept.script ∙ come.keeps.script; idle = ap (λ (r : RunConcurrent). r.trap_on_idle) c.ends-in-Some-Over.ensures.new ∙ come.keeps.idle; constants = kept.constants ∙ come.keeps.constants }
+    record { script = kept.script ∙ come.keeps.script; idle = ap (λ (r : RunConcurrent). r.trap_on_idle) c.ends-then-is_over.ensures.new ∙ come.keeps.idle; constants = kept.constants ∙ come.keeps.constants }
 
 pub returns-then-rests-clause-keeps : goal.returns-then-rests-clause-keeps
 returns-then-rests-clause-keeps g c =
@@ -360,8 +358,8 @@ returns-clause-keeps g c =
     record { script = come.keeps.script; idle = ap (λ (r : RunConcurrent). r.trap_on_idle) c.ends-2.ensures.new ∙ come.keeps.idle; constants = come.keeps.constants }
 
 -- the yield budget stays if the policy never stops the turns
-pub returns-in_default-clause-kept : goal.returns-in_default-clause-kept
-returns-in_default-clause-kept g c = λ driven. c.turns.invariant.kept driven
+pub returns-in-Err-clause-kept : goal.returns-in-Err-clause-kept
+returns-in-Err-clause-kept g c = λ driven. c.turns.invariant.kept driven
 
 pub returns-in_default-all-clause-kept : goal.returns-in_default-all-clause-kept
 returns-in_default-all-clause-kept g c = λ driven. c.spent_by-self.ensures.kept driven ∙ c.turns.invariant.kept driven
@@ -369,8 +367,8 @@ returns-in_default-all-clause-kept g c = λ driven. c.spent_by-self.ensures.kept
 pub returns-in-None-clause-kept : goal.returns-in-None-clause-kept
 returns-in-None-clause-kept g c = λ driven. c.ends.ensures.kept driven ∙ c.turns.invariant.kept driven
 
-pub returns-in-Some-Over-clause-kept : goal.returns-in-Some-Over-clause-kept
-returns-in-Some-Over-clause-kept g c = λ driven. c.ends-in-Some-Over.ensures.kept driven ∙ c.turns.invariant.kept driven
+pub returns-then-is_over-clause-kept : goal.returns-then-is_over-clause-kept
+returns-then-is_over-clause-kept g c = λ driven. c.ends-then-is_over.ensures.kept driven ∙ c.turns.invariant.kept driven
 
 pub returns-then-rests-clause-kept : goal.returns-then-rests-clause-kept
 returns-then-rests-clause-kept g c = λ driven. c.spent_by-self.ensures.kept driven ∙ c.turns.invariant.kept driven

@@ -6,7 +6,6 @@ use Rattle.task_loop.proofs.PausedLemmas.{Spent}
 use Rattle.task_loop.proofs.run.RunConcurrent.go_on.Given as goal
 use Rattle.task_loop.specs.HasRun.{at}
 use Rattle.task_loop.specs.Told.{group_running}
-use Rattle.task_loop.specs.declared.run.Halt.TheVariants as halt
 
 abbrev pub invariant-turns : goal.invariant-turns
 invariant-turns g l = record {
@@ -14,7 +13,6 @@ invariant-turns g l = record {
   kept : g.P.Policy.YIELDS ≡ false → l.self.yield_budget ≡ l.initial.self.yield_budget;
   spent : g.P.Policy.YIELDS ≡ true → Spent l.initial.self.yield_budget.passes l.initial.self.yield_budget.since l.initial.trace l.trace l.self.yield_budget.passes l.self.yield_budget.since;
   few : l.added ≤ l.steps;
-  why : l.why ≡ halt.NoMemory;
   running : l.running ≡ group_running l.store.state l.self.turn;
 }
 

@@ -1,8 +1,8 @@
 -- Each turn is one of this run.
 use Rattle.std.proofs.Common.{ap, refl, subst, sym, ◌∙◌, ◌≡◌}
-use Rattle.std.specs.Prelude.{Some, true, ℕ}
+use Rattle.std.specs.Prelude.{Err, Some, true, ℕ}
 use Rattle.task_loop.proofs.DoesLemmas.{still, still_run}
-use Rattle.task_loop.proofs.HasRunLemmas.{at_turn, halted_by}
+use Rattle.task_loop.proofs.HasRunLemmas.{at_turn, halts_by}
 use Rattle.task_loop.proofs.HookLemmas.{stops_after}
 use Rattle.task_loop.proofs.KnowsLemmas.{by_poll, by_run}
 use Rattle.task_loop.proofs.TakenLemmas.{any_turns}
@@ -10,6 +10,7 @@ use Rattle.task_loop.proofs.ToldLemmas.{current_is, other_told, run_turns, told_
 use Rattle.task_loop.proofs.TurnLemmas.{took}
 use Rattle.task_loop.proofs.run.RunConcurrent.turn.Goals as goal
 use Rattle.task_loop.specs.HasRun.{HasHalted, HasTurned, at}
+use Rattle.task_loop.specs.Threads.{RunsTo, WorkPollsTo}
 use Rattle.task_loop.specs.Ran.{DoesStep}
 use Rattle.task_loop.specs.Constants.{constants}
 use Rattle.task_loop.specs.Told.{TurnTold, group_running, turn_of}
@@ -45,9 +46,6 @@ step_main-requires-clause-may g c =
       few = may.few;
     }
 
-pub step_main-requires-clause-why : goal.step_main-requires-clause-why
-step_main-requires-clause-why g c = c.requires.may.unstopped
-
 pub returns-in-Ok-clause-turned : goal.returns-in-Ok-clause-turned
 returns-in-Ok-clause-turned g c =
     let says = g.M.MainTask.says in
@@ -60,10 +58,10 @@ returns-in-Ok-clause-turned g c =
     let q = Some c.in-Ok.stepped in
     let none : c.args.running.now ≡ 0 = may.group ∙ ap (λ (p : Turn). group_running c.args.store.now.state p) c.in-Main.is in
     let turned = subst (λ (p : Turn). HasTurned says course d q 0 (record u { turn = p }) (record v { turn = p })) (sym c.in-Main.is) (c.in-Ok.ensures.turned c.args.self.now.trap_on_idle) in
-    (subst (λ (r : ℕ). HasTurned says course d q r u v) (sym none) turned, c.in-Ok.ensures.why)
+    subst (λ (r : ℕ). HasTurned says course d q r u v) (sym none) turned
 
-pub returns-in_default-clause-turned : goal.returns-in_default-clause-turned
-returns-in_default-clause-turned g c =
+pub returns-in-Err-clause-turned : goal.returns-in-Err-clause-turned
+returns-in-Err-clause-turned g c =
     let says = g.M.MainTask.says in
     let course = g.H.HostWork.course in
     let d = c.args.component.now in
@@ -71,7 +69,7 @@ returns-in_default-clause-turned g c =
     let may = c.requires.may in
     let u = at c.args.self.now main c.args.store.now c.args.trace.now in
     let v = at c.args.self.now c.step_main.new.main c.step_main.new.store c.step_main.new.trace in
-    subst (λ (p : Turn). HasHalted says course d c.step_main.new.why (record u { turn = p }) (record v { turn = p })) (sym c.in-Main.is) (c.in_default.ensures.halted c.args.self.now.trap_on_idle)
+    subst (λ (p : Turn). HasHalted says course d c.in-Err.why (record u { turn = p }) (record v { turn = p })) (sym c.in-Main.is) (c.in-Err.ensures.turned c.args.self.now.trap_on_idle)
 
 -- ---- A thread takes a step
 
@@ -97,9 +95,6 @@ run_thread-requires-clause-running g c = subst (λ (p : Turn). c.args.running.no
 pub run_thread-requires-clause-asked : goal.run_thread-requires-clause-asked
 run_thread-requires-clause-asked g c = c.requires.may.stands.asked
 
-pub run_thread-requires-clause-why : goal.run_thread-requires-clause-why
-run_thread-requires-clause-why g c = c.requires.may.unstopped
-
 pub returns-in-Ok-run_thread-clause-turned : goal.returns-in-Ok-run_thread-clause-turned
 returns-in-Ok-run_thread-clause-turned g c =
     let says = g.M.MainTask.says in
@@ -115,24 +110,22 @@ returns-in-Ok-run_thread-clause-turned g c =
     let x = setting_of d (says.script main) c.args.self.now.trap_on_idle in
     let e = c.in-Ok-run_thread.ensures in
     let steps = e.ran.steps in
-    let made = steps.makes in (
-      record {
-        turn = refl;
-        told = subst (λ (p : Turn). Added (λ (made : MadeStep). TurnTold x p part s c.args.store.now.listeners (Some made) part t c.run_thread.new.store.listeners) c.in-Ok-run_thread.stepped c.args.trace.now c.run_thread.new.trace) (sym c.in-Run.is)
-            (told_turn x n part s c.args.store.now.listeners t c.run_thread.new.store.listeners c.in-Ok-run_thread.stepped c.args.trace.now c.run_thread.new.trace e.ran.told);
-        did = added_as (λ (made : MadeStep). MakesStep d (turn.Run n) s made t × IsFree made.turn) (λ (made : MadeStep). DoesStep says.does main s.core (step_shown made.label) main t.core) c.in-Ok-run_thread.stepped c.args.trace.now c.run_thread.new.trace
-            (λ made h. still_run says.does main x part s t n made h.0) made;
-        group = e.ran.group;
-        suits = may.stands.suits;
-        knows = by_run (says.knows main) s t (λ last. g.met.M.MainTask.stays main s t last may.stands.knows) x part n made.0 (subst (λ (p : Turn). CoreInOrder d p s.core) c.in-Run.is may.stands.order) made.1.1.0 steps.works;
-        works = steps.hosts;
-        asked = e.ran.asked;
-      },
-      e.why,
-    )
+    let made = steps.makes in
+    record {
+      turn = refl;
+      told = subst (λ (p : Turn). Added (λ (made : MadeStep). TurnTold x p part s c.args.store.now.listeners (Some made) part t c.run_thread.new.store.listeners) c.in-Ok-run_thread.stepped c.args.trace.now c.run_thread.new.trace) (sym c.in-Run.is)
+          (told_turn x n part s c.args.store.now.listeners t c.run_thread.new.store.listeners c.in-Ok-run_thread.stepped c.args.trace.now c.run_thread.new.trace e.ran.told);
+      did = added_as (λ (made : MadeStep). MakesStep d (turn.Run n) s made t × IsFree made.turn) (λ (made : MadeStep). DoesStep says.does main s.core (step_shown made.label) main t.core) c.in-Ok-run_thread.stepped c.args.trace.now c.run_thread.new.trace
+          (λ made h. still_run says.does main x part s t n made h.0) made;
+      group = e.ran.group;
+      suits = may.stands.suits;
+      knows = by_run (says.knows main) s t (λ last. g.met.M.MainTask.stays main s t last may.stands.knows) x part n made.0 (subst (λ (p : Turn). CoreInOrder d p s.core) c.in-Run.is may.stands.order) made.1.1.0 steps.works;
+      works = steps.hosts;
+      asked = e.ran.asked;
+    }
 
-pub returns-in_default-run_thread-clause-turned : goal.returns-in_default-run_thread-clause-turned
-returns-in_default-run_thread-clause-turned g c =
+pub returns-in-Err-run_thread-clause-turned : goal.returns-in-Err-run_thread-clause-turned
+returns-in-Err-run_thread-clause-turned g c =
     let says = g.M.MainTask.says in
     let course = g.H.HostWork.course in
     let d = c.args.component.now in
@@ -147,10 +140,9 @@ returns-in_default-run_thread-clause-turned g c =
     let x = setting_of d (says.script main) c.args.self.now.trap_on_idle in
     let before = c.args.trace.now in
     let after = c.run_thread.new.trace in
-    let e = c.in_default-run_thread.ensures in
-    halted_by says course d c.run_thread.new.why u v e.err (λ is.
-    let fails = (e.failed is).0 in
-    let q = (e.failed is).1 in
+    halts_by says course d c.in-Err-run_thread.why u v (λ k. RunsTo course d n c.args.store.now (Err k) c.run_thread.new.running c.run_thread.new.store before after) (λ lost. lost) (λ failed.
+    let fails = failed.0 in
+    let q = failed.1 in
     let made = q.1.makes in
     record {
       stops = stops_after x c.args.self.now.turn (turn.Run n) c.in-Run.is (λ no. absurd (cc)) part s before after c.args.store.now.listeners c.run_thread.new.store.listeners (fails.told.answered, fails.hook) q.0 part t fails.told
@@ -158,7 +150,7 @@ returns-in_default-run_thread-clause-turned g c =
       main = refl;
       knows = by_run (says.knows main) s t (λ last. g.met.M.MainTask.stays main s t last may.stands.knows) x part n made.0 (subst (λ (p : Turn). CoreInOrder d p s.core) c.in-Run.is may.stands.order) made.1.1.0 q.1.works;
       works = q.1.hosts;
-    })
+    }) c.in-Err-run_thread.ensures.ran
 
 -- ---- A work is polled
 
@@ -170,16 +162,13 @@ poll_work-requires-clause-at g c =
     let main = c.args.main.now in
     let may = c.requires.may in
     let u = at c.args.self.now main c.args.store.now c.args.trace.now in
-    subst (λ (p : Turn). IsAtTurn d p c.args.store.now.state) c.in-Futures.is (at_turn says course d c.args.running.now c.args.why.now u may)
+    subst (λ (p : Turn). IsAtTurn d p c.args.store.now.state) c.in-Futures.is (at_turn says course d c.args.running.now u may)
 
 pub poll_work-requires-clause-asked : goal.poll_work-requires-clause-asked
 poll_work-requires-clause-asked g c = c.requires.may.stands.asked
 
 pub poll_work-requires-clause-hosts : goal.poll_work-requires-clause-hosts
 poll_work-requires-clause-hosts g c = c.requires.may.stands.works
-
-pub poll_work-requires-clause-why : goal.poll_work-requires-clause-why
-poll_work-requires-clause-why g c = c.requires.may.unstopped
 
 pub returns-in-Ok-poll_work-clause-turned : goal.returns-in-Ok-poll_work-clause-turned
 returns-in-Ok-poll_work-clause-turned g c =
@@ -202,22 +191,20 @@ returns-in-Ok-poll_work-clause-turned g c =
     let e = c.in-Ok-poll_work.ensures in
     let pends : PendsIn x s.core m p = subst (λ (w : Turn). PendsIn x s.core m w) c.in-Futures.is may.stands.pends in
     let made : Added (λ (made : MadeStep). Turns x p m s made m t) q before after = any_turns x p m s t q before after pends e.polled.0 in
-    let told = e.polled.1 in (
-      record {
-        turn = refl;
-        told = subst (λ (w : Turn). Added (λ (made : MadeStep). TurnTold x w m s old (Some made) m t new) q before after) (sym c.in-Futures.is) (other_told x p refl m s may.stands.asked old m t new told.told q before after made told.hook_is_ok);
-        did = (made.0, (made.1.0, still says.does main x m s t p refl made.0 made.1.1));
-        group = told.group ∙ current_is t (turn_of q) (turns_runs x p m s m t q before after made);
-        suits = may.stands.suits;
-        knows = by_poll (says.knows main) s t (λ last. g.met.M.MainTask.stays main s t last may.stands.knows) x m c.in-Futures.polled made.0 (subst (λ (w : Turn). CoreInOrder d w s.core) c.in-Futures.is may.stands.order) made.1.1 c.poll_work.ensures.works.0;
-        works = c.poll_work.ensures.works.1;
-        asked = told.asked;
-      },
-      e.why,
-    )
+    let told = e.polled.1 in
+    record {
+      turn = refl;
+      told = subst (λ (w : Turn). Added (λ (made : MadeStep). TurnTold x w m s old (Some made) m t new) q before after) (sym c.in-Futures.is) (other_told x p refl m s may.stands.asked old m t new told.told q before after made told.hook_is_ok);
+      did = (made.0, (made.1.0, still says.does main x m s t p refl made.0 made.1.1));
+      group = told.group ∙ current_is t (turn_of q) (turns_runs x p m s m t q before after made);
+      suits = may.stands.suits;
+      knows = by_poll (says.knows main) s t (λ last. g.met.M.MainTask.stays main s t last may.stands.knows) x m c.in-Futures.polled made.0 (subst (λ (w : Turn). CoreInOrder d w s.core) c.in-Futures.is may.stands.order) made.1.1 c.poll_work.ensures.works.0;
+      works = c.poll_work.ensures.works.1;
+      asked = told.asked;
+    }
 
-pub returns-in_default-poll_work-clause-turned : goal.returns-in_default-poll_work-clause-turned
-returns-in_default-poll_work-clause-turned g c =
+pub returns-in-Err-poll_work-clause-turned : goal.returns-in-Err-poll_work-clause-turned
+returns-in-Err-poll_work-clause-turned g c =
     let says = g.M.MainTask.says in
     let course = g.H.HostWork.course in
     let d = c.args.component.now in
@@ -232,18 +219,17 @@ returns-in_default-poll_work-clause-turned g c =
     let x = setting_of d (says.script main) c.args.self.now.trap_on_idle in
     let before = c.args.trace.now in
     let after = c.poll_work.new.trace in
-    let e = c.in_default-poll_work.ensures in
     let pends : PendsIn x s.core m p = subst (λ (w : Turn). PendsIn x s.core m w) c.in-Futures.is may.stands.pends in
-    halted_by says course d c.poll_work.new.why u v e.err (λ is.
-    let fails = (e.failed is).0 in
-    let q = (e.failed is).1 in
+    halts_by says course d c.in-Err-poll_work.why u v (λ k. WorkPollsTo p c.args.store.now (Err k) c.poll_work.new.running c.poll_work.new.store before after) (λ lost. lost) (λ failed.
+    let fails = failed.0 in
+    let q = failed.1 in
     let made = any_turns x p m s t q.0 before after pends q.1 in
     record {
       stops = stops_after x c.args.self.now.turn p c.in-Futures.is (λ no. absurd (cc)) m s before after c.args.store.now.listeners c.poll_work.new.store.listeners (fails.told.answered, fails.hook) q.0 m t fails.told made;
       main = refl;
       knows = by_poll (says.knows main) s t (λ last. g.met.M.MainTask.stays main s t last may.stands.knows) x m c.in-Futures.polled made.0 (subst (λ (w : Turn). CoreInOrder d w s.core) c.in-Futures.is may.stands.order) made.1.1 c.poll_work.ensures.works.0;
       works = c.poll_work.ensures.works.1;
-    })
+    }) c.in-Err-poll_work.ensures.polled
 
 -- ---- An entry is taken
 
@@ -255,13 +241,10 @@ take_entry-requires-clause-at g c =
     let main = c.args.main.now in
     let may = c.requires.may in
     let u = at c.args.self.now main c.args.store.now c.args.trace.now in
-    subst (λ (p : Turn). IsAtTurn d p c.args.store.now.state) c.in-Take.is (at_turn says course d c.args.running.now c.args.why.now u may)
+    subst (λ (p : Turn). IsAtTurn d p c.args.store.now.state) c.in-Take.is (at_turn says course d c.args.running.now u may)
 
 pub take_entry-requires-clause-asked : goal.take_entry-requires-clause-asked
 take_entry-requires-clause-asked g c = c.requires.may.stands.asked
-
-pub take_entry-requires-clause-why : goal.take_entry-requires-clause-why
-take_entry-requires-clause-why g c = c.requires.may.unstopped
 
 pub returns-in-Take-clause-turned : goal.returns-in-Take-clause-turned
 returns-in-Take-clause-turned g c =
@@ -272,28 +255,28 @@ returns-in-Take-clause-turned g c =
     let may = c.requires.may in
     let u = at c.args.self.now main c.args.store.now c.args.trace.now in
     let e = c.take_entry.ensures in
-    took says course d main c.args.self.now.trap_on_idle c.in-Take.ended c.args.self.now.turn c.in-Take.is c.args.store.now c.take_entry.new.store c.args.trace.now c.take_entry.new.trace c.take_entry.new.running c.take_entry.new.why c.args.running.now c.args.why.now may
-    (λ u last. g.met.M.MainTask.stays main c.args.store.now.state u last) e.rest c.take_entry.result e.taken e.why e.err e.failed
+    took says course d main c.args.self.now.trap_on_idle c.in-Take.ended c.args.self.now.turn c.in-Take.is c.args.store.now c.take_entry.new.store c.args.trace.now c.take_entry.new.trace c.take_entry.new.running c.args.running.now may
+    (λ u last. g.met.M.MainTask.stays main c.args.store.now.state u last) e.rest c.take_entry.result e.taken
 
 -- ---- What stays
 
 pub returns-in-Ok-clause-keeps : goal.returns-in-Ok-clause-keeps
 returns-in-Ok-clause-keeps g c = record { script = c.step_main.ensures.script; idle = refl; constants = c.step_main.ensures.stands }
 
-pub returns-in_default-clause-keeps : goal.returns-in_default-clause-keeps
-returns-in_default-clause-keeps g c = record { script = c.step_main.ensures.script; idle = refl; constants = c.step_main.ensures.stands }
+pub returns-in-Err-clause-keeps : goal.returns-in-Err-clause-keeps
+returns-in-Err-clause-keeps g c = record { script = c.step_main.ensures.script; idle = refl; constants = c.step_main.ensures.stands }
 
 pub returns-in-Ok-poll_work-clause-keeps : goal.returns-in-Ok-poll_work-clause-keeps
 returns-in-Ok-poll_work-clause-keeps g c = record { script = refl; idle = refl; constants = c.poll_work.ensures.stands }
 
-pub returns-in_default-poll_work-clause-keeps : goal.returns-in_default-poll_work-clause-keeps
-returns-in_default-poll_work-clause-keeps g c = record { script = refl; idle = refl; constants = c.poll_work.ensures.stands }
+pub returns-in-Err-poll_work-clause-keeps : goal.returns-in-Err-poll_work-clause-keeps
+returns-in-Err-poll_work-clause-keeps g c = record { script = refl; idle = refl; constants = c.poll_work.ensures.stands }
 
 pub returns-in-Ok-run_thread-clause-keeps : goal.returns-in-Ok-run_thread-clause-keeps
 returns-in-Ok-run_thread-clause-keeps g c = record { script = refl; idle = refl; constants = c.run_thread.ensures.stands }
 
-pub returns-in_default-run_thread-clause-keeps : goal.returns-in_default-run_thread-clause-keeps
-returns-in_default-run_thread-clause-keeps g c = record { script = refl; idle = refl; constants = c.run_thread.ensures.stands }
+pub returns-in-Err-run_thread-clause-keeps : goal.returns-in-Err-run_thread-clause-keeps
+returns-in-Err-run_thread-clause-keeps g c = record { script = refl; idle = refl; constants = c.run_thread.ensures.stands }
 
 pub returns-in-Take-clause-keeps : goal.returns-in-Take-clause-keeps
 returns-in-Take-clause-keeps g c = record { script = refl; idle = refl; constants = ap (λ (st : Store _ _ _). constants st) c.take_entry.ensures.rest }
