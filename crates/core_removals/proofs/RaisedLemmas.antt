@@ -243,17 +243,17 @@ raised_in_order p i (n ∷ ns) pre rest s is past left order = by (is_admitted i
         let t = released (n ∷ []) s in
         let step : (m : ℕ) → is_admitted i t m ≡ (is_admitted i s m && not (m == n)) = λ m. one_raised i n m s one.0 one.1 in
         let after : (m : ℕ) → has m (raised_of i ns t ++ rest) ≡ true → is_admitted i t m ≡ true =
-            λ m there. of_both (is_admitted i t m) (has m ns) (has m rest) (sym (has_both m (raised_of i ns t) rest ∙ ap (λ b. b || has m rest) (has_raised i ns t m)) ∙ there)
-                (λ in_rest. both (is_admitted i t m) (has m ns) (sym (raised_admits i ns t m) ∙ left m in_rest)) in
+        λ m there. of_both (is_admitted i t m) (has m ns) (has m rest) (sym (has_both m (raised_of i ns t) rest ∙ ap (λ b. b || has m rest) (has_raised i ns t m)) ∙ there)
+        (λ in_rest. both (is_admitted i t m) (has m ns) (sym (raised_admits i ns t m) ∙ left m in_rest)) in
         goes_on p n (raised_of i ns t ++ rest)
-          (none_passes (λ m. held_before p m n) (raised_of i ns t ++ rest) (λ m there.
-              let admitted = sym (step m) ∙ after m there in
-              ap (λ l. listed_before l m n (thread_before p.seats m n)) is
-              ∙ (listed_past pre (n ∷ ns) m n (thread_before p.seats m n) (past m (both (is_admitted i s m) (m == n) admitted)) (past n on)
-              ∙ ap (λ b. cond b false (cond (n == m) true (listed_before ns m n (thread_before p.seats m n)))) (eq-eqb n n refl))))
-          (raised_in_order p i ns (pre ++ n ∷ []) rest t (is ∙ append_one pre n ns)
-              (λ m admitted. let was = sym (step m) ∙ admitted in one_more m n pre (past m (both (is_admitted i s m) (m == n) was)) (apart m n (second (is_admitted i s m) (m == n) was)))
-              left order)
+        (none_passes (λ m. held_before p m n) (raised_of i ns t ++ rest) (λ m there.
+        let admitted = sym (step m) ∙ after m there in
+        ap (λ l. listed_before l m n (thread_before p.seats m n)) is
+        ∙ (listed_past pre (n ∷ ns) m n (thread_before p.seats m n) (past m (both (is_admitted i s m) (m == n) admitted)) (past n on)
+        ∙ ap (λ b. cond b false (cond (n == m) true (listed_before ns m n (thread_before p.seats m n)))) (eq-eqb n n refl))))
+        (raised_in_order p i ns (pre ++ n ∷ []) rest t (is ∙ append_one pre n ns)
+        (λ m admitted. let was = sym (step m) ∙ admitted in one_more m n pre (past m (both (is_admitted i s m) (m == n) was)) (apart m n (second (is_admitted i s m) (m == n) was)))
+        left order)
     by false off left =
         raised_in_order p i ns (pre ++ n ∷ []) rest s (is ∙ append_one pre n ns)
         (λ m admitted. one_more m n pre (past m admitted) (λ same. let never : false ≡ true = sym off ∙ (ap (is_admitted i s) (sym same) ∙ admitted) in absurd (cc)))
@@ -280,15 +280,15 @@ module _ (a : CoreParts) (sound : IsSoundCore a) where
       → ((m : ℕ) → has m order ≡ true → has m (preference (seen a)).held ≡ false) → goes_in_order (preference (seen a)) order ≡ true
   placed_in_order i [] are admitted unwanted = refl
   placed_in_order i (n ∷ ns) are admitted unwanted = goes_on (preference (seen a)) n ns
-    (none_passes (λ m. held_before (preference (seen a)) m n) ns (λ m there.
-        let later = later_has n ns m there in
-        let one = held_there i n (admitted n (here_has n ns)) in
-        let two = held_there i m (admitted m later) in
-        unlisted (preference (seen a)).held m n _ (unwanted m later) (unwanted n (here_has n ns))
-        ∙ (ap₂ (thread_before (seen a).tags.seats) (sym two.1.1.1) (sym one.1.1.1)
-        ∙ (ordered_there a sound two.0 one.0 two.1.0 one.1.0 two.1.1.0 one.1.1.0
-        ∙ each_has (NotBefore a n) ns are.0 m there one.0 one.1.0 one.1.1.0 one.1.1.1 two.0 two.1.0 two.1.1.0 two.1.1.1))))
-    (placed_in_order i ns are.1 (λ m there. admitted m (later_has n ns m there)) (λ m there. unwanted m (later_has n ns m there)))
+      (none_passes (λ m. held_before (preference (seen a)) m n) ns (λ m there.
+      let later = later_has n ns m there in
+      let one = held_there i n (admitted n (here_has n ns)) in
+      let two = held_there i m (admitted m later) in
+      unlisted (preference (seen a)).held m n _ (unwanted m later) (unwanted n (here_has n ns))
+      ∙ (ap₂ (thread_before (seen a).tags.seats) (sym two.1.1.1) (sym one.1.1.1)
+      ∙ (ordered_there a sound two.0 one.0 two.1.0 one.1.0 two.1.1.0 one.1.1.0
+      ∙ each_has (NotBefore a n) ns are.0 m there one.0 one.1.0 one.1.1.0 one.1.1.1 two.0 two.1.0 two.1.1.0 two.1.1.1))))
+      (placed_in_order i ns are.1 (λ m there. admitted m (later_has n ns m there)) (λ m there. unwanted m (later_has n ns m there)))
     where
       here_has : (n : ℕ) (ns : List ℕ) → has n (n ∷ ns) ≡ true
       here_has n ns = ap (λ b. b || has n ns) (eq-eqb n n refl)
@@ -353,8 +353,8 @@ wanted_released a b sound i t mid picks =
     let left : (m : ℕ) → has m order ≡ true → is_admitted i (raised i ns s) m ≡ true = λ m there. ap (λ c. is_admitted i c m) (sym core) ∙ admitted_in b sound i order picks.1.1.0 m there in
     let unlisted : (m : ℕ) → has m order ≡ true → has m ns ≡ false = λ m there. apart (is_admitted i s m) (has m ns) (sym (raised_admits i ns s m) ∙ left m there) in
     let by_places : goes_in_order p order ≡ true =
-        ap (λ (q : Preference). goes_in_order q order) (sym same)
-        ∙ placed_in_order b sound i order picks.1.0 (admitted_in b sound i order picks.1.1.0) (λ m there. ap (λ (q : Preference). has m q.held) same ∙ unlisted m there) in (
+    ap (λ (q : Preference). goes_in_order q order) (sym same)
+    ∙ placed_in_order b sound i order picks.1.0 (admitted_in b sound i order picks.1.1.0) (λ m there. ap (λ (q : Preference). has m q.held) same ∙ unlisted m there) in (
       raised_of i ns s ++ order,
       (
         both_permute i s ns order moved,

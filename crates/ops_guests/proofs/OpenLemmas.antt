@@ -153,9 +153,9 @@ module _ (n : TableId ThreadKey) (k : TableId GuestTaskKey) (waiter : Option (Ta
         (
           opens.1.1.0,
           out ∙ (ap (λ (y : StateView). exit_stops (thread_of y n) y.core) opened
-            ∙ (ap (λ (q : ℕ). exit_stops N (returned q v W (end_reopens i opens.0 s.core))) task
-            ∙ (ap (λ (a : ℕ). exit_stops N (returned (task_of N s.core) a W (end_reopens i opens.0 s.core))) value
-            ∙ ap (λ (q : ℕ). exit_stops N (returned (task_of N s.core) (register_of N 0 s.core) W (end_reopens q opens.0 s.core))) at))),
+              ∙ (ap (λ (q : ℕ). exit_stops N (returned q v W (end_reopens i opens.0 s.core))) task
+              ∙ (ap (λ (a : ℕ). exit_stops N (returned (task_of N s.core) a W (end_reopens i opens.0 s.core))) value
+              ∙ ap (λ (q : ℕ). exit_stops N (returned (task_of N s.core) (register_of N 0 s.core) W (end_reopens q opens.0 s.core))) at))),
         ),
       ),
     )

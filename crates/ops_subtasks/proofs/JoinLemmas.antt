@@ -198,4 +198,3 @@ or_none (Some x) why next none = none x
 -- a join releases no thread
 pub join_none : (d : Doer) (n : ℕ) (s : Core) (h y : ℕ) (w : Option ℕ) → ReleasesNone (join_rule d n h y w s)
 join_none d n s h y w = or_none (subtask_at (instance_of n s) h s) trap.BadHandle _ (join_to_none d n s y w)
-

@@ -33,8 +33,8 @@ returns-in-Guest-clause-does g c =
     let q = subtask.Guest (call_of s c.in-Guest.call) in
     let done = c.cancel_guest.ensures.does in
     let meets = λ (d : Doer). named_implements n _ c.args.handle q (cancel_found_by d m n s.core) s.core _ _ c.instance_of-instance.ensures (ap (λ (x : SubtaskId). Some (subtask_in s.tags x)) (sym c.in-Guest.is) ∙ c.in-Some.ensures.is)
-        (cancel_kept m n d c.instance_of-instance.result c.args.handle s.core c.none_is_zero.ensures.works c.requires.calls)
-        (found_implements m n d q s.core _ _ (ap (λ (x : SubtaskId). is_joined (join_of (subtask_in s.tags x) s.core)) (sym c.in-Guest.is) ∙ (sym c.is_joined.ensures ∙ c.if-is_joined.false)) (done.implements d)) in
+    (cancel_kept m n d c.instance_of-instance.result c.args.handle s.core c.none_is_zero.ensures.works c.requires.calls)
+    (found_implements m n d q s.core _ _ (ap (λ (x : SubtaskId). is_joined (join_of (subtask_in s.tags x) s.core)) (sym c.in-Guest.is) ∙ (sym c.is_joined.ensures ∙ c.if-is_joined.false)) (done.implements d)) in
     record {
       implements = meets;
       picks = λ d. calm_picks (preference s) (thread_of s c.args.thread) _ s.core _ _ (named_calm d m n c.args.handle s.core) (meets d);
@@ -50,8 +50,8 @@ returns-in-Host-clause-does g c =
     let q = subtask.Host (work_of s c.in-Host.work) in
     let done = c.cancel_host.ensures.does in
     let meets = λ (d : Doer). named_implements n _ c.args.handle q (cancel_found_by d m n s.core) s.core _ _ c.instance_of-instance.ensures (ap (λ (x : SubtaskId). Some (subtask_in s.tags x)) (sym c.in-Host.is) ∙ c.in-Some.ensures.is)
-        (cancel_kept m n d c.instance_of-instance.result c.args.handle s.core c.none_is_zero.ensures.works c.requires.calls)
-        (found_implements m n d q s.core _ _ (ap (λ (x : SubtaskId). is_joined (join_of (subtask_in s.tags x) s.core)) (sym c.in-Host.is) ∙ (sym c.is_joined.ensures ∙ c.if-is_joined.false)) (done.implements d)) in
+    (cancel_kept m n d c.instance_of-instance.result c.args.handle s.core c.none_is_zero.ensures.works c.requires.calls)
+    (found_implements m n d q s.core _ _ (ap (λ (x : SubtaskId). is_joined (join_of (subtask_in s.tags x) s.core)) (sym c.in-Host.is) ∙ (sym c.is_joined.ensures ∙ c.if-is_joined.false)) (done.implements d)) in
     record {
       implements = meets;
       picks = λ d. calm_picks (preference s) (thread_of s c.args.thread) _ s.core _ _ (named_calm d m n c.args.handle s.core) (meets d);

@@ -18,7 +18,7 @@ returns-clause-does g c =
     let n = thread_of s c.args.thread in
     let q = subtask_in s.tags c.in-Some.subtask in
     let meets = λ (d : Doer). named_implements n _ c.args.handle q (drop_by d n c.args.handle s.core) s.core _ _ c.instance_of-instance.ensures c.in-Some.ensures.is (λ sub at. drop_kept d n c.args.handle s.core c.none_is_zero.ensures.calls c.none_is_zero.ensures.works sub)
-        (drop_implements d n c.args.handle _ q s.core _ c.number-number.ensures (sym c.is_watched.ensures ∙ c.if-is_watched.false) (sym c.has_ended.ensures ∙ c.if-not-has_ended.false) (ap (λ (e : Option Status). is_some e) (sym c.event.ensures) ∙ (sym c.is_some.ensures ∙ c.if-is_some.false)) c.part.ensures.core) in
+    (drop_implements d n c.args.handle _ q s.core _ c.number-number.ensures (sym c.is_watched.ensures ∙ c.if-is_watched.false) (sym c.has_ended.ensures ∙ c.if-not-has_ended.false) (ap (λ (e : Option Status). is_some e) (sym c.event.ensures) ∙ (sym c.is_some.ensures ∙ c.if-is_some.false)) c.part.ensures.core) in
     record {
       implements = meets;
       picks = λ d. calm_picks (preference s) (thread_of s c.args.thread) _ s.core _ _ (or_trap_calm _ _ _ (drop_calm d n c.args.handle s.core)) (meets d);

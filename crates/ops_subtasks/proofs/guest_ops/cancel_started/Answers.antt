@@ -64,9 +64,9 @@ returns g c =
     let k = call_of s c.args.call in
     let done = c.ask_running.ensures.does in
     let meets = λ (d : Doer). runs_implements (mode_of c.args.sync) (thread_of s c.args.thread) d k s.core c.requires.unended c.requires.started
-        (sym (first_at_same _ k is_callback_wait s.core c.none_is_zero.ensures.threads c.first_thread-first.ensures) ∙ (sym c.is_callback_wait.ensures ∙ c.if-is_callback_wait.false)) _ _
-        (sym (first_at_same _ k is_callback_yield s.core c.none_is_zero.ensures.threads c.first_thread-first.ensures) ∙ (sym c.is_callback_yield.ensures ∙ c.if-is_callback_yield.false))
-        (done.implements d) in
+    (sym (first_at_same _ k is_callback_wait s.core c.none_is_zero.ensures.threads c.first_thread-first.ensures) ∙ (sym c.is_callback_wait.ensures ∙ c.if-is_callback_wait.false)) _ _
+    (sym (first_at_same _ k is_callback_yield s.core c.none_is_zero.ensures.threads c.first_thread-first.ensures) ∙ (sym c.is_callback_yield.ensures ∙ c.if-is_callback_yield.false))
+    (done.implements d) in
     record {
       does = record {
         implements = meets;

@@ -26,7 +26,7 @@ returns-then-set-eq0 g c =
     let w = (choice_of (label_of n r)).woken in
     let done = c.join_set.ensures.does in
     let meets = λ (d : Doer). named_implements n _ c.args.handle q (join_to_by d n c.args.set w s.core) s.core _ _ c.instance_of-instance.ensures c.in-Some.ensures.is (λ sub at. to_kept d n c.args.set w s.core c.none_is_zero.ensures.calls c.none_is_zero.ensures.works sub)
-        (subst (λ (p : Progress). Implements p s.core r (ended d n r t)) (sym (to_zero d n c.args.set w s.core q c.if-set-eq0.true)) (done.implements d)) in
+    (subst (λ (p : Progress). Implements p s.core r (ended d n r t)) (sym (to_zero d n c.args.set w s.core q c.if-set-eq0.true)) (done.implements d)) in
     record {
       does = record {
         implements = meets;
@@ -48,7 +48,7 @@ returns g c =
     let at = c.in-Some-set_named.ensures.is ∙ ap (λ (i : ℕ). set_at i c.args.set s.core) c.instance_of-instance.ensures in
     let done = c.join_set-2.ensures.does in
     let meets = λ (d : Doer). named_implements n _ c.args.handle q (join_to_by d n c.args.set w s.core) s.core _ _ c.instance_of-instance.ensures c.in-Some.ensures.is (λ sub at. to_kept d n c.args.set w s.core c.none_is_zero.ensures.calls c.none_is_zero.ensures.works sub)
-        (subst (λ (p : Progress). Implements p s.core r (ended d n r t)) (sym (to_set d n c.args.set (set_of s c.in-Some-set_named.set) w s.core q c.if-set-eq0.false at)) (done.implements d)) in
+    (subst (λ (p : Progress). Implements p s.core r (ended d n r t)) (sym (to_set d n c.args.set (set_of s c.in-Some-set_named.set) w s.core q c.if-set-eq0.false at)) (done.implements d)) in
     record {
       does = record {
         implements = meets;
