@@ -1,6 +1,6 @@
 //! Waiting on a set.
 ghost use Rattle.ops_moves.specs.Wakes.{MayHandOn, handed_to};
-ghost use Rattle.std.specs.Prelude.{◌≡◌, ◌<◌};
+ghost use Rattle.std.specs.Prelude.{◌≡◌, ◌<◌, IfSome};
 ghost use Rattle.machine_data.specs.Labels.{given_task_event, wait_label};
 ghost use Rattle.machine_data.specs.Moves.{handed_on, may_hand_on};
 ghost use Rattle.machine_data.specs.Read.{instance_of};
