@@ -46,7 +46,7 @@ Nothing can go on, main waits, and no call is of an instance that may not be sus
 A handle names nothing of the kind that the op wants
 As many handles are live as `handles` allows, and one more is wanted
 More entries are wanted than the table has room for
-A task ends that still lends something
+A task ends that still holds borrows
 A call is started in a store that is trapped
 A run is begun on a store that has one already
 The host's hook on groups of calls answered an error

@@ -589,9 +589,3 @@ module _ {T H G : Type 0} (course : H → HostDef) (c : Component) (m : ServerMa
   -- so the thread that it names is that of the call
   pub turned_thread : (e : Stage) (thread : ℕ) → e ≡ get_or m.stages.items (k - 1) e → e ≡ Open thread → slice_get m.stages.items (k - 1) ≡ Some (Open thread)
   turned_thread e thread read is = turned_stage ∙ ap (λ (d : Stage). Some d) (sym (turned_read e read) ∙ is)
-
--- what is read within a list is there
-pub there_at : {A : Type 0} (xs : List A) (i : ℕ) (x : A) → i < length xs → x ≡ get_or xs i x → slice_get xs i ≡ Some x
-there_at [] i x within is = absurd (omega (arith, within))
-there_at {A} (y ∷ ys) zero x within is = ap (λ (z : A). Some z) (sym is)
-there_at (y ∷ ys) (suc i) x within is = there_at ys i x (omega (arith, within)) is

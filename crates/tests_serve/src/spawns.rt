@@ -87,7 +87,7 @@ impl HostMain for Spawner {
     }
 }
 
-fn spawner() -> Spawner {
+fn new_spawner() -> Spawner {
     Spawner {
         first: None,
         second: None,
@@ -98,7 +98,7 @@ fn spawner() -> Spawner {
 #[test]
 fn works_are_spawned_aborted_and_awaited(rt: HostRuntime) {
     let hosted = hosted(&rt, rt.alloc());
-    let Ok(run) = hosted.run_open::<(), Timer, Spawner>(rt.alloc(), (), spawner(), 100) else {
+    let Ok(run) = hosted.run_open::<(), Timer, Spawner>(rt.alloc(), (), new_spawner(), 100) else {
         panic!(rt; "no memory");
     };
     assert!(rt; matches!(run.outcome, Outcome::Done(2)));
@@ -122,7 +122,7 @@ impl HostMain for Meddler {
 #[test]
 fn works_of_others_are_refused(rt: HostRuntime) {
     let hosted = hosted(&rt, rt.alloc());
-    let Ok(first) = hosted.run_open::<(), Timer, Spawner>(rt.alloc(), (), spawner(), 100) else {
+    let Ok(first) = hosted.run_open::<(), Timer, Spawner>(rt.alloc(), (), new_spawner(), 100) else {
         panic!(rt; "no memory");
     };
     let Some(work) = first.host.second else {

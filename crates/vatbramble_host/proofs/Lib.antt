@@ -1,5 +1,5 @@
 pub mod OpenMainLemmas
 pub mod AskLemmas
-mod SpawnLemmas
+pub mod SpawnLemmas
 mod OpenLemmas
 mod RunLemmas

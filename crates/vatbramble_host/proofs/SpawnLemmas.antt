@@ -21,7 +21,7 @@ pub spawns_none : (xs : List SpawnHandle) (s : StateView) → xs ≡ [] → Know
 spawns_none xs s is = subst (λ (zs : List SpawnHandle). KnowsSpawns zs s) (sym is) (λ k h at. absurd (none_known k h at))
 
 -- what is at a place of a list
-there_at : {A : Type 0} (xs : List A) (i : ℕ) (x : A) → i < length xs → x ≡ get_or xs i x → slice_get xs i ≡ Some x
+pub there_at : {A : Type 0} (xs : List A) (i : ℕ) (x : A) → i < length xs → x ≡ get_or xs i x → slice_get xs i ≡ Some x
 there_at [] i x within is = absurd (omega (arith, within))
 there_at {A} (y ∷ ys) zero x within is = ap (λ (z : A). Some z) (sym is)
 there_at (y ∷ ys) (suc i) x within is = there_at ys i x (omega (arith, within)) is

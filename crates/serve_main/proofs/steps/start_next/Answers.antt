@@ -1,6 +1,7 @@
 -- The next request is started, or its start is refused.
 use Rattle.serve_requests.specs.declared.request.Request.{Request}
-use Rattle.serve_main.proofs.StepLemmas.{begun_stepped, begun_thread, refused_stepped, there_at, waited_by, was_full}
+use Rattle.serve_main.proofs.StepLemmas.{begun_stepped, begun_thread, refused_stepped, waited_by, was_full}
+use Rattle.vatbramble_host.proofs.SpawnLemmas.{there_at}
 use Rattle.serve_main.proofs.steps.start_next.Goals as goal
 use Rattle.std.proofs.Common.{ap, arith, inl, refl, subst, sym, ◌∙◌, ◌+◌}
 use Rattle.std.specs.Prelude.{Err, Result, false, ◌<◌, ◌≡◌}
