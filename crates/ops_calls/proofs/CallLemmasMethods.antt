@@ -23,8 +23,8 @@ use Rattle.ops_guests.specs.declared.op_result.OpResult.TheVariants as op_result
 use Rattle.machine_rules.specs.Scripts.{ops_of}
 use Rattle.ops_turns.specs.Turn.{state_at}
 use Rattle.core_primitives.specs.StateView.{StateView}
-use Rattle.laws_order.proofs.GroundLemmas.{order_stands_as}
-use Rattle.laws_order.specs.Stands.{NoWakeLost, OrderStandsAs}
+use Rattle.laws_order.proofs.GroundLemmas.{order_loses_no_wake_as}
+use Rattle.laws_order.specs.WakesKept.{NoWakeLost, OrderLosesNoWakeAs}
 
 -- a sync call of an export
 abbrev calls : Callee → Op
@@ -32,8 +32,8 @@ calls e = op.Call (call_op.CallSync 0 e [])
 
 -- in order, whichever op each thread has, no wake is lost
 sits_as_loses : (ops : ℕ → Op) (c : Component) (p : Turn) (s : Core) → is_open p ≡ true → CoreInOrderAs ops c p s → NoWakeLost s
-unfolding OrderStandsAs
-sits_as_loses ops c p s on sits = order_stands_as ops c (state_at s Unscripted p) (sits.order Unscripted) on
+unfolding OrderLosesNoWakeAs
+sits_as_loses ops c p s on sits = order_loses_no_wake_as ops c (state_at s Unscripted p) (sits.order Unscripted) on
 
 -- nothing is changed
 none_lost : (c : Component) (n : ℕ) (s t : StateView) → Rests c n s → t ≡ s → NoWakeLost t.core
