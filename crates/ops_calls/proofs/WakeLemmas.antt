@@ -27,7 +27,7 @@ open_for (Some n) = refl
 -- in order, whichever the component is, no wake is lost
 pub core_in_order_loses : (c : Component) (o : Option ℕ) (s : Core) → CoreInOrder c (turn_for o) s → NoWakeLost s
 unfolding OrderLosesNoWake
-core_in_order_loses c o s sits = order_loses_no_wake c (state_at s Unscripted (turn_for o)) (sits.order Unscripted) (open_for o)
+core_in_order_loses c o s in_turn = order_loses_no_wake c (state_at s Unscripted (turn_for o)) (in_turn.order Unscripted) (open_for o)
 
 -- nor in order in which the thread has the op
 pub kept_loses : (c : Component) (o : Op) (n : ℕ) (r : OpResult) (t : StateView) → KeepsFor c o n r t → NoWakeLost t.core

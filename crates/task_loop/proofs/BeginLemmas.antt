@@ -60,11 +60,11 @@ module _ {M T H G : Type 0} (says : Says M) (course : H → HostDef) (c : Compon
   runner_stands x b may_turn = subst (λ (o : Option ℕ). IfSome o (λ n. CoreInOrder c (turn.Run n) b.store.state.core)) (sym may_turn.running) (by b.turn may_turn.order)
     where
       by : (q : Turn) → CoreInOrder c q b.store.state.core → IfSome (runs_in q) (λ n. CoreInOrder c (turn.Run n) b.store.state.core)
-      by (turn.Run n) sits = sits
-      by turn.Main sits = tt
-      by (turn.Futures n) sits = tt
-      by (turn.Take b) sits = tt
-      by turn.Over sits = tt
+      by (turn.Run n) in_turn = in_turn
+      by turn.Main in_turn = tt
+      by (turn.Futures n) in_turn = tt
+      by (turn.Take b) in_turn = tt
+      by turn.Over in_turn = tt
 
   module _ (run : RunConcurrent) (main : run.turn ≡ turn.Main) (m : M) (suits : says.suits m c) (covered : IsWellFormed c) (st new : Store T H G) (begun : new ≡ record st { running = true }) (trace : List Label) where
     -- of a store in which no thread runs
