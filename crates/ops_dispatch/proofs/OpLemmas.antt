@@ -2,7 +2,7 @@
 use Rattle.ops_dispatch.proofs.GoesLemmas.{RuleShows, does_op, same_op}
 use Rattle.ops_dispatch.proofs.RuleLemmas.{ShowsAs, StopsAs, if_traps, stops_goes}
 use Rattle.ops_dispatch.proofs.SubtaskRules.{IsQuiet, anybody}
-use Rattle.ops_dispatch.specs.ContinuesDispatch.{DoesOp, OpGoesOn}
+use Rattle.ops_dispatch.specs.Continues.{DoesOp, OpGoesOn}
 use Rattle.std.proofs.Common.{ap, arith, inl, inr, refl, subst, sym, ◌∙◌}
 use Rattle.std.specs.Prelude.{Bool, None, Option, Some, false, not, option_map, true, ℕ, ◌<◌, ◌==◌, ◌≡◌}
 use Rattle.machine_data.specs.Core.{Core}

@@ -1,10 +1,10 @@
 //! The ops on subtasks, as they begin or resumed inside them.
 ghost use Rattle.ops_dispatch.specs.Fits.{HasInstances, call_op_fits, is_host_call};
-ghost use Rattle.ops_dispatch.specs.ContinuesDispatch.{DoesOp, cancels_here, given};
+ghost use Rattle.ops_dispatch.specs.Continues.{DoesIfOk, DoesOp, cancels_here, given};
 ghost use Rattle.ops_dispatch.specs.Makes.{makes, takes_memory, HasNumbersForCall};
 ghost use Rattle.ops_dispatch.specs.Polls.{DoesPolled, DoesHostCall, polled_by};
 ghost use Rattle.ops_dispatch.specs.Rules.{calls_here, calls_in_sync, rule_of};
-ghost use Rattle.ops_dispatch.specs.RunnerDispatch.{Runner, UnderWay, called_call, called_work, given_answer};
+ghost use Rattle.ops_dispatch.specs.Runner.{Runner, UnderWay, called_call, called_work, given_answer};
 ghost use Rattle.std.specs.Option.{option_map_or};
 ghost use Rattle.std.specs.Prelude.{◌≡◌, ◌<◌, ◌≤◌, ◌^◌, IfOk, IfSome, IsOk, IsSome, None, OnErr, false, is_some, length, option_copied, option_map, true, ℕ};
 ghost use Rattle.ops_subtasks.specs.Refused.{mode_of};
@@ -14,7 +14,6 @@ ghost use Rattle.machine_data.specs.declared.op.CallOp.{CallOp};
 ghost use Rattle.machine_data.specs.declared.op.Op.TheVariants as ops;
 ghost use Rattle.ops_guests.specs.Works.{NamesTold};
 ghost use Rattle.core_primitives.specs.StateView.{call_of, thread_of, work_of};
-ghost use Rattle.ops_dispatch.specs.Continues.{DoesIfOk};
 
 use crate::cancels;
 use crate::done::{Done, plain};

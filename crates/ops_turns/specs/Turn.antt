@@ -17,7 +17,7 @@ use Rattle.machine_data.specs.declared.outcome.Outcome.TheVariants as outcome
 use Rattle.machine_data.specs.declared.scenario.IdleLine.{IdleLine}
 use Rattle.machine_data.specs.declared.scenario.IdleLine.TheVariants as idle_line
 use Rattle.machine_data.specs.declared.scenario.MainOpDef.{MainOpDef}
-pub use Rattle.ops_dispatch.specs.ContinuesDispatch.{OpGoesOn, Shows, given, running_of}
+pub use Rattle.ops_dispatch.specs.Continues.{OpGoesOn, Shows, given, running_of}
 use Rattle.machine_rules.specs.Outcome.{is_at_rest, outcome_of_label}
 use Rattle.machine_rules.specs.Stalled.{Setting, main_pends}
 use Rattle.machine_rules.specs.Step.{Step}

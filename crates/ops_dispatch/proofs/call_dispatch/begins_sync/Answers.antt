@@ -2,7 +2,7 @@ use Rattle.ops_dispatch.proofs.CallLemmas.{begins_quiet, begins_sync_as}
 use Rattle.ops_dispatch.proofs.OpLemmas.{made_op, named_op, scripted_op_rule, quiet_goes}
 use Rattle.ops_dispatch.proofs.StayLemmas.{ok_both}
 use Rattle.ops_dispatch.proofs.call_dispatch.begins_sync.Goals as goal
-use Rattle.ops_dispatch.specs.ContinuesDispatch.{DoesOp}
+use Rattle.ops_dispatch.specs.Continues.{DoesOp}
 use Rattle.ops_dispatch.specs.Rules.{calls_in_sync}
 use Rattle.std.specs.Prelude.{length, take}
 use Rattle.ops_subtasks.specs.Rules.{begins_call}

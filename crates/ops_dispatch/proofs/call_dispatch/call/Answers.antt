@@ -3,7 +3,7 @@ use Rattle.ops_dispatch.proofs.OpLemmas.{alike_op, call_told, tags_told, told_na
 use Rattle.ops_dispatch.proofs.StayLemmas.{ok_then}
 use Rattle.ops_dispatch.proofs.SubtaskRules.{status_shows}
 use Rattle.ops_dispatch.proofs.call_dispatch.call.Goals as goal
-use Rattle.ops_dispatch.specs.ContinuesDispatch.{DoesOp}
+use Rattle.ops_dispatch.specs.Continues.{DoesOp}
 use Rattle.ops_dispatch.specs.Rules.{calls_here}
 use Rattle.std.proofs.Common.{ap, sym}
 use Rattle.std.specs.Prelude.{length, take}

@@ -1,4 +1,4 @@
-use Rattle.std.proofs.Common.{Bool, false, subst, sym, true, ◌≡◌}
+use Rattle.std.proofs.Common.{Bool, false, rules, subst, sym, true, ◌≡◌}
 use Rattle.ops_subtasks.proofs.directs.begin_call_sync.Goals as goal
 use Rattle.ops_subtasks.specs.Rules.{begins_call}
 use Rattle.machine_data.specs.Read.{is_async_lifted}

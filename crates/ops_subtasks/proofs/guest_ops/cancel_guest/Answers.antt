@@ -1,4 +1,4 @@
-use Rattle.std.proofs.Common.{ap, sym, ◌∙◌}
+use Rattle.std.proofs.Common.{ap, rules, sym, ◌∙◌}
 use Rattle.std.specs.Prelude.{Bool, Option, if◌then◌else◌, is_some, not, ◌≡◌}
 use Rattle.ops_subtasks.proofs.guest_ops.cancel_guest.Goals as goal
 use Rattle.ops_subtasks.specs.Refused.{mode_of}

@@ -1,4 +1,4 @@
-use Rattle.ops_dispatch.proofs.GoesLemmasDispatch.{same_goes}
+use Rattle.ops_dispatch.proofs.GoesLemmas.{same_goes}
 use Rattle.ops_dispatch.proofs.RuleLemmas.{data_shows}
 use Rattle.ops_dispatch.proofs.StayLemmas.{same_stays}
 use Rattle.ops_turns.proofs.SteppedLemmas.{IfOk_then}
