@@ -12,7 +12,7 @@ ghost use Rattle.machine_data.specs.Maps.{get};
 ghost use Rattle.machine_data.specs.Read.{op_progress_of, instance_of};
 ghost use Rattle.machine_data.specs.declared.op.CallOp.{CallOp};
 ghost use Rattle.machine_data.specs.declared.op.Op.TheVariants as ops;
-ghost use Rattle.ops_guests.specs.Works.{NamesTold};
+ghost use Rattle.ops_guests.specs.Works.{KeepsTold, NamesTold};
 ghost use Rattle.core_primitives.specs.StateView.{call_of, thread_of, work_of};
 
 use crate::cancels;
@@ -149,6 +149,7 @@ fn call_of_host<W: Primitives>(
     requires runner { Runner thread (W.view w.old) }
     requires few { given (W.view w.old).core < 2 ^ 61 }
     ensures does { DoesHostCall answer component.now (λ r. CallOp.CallHost r register host) thread (W.view w.old) result (W.view w.new) }
+    ensures kept { IfOk result (λ done. KeepsTold (W.view w.old) (W.view w.new)) }
     ensures err { OnErr result (W.view w.new ≡ W.view w.old) }
 {
     let host = host_def(component, host);
@@ -269,7 +270,7 @@ fn cancel<W: Primitives>(
     sync: bool,
 ) -> Result<OpResult, NoMemory>
     requires runner { Runner thread (W.view w.old) }
-    ensures does { IfOk result (λ op_result. DoesOp NamesTold (cancels_here (mode_of sync) handle) thread (W.view w.old) op_result (W.view w.new)) }
+    ensures does { IfOk result (λ op_result. DoesOp KeepsTold (cancels_here (mode_of sync) handle) thread (W.view w.old) op_result (W.view w.new)) }
     ensures ok { IsOk result }
 {
     Ok(cancels(w, thread, handle, sync))

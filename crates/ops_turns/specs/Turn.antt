@@ -46,8 +46,8 @@ runs_in _ = None
 abbrev pub RunnerThere : StateView → Type 0
 RunnerThere s = (n : ℕ) → running_of s ≡ Some n → is_some (get s.core.threads n) ≡ true
 
--- The step that was made is one of the machine, whatever main's part, its script and the idle line are, and picks what comes first. Its label gives an outcome exactly
--- where the run is over.
+-- The step that was made is one of the machine, whatever main's part, its script and the idle line are, and picks what comes first. Its
+-- label gives an outcome exactly where the run is over.
 pub record MakesStep (c : Component) (p : Turn) (s : StateView) (made : MadeStep) (t : StateView) : Type 0 where
   pub step : (x : Setting) → x.component ≡ c → (m : Main) → Step x (state_at s.core m p) made.label (state_at t.core m made.turn)
   pub picks : (x : Setting) → x.component ≡ c → (m : Main) →
