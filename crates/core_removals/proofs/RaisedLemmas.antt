@@ -93,7 +93,7 @@ raised_is i (n ∷ ns) s = by (is_admitted i s n) (λ c. raised_is i ns c)
     by true rest = rest (released (n ∷ []) s)
     by false rest = rest s
 
--- who is raised is admitted and stands in the list
+-- who is raised is admitted and is in the list
 has_raised : (i : ℕ) (ns : List ℕ) (s : Core) (m : ℕ) → has m (raised_of i ns s) ≡ (is_admitted i s m && has m ns)
 has_raised i [] s m = sym (and_false (is_admitted i s m))
 has_raised i (n ∷ ns) s m = by (is_admitted i s n) refl (λ c. has_raised i ns c m)
