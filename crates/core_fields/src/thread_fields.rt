@@ -60,7 +60,7 @@ pub fn task_unchecked(parts: &CoreParts, thread: ThreadId) -> CallId
     ensures live { 0 < call_of (seen parts.now) result }
 {
     let entry = core_records::thread_there(parts, thread);
-    core_records::standing_call(parts, entry.task)
+    core_records::call_at_unchecked(parts, entry.task)
 }
 
 /// Returns one of the thread's registers, 0 to 15.

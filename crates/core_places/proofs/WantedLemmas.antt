@@ -16,7 +16,7 @@ use Rattle.machine_data.specs.Read.{is_in_set, is_ready_member, same_subtask}
 use Rattle.machine_data.specs.declared.records.Join.{Join}
 use Rattle.machine_data.specs.declared.records.Subtask.{Subtask}
 use Rattle.machine_data.specs.declared.statuses.Status.{Status}
-use Rattle.machine_rules.specs.Picks.{IsFirstMember, IsFirstWaiter, Seats, ThreadSeat, call_seat, member_or, sits_before, subtask_before, thread_before, thread_seat, waiter_or, work_seat}
+use Rattle.machine_rules.specs.Picks.{IsFirstMember, IsFirstWaiter, Seats, ThreadSeat, call_seat, member_or, seat_before, subtask_before, thread_before, thread_seat, waiter_or, work_seat}
 use Rattle.std.specs.Ordering.{is_lt, nat_cmp}
 use Rattle.std.specs.Prelude.{◌&&◌, ◌==◌, is_some, option_and_then, unwrap_or}
 use Rattle.std.proofs.Common.{arith}
@@ -61,16 +61,16 @@ module _ (a : CoreParts) (sound : IsSoundCore a) where
 
   -- ---- Threads
 
-  abbrev sits : GuestThread → ThreadSeat
-  sits g = record { task = g.task_entry; own = g.entry }
+  abbrev in_turn : GuestThread → ThreadSeat
+  in_turn g = record { task = g.task_entry; own = g.entry }
 
-  pub thread_sits : (r : ℕ) (q : Placed (Single GuestThread)) → place_at a.threads r ≡ Some q → thread_seat seats q.entry.item.number ≡ sits q.entry.item
+  pub thread_seated : (r : ℕ) (q : Placed (Single GuestThread)) → place_at a.threads r ≡ Some q → thread_seat seats q.entry.item.number ≡ in_turn q.entry.item
   unfolding seen IsSoundCore
-  thread_sits r q at = ap (λ o. unwrap_or o (record { task = 0; own = 0 })) (seat_read (λ (g : GuestThread). g.number) (λ (g : GuestThread). g.thread) sits a.threads a.made.threads sound.tables.threads r q at)
+  thread_seated r q at = ap (λ o. unwrap_or o (record { task = 0; own = 0 })) (seat_read (λ (g : GuestThread). g.number) (λ (g : GuestThread). g.thread) in_turn a.threads a.made.threads sound.tables.threads r q at)
 
   -- two threads that are there are ordered by their places
   pub ordered_there : (r s : ℕ) (q p : Placed (Single GuestThread)) → place_at a.threads r ≡ Some q → place_at a.threads s ≡ Some p → thread_before seats q.entry.item.number p.entry.item.number ≡ is_lt (thread_order q.entry.item p.entry.item)
-  ordered_there r s q p at_q at_p = ap₂ sits_before (thread_sits r q at_q) (thread_sits s p at_p)
+  ordered_there r s q p at_q at_p = ap₂ seat_before (thread_seated r q at_q) (thread_seated s p at_p)
 
   pub waiter_live : (x n : ℕ) → is_waiter x n (seen a).core ≡ true → 0 < n
   unfolding seen IsSoundCore
@@ -164,13 +164,13 @@ module _ (a : CoreParts) (sound : IsSoundCore a) where
           let one = found_there (λ (g : WorkRecord). g.number) (λ (g : WorkRecord). g.work) a.works i w is in
           (one.0, (one.1.0, (one.1.1.0, (one.1.1.1.0, ap (λ (d : Work). ready_in d.event d.join) one.1.1.1.1 ∙ ready_of x w.join w.event ready))))
 
-  call_sits : (r : ℕ) (q : Placed (Single GuestTask)) → place_at a.calls r ≡ Some q → call_seat seats q.entry.item.number ≡ q.entry.item.entry
+  call_seated : (r : ℕ) (q : Placed (Single GuestTask)) → place_at a.calls r ≡ Some q → call_seat seats q.entry.item.number ≡ q.entry.item.entry
   unfolding seen IsSoundCore
-  call_sits r q at = ap (λ o. unwrap_or o 0) (seat_read (λ (g : GuestTask). g.number) (λ (g : GuestTask). g.call) (λ (g : GuestTask). g.entry) a.calls a.made.threads sound.tables.calls r q at)
+  call_seated r q at = ap (λ o. unwrap_or o 0) (seat_read (λ (g : GuestTask). g.number) (λ (g : GuestTask). g.call) (λ (g : GuestTask). g.entry) a.calls a.made.threads sound.tables.calls r q at)
 
-  work_sits : (r : ℕ) (q : Placed (Single WorkRecord)) → place_at a.works r ≡ Some q → work_seat seats q.entry.item.number ≡ q.entry.item.entry
+  work_seated : (r : ℕ) (q : Placed (Single WorkRecord)) → place_at a.works r ≡ Some q → work_seat seats q.entry.item.number ≡ q.entry.item.entry
   unfolding seen IsSoundCore
-  work_sits r q at = ap (λ o. unwrap_or o 0) (seat_read (λ (g : WorkRecord). g.number) (λ (g : WorkRecord). g.work) (λ (g : WorkRecord). g.entry) a.works a.made.works sound.tables.works r q at)
+  work_seated r q at = ap (λ o. unwrap_or o 0) (seat_read (λ (g : WorkRecord). g.number) (λ (g : WorkRecord). g.work) (λ (g : WorkRecord). g.entry) a.works a.made.works sound.tables.works r q at)
 
   abbrev in_view : SubtaskId → Subtask
   in_view sub = subtask_in (seen a).tags sub
@@ -195,7 +195,7 @@ module _ (a : CoreParts) (sound : IsSoundCore a) where
   least_member_first x (subtask_ids.Host id) ready least (Subtask.Host i) other_ready =
       let one = ready_work_there x i other_ready in
       let two = named_there (λ (g : WorkRecord). g.number) (λ (g : WorkRecord). g.work) a.works id.rep id.serial (subst (λ m. 0 < m) (work_shown a id) (positive _ (ready_live x (subtask_ids.Host id) ready))) in
-      ap₂ (λ v w. is_lt (nat_cmp v w)) (ap (work_seat seats) (sym one.1.1.1.0) ∙ work_sits one.0 one.1.0 one.1.1.0) (ap (work_seat seats) (work_shown a id ∙ sym two.1.1.1) ∙ work_sits id.rep two.0 two.1.0)
+      ap₂ (λ v w. is_lt (nat_cmp v w)) (ap (work_seat seats) (sym one.1.1.1.0) ∙ work_seated one.0 one.1.0 one.1.1.0) (ap (work_seat seats) (work_shown a id ∙ sym two.1.1.1) ∙ work_seated id.rep two.0 two.1.0)
       ∙ least two.0.entry.item two.1.1.0 one.0 one.1.0 one.1.1.0 one.1.1.1.1
   least_member_first x (subtask_ids.Host id) ready least (Subtask.Guest k) other_ready = refl
   least_member_first x (subtask_ids.Guest id) ready least (Subtask.Host i) other_ready =
@@ -204,7 +204,7 @@ module _ (a : CoreParts) (sound : IsSoundCore a) where
   least_member_first x (subtask_ids.Guest id) ready least (Subtask.Guest k) other_ready =
       let one = ready_call_there x k other_ready in
       let two = named_there (λ (g : GuestTask). g.number) (λ (g : GuestTask). g.call) a.calls id.rep id.serial (subst (λ m. 0 < m) (call_shown a id) (positive _ (ready_live x (subtask_ids.Guest id) ready))) in
-      ap₂ (λ v w. is_lt (nat_cmp v w)) (ap (call_seat seats) (sym one.1.1.1.0) ∙ call_sits one.0 one.1.0 one.1.1.0) (ap (call_seat seats) (call_shown a id ∙ sym two.1.1.1) ∙ call_sits id.rep two.0 two.1.0)
+      ap₂ (λ v w. is_lt (nat_cmp v w)) (ap (call_seat seats) (sym one.1.1.1.0) ∙ call_seated one.0 one.1.0 one.1.1.0) (ap (call_seat seats) (call_shown a id ∙ sym two.1.1.1) ∙ call_seated id.rep two.0 two.1.0)
       ∙ least.1 two.0.entry.item two.1.1.0 one.0 one.1.0 one.1.1.0 one.1.1.1.1
 
   -- ---- What is wanted of them

@@ -1,4 +1,4 @@
--- What the primitives that write make of a state; ids stand for what they name.
+-- What the primitives that write make of a state; each id is read as what it names.
 use Rattle.std.specs.Prelude.{◌≡◌, ◌++◌, ◌∷◌, [], IsPermutation, List, Some, true, ℕ}
 use Rattle.task_table.specs.declared.id.TableId.{TableId}
 use Rattle.task_wait.specs.declared.keys.GuestTaskKey.{GuestTaskKey}

@@ -13,7 +13,7 @@ ghost use Rattle.core_primitives.specs.StateView.{thread_of, work_of};
 ghost use Rattle.core_queues.specs.OrderKeys.{top};
 
 use core_primitives::{EntryId, ThreadId, WorkId};
-use core_records::{CoreParts, GuestThread, Queued, WorkRecord, standing_thread, work_at};
+use core_records::{CoreParts, GuestThread, Queued, WorkRecord, thread_at_unchecked, work_at};
 use machine_data::Entry;
 use table_links::Links;
 
@@ -127,7 +127,7 @@ pub(crate) fn entry_id(parts: &CoreParts, queued: Queued) -> EntryId
     ensures { entry_in (seen parts.now).tags result ≡ queued.entry }
 {
     match queued.entry {
-        Entry::Thread { .. } => EntryId::Thread(standing_thread(parts, queued.place)),
+        Entry::Thread { .. } => EntryId::Thread(thread_at_unchecked(parts, queued.place)),
         Entry::Push { .. } => EntryId::Push(work_at(parts, queued.place)),
         Entry::Host { .. } => EntryId::Host(work_at(parts, queued.place)),
     }

@@ -32,7 +32,7 @@ pub fn thread_at(parts: &CoreParts, place: u32) -> ThreadId
 }
 
 /// Returns the id of the thread that is known to be at a place: nothing is tested.
-pub fn standing_thread(parts: &CoreParts, place: u32) -> ThreadId
+pub fn thread_at_unchecked(parts: &CoreParts, place: u32) -> ThreadId
     requires { 0 < number_in (record_at thread_key parts.now.threads.places place) }
     ensures { thread_of (seen parts.now) result ≡ number_in (record_at thread_key parts.now.threads.places place) }
 {
@@ -68,7 +68,7 @@ pub fn call_at(parts: &CoreParts, place: u32) -> CallId
 }
 
 /// Returns the id of the call that is known to be at a place: nothing is tested.
-pub fn standing_call(parts: &CoreParts, place: u32) -> CallId
+pub fn call_at_unchecked(parts: &CoreParts, place: u32) -> CallId
     requires { 0 < number_in (record_at call_key parts.now.calls.places place) }
     ensures { call_of (seen parts.now) result ≡ number_in (record_at call_key parts.now.calls.places place) }
 {
@@ -156,7 +156,7 @@ pub fn task_of(parts: &CoreParts, thread: ThreadId) -> CallId
     ensures live { 0 < thread_of (seen parts.now) thread → 0 < call_of (seen parts.now) result }
 {
     match crate::reads::thread(parts, thread) {
-        Some(entry) => standing_call(parts, entry.task),
+        Some(entry) => call_at_unchecked(parts, entry.task),
         None => nowhere(),
     }
 }

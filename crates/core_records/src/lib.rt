@@ -15,8 +15,8 @@ mod work_records;
 
 pub use call_records::{GuestTask, TaskGroup};
 pub use ids::{
-    call_at, call_id_at, first_thread, none_is_zero, set_at, set_id_at, standing_call,
-    standing_thread, task_of, thread_at, thread_id_at, work_at, work_id_at,
+    call_at, call_at_unchecked, call_id_at, first_thread, none_is_zero, set_at, set_id_at, task_of,
+    thread_at, thread_at_unchecked, thread_id_at, work_at, work_id_at,
 };
 pub use instance_records::InstanceRecord;
 pub use parts::{CachedCounts, CoreParts};

@@ -26,7 +26,7 @@ use Rattle.task_table.specs.declared.error.ResourceTableError.{ResourceTableErro
 use Rattle.task_wait.specs.declared.keys.HostTaskKey.{HostTaskKey}
 use Rattle.core_removals.proofs.PollLemmas.{begins_there, chain_rises, passed_here, polled_filed}
 use Rattle.core_removals.proofs.WalkLemmas.{walk_more}
-use Rattle.core_removals.specs.Walks.{HasNext, StandsLive, Walk}
+use Rattle.core_removals.specs.Walks.{HasNext, IsLiveNode, Walk}
 
 -- ---- What a poll leaves a work to do
 
@@ -66,7 +66,7 @@ reflexive n = omega arith
 
 module _ (a : CoreParts) (sound : IsSoundCore a) where
   -- the walk goes on behind the node of a work, past its number
-  pub stands_walk : (node number : ℕ) → StandsLive node number a → (c : ℕ) → a.live ≡ Some c → IsLinks a.polled → AreLinked a.polled c (entries a.polled c) → (other : Option (ℕ × LiveWork)) → other ≡ following node a.polled →
+  pub stands_walk : (node number : ℕ) → IsLiveNode node number a → (c : ℕ) → a.live ≡ Some c → IsLinks a.polled → AreLinked a.polled c (entries a.polled c) → (other : Option (ℕ × LiveWork)) → other ≡ following node a.polled →
       Walk (HasNext number (entries a.polled c)) (entries a.polled c) other
   stands_walk node number st c is links linked other other_is =
       let v : LiveWork = record { number = number; place = st.place } in
@@ -112,7 +112,7 @@ module _ (a : CoreParts) (sound : IsSoundCore a) (id : TableId HostTaskKey) (g :
   pending_course left e = running_course g.work.phase g.work.course left (subst (PendsWith left) poll_is e)
 
   -- the live work has its node in the chain
-  pub stands_live : is_stage_live (stage_of (work_of (seen a) id) (seen a).core) ≡ true → StandsLive g.live.index g.number a
+  pub stands_live : is_stage_live (stage_of (work_of (seen a) id) (seen a).core) ≡ true → IsLiveNode g.live.index g.number a
   unfolding IsSoundCore
   stands_live live = by a.live refl some
     where
@@ -128,7 +128,7 @@ module _ (a : CoreParts) (sound : IsSoundCore a) (id : TableId HostTaskKey) (g :
       filed : filings live_work a.works id.rep ≡ Some filing
       filed = let p = stands a sound id g is in filings_at live_work a.works id.rep (Some p.0) p.1.0 ∙ ap (live_work id.rep p.0.serial) p.1.1.1
 
-      by : (o : Option ℕ) → a.live ≡ o → IsSome o → StandsLive g.live.index g.number a
+      by : (o : Option ℕ) → a.live ≡ o → IsSome o → IsLiveNode g.live.index g.number a
       by None at s = absurd (cc)
       by (Some c) at s = record {
         chain = c;

@@ -93,7 +93,7 @@ raised_is i (n ∷ ns) s = by (is_admitted i s n) refl
     by true is = raised_is i ns (released (n ∷ []) s)
     by false is = raised_is i ns s
 
--- who is raised is admitted and stands in the list
+-- who is raised is admitted and is in the list
 has_raised : (i : ℕ) (ns : List ℕ) (s : Core) (m : ℕ) → has m (raised_of i ns s) ≡ (is_admitted i s m && has m ns)
 has_raised i [] s m = sym (and_false (is_admitted i s m))
 has_raised i (n ∷ ns) s m = by (is_admitted i s n) refl

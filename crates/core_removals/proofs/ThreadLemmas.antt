@@ -30,8 +30,8 @@ use Rattle.table_lists.specs.declared.ordered_lists.OrderKey.{OrderKey}
 abbrev number : GuestThread → ℕ
 number g = g.number
 
-abbrev thread_sits : GuestThread → ThreadSeat
-thread_sits g = record { task = g.task_entry; own = g.entry }
+abbrev thread_seated : GuestThread → ThreadSeat
+thread_seated g = record { task = g.task_entry; own = g.entry }
 
 abbrev machine : GuestThread → Thread
 machine g = g.thread
@@ -295,7 +295,7 @@ module _ (a : CoreParts) (sound : IsSoundCore a) (id : TableId ThreadKey) (g : G
         same = refl;
         wanted = refl;
         seats = record {
-          threads = λ n live other. seats_less number machine thread_sits a.threads a.made.threads sound.tables.threads id.rep id.serial g is n (λ same. other (same ∙ named));
+          threads = λ n live other. seats_less number machine thread_seated a.threads a.made.threads sound.tables.threads id.rep id.serial g is n (λ same. other (same ∙ named));
           calls = λ k live other. ap (λ m. get m k) call_seats_same;
           works = λ i live other. refl;
         };

@@ -32,7 +32,7 @@ abbrev pub HasNext : ℕ → List (ℕ × LiveWork) → List (ℕ × LiveWork) �
 HasNext p all left = find (nat_lt p) (live_numbers left) ≡ find (nat_lt p) (live_numbers all)
 
 -- a work with this number has this node in the chain of the live ones
-pub record StandsLive (node number : ℕ) (a : CoreParts) : Type 0 where
+pub record IsLiveNode (node number : ℕ) (a : CoreParts) : Type 0 where
   pub chain : ℕ
   pub is : a.live ≡ Some chain
   pub place : ℕ

@@ -6,7 +6,7 @@ ghost use Rattle.core_primitives.specs.StateView.{thread_of};
 ghost use Rattle.core_removals.specs.Walks.{of_node};
 
 use core_primitives::ThreadId;
-use core_records::{CoreParts, Node, standing_thread, thread_at};
+use core_records::{CoreParts, Node, thread_at, thread_at_unchecked};
 
 /// Returns the thread that a node represents.
 pub(crate) fn node_thread(parts: &CoreParts, node: Node) -> ThreadId
@@ -26,7 +26,7 @@ pub(crate) fn held_thread(parts: &CoreParts, node: Node) -> ThreadId
     ensures { thread_of (seen parts.now) result ≡ of_node parts.now node.index }
 {
     match parts.places.get(node) {
-        Some((_, order_key)) => standing_thread(parts, order_key.place),
+        Some((_, order_key)) => thread_at_unchecked(parts, order_key.place),
         None => unreachable!(),
     }
 }

@@ -10,7 +10,7 @@ ghost use Rattle.core_records.specs.Seen.{IsSoundCore, seen};
 ghost use Rattle.machine_rules.specs.Works.{next_polled, poll_of, polled_course};
 ghost use Rattle.core_primitives.specs.Polls.{PendsWith};
 ghost use Rattle.core_primitives.specs.StateView.{work_of};
-ghost use Rattle.core_removals.specs.Walks.{HasNext, StandsLive, Walk, live_numbers};
+ghost use Rattle.core_removals.specs.Walks.{HasNext, IsLiveNode, Walk, live_numbers};
 ghost use Rattle.core_primitives.specs.Changes.{CountsPoll};
 
 use core_primitives::WorkId;
@@ -92,7 +92,7 @@ pub fn next_polled(parts: &CoreParts, polled: u64) -> Option<WorkId>
 #[inline(always)]
 fn has_more(parts: &CoreParts, node: Node, number: u64) -> bool
     requires sound { IsSoundCore parts.now }
-    requires stands { StandsLive node.index number parts.now }
+    requires stands { IsLiveNode node.index number parts.now }
     ensures { result ≡ is_some (next_polled number (seen parts.now).core) }
 {
     let Some(chain) = parts.live else {

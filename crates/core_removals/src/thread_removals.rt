@@ -27,7 +27,7 @@ fn with_call(parts: &CoreParts, thread: ThreadId) -> (GuestThread, CallId, Guest
     ensures of { result.2.number ≡ result.0.thread.call }
 {
     let found = *core_records::thread_there(parts, thread);
-    let task = core_records::standing_call(parts, found.task);
+    let task = core_records::call_at_unchecked(parts, found.task);
     (found, task, *core_records::call_there(parts, task))
 }
 

@@ -54,7 +54,7 @@ fn start(
     requires takes { TakesOne component.now func }
     requires few { relay.old.started < 2 }
     ensures same { access.new.store.ghost_name ≡ access.old.store.ghost_name }
-    ensures stands { constants access.new.store.now ≡ constants access.old.store.now }
+    ensures constants_stay { constants access.new.store.now ≡ constants access.old.store.now }
     ensures step { IfOk result (λ step. HasRelayed component.now step relay.old access.old.store.now relay.new access.new.store.now) }
     ensures err { IfErr result (λ e. e ≡ task_error.NoMemory) }
 {
@@ -89,7 +89,7 @@ fn finish(
 ) -> MainStep
     requires may { MayStep relay_says ⟦<ScriptedHost as HostWork>⟧.course component.now relay.old access.old.store.now }
     ensures same { access.new.store.ghost_name ≡ access.old.store.ghost_name }
-    ensures stands { constants access.new.store.now ≡ constants access.old.store.now }
+    ensures constants_stay { constants access.new.store.now ≡ constants access.old.store.now }
     ensures step { HasRelayed component.now result relay.old access.old.store.now relay.new access.new.store.now }
 {
     // only the contract speaks of `component`

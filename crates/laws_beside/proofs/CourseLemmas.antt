@@ -1,7 +1,7 @@
 -- How a run beside aborters goes on.
 use Rattle.laws_beside.proofs.CallLemmas.{calls_go_on, no_calls}
 use Rattle.laws_beside.proofs.OutcomeLemmas.{last_behind, no_label_rests, no_label_uses_up, open_runs_use_up, runs_come_to, runs_come_to_behind, runs_show_a_label, waiting_rests, wide_outcomes}
-use Rattle.laws_beside.specs.Courses.{ComesToOutcome, InRound, IsOn, IsRun, OpenRunsGoOn, Own, RoundBegins, RoundEnds, RoundGoes, RoundsAreCut, RunOpens, RunsAdd, StepsAdd, at_take, heard_in, polled_label, with_poll, with_run, with_step}
+use Rattle.laws_beside.specs.Courses.{HasOutcome, InRound, IsOn, IsRun, OpenRunsGoOn, Own, RoundBegins, RoundEnds, RoundGoes, RoundsAreCut, RunOpens, RunsAdd, StepsAdd, at_take, heard_in, polled_label, with_poll, with_run, with_step}
 use Rattle.laws_beside.specs.Outcomes.{CameTo, Ends, GoesOn, Rests}
 use Rattle.laws_beside.specs.Rounds.{is_going}
 use Rattle.laws_beside.proofs.DueLemmas.{runs_are_due}
@@ -140,9 +140,9 @@ open_runs_go_on x w r steps left own ls s out come = by come.came
         let waits : r ≡ Due → is_stalled x s ≡ false = still_waits x s r going in
         record { run = subst (λ (v : Wide). IsRun x w ls v own) (no_round x s r waits out) come.run; unended = unended; outside = out; waits = waits; count = come.used refl }
 
-pub comes_to_outcome : ComesToOutcome
+pub has_outcome : HasOutcome
 unfolding settled
-comes_to_outcome x w r steps left o own ls s out come none due = by come.came
+has_outcome x w r steps left o own ls s out come none due = by come.came
   where
     so : (p : Outcome) → o ≡ p → IsWideOutcome x (settled x s r) ls steps p → IsWideOutcome x (settled x s r) ls steps o
     so p is h = subst (λ (q : Outcome). IsWideOutcome x (settled x s r) ls steps q) (sym is) h

@@ -95,8 +95,8 @@ OpenRunsGoOn =
     HasCome x w r steps left outcome.OutOfSteps own ls s → IsOn x w r steps left own ls s
 
 -- what it results in, outside the round
-abbrev pub ComesToOutcome : Type 0
-ComesToOutcome =
+abbrev pub HasOutcome : Type 0
+HasOutcome =
     (x : Setting) (w : Wide) (r : Round) (steps left : ℕ) (o : Outcome) (own : Own) (ls : List Label) (s : State) → is_going r ≡ false →
     HasCome x w r steps left o own ls s → (o ≡ outcome.OutOfSteps → left ≡ 0) → (r ≡ Due → o ≡ outcome.Idle → ⊥) →
     IsWideOutcome x (settled x s r) ls steps o

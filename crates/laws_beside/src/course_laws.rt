@@ -1,4 +1,4 @@
-ghost use Rattle.laws_beside.specs.Courses.{ComesToOutcome, OpenRunsGoOn, RoundBegins, RoundEnds, RoundGoes, RoundsAreCut, RunOpens, RunsAdd, StepsAdd};
+ghost use Rattle.laws_beside.specs.Courses.{HasOutcome, OpenRunsGoOn, RoundBegins, RoundEnds, RoundGoes, RoundsAreCut, RunOpens, RunsAdd, StepsAdd};
 
 /// A run beside aborters begins at the opening of its scenario.
 pub fn run_opens()
@@ -21,8 +21,8 @@ pub fn open_runs_go_on()
 {}
 
 /// What a run outside its last round has resulted in is its outcome.
-pub fn comes_to_outcome()
-    ensures { ComesToOutcome }
+pub fn has_outcome()
+    ensures { HasOutcome }
 {}
 
 /// The last round begins where the run is idle before it.

@@ -13,8 +13,8 @@ mod shown;
 
 pub use call_laws::{calls_go_on, no_calls};
 pub use course_laws::{
-    comes_to_outcome, open_runs_go_on, round_begins, round_ends, round_goes, rounds_are_cut,
-    run_opens, runs_add, steps_add,
+    has_outcome, open_runs_go_on, round_begins, round_ends, round_goes, rounds_are_cut, run_opens,
+    runs_add, steps_add,
 };
 pub use laws_of_runs::{
     outcomes_are_wide, runs_are_due, runs_are_wide, wide_run_goes_on, wide_runs_join,

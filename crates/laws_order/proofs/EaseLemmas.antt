@@ -7,7 +7,7 @@ use Rattle.laws_places.proofs.Laws.{[], admits, any_at, ap, arith, Bool, by_numb
 use Rattle.std.proofs.Common.{ap₂}
 use Rattle.laws_states.proofs.WakeTableLemmas.{waiting_of}
 use Rattle.machine_data.specs.Read.{is_waiter, is_waiting_on}
-use Rattle.laws_order.specs.Stands.{CallersBehind, NoWakeLost, OneBlocked, SwitchReady}
+use Rattle.laws_order.specs.WakesKept.{CallersBehind, NoWakeLost, OneBlocked, SwitchReady}
 
 -- ---- From core to core
 

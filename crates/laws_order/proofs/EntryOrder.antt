@@ -33,8 +33,8 @@ use Rattle.machine_rules.specs.Chains.{NoPrimitive}
 use Rattle.machine_rules.specs.Places.{HasPlace, Placed, entries, is_at_high, is_at_low, says}
 use Rattle.machine_rules.specs.Takes.{popped, rest_of}
 use Rattle.machine_rules.specs.Primitives.{Promote, Put, Stop}
-use Rattle.laws_order.proofs.{GroundLemmas.order_stands, StopLemmas.stop_keeps}
-use Rattle.laws_order.specs.Stands.{OrderStands, StopKeeps}
+use Rattle.laws_order.proofs.{GroundLemmas.order_loses_no_wake, StopLemmas.stop_keeps}
+use Rattle.laws_order.specs.WakesKept.{OrderLosesNoWake, StopKeeps}
 
 -- ---- Taking
 
@@ -204,9 +204,9 @@ idle_none : (p : Turn) → is_idle p ≡ true → IsIdle p
 idle_none p is n at = grind (arith, is, at)
 
 stop_plain : (c : Component) (p : Turn) (f : ℕ) (s : Core) → is_idle p ≡ true → KeepsOrder c p s p (stopped f s)
-unfolding OrderStands StopKeeps
+unfolding OrderLosesNoWake StopKeeps
 stop_plain c p f s idle h = idle_keeps c p s (stopped f s) (idle_open p idle) (idle_none p idle) (λ m. placed (Stop f) (inr refl) NoPrimitive)
-    (stop_keeps f s (order_stands c (state_in Unscripted p s) (h Unscripted) (idle_open p idle))).counted h
+    (stop_keeps f s (order_loses_no_wake c (state_in Unscripted p s) (h Unscripted) (idle_open p idle))).counted h
 
 module _ (h : Hand) (off : is_off_switch h ≡ true) where
   behind_back : (f : ℕ) (ns : List ℕ) (s : Core) → behind f ns (put_back h s) ≡ put_back h (behind f ns s)

@@ -40,8 +40,8 @@ use Rattle.machine_rules.specs.Allowed.{Unblocks, Wakes, is_async_work, is_done_
 use Rattle.machine_rules.specs.Sets.{joins, may_wake_new, wakes_joined}
 use Rattle.machine_rules.specs.Takes.{host_status}
 use Rattle.machine_rules.specs.Primitives.{Put, placed_as, status_of_end}
-use Rattle.laws_order.proofs.{GroundLemmas.order_stands, MoveLemmas.give_keeps, MoveLemmas.join_keeps, MoveLemmas.publish_keeps, MoveLemmas.take_keeps}
-use Rattle.laws_order.specs.Stands.{GiveKeeps, JoinKeeps, NoWakeLost, OrderStands, PublishKeeps, TakeKeeps}
+use Rattle.laws_order.proofs.{GroundLemmas.order_loses_no_wake, MoveLemmas.give_keeps, MoveLemmas.join_keeps, MoveLemmas.publish_keeps, MoveLemmas.take_keeps}
+use Rattle.laws_order.specs.WakesKept.{GiveKeeps, JoinKeeps, NoWakeLost, OrderLosesNoWake, PublishKeeps, TakeKeeps}
 
 -- ---- Putting back, and moves
 
@@ -109,8 +109,8 @@ handle_with (Subtask.Host i) h s = refl
 
 module _ (c : Component) (p : Turn) (going : is_open p ≡ true) where
   lost : (s : Core) → InOrderForAnyMain c p s → NoWakeLost s
-  unfolding OrderStands
-  lost s h = order_stands c (state_in Unscripted p s) (h Unscripted) going
+  unfolding OrderLosesNoWake
+  lost s h = order_loses_no_wake c (state_in Unscripted p s) (h Unscripted) going
 
   take_plain : (sub : Subtask) (s : Core) → is_some (subtask_handle sub s) ≡ true → KeepsOrder c p s p (set_event sub None s)
   unfolding set_event on_call on_work TakeKeeps

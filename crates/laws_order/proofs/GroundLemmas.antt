@@ -3,7 +3,7 @@ use Rattle.machine_data.specs.declared.op.Op.{Op}
 use Rattle.laws_places.proofs.BlockedLemmas.{inside_of}
 use Rattle.laws_states.proofs.Primitives.{subtask_handle}
 use Rattle.laws_places.proofs.Laws.{ap, arith, Bool, cancelled_by, cancelled_call, Component, Core, get, op_progress_of, OpProgress, inl, InOrderFor, inr, is_some, nat_tests, None, Option, Place, place_of, refl, Some, State, Subtask, true, ℕ, ⊎_elim, ◌≡◌, ◌⊎◌}
-use Rattle.laws_order.specs.Stands.{CallersBehind, OneBlocked, OrderStands, OrderStandsAs, SwitchReady}
+use Rattle.laws_order.specs.WakesKept.{CallersBehind, OneBlocked, OrderLosesNoWake, OrderLosesNoWakeAs, SwitchReady}
 use Rattle.machine_data.specs.declared.records.Call.{Call}
 use Rattle.machine_rules.specs.Places.{Placed}
 
@@ -58,9 +58,9 @@ placed_behind s placed n f = (placed n).callers f
 pub placed_switch : (s : Core) → Placed s → SwitchReady s
 placed_switch s placed m is = let at = (placed m).switch in grind (arith, nat_tests, at, is)
 
-pub order_stands_as : OrderStandsAs
-unfolding OrderStandsAs
-order_stands_as ops c s h on = let a = h.awake on in record {
+pub order_loses_no_wake_as : OrderLosesNoWakeAs
+unfolding OrderLosesNoWakeAs
+order_loses_no_wake_as ops c s h on = let a = h.awake on in record {
   counted = a.counted;
   callers = a.callers;
   held = h.held;
@@ -71,6 +71,6 @@ order_stands_as ops c s h on = let a = h.awake on in record {
   switch = placed_switch s.core h.in_place.placed;
 }
 
-pub order_stands : OrderStands
-unfolding OrderStands OrderStandsAs
-order_stands c s h on = order_stands_as _ c s h on
+pub order_loses_no_wake : OrderLosesNoWake
+unfolding OrderLosesNoWake OrderLosesNoWakeAs
+order_loses_no_wake c s h on = order_loses_no_wake_as _ c s h on

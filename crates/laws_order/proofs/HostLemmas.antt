@@ -50,8 +50,8 @@ use Rattle.machine_rules.specs.Step.{Progresses, op_rule}
 use Rattle.machine_rules.specs.Task.{dec_by, task_rule}
 use Rattle.machine_rules.specs.Threads.{Halt, Suspension, Yielding, halt_rule, halting_by, halts_by, has_yielded, resume_later_by, resume_why, resumed_by, then_promote_by, then_promote_found_by, then_promote_rule, then_resume_found, then_resume_rule, thread_new_rule, thread_rule}
 use Rattle.machine_rules.specs.Turns.{at_turn}
-use Rattle.laws_order.proofs.GroundLemmas.{order_stands_as}
-use Rattle.laws_order.specs.Stands.{OrderStandsAs}
+use Rattle.laws_order.proofs.GroundLemmas.{order_loses_no_wake_as}
+use Rattle.laws_order.specs.WakesKept.{OrderLosesNoWakeAs}
 
 -- this thread goes on, if one does, and no op of it is under way then
 abbrev DoneFor : ℕ → Progress → Type 0
@@ -285,5 +285,5 @@ host_calls_done x host q n m s t l at none h row to =
     (done.0, given_done x (host_op q) n t on done.1 (host_calls_keep x host q n s t l at none h row).0)
 
 pub host_loses_none : HostLosesNone
-unfolding HostLosesNone HostKeeps OrderStandsAs
-host_loses_none x o n s t l at plain other none h row on = order_stands_as _ x.component t (host_keeps x o n s t l at plain other none h row) on
+unfolding HostLosesNone HostKeeps OrderLosesNoWakeAs
+host_loses_none x o n s t l at plain other none h row on = order_loses_no_wake_as _ x.component t (host_keeps x o n s t l at plain other none h row) on

@@ -14,7 +14,7 @@ use Rattle.machine_rules.specs.Sets.{may_wake_new}
 use Rattle.machine_rules.specs.Works.{is_ended_work}
 use Rattle.laws_places.proofs.BlockedLemmas.{ended_as}
 use Rattle.laws_order.proofs.EaseLemmas.{Eases, Moves, eased_moves, eased_woken, eases_after, eases_put, eases_same, moves_keep}
-use Rattle.laws_order.specs.Stands.{GiveKeeps, JoinKeeps, NoWakeLost, PublishKeeps, TakeKeeps, WakeKeeps}
+use Rattle.laws_order.specs.WakesKept.{GiveKeeps, JoinKeeps, NoWakeLost, PublishKeeps, TakeKeeps, WakeKeeps}
 
 eases_refl : (s : Core) → Eases s s
 eases_refl s = eases_same s s refl refl refl (λ n w. refl)

@@ -24,7 +24,7 @@ use Rattle.machine_data.specs.declared.statuses.Status.{Status}
 use Rattle.machine_rules.proofs.StandLemmas.{by_number}
 use Rattle.machine_rules.specs.Allowed.{is_async_work, is_watched_by, watches}
 use Rattle.machine_rules.specs.Takes.{host_status}
-use Rattle.laws_order.specs.Stands.{NoWakeLost}
+use Rattle.laws_order.specs.WakesKept.{NoWakeLost}
 
 -- ---- A change of one record
 

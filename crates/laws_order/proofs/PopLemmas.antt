@@ -6,7 +6,7 @@ use Rattle.laws_places.proofs.Balance.{Quiet}
 use Rattle.laws_places.proofs.BlockedLemmas.{ended_as}
 use Rattle.laws_order.proofs.EaseLemmas.{callers_kept, Moves, moves_keep, nobody, none_leaves}
 use Rattle.laws_order.proofs.MoveLemmas.{member_as}
-use Rattle.laws_order.specs.Stands.{PopKeeps, SwitchReady}
+use Rattle.laws_order.specs.WakesKept.{PopKeeps, SwitchReady}
 
 -- only what is at the marks is otherwise
 queue_moves : (q : Queues) (s : Core) → (SwitchReady s → SwitchReady (record s { queues = q })) → Moves s (record s { queues = q })

@@ -6,7 +6,7 @@ use Rattle.laws_places.proofs.Laws.{[], admits, ap, arith, behind, behind_one, B
 use Rattle.laws_places.proofs.BlockedLemmas.{ended_as}
 use Rattle.laws_order.proofs.EaseLemmas.{callers_kept, EaseGoesOn, is_still, Moves, moves_keep, nobody, none_leaves}
 use Rattle.laws_order.proofs.MoveLemmas.{event_as, member_as}
-use Rattle.laws_order.specs.Stands.{CallersBehind, NoWakeLost, StopKeeps, SwitchReady}
+use Rattle.laws_order.specs.WakesKept.{CallersBehind, NoWakeLost, StopKeeps, SwitchReady}
 use Rattle.machine_rules.proofs.StopLemmas.{foot_there}
 use Rattle.machine_rules.proofs.PlacingLemmas.{placing_shifted, Shifted, shifted_explicit, shifted_task}
 use Rattle.machine_rules.proofs.StandLemmas.{times-append}

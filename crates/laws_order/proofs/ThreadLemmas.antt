@@ -11,7 +11,7 @@ use Rattle.machine_rules.specs.Works.{is_ended_work}
 use Rattle.laws_places.proofs.BlockedLemmas.{ended_as}
 use Rattle.laws_order.proofs.EaseLemmas.{callers_kept, is_still, Leaves, Moves, moves_keep, nobody, none_leaves}
 use Rattle.laws_order.proofs.MoveLemmas.{member_as}
-use Rattle.laws_order.specs.Stands.{CallersBehind, EndKeeps, MayComeToRun, MayLeave, NoWakeLost, RunKeeps, SuspendKeeps, SwitchReady}
+use Rattle.laws_order.specs.WakesKept.{CallersBehind, EndKeeps, MayComeToRun, MayLeave, NoWakeLost, RunKeeps, SuspendKeeps, SwitchReady}
 
 not_behind : (g : ℕ) (o : Option Place) → ((f : ℕ) → o ≡ Some (Place.Behind f) → ⊥) → says (is_behind_of g) o ≡ 0
 not_behind g (Some (Place.Behind f)) none = absurd (none f refl)

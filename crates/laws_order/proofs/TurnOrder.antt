@@ -38,8 +38,8 @@ use Rattle.machine_rules.specs.Places.{Placed, is_at_high, is_at_low, is_at_swit
 use Rattle.machine_rules.specs.Scripts.{ops_of}
 use Rattle.machine_rules.specs.Threads.{resume_why}
 use Rattle.machine_rules.specs.Primitives.{Stop}
-use Rattle.laws_order.proofs.{GroundLemmas.order_stands, ThreadLemmas.end_keeps, ThreadLemmas.run_keeps, ThreadLemmas.suspend_keeps}
-use Rattle.laws_order.specs.Stands.{EndKeeps, MayComeToRun, NoWakeLost, OrderStands, RunKeeps, SuspendKeeps}
+use Rattle.laws_order.proofs.{GroundLemmas.order_loses_no_wake, ThreadLemmas.end_keeps, ThreadLemmas.run_keeps, ThreadLemmas.suspend_keeps}
+use Rattle.laws_order.specs.WakesKept.{EndKeeps, MayComeToRun, NoWakeLost, OrderLosesNoWake, RunKeeps, SuspendKeeps}
 
 -- New, running or suspended
 abbrev is_plain : Place → Bool
@@ -161,12 +161,12 @@ idle_of q none n is = grind (arith, none, is)
 
 leave_keeps : (c : Component) (n : ℕ) (q : Turn) (s : Core) → is_open q ≡ true → running_in q ≡ None → ((x : ℕ) → is_inside_wait x (op_progress_of n s) ≡ false) → callers_of (foot_of n s) s ≡ [] →
     KeepsOrder c (Turn.Run n) s q (set_place n Place.Suspended s)
-unfolding OrderStands SuspendKeeps t
+unfolding OrderLosesNoWake SuspendKeeps t
 leave_keeps c n q s going none outside callers h =
     let o = h Unscripted in
     let a = o.awake refl in
     let from : place_of n s ≡ Some Place.Running = o.in_place.runs n refl in
-    let lost = suspend_keeps n s (record { runs = from; outside = outside; callers = callers; strands = o.strands; feet = a.feet }) (order_stands c (state_in Unscripted (Turn.Run n) s) o refl) in
+    let lost = suspend_keeps n s (record { runs = from; outside = outside; callers = callers; strands = o.strands; feet = a.feet }) (order_loses_no_wake c (state_in Unscripted (Turn.Run n) s) o refl) in
     let fit = set_fits n Place.Running Place.Suspended s from refl refl c (Turn.Run n) q o (λ m is. absurd (idle_of q none m is)) (λ e. absurd (cc))
     (λ k at unstarted. absurd (let e = o.starts n k at unstarted in grind (arith, e, from))) (λ z far. absurd (let e = outside z in grind (arith, nat_tests, e, far))) in
     set_keeps n Place.Running Place.Suspended s from refl refl c (Turn.Run n) q going h fit
@@ -194,7 +194,7 @@ resumed_from m s may = by (place_of m s) refl (is_explicit m s) refl
 enter_from : (c : Component) (m : ℕ) (r : Place) (p : Turn) (s : Core) → is_open p ≡ true → IsIdle p → place_of m s ≡ Some r → is_plain r ≡ true →
     ((k : Call) → get s.calls m ≡ Some k → k.started ≡ false → ⊥) → ((x : ℕ) (far : OpProgress) → woken_place x (Some r) far ≡ false) →
     ((j f : ℕ) → place_of j s ≡ Some (Place.Behind f) → is_fresh (place_of f s) ≡ false) → KeepsOrder c p s (Turn.Run m) (set_place m Place.Running s)
-unfolding OrderStands RunKeeps t
+unfolding OrderLosesNoWake RunKeeps t
 enter_from c m r p s going idle from plain starts unwoken nobody h =
     let o = h Unscripted in
     let a = o.awake going in
@@ -205,7 +205,7 @@ enter_from c m r p s going idle from plain starts unwoken nobody h =
       behind = λ f at. absurd (grind (arith, from, at, plain));
       inside = λ x on. absurd (let e = unwoken x (op_progress_of m s) in let f = woken_at x m s in grind (arith, from, on, e, f));
     } in
-    let lost = run_keeps m s may (order_stands c (state_in Unscripted p s) o going) in
+    let lost = run_keeps m s may (order_loses_no_wake c (state_in Unscripted p s) o going) in
     let fit = set_fits m r Place.Running s from plain refl c p (Turn.Run m) o (λ k is. let e = now m r Place.Running s from plain refl in grind (arith, nat_tests, e, is)) (λ e. absurd (cc))
     (λ k at unstarted. absurd (starts k at unstarted)) (λ z far. refl) in
     set_keeps m r Place.Running s from plain refl c p (Turn.Run m) refl h fit
@@ -313,7 +313,7 @@ abbrev end_scene : Component → ℕ → Core → Main → Scene
 end_scene c n s m = seen (ops_of c s) (setting_for c) m (Turn.Run n) s n (silent n) Turn.Main
 
 pub end_in_order : EndInOrder
-unfolding EndInOrder OrderStands EndKeeps
+unfolding EndInOrder OrderLosesNoWake EndKeeps
 end_in_order n s lasts c may =
     subst (λ (t : Core). KeepsOrder c (Turn.Run n) s Turn.Main t) (ends_same n s may.callers may.under)
     (λ h. lead_keeps c n (silent n) Turn.Main s (ended n (stopped (foot_of n s) s))
@@ -322,7 +322,7 @@ end_in_order n s lasts c may =
     let c0 : Keep (end_scene c n s m) s s = NoPrimitive in
     (exits_trip n leave (ended_halts n (last_shifted n (placing_shifted (Stop (foot_of n s)) s) (last_of n s lasts)) (stopped_on (foot_of n s) refl c0) (halted_from n c0 c0)), end_primitives m))
     refl
-    (subst (λ (t : Core). WakesCounted t) (sym (ends_same n s may.callers may.under)) (end_keeps n s may (order_stands c (state_in Unscripted (Turn.Run n) s) (h Unscripted) refl)).counted) h)
+    (subst (λ (t : Core). WakesCounted t) (sym (ends_same n s may.callers may.under)) (end_keeps n s may (order_loses_no_wake c (state_in Unscripted (Turn.Run n) s) (h Unscripted) refl)).counted) h)
   where
     end_primitives : (m : Main) → LastPrimitives (end_scene c n s m) (ended n (stopped (foot_of n s) s))
     end_primitives m = record {

@@ -6,7 +6,7 @@ use Rattle.laws_places.proofs.CountedSteps.{move_none}
 use Rattle.laws_places.proofs.OrderLemmas.{withdrawable}
 use Rattle.laws_places.proofs.Laws.{arith, Bool, Core, false, has_ready_member, inl, InOrder, inr, is_open, Label, Place, place_of, plain, plain_scene, ready_same, refl, Scene, Setting, Some, State, sym, true, Turn, Walked, ℕ, ⊎_elim, ◌∙◌, ◌≡◌, ◌⊎◌}
 use Rattle.machine_rules.proofs.WalkSteps.{step_walks}
-use Rattle.laws_order.specs.Stands.{WaitsFindNothing}
+use Rattle.laws_order.specs.WakesKept.{WaitsFindNothing}
 
 module _ (x : Setting) (s : State) (l : Label) (t : State) (w : Walked x s l t) (h : InOrder x.component s) (on : is_open t.turn ≡ true) where
   abbrev a : Scene

@@ -27,7 +27,7 @@ use Rattle.machine_rules.specs.Progress.{Continues, Progress}
 use Rattle.machine_rules.specs.Scripts.{export_kind, ops_of, script_of}
 use Rattle.machine_rules.specs.Stalled.{Setting}
 use Rattle.machine_rules.specs.Step.{Progresses, Step, StepAs, scripted_op_rule, op_rule, own_script}
-use Rattle.laws_order.specs.Stands.{NoWakeLost}
+use Rattle.laws_order.specs.WakesKept.{NoWakeLost}
 
 -- the thread n has this op, and each other one its own
 abbrev pub given : ℕ → Op → (ℕ → Op) → ℕ → Op

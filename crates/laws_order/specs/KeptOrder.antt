@@ -27,7 +27,7 @@ use Rattle.machine_rules.specs.Sets.{joins, may_wake_new, wakes_joined}
 use Rattle.machine_rules.specs.Takes.{host_status, popped}
 use Rattle.machine_rules.specs.Threads.{resume_why}
 use Rattle.machine_rules.specs.Primitives.{put_at, status_of_end}
-use Rattle.laws_order.specs.Stands.{MayLeave}
+use Rattle.laws_order.specs.WakesKept.{MayLeave}
 
 -- ---- An item in hand
 

@@ -1,4 +1,4 @@
-pub mod Stands
+pub mod WakesKept
 pub mod Pieces
 pub mod Given
 pub mod Borrows

@@ -35,7 +35,7 @@ pub use laws_of_cells::{
     works_stay_walked,
 };
 pub use laws_of_spawns::{runs_keep_spawns, spawns_stay};
-pub use moves::{events_keep, order_stands, threads_keep, waits_find_nothing};
+pub use moves::{events_keep, order_loses_no_wake, threads_keep, waits_find_nothing};
 pub use pieces::first_keeps;
 pub use rests::rests_lower_polls;
 pub use takes::{runs_move_entries, runs_take_in_turn, steps_move_entries};

@@ -1,9 +1,9 @@
-ghost use Rattle.laws_order.specs.Stands.{EndKeeps, GiveKeeps, JoinKeeps, OrderStands, OrderStandsAs, PopKeeps, PublishKeeps, RunKeeps, StopKeeps, SuspendKeeps, TakeKeeps, WaitsFindNothing, WakeKeeps};
+ghost use Rattle.laws_order.specs.WakesKept.{EndKeeps, GiveKeeps, JoinKeeps, OrderLosesNoWake, OrderLosesNoWakeAs, PopKeeps, PublishKeeps, RunKeeps, StopKeeps, SuspendKeeps, TakeKeeps, WaitsFindNothing, WakeKeeps};
 
 /// In a state in order, while its turns aren't over, no wake is lost.
-#[tactic(auto, using(crate::proofs::GroundLemmas::order_stands))]
-pub fn order_stands()
-    ensures { OrderStands }
+#[tactic(auto, using(crate::proofs::GroundLemmas::order_loses_no_wake))]
+pub fn order_loses_no_wake()
+    ensures { OrderLosesNoWake }
 {}
 
 /// In a step a thread comes to wait on a set only where no member of it is ready, as it begins to wait
@@ -36,7 +36,7 @@ pub fn threads_keep()
 {}
 
 /// So it is where each thread has some op that it can have come so far in.
-#[tactic(auto, using(crate::proofs::GroundLemmas::order_stands_as))]
-pub fn order_stands_as()
-    ensures { OrderStandsAs }
+#[tactic(auto, using(crate::proofs::GroundLemmas::order_loses_no_wake_as))]
+pub fn order_loses_no_wake_as()
+    ensures { OrderLosesNoWakeAs }
 {}

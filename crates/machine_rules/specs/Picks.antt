@@ -60,11 +60,11 @@ abbrev pub by_place : Seats → Preference
 by_place p = record { waiter = None; member = None; held = []; seats = p }
 
 -- threads by the place of their task, then by their own
-abbrev pub sits_before : ThreadSeat → ThreadSeat → Bool
-sits_before a b = is_lt (ordering_then (nat_cmp a.task b.task) (nat_cmp a.own b.own))
+abbrev pub seat_before : ThreadSeat → ThreadSeat → Bool
+seat_before a b = is_lt (ordering_then (nat_cmp a.task b.task) (nat_cmp a.own b.own))
 
 abbrev pub thread_before : Seats → ℕ → ℕ → Bool
-thread_before p m n = sits_before (thread_seat p m) (thread_seat p n)
+thread_before p m n = seat_before (thread_seat p m) (thread_seat p n)
 
 -- host works come before calls, each by its place
 abbrev pub subtask_before : Seats → Subtask → Subtask → Bool
@@ -73,7 +73,7 @@ subtask_before p (subtask.Host i) (subtask.Guest k) = true
 subtask_before p (subtask.Guest k) (subtask.Host i) = false
 subtask_before p (subtask.Guest k) (subtask.Guest q) = is_lt (nat_cmp (call_seat p k) (call_seat p q))
 
--- m comes before n by what of the two stands first in the list; where neither stands there it is as said
+-- m comes before n by which of the two is first in the list; if neither is in it, it is as said
 abbrev pub listed_before : List ℕ → ℕ → ℕ → Bool → Bool
 listed_before [] m n otherwise = otherwise
 listed_before (k ∷ ks) m n otherwise = if k == n then false else (if k == m then true else listed_before ks m n otherwise)

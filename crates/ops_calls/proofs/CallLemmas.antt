@@ -44,11 +44,11 @@ module _ (c : Component) (e : Callee) (words : List ℕ) (s t : StateView) (curr
         go (Some w) m = let same = m.0 in (cc, record { core = m.1; current = current; tags = tags_of (main_label.StartRefused why l) shown })
 
   pub in_order : (a : Acted) → MainImplements (start_act c 1 e words s.core (start_refusal s.core)) s.core a t.core → takes_words c e (length words) ≡ true → (p : Turn) → CoreInOrder c p s.core → CoreInOrder c p t.core
-  in_order a m takes p sits = go (start_refusal s.core) refl m
+  in_order a m takes p in_turn = go (start_refusal s.core) refl m
     where
       go : (r : Option Trap) → start_refusal s.core ≡ r → MainImplements (start_act c 1 e words s.core r) s.core a t.core → CoreInOrder c p t.core
-      go None free k = subst (CoreInOrder c p) (sym k.1) (start_in_order c p e words s.core takes free sits)
-      go (Some why) is k = subst (CoreInOrder c p) (sym k.1) (trap_in_order c p s.core sits)
+      go None free k = subst (CoreInOrder c p) (sym k.1) (start_in_order c p e words s.core takes free in_turn)
+      go (Some why) is k = subst (CoreInOrder c p) (sym k.1) (trap_in_order c p s.core in_turn)
 
 -- an export that was found
 module _ (c : Component) (e : Callee) (d : ExportDef) (found : Some d ≡ export_at c e) where

@@ -47,7 +47,7 @@ stays c n s t h same = order_still c n s t h.runs h.order same
 
 -- who runs after a rule that went on
 pub then_runs : (c : Component) (n m : ℕ) (t : StateView) → running_of t ≡ Some m → CoreInOrder c (Turn.Run m) t.core → InTurn c t
-then_runs c n m t is sits = subst (λ (o : Option ℕ). CoreInOrder c (turn_for o) t.core) (sym is) sits
+then_runs c n m t is in_turn = subst (λ (o : Option ℕ). CoreInOrder c (turn_for o) t.core) (sym is) in_turn
 
 unending : (o : Op) → is_host_op o ≡ true → ends_activation o ≡ false
 unending o on = grind arith

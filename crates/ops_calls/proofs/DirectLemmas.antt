@@ -89,9 +89,9 @@ module _ (id : TableId ThreadKey) (v : ℕ) (s t : StateView) (is : t ≡ on_cor
   written_under m at = subst (λ (u : StateView). IsSome (under_of (thread_of u id) u.core)) (sym is) (found (thread_of s id) m (set_register (thread_of s id) 0 v s.core) ((set_register_untouched (thread_of s id) 0 v s.core).places m ∙ at))
 
   pub direct_under : (c : Component) (n : ℕ) → CoreInOrder c (turn.Run n) s.core → running_of s ≡ Some n → thread_of s id ≡ n → IfSome (running_of s) (λ n. IsDirect n s.core) → IsSome (under_of (thread_of t id) t.core)
-  direct_under c n sits runs named direct =
+  direct_under c n in_turn runs named direct =
       let d = subst (λ (o : Option ℕ). IfSome o (λ k. IsDirect k s.core)) runs direct in
-      let order = sits.order Unscripted in
+      let order = in_turn.order Unscripted in
       let here = ap is_some (order.in_place.runs n refl) in
       let below = order.directs n here d.implicit d.direct in
       written_under below.0 (below.1 ∙ ap (λ k. Some (place.Under k)) (sym named))

@@ -100,9 +100,9 @@ module _ (c : Component) (n : ℕ) (r : OpResult) (s t : StateView) (runs : runn
 
   -- what is in order at the turn of the thread that goes on is so at that of the thread that runs
   pub order_at : CoreInOrder c (turn_for (runs_after n r)) t.core → CoreInOrder c (turn_in (after r t)) (after r t).core
-  order_at sits =
+  order_at in_turn =
       subst (λ (o : Option ℕ). CoreInOrder c (turn_for o) (after r t).core) (sym (runs_then n r s t runs goes stays))
-      (subst (CoreInOrder c (turn_for (runs_after n r))) (sym (core_then r t)) sits)
+      (subst (CoreInOrder c (turn_for (runs_after n r))) (sym (core_then r t)) in_turn)
 
 -- an op that a host had the running thread do is left: it is ended, and no thread runs where the strand has stopped
 module _ (c : Component) (rule : Rule) (id : TableId ThreadKey) (n : ℕ) (r : OpResult) (s t : StateView) (did : DoesOp NamesTold rule id s r t) (number : thread_of s id ≡ n) (runs : running_of s ≡ Some n) where
@@ -126,7 +126,7 @@ module _ (c : Component) (rule : Rule) (id : TableId ThreadKey) (n : ℕ) (r : O
       (subst (λ (p : Progress). PicksFirst (preference s) p (label_of n r) s.core r left.core) (sym (alike (choice_of (label_of n r)))) left_picks)
 
   pub left_order : CoreInOrder c (turn_for (runs_after n r)) left.core → CoreInOrder c (turn_in (left_by (thread_of t id) r t)) (left_by (thread_of t id) r t).core
-  left_order sits = order_at c n r s left runs left_runs left_stays sits
+  left_order in_turn = order_at c n r s left runs left_runs left_stays in_turn
 
 -- one that changes no name, and that never stops
 module _ (id : TableId ThreadKey) (r : OpResult) (s t u : StateView) (names : SameNames s t) (going : has_stopped r ≡ false) (over : u ≡ left_by (thread_of t id) r t) where
@@ -173,8 +173,8 @@ met_progresses c o n r s t h on m =
 
 -- where nothing is changed the state is in order as before
 pub order_still : (c : Component) (n : ℕ) (s t : StateView) → running_of s ≡ Some n → CoreInOrder c (turn.Run n) s.core → t ≡ s → CoreInOrder c (turn_in t) t.core
-order_still c n s t runs sits same =
-    subst (λ (v : StateView). CoreInOrder c (turn_in v) v.core) (sym same) (subst (λ (o : Option ℕ). CoreInOrder c (turn_for o) s.core) (sym runs) sits)
+order_still c n s t runs in_turn same =
+    subst (λ (v : StateView). CoreInOrder c (turn_in v) v.core) (sym same) (subst (λ (o : Option ℕ). CoreInOrder c (turn_for o) s.core) (sym runs) in_turn)
 
 -- an op that doesn't pause has gone on, or was refused
 pub went_on : (c : Component) (o : Op) (n : ℕ) (s t : StateView) (r : OpResult) → running_of s ≡ Some n → is_at_once o ≡ true → Did (scripted_rule_of c o s.core) s r t → has_stopped r ≡ false

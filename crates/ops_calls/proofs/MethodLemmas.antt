@@ -49,12 +49,12 @@ use Rattle.ops_turns.specs.Turn.{CoreInOrder, state_at}
 use Rattle.core_primitives.specs.StateView.{StateView, thread_of, with_core}
 
 kept : (c : Component) (p q : Turn) (s t : Core) → KeepsOrder c p s q t → CoreInOrder c p s → CoreInOrder c q t
-kept c p q s t keeps sits = let r = keeps sits.order in
-    record { order = r.0; there = λ i low. r.1.instances i ∙ sits.there i low; handles = λ i low. r.1.handles i ∙ sits.handles i low }
+kept c p q s t keeps in_turn = let r = keeps in_turn.order in
+    record { order = r.0; there = λ i low. r.1.instances i ∙ in_turn.there i low; handles = λ i low. r.1.handles i ∙ in_turn.handles i low }
 
 -- n runs in t as in s
 runs_on : (c : Component) (n : ℕ) (s : StateView) (t : Core) → Rests c n s → CoreInOrder c (Turn.Run n) t → InTurn c (with_core t s)
-runs_on c n s t h sits = subst (λ (o : Option ℕ). CoreInOrder c (turn_for o) t) (sym h.runs) sits
+runs_on c n s t h in_turn = subst (λ (o : Option ℕ). CoreInOrder c (turn_for o) t) (sym h.runs) in_turn
 
 -- ---- Another thread
 
@@ -255,12 +255,12 @@ goal_apart false q = refl
 
 pub prepares_keep : PreparesKeep
 unfolding PreparesKeep PrepareKeeps
-prepares_keep c p n q b false e words s t r sits made = subst (λ (v : StateView). CoreInOrder c p v.core) (sym made.1) sits
-prepares_keep c p n q b true e words s t (Err why) sits made = subst (λ (v : StateView). CoreInOrder c p v.core) (sym made.1) sits
-prepares_keep c p n q b true e words s t (Ok id) sits made =
+prepares_keep c p n q b false e words s t r in_turn made = subst (λ (v : StateView). CoreInOrder c p v.core) (sym made.1) in_turn
+prepares_keep c p n q b true e words s t (Err why) in_turn made = subst (λ (v : StateView). CoreInOrder c p v.core) (sym made.1) in_turn
+prepares_keep c p n q b true e words s t (Ok id) in_turn made =
     subst (CoreInOrder c p) (sym made.becomes.core)
     (kept c p p s.core (call_made (Caller.Thread n) e (export_kind c e) (goal_for b q) (thread_group n s.core) words s.core)
-    (prepare_keeps c p (Caller.Thread n) e (goal_for b q) (thread_group n s.core) words s.core (goal_apart b q)) sits)
+    (prepare_keeps c p (Caller.Thread n) e (goal_for b q) (thread_group n s.core) words s.core (goal_apart b q)) in_turn)
 
 -- ---- What was prepared
 

@@ -149,7 +149,7 @@ own_steps x n s t l at plain other h row =
     (λ r b here was is. (same_place (λ k. SomeHost) x o n s t l at plain has row walked r b here was is).1) in
     with_ops kept (given_own c n t.core kept.fits)
 
-module _ (c : Component) (n : ℕ) (s t : StateView) (sits : CoreInOrder c (turn.Run n) s.core) (plain : (ends_activation (op_of c n s.core) ≡ false) × (is_data_op (op_of c n s.core) ≡ false)) where
+module _ (c : Component) (n : ℕ) (s t : StateView) (in_turn : CoreInOrder c (turn.Run n) s.core) (plain : (ends_activation (op_of c n s.core) ≡ false) × (is_data_op (op_of c n s.core) ≡ false)) where
   abbrev before : Main → State
   before m = state_at s.core m (turn.Run n)
 
@@ -161,9 +161,9 @@ module _ (c : Component) (n : ℕ) (s t : StateView) (sits : CoreInOrder c (turn
   along l p row =
       let same = host_instances (setting c) (op_of c n s.core) n (before Unscripted) (state_at t.core Unscripted p) l refl plain.1 (row Unscripted) in
       record {
-        order = λ m. own_steps (setting c) n (before m) (state_at t.core m p) l refl plain.0 plain.1 (sits.order m) (row m);
-        there = λ i low. same.instances i ∙ sits.there i low;
-        handles = λ i low. same.handles i ∙ sits.handles i low;
+        order = λ m. own_steps (setting c) n (before m) (state_at t.core m p) l refl plain.0 plain.1 (in_turn.order m) (row m);
+        there = λ i low. same.instances i ∙ in_turn.there i low;
+        handles = λ i low. same.handles i ∙ in_turn.handles i low;
       }
 
   rule_of_place : (r : OpResult) → Implements (op_rule_at c s.core n (choice_of (label_of n r))) s.core r t.core → is_going r ≡ true → (m : Main) →
@@ -175,5 +175,5 @@ module _ (c : Component) (n : ℕ) (s t : StateView) (sits : CoreInOrder c (turn
   pub host_in_order : (r : OpResult) → Implements (op_rule_at c s.core n (choice_of (label_of n r))) s.core r t.core → StaysAfter r s t → CoreInOrder c (turn_for (runs_after n r)) t.core
   host_in_order (op_result.Continues l m said) met stays = along l (turn.Run m) (rule_of_place (op_result.Continues l m said) met refl)
   host_in_order (op_result.Stops l) met stays = along l turn.Main (rule_of_place (op_result.Stops l) met refl)
-  host_in_order (op_result.Traps why) met stays = subst (λ (v : StateView). CoreInOrder c (turn.Run n) v.core) (sym stays) sits
-  host_in_order (op_result.Fails i) met stays = subst (λ (v : StateView). CoreInOrder c (turn.Run n) v.core) (sym stays) sits
+  host_in_order (op_result.Traps why) met stays = subst (λ (v : StateView). CoreInOrder c (turn.Run n) v.core) (sym stays) in_turn
+  host_in_order (op_result.Fails i) met stays = subst (λ (v : StateView). CoreInOrder c (turn.Run n) v.core) (sym stays) in_turn

@@ -42,20 +42,20 @@ use Rattle.core_primitives.specs.StateView.{StateView}
 
 -- ---- The thread that runs
 
-module _ (c : Component) (n : ℕ) (s : Core) (sits : CoreInOrder c (turn.Run n) s) where
+module _ (c : Component) (n : ℕ) (s : Core) (in_turn : CoreInOrder c (turn.Run n) s) where
   runs : place_of n s ≡ Some place.Running
-  runs = (sits.order Unscripted).in_place.runs n refl
+  runs = (in_turn.order Unscripted).in_place.runs n refl
 
   not_next : (n == next_thread s) ≡ false
   not_next = by (get s.threads n) refl runs
     where
       by : (o : Option Thread) → get s.threads n ≡ o → place_of n s ≡ Some place.Running → (n == next_thread s) ≡ false
       by None here at = absurd (grind (arith, here, at))
-      by (Some t) here at = let low = ((sits.order Unscripted).numbered.threads n t here).number in grind (arith, nat_tests, low)
+      by (Some t) here at = let low = ((in_turn.order Unscripted).numbered.threads n t here).number in grind (arith, nat_tests, low)
 
   unstarted : (k : ℕ) (o : Option Call) → get s.calls k ≡ o → is_some o ≡ true → option_map_or (λ (x : Call). x.started) o false ≡ false → is_fresh (place_of k s) ≡ true
   unstarted k None at there un = absurd (cc)
-  unstarted k (Some x) at there un = (sits.order Unscripted).starts k x at un
+  unstarted k (Some x) at there un = (in_turn.order Unscripted).starts k x at un
 
   other : (k : ℕ) (b : Bool) → (n == k) ≡ b → is_fresh (place_of k s) ≡ true → b ≡ false
   other k false e fresh = refl
@@ -68,7 +68,7 @@ module _ (c : Component) (n : ℕ) (s : Core) (sits : CoreInOrder c (turn.Run n)
   pub is_under_way : IsUnderWay n s
   is_under_way = record {
     made = not_next;
-    begun = λ h k at un. other k (n == k) refl (unstarted k (get s.calls k) refl (named_calls_there c (turn.Run n) s sits (instance_of n s) h k at) un);
+    begun = λ h k at un. other k (n == k) refl (unstarted k (get s.calls k) refl (named_calls_there c (turn.Run n) s in_turn (instance_of n s) h k at) un);
   }
 
 -- ---- By what a call answers
@@ -84,10 +84,10 @@ met_in_place n (Asks next) s t r h e = met_in_place n (next e.0) s t r (h e.0) e
 
 pub host_ops_leave_in_place : HostOpsLeaveInPlace
 unfolding HostOpsLeaveInPlace HostLeavesInPlace
-host_ops_leave_in_place c o n r s t run sits finished apart plain d =
+host_ops_leave_in_place c o n r s t run in_turn finished apart plain d =
     let does = running_is s n run (λ k. Does (scripted_rule_of c o s.core k) k s r t) d in
     met_in_place n (op_rule SomeHost c n s.core (choice_of (label_of n r)) o) s.core t.core r
-    (host_leaves_in_place c n s.core (choice_of (label_of n r)) o finished apart (is_under_way c n s.core sits) (λ is. absurd (let no = sym is ∙ plain in cc))) does.implements
+    (host_leaves_in_place c n s.core (choice_of (label_of n r)) o finished apart (is_under_way c n s.core in_turn) (λ is. absurd (let no = sym is ∙ plain in cc))) does.implements
 
 returned_in_place : (n : ℕ) (p : Progress) (s t : StateView) (r : Result (Unit {0}) TaskError) → IsInPlace n (in_script n s.core) p → Returned p s r t → in_script n t.core ≡ in_script n s.core
 returned_in_place n (Continues l new m) s t r h e = ap (λ (v : StateView). in_script n v.core) e.1 ∙ h
@@ -100,10 +100,10 @@ returned_in_place n (Asks next) s t r h e = absurd e
 
 pub returns_leave_in_place : ReturnsLeaveInPlace
 unfolding ReturnsLeaveInPlace HostLeavesInPlace
-returns_leave_in_place c n v true s t r sits apart e =
+returns_leave_in_place c n v true s t r in_turn apart e =
     returned_in_place n (ret_rule SomeHost n v e.0 s.core) s t r
-    (host_leaves_in_place c n s.core (record { woken = e.0; member = None }) (op.Task (task_op.Ret (operand.Number v))) refl refl (is_under_way c n s.core sits) (λ is. apart)) e.1
-returns_leave_in_place c n v false s t r sits apart e = returned_in_place n (ret_bad_rule n s.core) s t r (refused (has_ended (task_of n s.core) s.core)) e
+    (host_leaves_in_place c n s.core (record { woken = e.0; member = None }) (op.Task (task_op.Ret (operand.Number v))) refl refl (is_under_way c n s.core in_turn) (λ is. apart)) e.1
+returns_leave_in_place c n v false s t r in_turn apart e = returned_in_place n (ret_bad_rule n s.core) s t r (refused (has_ended (task_of n s.core) s.core)) e
   where
     refused : (b : Bool) → IsInPlace n (in_script n s.core) (trap_if b trap.TaskCancelOrReturnTwice (Traps trap.TaskReturnInvalid))
     refused true = tt

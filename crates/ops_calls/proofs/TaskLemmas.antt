@@ -69,20 +69,20 @@ module _ (x : ExportKind) (i : ℕ) (f : Option QualifiedThreadId) (s : StateVie
 
 -- ---- Order
 
-module _ (c : Component) (p : Turn) (i : ℕ) (s : StateView) (sits : CoreInOrder c p s.core) where
+module _ (c : Component) (p : Turn) (i : ℕ) (s : StateView) (in_turn : CoreInOrder c p s.core) where
   abbrev made_for : Option QualifiedThreadId → Core
   made_for f = task_made (export_kind c (first_export i)) i f s
 
   called_in_order : (u : Core) (from : Caller) (group : ℕ) → CoreInOrder c p u →
       CoreInOrder c p (call_made from (first_export i) (export_kind c (first_export i)) Goal.Nowhere group [] u)
   unfolding PrepareKeeps
-  called_in_order u from group sits =
-      let r = prepare_keeps c p from (first_export i) Goal.Nowhere group [] u refl sits.order in
-      record { order = r.0; there = λ j low. r.1.instances j ∙ sits.there j low; handles = λ j low. r.1.handles j ∙ sits.handles j low }
+  called_in_order u from group in_turn =
+      let r = prepare_keeps c p from (first_export i) Goal.Nowhere group [] u refl in_turn.order in
+      record { order = r.0; there = λ j low. r.1.instances j ∙ in_turn.there j low; handles = λ j low. r.1.handles j ∙ in_turn.handles j low }
 
   made_in_order : (f : Option QualifiedThreadId) → CoreInOrder c p (made_for f)
-  made_in_order (Some id) = called_in_order s.core (Caller.Thread (thread_of s id.thread)) (thread_group (thread_of s id.thread) s.core) sits
-  made_in_order None = called_in_order (add_group s.core) Caller.Main (s.core.made.groups + 1) (group_in_order c p s.core sits)
+  made_in_order (Some id) = called_in_order s.core (Caller.Thread (thread_of s id.thread)) (thread_group (thread_of s id.thread) s.core) in_turn
+  made_in_order None = called_in_order (add_group s.core) Caller.Main (s.core.made.groups + 1) (group_in_order c p s.core in_turn)
 
   -- so it is of the call of an export of this kind
   pub begun_in_order : (x : ExportKind) (f : Option QualifiedThreadId) → x ≡ export_kind c (first_export i) → CoreInOrder c p (task_begun x i f s)
@@ -94,6 +94,6 @@ module _ (c : Component) (p : Turn) (i : ℕ) (s : StateView) (sits : CoreInOrde
 
   pub begins_in_order : (x : ExportKind) (f : Option QualifiedThreadId) (room : Bool) (r : Result QualifiedThreadId TaskError) (t : StateView) →
       Begins x i f s room r t → x ≡ export_kind c (first_export i) → CoreInOrder c p t.core
-  begins_in_order x f false r t b kind = subst (λ (v : StateView). CoreInOrder c p v.core) (sym b.1) sits
+  begins_in_order x f false r t b kind = subst (λ (v : StateView). CoreInOrder c p v.core) (sym b.1) in_turn
   begins_in_order x f true (Ok id) t b kind = subst (CoreInOrder c p) (sym b.becomes.core) (begun_in_order x f kind)
-  begins_in_order x f true (Err why) t b kind = subst (λ (v : StateView). CoreInOrder c p v.core) (sym b.1) sits
+  begins_in_order x f true (Err why) t b kind = subst (λ (v : StateView). CoreInOrder c p v.core) (sym b.1) in_turn

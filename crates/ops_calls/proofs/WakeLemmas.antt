@@ -17,8 +17,8 @@ use Rattle.laws_places.proofs.Laws.{is_open}
 use Rattle.machine_rules.specs.Scripts.{ops_of}
 use Rattle.ops_turns.specs.Turn.{CoreInOrder, state_at}
 use Rattle.core_primitives.specs.StateView.{StateView}
-use Rattle.laws_order.proofs.GroundLemmas.{order_stands, order_stands_as}
-use Rattle.laws_order.specs.Stands.{NoWakeLost, OrderStands, OrderStandsAs}
+use Rattle.laws_order.proofs.GroundLemmas.{order_loses_no_wake, order_loses_no_wake_as}
+use Rattle.laws_order.specs.WakesKept.{NoWakeLost, OrderLosesNoWake, OrderLosesNoWakeAs}
 
 open_for : (o : Option ℕ) → is_open (turn_for o) ≡ true
 open_for None = refl
@@ -26,20 +26,20 @@ open_for (Some n) = refl
 
 -- in order, whichever the component is, no wake is lost
 pub core_in_order_loses : (c : Component) (o : Option ℕ) (s : Core) → CoreInOrder c (turn_for o) s → NoWakeLost s
-unfolding OrderStands
-core_in_order_loses c o s sits = order_stands c (state_at s Unscripted (turn_for o)) (sits.order Unscripted) (open_for o)
+unfolding OrderLosesNoWake
+core_in_order_loses c o s in_turn = order_loses_no_wake c (state_at s Unscripted (turn_for o)) (in_turn.order Unscripted) (open_for o)
 
 -- nor in order in which the thread has the op
 pub kept_loses : (c : Component) (o : Op) (n : ℕ) (r : OpResult) (t : StateView) → KeepsFor c o n r t → NoWakeLost t.core
-unfolding OrderStandsAs
-kept_loses c o n (op_result.Continues l m said) t k = order_stands_as (given n o (ops_of c t.core)) c (state_at t.core Unscripted (turn.Run m)) (k.order Unscripted) refl
-kept_loses c o n (op_result.Stops l) t k = order_stands_as (given n o (ops_of c t.core)) c (state_at t.core Unscripted turn.Main) (k.order Unscripted) refl
+unfolding OrderLosesNoWakeAs
+kept_loses c o n (op_result.Continues l m said) t k = order_loses_no_wake_as (given n o (ops_of c t.core)) c (state_at t.core Unscripted (turn.Run m)) (k.order Unscripted) refl
+kept_loses c o n (op_result.Stops l) t k = order_loses_no_wake_as (given n o (ops_of c t.core)) c (state_at t.core Unscripted turn.Main) (k.order Unscripted) refl
 kept_loses c o n (op_result.Traps why) t k = core_in_order_loses c (running_of t) t.core k
 kept_loses c o n (op_result.Fails i) t k = core_in_order_loses c (running_of t) t.core k
 
 done_loses : (c : Component) (o : Op) (n : ℕ) (r : OpResult) (t : StateView) → KeepsDone c o n r t → NoWakeLost t.core
-unfolding OrderStandsAs
-done_loses c o n (op_result.Stops l) t k = order_stands_as (given n o (ops_of c t.core)) c (state_at t.core Unscripted turn.Main) (k.order Unscripted) refl
+unfolding OrderLosesNoWakeAs
+done_loses c o n (op_result.Stops l) t k = order_loses_no_wake_as (given n o (ops_of c t.core)) c (state_at t.core Unscripted turn.Main) (k.order Unscripted) refl
 done_loses c o n (op_result.Continues l m said) t k = core_in_order_loses c (running_of t) t.core k
 done_loses c o n (op_result.Traps why) t k = core_in_order_loses c (running_of t) t.core k
 done_loses c o n (op_result.Fails i) t k = core_in_order_loses c (running_of t) t.core k

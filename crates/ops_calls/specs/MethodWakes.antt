@@ -15,7 +15,7 @@ use Rattle.ops_guests.specs.declared.op_result.OpResult.{OpResult}
 use Rattle.machine_rules.specs.OpParts.{ends_activation, is_data_op}
 use Rattle.machine_rules.specs.Scripts.{export_kind}
 use Rattle.core_primitives.specs.StateView.{StateView, thread_of, with_core, with_current}
-use Rattle.laws_order.specs.Stands.{NoWakeLost}
+use Rattle.laws_order.specs.WakesKept.{NoWakeLost}
 
 -- where n did any op but one on registers and memory cells or one that ends an activation, as far as it came, no wake is lost
 unfoldable pub OpsLoseNone : Type 0

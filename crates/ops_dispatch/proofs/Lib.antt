@@ -9,6 +9,6 @@ pub mod OpLemmas
 pub mod CallLemmas
 pub mod InPlaceLemmas
 pub mod LeavesLemmas
-pub mod StandsLemmas
+pub mod BeforeEndLemmas
 pub mod HaltLemmas
 pub mod EndLemmas

@@ -27,8 +27,8 @@ abbrev pub scripted_rule_of : Component → Op → TableId ThreadKey → StateVi
 scripted_rule_of c o id s r = scripted_op_rule c (thread_of s id) s.core (choice_of (label_of (thread_of s id) r)) o
 
 -- the thread is before the end of its script
-abbrev pub StandsBefore : (end : ℕ) → Component → ℕ → Core → Type 0
-StandsBefore end c n s = (position_of n s < end) × (length (script_of c n s) ≡ end)
+abbrev pub IsBeforeEnd : (end : ℕ) → Component → ℕ → Core → Type 0
+IsBeforeEnd end c n s = (position_of n s < end) × (length (script_of c n s) ≡ end)
 
 -- The op was done and ended: t is what its rule says, a thread that goes on runs, and what polled is so.
 pub record DidOp (answer : HostPoll) (c : Component) (o : Op) (id : TableId ThreadKey) (s : StateView) (done : Done) (t : StateView) : Type 0 where

@@ -1,5 +1,5 @@
 //! An op of the running thread, by its group.
-ghost use Rattle.ops_dispatch.specs.Did.{DidOp, StandsBefore};
+ghost use Rattle.ops_dispatch.specs.Did.{DidOp, IsBeforeEnd};
 ghost use Rattle.ops_dispatch.specs.Fits.{HasInstances, is_data_op, is_plain, op_fits};
 ghost use Rattle.ops_dispatch.specs.ContinuesDispatch.{DoesOp, given};
 ghost use Rattle.ops_dispatch.specs.Makes.{makes, takes_memory};
@@ -90,7 +90,7 @@ pub fn do_op<W: Primitives>(
     requires runner { Runner thread (W.view w.old) }
     requires fits { op_fits component.now op.now ≡ true }
     requires instances { HasInstances component.now (W.view w.old).core }
-    requires within { StandsBefore end component.now (thread_of (W.view w.old) thread) (W.view w.old).core }
+    requires within { IsBeforeEnd end component.now (thread_of (W.view w.old) thread) (W.view w.old).core }
     requires handles { is_some (get (W.view w.old).core.handles (instance_of (thread_of (W.view w.old) thread) (W.view w.old).core)) ≡ true }
     requires few { makes (op_progress_of (thread_of (W.view w.old) thread) (W.view w.old).core) op.now ≡ true → given (W.view w.old).core < 2 ^ 61 }
     ensures did { IfOk result (λ done. DidOp answer component.now op.now thread (W.view w.old) done (W.view w.new)) }

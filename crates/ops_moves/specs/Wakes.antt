@@ -1,4 +1,4 @@
--- What a wake makes of a state; ids stand for what they name.
+-- What a wake makes of a state; each id is read as what it names.
 use Rattle.std.specs.Prelude.{◌≡◌, Option, true}
 use Rattle.task_table.specs.declared.id.TableId.{TableId}
 use Rattle.task_wait.specs.declared.keys.SetKey.{SetKey}

@@ -22,7 +22,7 @@ use Rattle.task_wait.specs.declared.keys.SetKey.{SetKey}
 use Rattle.task_wait.specs.declared.keys.ThreadKey.{ThreadKey}
 use Rattle.core_primitives.specs.StateView.{StateView, on_core, set_of, thread_of}
 use Rattle.laws_order.proofs.{MoveLemmas.give_keeps, MoveLemmas.join_keeps, MoveLemmas.publish_keeps, MoveLemmas.take_keeps, MoveLemmas.wake_keeps, PopLemmas.pop_keeps, StopLemmas.stop_keeps, ThreadLemmas.end_keeps, ThreadLemmas.run_keeps, ThreadLemmas.suspend_keeps, ThreadLemmas.suspended_runs}
-use Rattle.laws_order.specs.Stands.{EndKeeps, GiveKeeps, JoinKeeps, MayComeToRun, MayLeave, NoWakeLost, PopKeeps, PublishKeeps, RunKeeps, StopKeeps, SuspendKeeps, TakeKeeps, WakeKeeps}
+use Rattle.laws_order.specs.WakesKept.{EndKeeps, GiveKeeps, JoinKeeps, MayComeToRun, MayLeave, NoWakeLost, PopKeeps, PublishKeeps, RunKeeps, StopKeeps, SuspendKeeps, TakeKeeps, WakeKeeps}
 
 core_kept : (f : Core → Core) (s t : StateView) → t ≡ on_core f s → (NoWakeLost s.core → NoWakeLost (f s.core)) → NoWakeLost s.core → NoWakeLost t.core
 core_kept f s t e keeps h = subst (λ (v : StateView). NoWakeLost v.core) (sym e) (keeps h)

@@ -43,7 +43,7 @@ use Rattle.task_table.specs.declared.id.TableId.{TableId}
 use Rattle.task_wait.specs.declared.keys.SetKey.{SetKey}
 use Rattle.task_wait.specs.declared.keys.ThreadKey.{ThreadKey}
 use Rattle.core_primitives.specs.StateView.{StateView, on_core, set_of, thread_of}
-use Rattle.laws_order.specs.Stands.{NoWakeLost}
+use Rattle.laws_order.specs.WakesKept.{NoWakeLost}
 
 -- what a move keeps the call that makes it keeps
 by_move : (f : Core → Core) (s t : StateView) → t ≡ on_core f s → StaysInOrder s.core (f s.core) → StaysInOrder s.core t.core

@@ -13,7 +13,7 @@ use Rattle.task_table.specs.Table.{is_number}
 use Rattle.task_table.specs.declared.id.TableId.{TableId}
 use Rattle.task_wait.specs.declared.keys.ThreadKey.{ThreadKey}
 use Rattle.core_primitives.specs.StateView.{StateView, call_of, on_core, thread_of, with_current}
-use Rattle.laws_order.specs.Stands.{MayComeToRun, MaySuspend}
+use Rattle.laws_order.specs.WakesKept.{MayComeToRun, MaySuspend}
 
 -- the thread's id, if one is named
 abbrev pub thread_in : CurrentThread → Option (TableId ThreadKey)

@@ -3,7 +3,7 @@ ghost use Rattle.laws_order.specs.KeptOrder.{TurnsInOrder};
 ghost use Rattle.std.specs.Prelude.{◌≡◌, IfOk, OnErr};
 ghost use Rattle.ops_state.specs.Currents.{IsCurrent, LeavesNobody, MayRun, left_for, now_runs, number_in, runner, thread_in, LosesNoWakeFor};
 ghost use Rattle.core_primitives.specs.StateView.{on_core};
-ghost use Rattle.laws_order.specs.Stands.{KeepsWakes};
+ghost use Rattle.laws_order.specs.WakesKept.{KeepsWakes};
 
 use crate::error::TaskError;
 use crate::name_calls::QualifiedThreadId;

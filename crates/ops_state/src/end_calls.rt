@@ -5,7 +5,7 @@ ghost use Rattle.ops_state.specs.Ends.{MayEnd, EndsThread};
 ghost use Rattle.ops_state.specs.Named.{IsLive};
 ghost use Rattle.machine_rules.specs.Ends.{leaves_no_result};
 ghost use Rattle.core_primitives.specs.StateView.{thread_of};
-ghost use Rattle.laws_order.specs.Stands.{MayLeave, NoWakeLost};
+ghost use Rattle.laws_order.specs.WakesKept.{MayLeave, NoWakeLost};
 
 use crate::error::TaskError;
 use crate::name_calls::QualifiedThreadId;

@@ -11,7 +11,7 @@ ghost use Rattle.machine_rules.specs.Places.{Placed};
 ghost use Rattle.machine_rules.specs.Primitives.{put_at};
 ghost use Rattle.core_primitives.specs.Names.{delivery_in, why_in};
 ghost use Rattle.core_primitives.specs.StateView.{on_core, thread_of};
-ghost use Rattle.laws_order.specs.Stands.{NoWakeLost};
+ghost use Rattle.laws_order.specs.WakesKept.{NoWakeLost};
 
 use crate::error::TaskError;
 use crate::name_calls::{QualifiedThreadId, qualified};

@@ -8,7 +8,7 @@ ghost use Rattle.machine_data.specs.Write.{set_event};
 ghost use Rattle.ops_moves.specs.Idle.{AreIdleUnqueued, IsJoinThere};
 ghost use Rattle.task_wait.specs.declared.codes.Event.TheVariants as events;
 ghost use Rattle.core_primitives.specs.StateView.{on_core};
-ghost use Rattle.laws_order.specs.Stands.{NoWakeLost};
+ghost use Rattle.laws_order.specs.WakesKept.{NoWakeLost};
 
 use crate::error::TaskError;
 use crate::join_calls::wake_member;

@@ -6,7 +6,7 @@ ghost use Rattle.machine_data.specs.Moves.{picked_task_event_of, taken_own};
 ghost use Rattle.machine_data.specs.Write.{set_event};
 ghost use Rattle.core_primitives.specs.Names.{subtask_in};
 ghost use Rattle.core_primitives.specs.StateView.{call_of, on_core, set_of, set_if_any};
-ghost use Rattle.laws_order.specs.Stands.{NoWakeLost};
+ghost use Rattle.laws_order.specs.WakesKept.{NoWakeLost};
 
 use core_primitives::{CallId, Primitives, SetId, SubtaskId};
 use machine_data::{Status, TaskEvent};

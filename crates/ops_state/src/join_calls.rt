@@ -9,7 +9,7 @@ ghost use Rattle.machine_rules.specs.Sets.{joins, may_wake_new, wakes_joined};
 ghost use Rattle.core_primitives.specs.Apart.{IsUnqueued};
 ghost use Rattle.core_primitives.specs.Names.{join_in, subtask_in};
 ghost use Rattle.core_primitives.specs.StateView.{on_core, set_of, thread_of, set_if_any, thread_if_any};
-ghost use Rattle.laws_order.specs.Stands.{NoWakeLost};
+ghost use Rattle.laws_order.specs.WakesKept.{NoWakeLost};
 
 use crate::error::TaskError;
 use crate::name_calls::{QualifiedThreadId, qualified_waiter, subtask_of};

@@ -4,7 +4,7 @@ ghost use Rattle.ops_state.specs.Named.{IsLive};
 ghost use Rattle.machine_data.specs.Moves.{stopped};
 ghost use Rattle.ops_moves.specs.Stops.{MayStop};
 ghost use Rattle.core_primitives.specs.StateView.{on_core, thread_of};
-ghost use Rattle.laws_order.specs.Stands.{NoWakeLost};
+ghost use Rattle.laws_order.specs.WakesKept.{NoWakeLost};
 ghost use Rattle.ops_state.specs.Stopping.{StopsInOrder};
 
 use crate::error::TaskError;

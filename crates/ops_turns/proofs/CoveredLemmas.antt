@@ -72,7 +72,7 @@ module _ (c : Component) (f : Callee) where
 
   -- the instance of an export is there
   pub home_there : (p : Turn) (s : Core) → CoreInOrder c p s → IsSome (export_at c f) → IsSome (get s.instances f.instance)
-  home_there p s sits there = sits.there f.instance (below (slice_get c.instances f.instance) refl there)
+  home_there p s in_turn there = in_turn.there f.instance (below (slice_get c.instances f.instance) refl there)
 
   nothing : (p : ℕ) (o : Op) → slice_get {X = Op} [] p ≡ Some o → ⊥
   nothing p o e = absurd (cc)

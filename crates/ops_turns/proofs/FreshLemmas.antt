@@ -1,4 +1,4 @@
--- The core of a new store sits at main's turn.
+-- The core of a new store is in order at main's turn.
 use Rattle.std.proofs.Common.{arith, refl}
 use Rattle.std.proofs.lemmas.Bool.Decides.{nat_tests}
 use Rattle.std.specs.Prelude.{is_some, length, true, ℕ, ◌<◌, ◌≡◌, ◌≤◌}

@@ -51,33 +51,33 @@ at_turn_of c s m k p q runs b awake o = turned (state_at s m p) o k q runs b awa
 
 -- a step from such a core leads to one, with each part of main
 pub core_in_order_after : (x : Setting) (s t : Core) (m k : Main) (p q : Turn) (l : Label) → CoreInOrder x.component p s → Step x (state_at s m p) l (state_at t k q) → CoreInOrder x.component q t
-core_in_order_after x s t m k p q l sits step =
-    let after = step_in_order x (state_at s m p) l (state_at t k q) (sits.order m) step in
+core_in_order_after x s t m k p q l in_turn step =
+    let after = step_in_order x (state_at s m p) l (state_at t k q) (in_turn.order m) step in
     record {
       order = λ j. at_turn_of x.component t k j q q after.in_place.runs (is_open q) after.awake after;
-      there = λ i below. instances_stay x (state_at s m p) l (state_at t k q) step i ∙ sits.there i below;
-      handles = λ i below. handle_tables_stay x (state_at s m p) l (state_at t k q) step i ∙ sits.handles i below;
+      there = λ i below. instances_stay x (state_at s m p) l (state_at t k q) step i ∙ in_turn.there i below;
+      handles = λ i below. handle_tables_stay x (state_at s m p) l (state_at t k q) step i ∙ in_turn.handles i below;
     }
 
 pub made_in_order : MadeInOrder
-made_in_order c p s made t sits makes = core_in_order_after (setting c) s.core t.core Unscripted Unscripted p made.turn made.label sits (makes.step (setting c) refl Unscripted)
+made_in_order c p s made t in_turn makes = core_in_order_after (setting c) s.core t.core Unscripted Unscripted p made.turn made.label in_turn (makes.step (setting c) refl Unscripted)
 
 -- An act of main that takes no running thread away is a step in main's turn. While another turn is, no more than order in that turn
 -- is known before it.
 pub acted : (c : Component) (p : Turn) (act : MainAct) (l : MainLabel) (s t : Core) → may_act c s act ≡ true → main_rule c 1 s act ≡ Does l t → ((n : ℕ) → place_of n s ≡ Some place.Running → place_of n t ≡ Some place.Running) → (Awake p s → Awake p t) → CoreInOrder c p s → CoreInOrder c p t
 unfolding Step at_turn
-acted c p act l s t may row kept stays sits =
+acted c p act l s t may row kept stays in_turn =
     let u = state_at s Unscripted turn.Main in
     let v = state_at t Unscripted turn.Main in
-    let before : InOrderIf false c u = at_turn_of c s Unscripted Unscripted p turn.Main (λ n e. absurd (cc)) false (λ e. absurd (cc)) (sits.order Unscripted) in
+    let before : InOrderIf false c u = at_turn_of c s Unscripted Unscripted p turn.Main (λ n e. absurd (cc)) false (λ e. absurd (cc)) (in_turn.order Unscripted) in
     let shown : OpenProgresses u (main_rule c 1 s act) (label.Main l) v =
     subst (λ (q : MainProgress). OpenProgresses u q (label.Main l) v) (sym row) (refl, refl) in
     let step : Step (setting c) u (label.Main l) v = (1, (act, (may, shown))) in
     let after = step_kept (setting c) u (label.Main l) v before step (λ n e. absurd (cc)) false (λ e. absurd (cc)) in
     record {
-      order = λ m. at_turn_of c t Unscripted m turn.Main p (λ n e. kept n ((sits.order m).in_place.runs n e)) (is_open p) (λ e. stays ((sits.order m).awake e)) after;
-      there = λ i below. instances_stay (setting c) u (label.Main l) v step i ∙ sits.there i below;
-      handles = λ i below. handle_tables_stay (setting c) u (label.Main l) v step i ∙ sits.handles i below;
+      order = λ m. at_turn_of c t Unscripted m turn.Main p (λ n e. kept n ((in_turn.order m).in_place.runs n e)) (is_open p) (λ e. stays ((in_turn.order m).awake e)) after;
+      there = λ i below. instances_stay (setting c) u (label.Main l) v step i ∙ in_turn.there i below;
+      handles = λ i below. handle_tables_stay (setting c) u (label.Main l) v step i ∙ in_turn.handles i below;
     }
 
 -- a thread that is there stays where it is
@@ -146,24 +146,24 @@ started_counted c e words s placed = counted_stay (started_waits c e words s) (s
     (λ y j on. started_woken c e words s y j (λ there. given_apart j s.made.threads ((placed j).number there)) on)
 
 pub start_in_order : StartInOrder
-start_in_order c p e words s takes free sits =
+start_in_order c p e words s takes free in_turn =
     acted c p (Start e words) (main_label.Start 1 (s.made.threads + 1)) s (main_started c e words s) takes (ap (start_act c 1 e words s) free)
-    (λ n at. started_place c e words s n (given_apart n s.made.threads (((sits.order Unscripted).in_place.placed n).number (there n at))) ∙ at)
-    (awake_stays p same (sits.order Unscripted).strands (λ n is. started_at c e words s n place.Running refl is) (started_there c e words s) (started_blocked c e words s)
-    (started_counted c e words s (sits.order Unscripted).in_place.placed)) sits
+    (λ n at. started_place c e words s n (given_apart n s.made.threads (((in_turn.order Unscripted).in_place.placed n).number (there n at))) ∙ at)
+    (awake_stays p same (in_turn.order Unscripted).strands (λ n is. started_at c e words s n place.Running refl is) (started_there c e words s) (started_blocked c e words s)
+    (started_counted c e words s (in_turn.order Unscripted).in_place.placed)) in_turn
   where
     there : (n : ℕ) → place_of n s ≡ Some place.Running → is_there n s ≡ true
     there n at = ap is_some at
 
     same : SamePlaces s (main_started c e words s)
-    same = started_same c e words s (sits.order Unscripted).in_place.placed
+    same = started_same c e words s (in_turn.order Unscripted).in_place.placed
 
 pub refusal_in_order : RefusalInOrder
 unfolding set_trapped
-refusal_in_order c p e words why s takes refused sits =
-    acted c p (Start e words) (main_label.StartRefused why 1) s (set_trapped s) takes (ap (start_act c 1 e words s) refused) (λ n at. at) (beside_awake (set_trapped s) s p) sits
+refusal_in_order c p e words why s takes refused in_turn =
+    acted c p (Start e words) (main_label.StartRefused why 1) s (set_trapped s) takes (ap (start_act c 1 e words s) refused) (λ n at. at) (beside_awake (set_trapped s) s p) in_turn
 
 pub finish_in_order : FinishInOrder
 unfolding take_result
-finish_in_order c p k v s found sits =
-    acted c p (Finish (Began k)) (main_label.Finish 1 v) s (take_result k s) refl (ap (finish_result 1 k s) found) (λ n at. at) (beside_awake (take_result k s) s p) sits
+finish_in_order c p k v s found in_turn =
+    acted c p (Finish (Began k)) (main_label.Finish 1 v) s (take_result k s) refl (ap (finish_result 1 k s) found) (λ n at. at) (beside_awake (take_result k s) s p) in_turn

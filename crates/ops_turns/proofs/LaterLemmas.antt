@@ -21,13 +21,13 @@ use Rattle.core_primitives.specs.StateView.{StateView, Tags, work_number, work_o
 
 pub last_by_names : (x : Setting) (p q : Turn) (m n : Main) (l : Label) (s t : StateView) → CoreInOrder x.component p s.core → Step x (state_at s.core m p) l (state_at t.core n q) → NamesWorks s t → WorksLast s t
 unfolding SpawnsStay
-last_by_names x p q m n l s t sits step names = record {
+last_by_names x p q m n l s t in_turn step names = record {
   names = names;
-  spawns = λ i is. spawns_stay x (state_at s.core m p) l (state_at t.core n q) (sits.order m) step i is;
+  spawns = λ i is. spawns_stay x (state_at s.core m p) l (state_at t.core n q) (in_turn.order m) step i is;
 }
 
 pub last_by_step : (x : Setting) (p q : Turn) (m n : Main) (l : Label) (s t : StateView) → CoreInOrder x.component p s.core → Step x (state_at s.core m p) l (state_at t.core n q) → KeepsWorks s t → WorksLast s t
-last_by_step x p q m n l s t sits step names = last_by_names x p q m n l s t sits step (λ id live. inl (names id live))
+last_by_step x p q m n l s t in_turn step names = last_by_names x p q m n l s t in_turn step (λ id live. inl (names id live))
 
 pub last_same : (s t : StateView) → t ≡ s → WorksLast s t
 last_same s t e = record {
@@ -42,8 +42,8 @@ last_by_works s t same = record {
 }
 
 pub last_by_turned : (x : Setting) (p : Turn) (m n : Main) (s t : StateView) (o : Option MadeStep) → CoreInOrder x.component p s.core → Turned x p m s o n t → KeepsWorks s t → WorksLast s t
-last_by_turned x p m n s t (Some made) sits turned names = last_by_step x p made.turn m n made.label s t sits turned.step names
-last_by_turned x p m n s t None sits turned names = last_same s t turned.1.1
+last_by_turned x p m n s t (Some made) in_turn turned names = last_by_step x p made.turn m n made.label s t in_turn turned.step names
+last_by_turned x p m n s t None in_turn turned names = last_same s t turned.1.1
 
 pub last_by_core : (s t : StateView) → t.core ≡ s.core → KeepsWorks s t → WorksLast s t
 last_by_core s t e names = record {

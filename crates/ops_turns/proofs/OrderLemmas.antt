@@ -69,9 +69,9 @@ thread_at (Some t) e = (t, refl)
 
 -- ---- Sets
 
-module _ (c : Component) (p : Turn) (s : Core) (sits : CoreInOrder c p s) where
+module _ (c : Component) (p : Turn) (s : Core) (in_turn : CoreInOrder c p s) where
   known : InOrder c (state_at s Unscripted p)
-  known = sits.order Unscripted
+  known = in_turn.order Unscripted
 
   members_at : (i x : ℕ) → IsOf i x s → MembersNamed i x s
   members_at i x home = members_named s known.joins_named known.names known.works_known i x home
@@ -163,9 +163,9 @@ module _ (c : Component) (p : Turn) (s : Core) (sits : CoreInOrder c p s) where
       same_home : (i j : ℕ) (o : Option ℕ) → o ≡ Some i → o ≡ Some j → i ≡ j
       same_home i j o a b = cc
 
-module _ (c : Component) (n : ℕ) (s : StateView) (sits : CoreInOrder c (turn.Run n) s.core) where
+module _ (c : Component) (n : ℕ) (s : StateView) (in_turn : CoreInOrder c (turn.Run n) s.core) where
   order : InOrder c (state_at s.core Unscripted (turn.Run n))
-  order = sits.order Unscripted
+  order = in_turn.order Unscripted
 
   at : place_of n s.core ≡ Some place.Running
   at = order.in_place.runs n refl
@@ -180,10 +180,10 @@ module _ (c : Component) (n : ℕ) (s : StateView) (sits : CoreInOrder c (turn.R
     sets = λ i h x e. some_from _ (get s.core.sets x) i (order.sets_named.home i h x e);
     join = λ x e. let j = order.joins_named.joins (subtask.Guest (task_of (thread_of s id) s.core)) x e in some_from _ (get s.core.sets x) j.instance j.home;
     under = λ implicit direct. let below = order.directs (thread_of s id) (ap is_some runs) implicit direct in under_found (thread_of s id) below.0 s.core below.1;
-    members = all_members_named c (turn.Run n) s.core sits (instance_of (thread_of s id) s.core);
-    under_way = under_way c (turn.Run n) s.core sits (thread_of s id) runs;
-    together = waiters_together c (turn.Run n) s.core sits;
-    calls = named_calls_there c (turn.Run n) s.core sits;
+    members = all_members_named c (turn.Run n) s.core in_turn (instance_of (thread_of s id) s.core);
+    under_way = under_way c (turn.Run n) s.core in_turn (thread_of s id) runs;
+    together = waiters_together c (turn.Run n) s.core in_turn;
+    calls = named_calls_there c (turn.Run n) s.core in_turn;
     starts = order.starts;
     waiting = (order.awake refl).starts_there;
     works = order.works;

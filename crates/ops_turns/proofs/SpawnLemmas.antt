@@ -32,9 +32,9 @@ use Rattle.ops_turns.specs.Turn.{CoreInOrder, state_at}
 abbrev with_hosts : List HostDef → Component → Component
 with_hosts hs c = record c { hosts = hs }
 
-sits_with : (c : Component) (hs : List HostDef) (p : Turn) (s : Core) → CoreInOrder c p s → CoreInOrder (with_hosts hs c) p s
+in_turn_with : (c : Component) (hs : List HostDef) (p : Turn) (s : Core) → CoreInOrder c p s → CoreInOrder (with_hosts hs c) p s
 unfolding op_of script_of
-sits_with c hs p s h = record { order = λ m. of_hosts hs c (state_at s m p) (h.order m); there = h.there; handles = h.handles }
+in_turn_with c hs p s h = record { order = λ m. of_hosts hs c (state_at s m p) (h.order m); there = h.there; handles = h.handles }
 
 module _ (host : HostDef) (s : Core) where
   t : Core
@@ -66,12 +66,12 @@ module _ (host : HostDef) (s : Core) where
 
 pub spawn_in_order : SpawnInOrder
 unfolding t main_spawned work_queued push_high add_work count_work
-spawn_in_order c p host s sits =
+spawn_in_order c p host s in_turn =
     let d = with_hosts (host ∷ []) c in
-    sits_with d c.hosts p (work_queued work_caller.Spawn host None s)
+    in_turn_with d c.hosts p (work_queued work_caller.Spawn host None s)
     (acted d p (Spawn 0) (main_label.Spawn 1 (next_work s)) s (work_queued work_caller.Spawn host None s) refl refl (λ n at. at)
-    (awake_stays p (same host s) (sits.order Unscripted).strands (λ n at. at) (λ there. there) (blocked_stay (λ n sub at. at) (event_stays host s) (live_stays host s)) (counted host s))
-    (sits_with c (host ∷ []) p s sits))
+    (awake_stays p (same host s) (in_turn.order Unscripted).strands (λ n at. at) (λ there. there) (blocked_stay (λ n sub at. at) (event_stays host s) (live_stays host s)) (counted host s))
+    (in_turn_with c (host ∷ []) p s in_turn))
 
 module _ (i : ℕ) (s : Core) where
   u : Core
@@ -102,6 +102,6 @@ module _ (i : ℕ) (s : Core) where
 
 pub abort_in_order : AbortInOrder
 unfolding u main_aborted set_phase on_work
-abort_in_order c p i s is sits =
+abort_in_order c p i s is in_turn =
     acted c p (Abort i) (main_label.Abort (phase_of i s) 1) s (main_aborted i s) is refl (λ n at. at)
-    (awake_stays p (same_places i s) (sits.order Unscripted).strands (λ n at. at) (λ there. there) (blocked_stay (λ n sub at. at) (events_kept i s) (live_kept i s)) (wakes_kept i s)) sits
+    (awake_stays p (same_places i s) (in_turn.order Unscripted).strands (λ n at. at) (λ there. there) (blocked_stay (λ n sub at. at) (events_kept i s) (live_kept i s)) (wakes_kept i s)) in_turn

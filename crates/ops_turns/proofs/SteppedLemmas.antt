@@ -105,7 +105,7 @@ module _ (id : TableId ThreadKey) (s t : StateView) (stepped : StepResult) (befo
         running = h.shown.running;
         over = h.shown.over;
       } in
-      (made, (h.shown.stands, (makes, after_free h.op_result)))
+      (made, (h.shown.in_trace, (makes, after_free h.op_result)))
 
 module _ (id : TableId ThreadKey) (s t : StateView) where
   -- what it picked, by the label that its thread shows
@@ -174,7 +174,7 @@ take_added c ended mark id n s u v t r stepped before after number base next imp
       running = shown.running;
       over = shown.over;
     } in
-    (made, (shown.stands, (makes, after_free r)))
+    (made, (shown.in_trace, (makes, after_free r)))
 
 -- ---- An entry that was taken
 

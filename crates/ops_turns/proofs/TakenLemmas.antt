@@ -113,9 +113,9 @@ popped_join mark.Switch n s all = all (subtask.Guest (task_of n s))
 popped_join mark.High n s all = all (subtask.Guest (task_of n s))
 popped_join mark.Low n s all = all (subtask.Guest (task_of n s))
 
-module _ (c : Component) (ended : Bool) (s : Core) (sits : CoreInOrder c (turn.Take ended) s) (none : get s.threads 0 ≡ None) where
+module _ (c : Component) (ended : Bool) (s : Core) (in_turn : CoreInOrder c (turn.Take ended) s) (none : get s.threads 0 ≡ None) where
   order : InOrder c (state_at s Unscripted (turn.Take ended))
-  order = sits.order Unscripted
+  order = in_turn.order Unscripted
 
   joined : (sub : Subtask) → IsJoinThere sub s
   joined sub x e = let j = order.joins_named.joins sub x e in some_from _ (get s.sets x) j.instance j.home
@@ -160,15 +160,15 @@ queued_members : (q : Queues) (i x : ℕ) (s : Core) → MembersNamed i x s → 
 queued_members q i x s h (subtask.Guest k) ready = h (subtask.Guest k) ready
 queued_members q i x s h (subtask.Host j) ready = h (subtask.Host j) ready
 
-module _ (c : Component) (ended : Bool) (s : Core) (sits : CoreInOrder c (turn.Take ended) s) where
+module _ (c : Component) (ended : Bool) (s : Core) (in_turn : CoreInOrder c (turn.Take ended) s) where
   home : (n x : ℕ) → delivered_set (why_of n s) ≡ Some x → IsOf (instance_of n s) x s
-  home n x e = (sits.order Unscripted).waits.by_place n x (delivered_place (place_of n s) x e)
+  home n x e = (in_turn.order Unscripted).waits.by_place n x (delivered_place (place_of n s) x e)
 
   there : (n x : ℕ) → delivered_set (why_of n s) ≡ Some x → is_some (get s.sets x) ≡ true
   there n x e = some_from _ (get s.sets x) (instance_of n s) (home n x e)
 
   members : (n x : ℕ) → delivered_set (why_of n s) ≡ Some x → MembersNamed (instance_of n s) x s
-  members n x e = let o = sits.order Unscripted in members_named s o.joins_named o.names o.works_known (instance_of n s) x (home n x e)
+  members n x e = let o = in_turn.order Unscripted in members_named s o.joins_named o.names o.works_known (instance_of n s) x (home n x e)
 
   pub finds : (m : Mark) (n : ℕ) → FindsSet n (popped m s)
   unfolding popped set_switch set_high set_low
@@ -178,9 +178,9 @@ module _ (c : Component) (ended : Bool) (s : Core) (sits : CoreInOrder c (turn.T
 
 -- ---- The entry of an ended host work
 
-module _ (c : Component) (ended : Bool) (s : Core) (sits : CoreInOrder c (turn.Take ended) s) (none : get s.works 0 ≡ None) where
+module _ (c : Component) (ended : Bool) (s : Core) (in_turn : CoreInOrder c (turn.Take ended) s) (none : get s.works 0 ≡ None) where
   known : InOrder c (state_at s Unscripted (turn.Take ended))
-  known = sits.order Unscripted
+  known = in_turn.order Unscripted
 
   some_stands : (i : ℕ) (es es' : List Entry) → es ≡ entry.Host i ∷ es' → 1 ≤ stands (is_host_of i) es
   some_stands i es es' e = let x = ap (stands (is_host_of i)) e in let y = ap one_if (eq_refl i) in omega (arith, x, y)

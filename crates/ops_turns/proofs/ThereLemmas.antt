@@ -22,14 +22,14 @@ some_eq a b h = cc
 
 -- It has the turn.
 pub core_in_order_there : (c : Component) (p : Turn) (t : StateView) → CoreInOrder c p t.core → running_of t ≡ runs_in p → RunnerThere t
-core_in_order_there c (turn.Run k) t sits runs n e =
-    let at = (sits.order Unscripted).in_place.runs k refl in
+core_in_order_there c (turn.Run k) t in_turn runs n e =
+    let at = (in_turn.order Unscripted).in_place.runs k refl in
     subst (λ m. is_some (get t.core.threads m) ≡ true) (some_eq k n (sym runs ∙ e))
     (some_from (λ (x : Thread). x.place) (get t.core.threads k) place.Running at)
-core_in_order_there c turn.Main t sits runs n e = none_some runs e
-core_in_order_there c (turn.Futures k) t sits runs n e = none_some runs e
-core_in_order_there c (turn.Take b) t sits runs n e = none_some runs e
-core_in_order_there c turn.Over t sits runs n e = none_some runs e
+core_in_order_there c turn.Main t in_turn runs n e = none_some runs e
+core_in_order_there c (turn.Futures k) t in_turn runs n e = none_some runs e
+core_in_order_there c (turn.Take b) t in_turn runs n e = none_some runs e
+core_in_order_there c turn.Over t in_turn runs n e = none_some runs e
 
 -- where none runs
 pub idle_there : (t : StateView) → t.current ≡ None → RunnerThere t
@@ -38,9 +38,9 @@ idle_there t idle n e = none_some (ap (option_map (λ i. thread_of t i)) idle) e
 -- after an entry was taken
 pub took_there : (c : Component) (ended : Bool) (s t : StateView) → CoreInOrder c (turn.Take ended) s.core → (q : StepResult) (before after : List Label)
     → TookShown c ended s before (Some q) t after → RunnerThere t
-took_there c ended s t sits q before after h =
+took_there c ended s t in_turn q before after h =
     let makes = h.1.1.0 in
-    core_in_order_there c h.0.turn t (made_in_order c (turn.Take ended) s h.0 t sits makes) makes.running
+    core_in_order_there c h.0.turn t (made_in_order c (turn.Take ended) s h.0 t in_turn makes) makes.running
 
 -- which is no matter of main
 pub took_beside : (c : Component) (b ended : Bool) (s : StateView) (before : List Label) (q : StepResult) (t : StateView) (after : List Label)

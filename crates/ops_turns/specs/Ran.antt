@@ -1,6 +1,6 @@
 -- What a step of the running thread did, which host it polled first, and which work it made.
 use Rattle.std.specs.Prelude.{None, Option, Some, true, ℕ, ◌+◌, ◌<◌, ◌^◌, ◌≡◌, ◌⊎◌}
-pub use Rattle.ops_dispatch.specs.Did.{DidOp, StandsBefore, scripted_rule_of}
+pub use Rattle.ops_dispatch.specs.Did.{DidOp, IsBeforeEnd, scripted_rule_of}
 use Rattle.ops_dispatch.specs.ContinuesDispatch.{given}
 use Rattle.ops_dispatch.specs.Makes.{makes, takes_memory}
 use Rattle.ops_dispatch.specs.Polls.{polled_host}

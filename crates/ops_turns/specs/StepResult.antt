@@ -44,12 +44,12 @@ turn_of (stepped.Computes n) = turn.Run n
 turn_of stepped.Over = turn.Over
 
 -- The label of the step was added, and it is told whose turn it is then.
-abbrev pub Stands : StepResult → List Label → MadeStep → List Label → Type 0
-Stands stepped before made after = (after ≡ before ++ made.label ∷ []) × (made.turn ≡ turn_of stepped)
+abbrev pub IsInTrace : StepResult → List Label → MadeStep → List Label → Type 0
+IsInTrace stepped before made after = (after ≡ before ++ made.label ∷ []) × (made.turn ≡ turn_of stepped)
 
 -- Such a step was made as this says of it.
 abbrev pub Added : (MadeStep → Type 0) → StepResult → List Label → List Label → Type 0
-Added P stepped before after = (made : MadeStep) × (Stands stepped before made after × P made)
+Added P stepped before after = (made : MadeStep) × (IsInTrace stepped before made after × P made)
 
 -- A step was made and its label added, or none was made and nothing was added.
 abbrev pub AddedOrNone : (Option MadeStep → Type 0) → Option StepResult → List Label → List Label → Type 0
@@ -63,7 +63,7 @@ made_by n r = record { label = label_of n r; turn = turn_after r }
 -- What the op resulted in is in the trace, and the strand is gone where it trapped.
 pub record Shown (id : TableId ThreadKey) (r : OpResult) (s : StateView) (before : List Label) (stepped : StepResult) (t : StateView)
     (after : List Label) : Type 0 where
-  pub stands : Stands stepped before (made_by (thread_of s id) r) after
+  pub in_trace : IsInTrace stepped before (made_by (thread_of s id) r) after
   pub core : t.core ≡ core_after (thread_of s id) r s.core
   pub running : running_of t ≡ runs_in (turn_after r)
   pub tags : is_going r ≡ true → t.tags ≡ s.tags

@@ -5,7 +5,7 @@ ghost use Rattle.ops_guests.specs.Running.{IsTopmost};
 ghost use Rattle.ops_guests.specs.Works.{KeepsTold};
 ghost use Rattle.machine_rules.specs.Outcome.{last_outcome, outcome_of_label};
 ghost use Rattle.machine_rules.specs.Step.{unwound};
-ghost use Rattle.ops_turns.specs.StepResult.{Shown, Stands, turn_of};
+ghost use Rattle.ops_turns.specs.StepResult.{Shown, IsInTrace, turn_of};
 ghost use Rattle.ops_turns.specs.Turn.{CanUnwind, OpGoesOn, is_going, is_open, running_of, runs_in};
 ghost use Rattle.core_primitives.specs.StateView.{thread_of};
 
@@ -89,7 +89,7 @@ fn outcome_of(label: Label) -> Option<Outcome>
 /// Adds the label of a step that was made to the trace. If it is out of memory, nothing is added.
 #[inline(always)]
 pub fn put(trace: &mut PackedLabels, made: MadeStep) -> Result<StepResult, NoMemory>
-    ensures stands { IfOk result (λ stepped. Stands stepped trace.old made trace.new) }
+    ensures in_trace { IfOk result (λ stepped. IsInTrace stepped trace.old made trace.new) }
     ensures err { OnErr result (trace.new ≡ trace.old) }
 {
     let Ok(()) = trace.push(made.label) else {

@@ -7,7 +7,7 @@ ghost use Rattle.machine_data.specs.Maps.{get};
 ghost use Rattle.machine_data.specs.Read.{op_progress_of, instance_of, position_of};
 ghost use Rattle.ops_guests.specs.Works.{KeepsTold, NamesTold};
 ghost use Rattle.machine_rules.specs.Scripts.{op_of};
-ghost use Rattle.ops_turns.specs.Ran.{DidHere, MakesFew, OpMade, StandsBefore, WantsMemory, scripted_rule_of};
+ghost use Rattle.ops_turns.specs.Ran.{DidHere, MakesFew, OpMade, IsBeforeEnd, WantsMemory, scripted_rule_of};
 ghost use Rattle.ops_turns.specs.StepResult.{CallStepped, DataShown, ExitShown, OpPolls, OpShown, OpStep, RuleRan, RunStepped, Shown};
 ghost use Rattle.ops_turns.specs.Turn.{CanUnwind, OpGoesOn, CoreInOrder, given, running_of};
 ghost use Rattle.ops_turns.specs.WellFormed.{IsWellFormed};
@@ -62,7 +62,7 @@ fn run_data<W: Primitives>(
     more: bool,
 ) -> Result<StepResult, NoMemory>
     requires runner { Runner thread (W.view w.old) }
-    requires within { StandsBefore end component.now (thread_of (W.view w.old) thread) (W.view w.old).core }
+    requires within { IsBeforeEnd end component.now (thread_of (W.view w.old) thread) (W.view w.old).core }
     ensures shown { IfOk result (λ q. DataShown component.now op.now thread (W.view w.old) trace.old q (W.view w.new) trace.new) }
     ensures works { OnOk result (KeepsTold (W.view w.old) (W.view w.new)) }
     ensures err { OnErr result (trace.new ≡ trace.old) }
@@ -191,7 +191,7 @@ fn run_by<W: Primitives>(
     requires runner { Runner thread (W.view w.old) }
     requires fits { op_fits component.now op.now ≡ true }
     requires instances { HasInstances component.now (W.view w.old).core }
-    requires within { StandsBefore end component.now (thread_of (W.view w.old) thread) (W.view w.old).core }
+    requires within { IsBeforeEnd end component.now (thread_of (W.view w.old) thread) (W.view w.old).core }
     requires handles { is_some (get (W.view w.old).core.handles (instance_of (thread_of (W.view w.old) thread) (W.view w.old).core)) ≡ true }
     requires few { given (W.view w.old).core < 2 ^ 61 }
     ensures step { IfOk result (λ step. OpStep component.now op.now thread (W.view w.old) trace.old step (W.view w.new) trace.new) }

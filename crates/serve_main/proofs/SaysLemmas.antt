@@ -57,7 +57,7 @@ module _ {T H G : Type 0} (course : H → HostDef) (c : Component) where
   -- what is done after nothing was to be finished or started
   pub after_wait : (m : ServerMain) (s : Store T H G) (k : ServerMain) (u : Store T H G) → HasWaited course c m s k u → (x : MainStep) (n : ServerMain) (t : Store T H G) → HasStepResult course c k u x n t → HasStepResult course c m s x n t
   after_wait m s k u w x n t did = record {
-    stands = did.stands ∙ w.stands;
+    constants_stay = did.constants_stay ∙ w.constants_stay;
     requests = did.requests ∙ ap (λ q. q.requests) w.same;
     limit = did.limit ∙ ap (λ q. q.nursery.limit) w.same;
     knows = did.knows;
@@ -78,5 +78,5 @@ module _ {T H G : Type 0} (course : H → HostDef) (c : Component) where
     same = v.same ∙ w.same;
     state = v.state ∙ w.state;
     listeners = v.listeners ∙ w.listeners;
-    stands = v.stands ∙ w.stands;
+    constants_stay = v.constants_stay ∙ w.constants_stay;
   }

@@ -277,7 +277,7 @@ module _ {T H G : Type 0} (course : H → HostDef) (c : Component) (m n : Server
       let steps = did_finish c s.state t.state e.call.thread k v (returned, taken) in
       let still : t.listeners ≡ s.listeners = ap (λ (q : Store T H G). q.listeners) rest in
       record {
-        stands = ap constants rest;
+        constants_stay = ap constants rest;
         requests = requests;
         limit = ap (λ (q : Scope). q.limit) scope;
         knows = knows_left m n s.state t.state _ _ _ _ _ _
@@ -306,7 +306,7 @@ module _ {T H G : Type 0} (course : H → HostDef) (c : Component) (m n : Server
   refusal_stepped p why same trapped last stage refusal nursery requests stages started replied due declined =
       let steps = subst (λ (q : Store T H G). Did c [] Unscripted s.state.core (label.Main (main_label.FinishRefused why m.started)) Unscripted q.state.core) (sym same) (did_finish_refused c s.state.core m.started why trapped refusal) in
       record {
-        stands = ap constants same;
+        constants_stay = ap constants same;
         requests = requests;
         limit = ap (λ (q : Scope). q.limit) nursery;
         knows = knows_left m n s.state t.state _ _ _ _ _ _
@@ -338,7 +338,7 @@ module _ {T H G : Type 0} (course : H → HostDef) (c : Component) (m n : Server
       let made = started_call c r s.state t.state (start_refusal s.state.core) call.thread starts in
       let notices = started_notices c (callee_named r) r.params s.state t.state k (start_refusal s.state.core) call.thread starts in
       record {
-        stands = ap constants rest;
+        constants_stay = ap constants rest;
         requests = requests;
         limit = ap (λ (q : Scope). q.limit) scope;
         knows = knows_left m n s.state t.state _ _ _ _ _ _
@@ -376,7 +376,7 @@ module _ {T H G : Type 0} (course : H → HostDef) (c : Component) (m n : Server
       let notices = ap finishes may.groups ∙ (refused_notices c (callee_named r) r.params s.state u k (start_refusal s.state.core) why starts
       ∙ sym (ap (λ (v : StateView). main_notices (step.Did (label.Main (main_label.StartRefused why k))) s.state.core v.core) left)) in
       record {
-        stands = ap constants rest;
+        constants_stay = ap constants rest;
         requests = requests;
         limit = ap (λ (q : Scope). q.limit) nursery;
         knows = knows_left m n s.state t.state _ _ _ _ _ _
@@ -401,7 +401,7 @@ module _ {T H G : Type 0} (course : H → HostDef) (c : Component) (m n : Server
       let counts = keeps.counts in
       let steps = subst (λ (q : Core). Answers c [] Unscripted s.state.core m.replied Unscripted q) (ap (λ (q : Store T H G). q.state.core) (sym store)) (answers_now c s.state.core m.replied) in
       record {
-        stands = ap constants store;
+        constants_stay = ap constants store;
         requests = ap (λ (q : ServerMain). q.requests) same;
         limit = ap (λ (q : ServerMain). q.nursery.limit) same;
         knows = rw (same, store) may.knows;
@@ -426,7 +426,7 @@ module _ {T H G : Type 0} (course : H → HostDef) (c : Component) (m n : Server
       let many = as_many_calls m.nursery.children m.stages.items keeps.pairs in
       let left = some_not is_replied m.stages.items (λ every. some (counts ∙ (every ∙ size))) in
       record {
-        stands = ap constants store;
+        constants_stay = ap constants store;
         requests = ap (λ (q : ServerMain). q.requests) same;
         limit = ap (λ (q : ServerMain). q.nursery.limit) same;
         knows = rw (same, store) may.knows;
@@ -452,7 +452,7 @@ module _ {T H G : Type 0} (course : H → HostDef) (c : Component) (m : ServerMa
   -- ---- Nothing was done yet
 
   pub waited_by : (n : ServerMain) (t : Store T H G) → n ≡ m → t.state ≡ s.state → t.listeners ≡ s.listeners → constants t ≡ constants s → HoldsHosts course t → MayStep course c m s → HasWaited course c m s n t
-  waited_by n t same state told stands hosts may = record {
+  waited_by n t same state told constants_stay hosts may = record {
     may = record {
       covered = may.covered;
       order = subst (λ (u : StateView). CoreInOrder c turn.Main u.core) (sym state) may.order;
@@ -466,14 +466,14 @@ module _ {T H G : Type 0} (course : H → HostDef) (c : Component) (m : ServerMa
     same = same;
     state = state;
     listeners = told;
-    stands = stands;
+    constants_stay = constants_stay;
   }
 
   module _ (n : ServerMain) (t : Store T H G) (waited : HasWaited course c m s n t) where
     -- a step after that is one from here
     pub stepped_after : (x : MainStep) (p : ServerMain) (u : Store T H G) → HasStepResult course c n t x p u → HasStepResult course c m s x p u
     stepped_after x p u h = record {
-      stands = h.stands ∙ waited.stands;
+      constants_stay = h.constants_stay ∙ waited.constants_stay;
       requests = h.requests ∙ ap (λ (q : ServerMain). q.requests) waited.same;
       limit = h.limit ∙ ap (λ (q : ServerMain). q.nursery.limit) waited.same;
       knows = h.knows;
@@ -494,7 +494,7 @@ module _ {T H G : Type 0} (course : H → HostDef) (c : Component) (m : ServerMa
       same = h.same ∙ waited.same;
       state = h.state ∙ waited.state;
       listeners = h.listeners ∙ waited.listeners;
-      stands = h.stands ∙ waited.stands;
+      constants_stay = h.constants_stay ∙ waited.constants_stay;
     }
 
 -- ---- What a start in the scope results in

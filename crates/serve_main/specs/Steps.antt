@@ -36,7 +36,7 @@ pub record MayStep {T H G : Type 0} (course : H → HostDef) (c : Component) (m 
 -- It has taken this one, which serves the requests.
 pub record HasStepResult {T H G : Type 0} (course : H → HostDef) (c : Component) (m : ServerMain) (s : Store T H G) (x : MainStep) (n : ServerMain)
     (t : Store T H G) : Type 0 where
-  pub stands : constants t ≡ constants s
+  pub constants_stay : constants t ≡ constants s
   pub requests : n.requests ≡ m.requests
   pub limit : n.nursery.limit ≡ m.nursery.limit
   pub knows : Knows n t.state
@@ -55,7 +55,7 @@ pub record HasWaited {T H G : Type 0} (course : H → HostDef) (c : Component) (
   pub same : n ≡ m
   pub state : t.state ≡ s.state
   pub listeners : t.listeners ≡ s.listeners
-  pub stands : constants t ≡ constants s
+  pub constants_stay : constants t ≡ constants s
 
 -- no call in the scope has returned
 abbrev pub NoneReturned : ServerMain → Core → Type 0

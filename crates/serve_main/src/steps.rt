@@ -90,7 +90,7 @@ fn start_next<T, H: HostWork>(
     ensures same { access.new.store.ghost_name ≡ access.old.store.ghost_name }
     ensures step { IfOk result (λ next.
         StartsNext H.course component.now main.old access.old.store.now next main.new access.new.store.now) }
-    ensures stands { constants access.new.store.now ≡ constants access.old.store.now }
+    ensures constants_stay { constants access.new.store.now ≡ constants access.old.store.now }
     ensures err { IfErr result (λ e. e ≡ task_error.NoMemory) }
 {
     let Some(request) = main.requests.get(main.started) else {

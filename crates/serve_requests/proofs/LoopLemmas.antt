@@ -4,7 +4,7 @@ use Rattle.serve_requests.specs.Reading.{request_of}
 use Rattle.serve_requests.specs.RequestLines.{AreRequests, EachSuits, IsBadRequest, Suits, request_tokens}
 use Rattle.serve_requests.specs.declared.request.Request.{Request}
 use Rattle.text_scenario.specs.Grammar.{lines, spelled, tokens}
-use Rattle.text_scenario.specs.Placement.{EachStands, InstanceStands}
+use Rattle.text_scenario.specs.Placement.{EachIsPlaced, InstanceIsPlaced}
 use Rattle.text_scenario.specs.Spelling.{Lines}
 use Rattle.text_scenario.specs.declared.tree.HostText.{HostText}
 use Rattle.text_scenario.specs.declared.tree.InstanceText.{InstanceText}
@@ -86,7 +86,7 @@ module _ (is : List InstanceText) (text : List ℕ) (first number : ℕ) (rest l
         within = omega (arith, within, shorter);
       }
 
-  module _ (hosts : List HostText) (each : EachStands (InstanceStands hosts) [] is) where
+  module _ (hosts : List HostText) (each : EachIsPlaced (InstanceIsPlaced hosts) [] is) where
     none_such : (10000 ≤ length rs) ⊎ (request_of is (tokens line) ≡ None) → (qs : List Request) → AreRequests is (read.done ++ tokens line ∷ []) qs → ⊥
     none_such (inl many) qs are =
         let count = same_count is read.done rs read.are.lines in

@@ -4,8 +4,8 @@ use Rattle.serve_requests.specs.RequestLines.{Suits, request_tokens}
 use Rattle.serve_requests.specs.Serving.{callee_named}
 use Rattle.serve_requests.specs.declared.request.Request.{Request}
 use Rattle.text_scenario.proofs.CalleeLaws.{callee_again, export_fits, fitting_again}
-use Rattle.text_scenario.proofs.StandingLaws.{same_bytes}
-use Rattle.text_scenario.specs.Placement.{EachStands, InstanceStands}
+use Rattle.text_scenario.proofs.PlacementLaws.{same_bytes}
+use Rattle.text_scenario.specs.Placement.{EachIsPlaced, InstanceIsPlaced}
 use Rattle.text_scenario.specs.Spelling.{export_name, exports_of, instance_name, name_of}
 use Rattle.text_scenario.specs.State.{fitting_export}
 use Rattle.text_scenario.specs.declared.tree.HostText.{HostText}
@@ -117,7 +117,7 @@ start_again instance export xs fits =
     let same : read.0 ≡ o = cc in
     read.1 ∙ ap (λ (q : NamedOp). Some q) same
 
-module _ (hosts : List HostText) (is : List InstanceText) (each : EachStands (InstanceStands hosts) [] is) where
+module _ (hosts : List HostText) (is : List InstanceText) (each : EachIsPlaced (InstanceIsPlaced hosts) [] is) where
   after_again : (r : Request) → Suits is r → request_after is (name_of is (callee_named r) ∷ map decimal r.params) ≡ Some r
   unfolding request_after request_named
   after_again r suits =

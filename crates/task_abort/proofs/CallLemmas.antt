@@ -12,7 +12,7 @@ use Rattle.task_abort.specs.declared.log.LogEntry.{LogEntry}
 use Rattle.task_abort.specs.declared.log.HandleCaller.{HandleCaller}
 use Rattle.task_abort.specs.declared.log.PassView.{PassView}
 use Rattle.task_abort.specs.PhaseLog.{code, phase_of_code, after, entry, phase, Name, Log, calls_by, IsFirst}
-use Rattle.task_abort.specs.Rule.{At, Has, Stands, NameGoesOn, FitsLog, KeptPass, Calls, Called}
+use Rattle.task_abort.specs.Rule.{At, Has, PassHas, NameGoesOn, FitsLog, KeptPass, Calls, Called}
 use Rattle.task_abort.proofs.LogLemmas.{phase_of_code-code, phase_from-append, phase_from_rises, legal_push, begins_refl, begins_more, calls_by-own, calls_by-other}
 use Rattle.task_abort.proofs.CallerLemmas.{Stems, at_written, goes_on_stem, has_own, met_apart, others_apart, sole, stands_before, among_after, old_log_after, by_place, apart_after, named-here}
 
@@ -56,7 +56,7 @@ module _ (words : List ℕ) (views : List PassView) (kept : KeptPass words views
     held = f.held;
   }
 
-  in_longer : (c : HandleCaller) (m : ℕ) (e : LogEntry Name) → Stands (set views i caller_now) c → get_elem? longer m ≡ some e → NameGoesOn c e.caller
+  in_longer : (c : HandleCaller) (m : ℕ) (e : LogEntry Name) → PassHas (set views i caller_now) c → get_elem? longer m ≡ some e → NameGoesOn c e.caller
   in_longer c m e hc he = ⊎_elim
       (λ (t : get_elem? kept.log m ≡ some e). old_log_after words views kept i v at caller_now stems c m e hc t)
       (λ (t : made ≡ e). let c' = stands_before words views kept i v at caller_now stems c hc in

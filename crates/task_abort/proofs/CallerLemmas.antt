@@ -8,7 +8,7 @@ use Rattle.task_abort.specs.declared.log.LogEntry.{LogEntry}
 use Rattle.task_abort.specs.declared.log.HandleCaller.{HandleCaller}
 use Rattle.task_abort.specs.declared.log.PassView.{PassView}
 use Rattle.task_abort.specs.PhaseLog.{Name, same_name, callers, IsFirst}
-use Rattle.task_abort.specs.Rule.{named, named_at, At, Has, Stands, NameGoesOn, KeptPass}
+use Rattle.task_abort.specs.Rule.{named, named_at, At, Has, PassHas, NameGoesOn, KeptPass}
 use Rattle.task_abort.proofs.LogLemmas.{same_name-refl, same_name-other, names}
 
 module _ {A : Type 0} where
@@ -117,18 +117,18 @@ module _ (words : List ℕ) (views : List PassView) (kept : KeptPass words views
 
   -- a view in the pass's place whose callers stem from its own
   module _ (w : PassView) (stems : (c : HandleCaller) → Has w c → Stems v c) where
-    pub stands_before : (c : HandleCaller) → Stands (set views i w) c → (d : HandleCaller) × Stands views d × (d.name ≡ c.name) × (d.splits ≤ c.splits)
+    pub stands_before : (c : HandleCaller) → PassHas (set views i w) c → (d : HandleCaller) × PassHas views d × (d.name ≡ c.name) × (d.splits ≤ c.splits)
     stands_before c h = ⊎_elim
         (λ (t : (h.0 ≡ i) × (w ≡ h.1)). let s = stems c (subst (λ (z : PassView). Has z c) (sym t.1) h.3) in (s.from, (i, v, at, s.has), s.name, s.splits))
         (λ (t : (h.0 ≢ i) × (get_elem? views h.0 ≡ some h.1)). (c, (h.0, h.1, (t.1, h.2.1), h.3), refl, le_refl _))
         (at_set views i h.0 w h.1 h.2.0)
 
-    pub among_after : (c d : HandleCaller) → Stands (set views i w) c → Stands (set views i w) d → NameGoesOn c d.name
+    pub among_after : (c d : HandleCaller) → PassHas (set views i w) c → PassHas (set views i w) d → NameGoesOn c d.name
     among_after c d hc hd =
         let c' = stands_before c hc in let d' = stands_before d hd in
         goes_on_stem c'.0 c d.name c'.2 c'.3 (subst (λ (n : Name). NameGoesOn c'.0 n) d'.2 (kept.among c'.0 d'.0 c'.1 d'.1))
 
-    pub old_log_after : (c : HandleCaller) (m : ℕ) (e : LogEntry Name) → Stands (set views i w) c → get_elem? kept.log m ≡ some e → NameGoesOn c e.caller
+    pub old_log_after : (c : HandleCaller) (m : ℕ) (e : LogEntry Name) → PassHas (set views i w) c → get_elem? kept.log m ≡ some e → NameGoesOn c e.caller
     old_log_after c m e hc he = let c' = stands_before c hc in goes_on_stem c'.0 c e.caller c'.2 c'.3 (kept.in_log c'.0 m e c'.1 he)
 
     pub by_place : (P : ℕ → PassView → Type 0) → P i w → ((j : ℕ) (u : PassView) → j ≢ i → At views j u → P j u) → (j : ℕ) (u : PassView) → At (set views i w) j u → P j u

@@ -4,14 +4,14 @@ use Rattle.std.proofs.lemmas.List.Sums.{sum_by-cons}
 use Rattle.task_abort.specs.declared.log.HandleCaller.{HandleCaller}
 use Rattle.task_abort.specs.declared.log.PassView.{PassView}
 use Rattle.task_abort.specs.PhaseLog.{first_view}
-use Rattle.task_abort.specs.Rule.{Has, Stands, NameGoesOn, FitsLog, KeptPass, named_at}
+use Rattle.task_abort.specs.Rule.{Has, PassHas, NameGoesOn, FitsLog, KeptPass, named_at}
 use Rattle.task_abort.proofs.LogLemmas.{not_nil}
 use Rattle.task_abort.proofs.CallerLemmas.{at_nothing, at_only, named-one}
 
 only_own : (c : HandleCaller) → Has first_view c → first_view.own ≡ c
 only_own c h = at_only first_view.own c h.0 h.1
 
-only_first : (c : HandleCaller) → Stands (first_view ∷ []) c → first_view.own ≡ c
+only_first : (c : HandleCaller) → PassHas (first_view ∷ []) c → first_view.own ≡ c
 only_first c h = only_own c (subst (λ (z : PassView). Has z c) (sym (at_only first_view h.1 h.0 h.2.0)) h.3)
 
 goes_on_first : NameGoesOn first_view.own []

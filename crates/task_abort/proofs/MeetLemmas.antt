@@ -10,7 +10,7 @@ use Rattle.machine_data.specs.declared.statuses.Phase.TheVariants.{Running}
 use Rattle.task_abort.specs.declared.log.HandleCaller.{HandleCaller}
 use Rattle.task_abort.specs.declared.log.PassView.{PassView}
 use Rattle.task_abort.specs.PhaseLog.{code, phase, IsLegal, Name, Log, calls_by, LogBegins, callers, IsFirst, joined, spent_view}
-use Rattle.task_abort.specs.Rule.{named, named_at, At, Has, Stands, FitsLog, KeptPass, Knows, Longer, Settles, Settled, Meets}
+use Rattle.task_abort.specs.Rule.{named, named_at, At, Has, PassHas, FitsLog, KeptPass, Knows, Longer, Settles, Settled, Meets}
 use Rattle.task_abort.proofs.LogLemmas.{phase_from_rises, phase_from-append, legal_cut, begins_refl, begins_both, begins_same, calls_by-between}
 use Rattle.task_abort.proofs.CallerLemmas.{Stems, at_either, counts, sum_by-written, named_at-alive, among_after, old_log_after, by_place, apart_after, named-here}
 
@@ -36,8 +36,8 @@ module _ (words : List ℕ) (views : List PassView) (kept : KeptPass words views
       (at_set views i j both u t.1))
       (at_set first_step o j spent_view u h.0)
 
-  stood : (c : HandleCaller) → Stands met c → Stands views c
-  stood c h = by_meet (λ j u. Has u c → Stands views c) (either (Stands views) (λ c g. (i, v, at, g)) (λ c g. (o, w, there, g)) c) (λ j u before g. (j, u, before, g)) h.0 h.1 h.2 h.3
+  stood : (c : HandleCaller) → PassHas met c → PassHas views c
+  stood c h = by_meet (λ j u. Has u c → PassHas views c) (either (PassHas views) (λ c g. (i, v, at, g)) (λ c g. (o, w, there, g)) c) (λ j u before g. (j, u, before, g)) h.0 h.1 h.2 h.3
 
   fits_both : FitsLog kept.log both
   fits_both = let f = kept.fits i v at in let g = kept.fits o w there in record {

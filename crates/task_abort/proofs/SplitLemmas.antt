@@ -8,7 +8,7 @@ use Rattle.task_abort.specs.declared.log.LogEntry.{LogEntry}
 use Rattle.task_abort.specs.declared.log.HandleCaller.{HandleCaller}
 use Rattle.task_abort.specs.declared.log.PassView.{PassView}
 use Rattle.task_abort.specs.PhaseLog.{Name, Log, same_name, calls_by, IsFirst, split_left, split_right}
-use Rattle.task_abort.specs.Rule.{named_at, At, Has, Stands, NameGoesOn, FitsLog, KeptPass, Knows}
+use Rattle.task_abort.specs.Rule.{named_at, At, Has, PassHas, NameGoesOn, FitsLog, KeptPass, Knows}
 use Rattle.task_abort.proofs.LogLemmas.{names, same_name-other, nothing_left, not_nil, same_head, same_tail}
 use Rattle.task_abort.proofs.CallerLemmas.{Stems, at_only, at_last_or, sum_by-none, counts, counts-other, named_at-none, named-one, has_own, met_apart, others_apart, sole, stands_before, among_after, old_log_after, by_place, apart_after}
 
@@ -77,13 +77,13 @@ module _ (v : PassView) where
         (λ (t : (j ≡ length old) × (right ≡ u)). subst (λ (z : ℕ). P z u) (sym t.0) (subst (λ (z : PassView). P (length old) z) t.1 new))
         (at_last_or old right u j h.0)
 
-    stands_either : (c : HandleCaller) → Stands (old ++ right ∷ []) c → Stands old c ⊎ (right.own ≡ c)
-    stands_either c h = by_split (λ j u. Has u c → Stands old c ⊎ (right.own ≡ c)) (λ j u there has. inl (j, u, there, has)) (λ has. inr (right_only c has)) h.0 h.1 h.2 h.3
+    stands_either : (c : HandleCaller) → PassHas (old ++ right ∷ []) c → PassHas old c ⊎ (right.own ≡ c)
+    stands_either c h = by_split (λ j u. Has u c → PassHas old c ⊎ (right.own ≡ c)) (λ j u there has. inl (j, u, there, has)) (λ has. inr (right_only c has)) h.0 h.1 h.2 h.3
 
-    from_own : (c : HandleCaller) → Stands old c → NameGoesOn v.own c.name
+    from_own : (c : HandleCaller) → PassHas old c → NameGoesOn v.own c.name
     from_own c h = let c' = stands_before words views kept i v at left stems c h in subst (λ (n : Name). NameGoesOn v.own n) c'.2 (kept.among v.own c'.0 (i, v, at, has_own v) c'.1)
 
-    to_new : (c : HandleCaller) → Stands views c → c.name ≢ v.own.name → NameGoesOn c right.own.name
+    to_new : (c : HandleCaller) → PassHas views c → c.name ≢ v.own.name → NameGoesOn c right.own.name
     to_new c h ne k rest is = ⊎_elim (λ (t : (v.own.name ≡ c.name) × (v.own.splits ≡ k)). absurd (ne (sym t.0)))
         (λ (t : (r : Name) × (v.own.name ≡ c.name ++ k ∷ r)). kept.among c v.own h (i, v, at, has_own v) k t.0 t.1)
         (cut_last v.own.name c.name rest v.own.splits k is)
@@ -93,23 +93,23 @@ module _ (v : PassView) where
         (λ k rest is. let e : v.own.splits ≡ k = same_head v.own.splits k [] rest (append_cancel_left v.own.name (v.own.splits ∷ []) (k ∷ rest) is) in omega arith)
     from_left c (suc a, h) = to_new c (i, v, at, (suc a, h)) (met_apart words views kept i v at a c h)
 
-    old_to_new : (c : HandleCaller) → Stands old c → NameGoesOn c right.own.name
+    old_to_new : (c : HandleCaller) → PassHas old c → NameGoesOn c right.own.name
     old_to_new c h = by_place words views kept i v at left stems (λ j u. Has u c → NameGoesOn c right.own.name) (from_left c)
         (λ j u ne there has. to_new c (j, u, there, has) (others_apart words views kept i v at j u c ne there has)) h.0 h.1 h.2 h.3
 
     new_to : (n : Name) → NameGoesOn v.own n → NameGoesOn right.own n
     new_to n g k rest is = absurd (fresh n (k ∷ rest) g is)
 
-    among_split : (c d : HandleCaller) → Stands (old ++ right ∷ []) c → Stands (old ++ right ∷ []) d → NameGoesOn c d.name
+    among_split : (c d : HandleCaller) → PassHas (old ++ right ∷ []) c → PassHas (old ++ right ∷ []) d → NameGoesOn c d.name
     among_split c d hc hd = ⊎_elim
-        (λ (s : Stands old c). ⊎_elim (λ (t : Stands old d). among_after words views kept i v at left stems c d s t)
+        (λ (s : PassHas old c). ⊎_elim (λ (t : PassHas old d). among_after words views kept i v at left stems c d s t)
         (λ (t : right.own ≡ d). subst (λ (z : HandleCaller). NameGoesOn c z.name) t (old_to_new c s)) (stands_either d hd))
-        (λ (s : right.own ≡ c). subst (λ (z : HandleCaller). NameGoesOn z d.name) s (⊎_elim (λ (t : Stands old d). new_to d.name (from_own d t))
+        (λ (s : right.own ≡ c). subst (λ (z : HandleCaller). NameGoesOn z d.name) s (⊎_elim (λ (t : PassHas old d). new_to d.name (from_own d t))
         (λ (t : right.own ≡ d). subst (λ (z : HandleCaller). NameGoesOn right.own z.name) t (λ k rest is. absurd (not_nil [] k rest (nothing_left right.own.name (k ∷ rest) is)))) (stands_either d hd)))
         (stands_either c hc)
 
-    in_log_split : (c : HandleCaller) (m : ℕ) (e : LogEntry Name) → Stands (old ++ right ∷ []) c → get_elem? kept.log m ≡ some e → NameGoesOn c e.caller
-    in_log_split c m e hc he = ⊎_elim (λ (s : Stands old c). old_log_after words views kept i v at left stems c m e s he)
+    in_log_split : (c : HandleCaller) (m : ℕ) (e : LogEntry Name) → PassHas (old ++ right ∷ []) c → get_elem? kept.log m ≡ some e → NameGoesOn c e.caller
+    in_log_split c m e hc he = ⊎_elim (λ (s : PassHas old c). old_log_after words views kept i v at left stems c m e s he)
         (λ (s : right.own ≡ c). subst (λ (z : HandleCaller). NameGoesOn z e.caller) s (new_to e.caller (kept.in_log v.own m e (i, v, at, has_own v) he))) (stands_either c hc)
 
     apart_split : (n : Name) → sum_by (named_at n) (old ++ right ∷ []) ≤ 1

@@ -64,10 +64,10 @@ aborters_finish_nothing (c ∷ ds) (a ∷ rest) h zero d at =
 aborters_finish_nothing (c ∷ ds) (a ∷ rest) h (suc i) d at = aborters_finish_nothing ds rest h.1 i d at
 
 -- where a call is among those under a name, the log before it has those before it
-abbrev Stands_at : Name → Log → Log → LogEntry Name → Type 0
-Stands_at n log xs e = (before rest : Log) × (log ≡ before ++ e ∷ rest) × (calls_by n before ≡ xs)
+abbrev PassHas_at : Name → Log → Log → LogEntry Name → Type 0
+PassHas_at n log xs e = (before rest : Log) × (log ≡ before ++ e ∷ rest) × (calls_by n before ≡ xs)
 
-place_of : (n : Name) (log xs ys : Log) (e : LogEntry Name) → calls_by n log ≡ xs ++ e ∷ ys → Stands_at n log xs e
+place_of : (n : Name) (log xs ys : Log) (e : LogEntry Name) → calls_by n log ≡ xs ++ e ∷ ys → PassHas_at n log xs e
 place_of n [] [] ys e h = absurd (not_nil [] e ys (sym h))
 place_of n [] (x ∷ xs) ys e h = absurd (not_nil [] x (xs ++ e ∷ ys) (sym h))
 place_of n (z ∷ log) xs ys e h = ⊎_elim
@@ -77,7 +77,7 @@ place_of n (z ∷ log) xs ys e h = ⊎_elim
     (z ∷ r.0, r.1, ap (λ (l : Log). z ∷ l) r.2, ap (λ (b : Bool). cond b (z ∷ calls_by n r.0) (calls_by n r.0)) t.1 ∙ r.3))
     (names z.caller n)
   where
-    mine : (ws : Log) → z ∷ calls_by n log ≡ ws ++ e ∷ ys → same_name z.caller n ≡ true → ((vs : Log) → calls_by n log ≡ vs ++ e ∷ ys → Stands_at n log vs e) → Stands_at n (z ∷ log) ws e
+    mine : (ws : Log) → z ∷ calls_by n log ≡ ws ++ e ∷ ys → same_name z.caller n ≡ true → ((vs : Log) → calls_by n log ≡ vs ++ e ∷ ys → PassHas_at n log vs e) → PassHas_at n (z ∷ log) ws e
     mine [] k is rec = ([], log, ap (λ (x : LogEntry Name). x ∷ log) (same_head z e (calls_by n log) ys k), refl)
     mine (w ∷ ws) k is rec =
         let r = rec ws (same_tail z w (calls_by n log) (ws ++ e ∷ ys) k) in let head : z ≡ w = same_head z w (calls_by n log) (ws ++ e ∷ ys) k in
@@ -87,7 +87,7 @@ module _ (w : PassView) (knows : Knows w) (known : AllKnown w) (aborters : List 
   pub unfinished : e.answer ≢ Complete
   unfinished is = omega (arith, over_finished Running before, sum_by-cons (λ (c : HandleCaller). tally is_finish (calls_by c.name before)) w.own w.met, all, mine, others, over)
     where
-      place : Stands_at w.own.name w.seen xs e
+      place : PassHas_at w.own.name w.seen xs e
       place = place_of w.own.name w.seen xs ys e (knows.whole w.own (has_own w) ∙ own)
 
       before : Log

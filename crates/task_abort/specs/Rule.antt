@@ -26,8 +26,8 @@ abbrev pub Has : PassView → HandleCaller → Type 0
 Has v c = (a : ℕ) × (get_elem? (callers v) a ≡ some c)
 
 -- the caller is one of a pass that isn't spent
-abbrev pub Stands : List PassView → HandleCaller → Type 0
-Stands views c = (i : ℕ) × (v : PassView) × At views i v × Has v c
+abbrev pub PassHas : List PassView → HandleCaller → Type 0
+PassHas views c = (i : ℕ) × (v : PassView) × At views i v × Has v c
 
 -- a name that goes on from the caller's goes on with a number below its count of splits
 abbrev pub NameGoesOn : HandleCaller → Name → Type 0
@@ -53,8 +53,8 @@ pub record KeptPass (words : List ℕ) (views : List PassView) : Type 0 where
   -- the names of all callers differ
   pub apart : (n : Name) → sum_by (named_at n) views ≤ 1
   -- a name of a caller or in the log that goes on from a caller's goes on below that caller's count of splits
-  pub among : (c d : HandleCaller) → Stands views c → Stands views d → NameGoesOn c d.name
-  pub in_log : (c : HandleCaller) (m : ℕ) (e : LogEntry Name) → Stands views c → get_elem? log m ≡ some e → NameGoesOn c e.caller
+  pub among : (c d : HandleCaller) → PassHas views c → PassHas views d → NameGoesOn c d.name
+  pub in_log : (c : HandleCaller) (m : ℕ) (e : LogEntry Name) → PassHas views c → get_elem? log m ≡ some e → NameGoesOn c e.caller
   -- the first pass, as long as it was never split, has seen the whole log
   pub first : (i : ℕ) (v : PassView) → At views i v → IsFirst v → v.seen ≡ log
 

@@ -137,8 +137,8 @@ StagedKeepsAborters v = (own : List CallMade) (aborters : List Aborter) (n i : �
     Numbered 0 aborters → get_elem? aborters i ≡ some a → by_number a.0 (staged own aborters n) ≡ aborts_of a
 
 -- the calls of caller 0 after its first n are last
-abbrev pub LateStandLast : PassView → Type 0
-LateStandLast v = (own : List CallMade) (aborters : List Aborter) (n : ℕ) → Lists v own aborters → LastRound v n →
+abbrev pub LateAreLast : PassView → Type 0
+LateAreLast v = (own : List CallMade) (aborters : List Aborter) (n : ℕ) → Lists v own aborters → LastRound v n →
     staged own aborters n ≡
     by_stages (all_aborts aborters ++ take n (entered n (any_abort aborters) false own)) ++ drop n (entered n (any_abort aborters) false own)
 

@@ -5,7 +5,7 @@ ghost use lib.ListN.{get_elem?};
 ghost use Rattle.task_abort.specs.Cells.{view_of};
 ghost use Rattle.task_abort.specs.PhaseLog.{Name, phase};
 ghost use Rattle.task_abort.specs.Rule.{HasMetAll, AllKnown};
-ghost use Rattle.task_abort.specs.Staged.{LateStandLast, StagedIsLegal, StagedKeepsAborters, StagedKeepsOwn, UnfinishedBefore};
+ghost use Rattle.task_abort.specs.Staged.{LateAreLast, StagedIsLegal, StagedKeepsAborters, StagedKeepsOwn, UnfinishedBefore};
 ghost use Rattle.task_abort.specs.declared.log.LogEntry.{LogEntry};
 ghost use Rattle.machine_data.specs.declared.statuses.Phase.TheVariants.{Running, Complete};
 ghost use Rattle.task_abort.specs.declared.log.PhaseCall.TheVariants.{Abort, Finish};
@@ -45,9 +45,9 @@ pub fn staged_log_keeps_lists(pass: &JoinPass)
 
 /// States that such a staged log has the calls of caller 0 after its first n last, behind every entry of an aborter. (All
 /// aborts were made before them.)
-pub fn late_calls_stand_last(pass: &JoinPass)
+pub fn late_calls_are_last(pass: &JoinPass)
     requires { AllKnown (view_of pass.now) }
-    ensures { LateStandLast (view_of pass.now) }
+    ensures { LateAreLast (view_of pass.now) }
 {
     // only the contract speaks of `pass`
     let _pass = pass;

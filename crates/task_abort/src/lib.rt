@@ -18,7 +18,7 @@ mod work;
 
 pub use cell::{Abortable, JoinHandle, JoinPass, OwnCell};
 pub use handle_laws::{
-    known_callers, late_calls_stand_last, phases_of_seen_calls, staged_log_is_legal,
+    known_callers, late_calls_are_last, phases_of_seen_calls, staged_log_is_legal,
     staged_log_keeps_lists, unfinished_calls,
 };
 pub use log::{CallMade, HandleCaller, LogEntry, PassView, PhaseCall};

@@ -3,7 +3,7 @@ use Rattle.store_works.specs.KeptWorks.{HoldsNone}
 use Rattle.std.proofs.Common.{ap₂, ap, arith, refl, subst, sym, ◌∙◌}
 use Rattle.std.specs.Prelude.{Bool, IfSome, Option, List, None, length, true, ℕ, ◌≡◌, ◌≤◌, ◌^◌}
 use Rattle.laws_states.specs.Settings.{CodesInCallbacks}
-use Rattle.task_loop.specs.HasRun.{At, HasRun, Keeps, MayRun, Stands, at, numbers, setting}
+use Rattle.task_loop.specs.HasRun.{At, HasRun, Keeps, MayRun, MayTakeTurn, at, numbers, setting}
 use Rattle.task_loop.specs.Says.{Says}
 use Rattle.task_loop.specs.declared.run.RunConcurrent.{RunConcurrent}
 use Rattle.machine_data.specs.Core.{fresh}
@@ -30,7 +30,7 @@ module _ {M T H G : Type 0} (says : Says M) (course : H → HostDef) (c : Compon
       HoldsHosts course a.store → IsAsked a.store.state → numbers says course c a ≤ 2 ^ 60 → MayRun says course c a
   may_begin a covered main order current suits knows works asked few = record {
     covered = covered;
-    stands = record {
+    may_turn = record {
       order = subst (λ (p : Turn). CoreInOrder c p a.store.state.core) (sym main) order;
       settled = subst (λ (p : Turn). IsSettled a.store.state.core p) (sym main) refl;
       running = current ∙ sym (ap runs_in main);
@@ -50,21 +50,21 @@ module _ {M T H G : Type 0} (says : Says M) (course : H → HostDef) (c : Compon
       let same : setting says course c b ≡ setting says course c a = ap₂ (λ (ops : List MainOpDef) (i : Bool). setting_of c ops i) keeps.script keeps.idle in
       record {
         covered = may.covered;
-        stands = subst (λ (x : Setting). Stands says course c x b) (sym same) has.stands;
+        may_turn = subst (λ (x : Setting). MayTakeTurn says course c x b) (sym same) has.may_turn;
         unfinished = unfinished;
         few = few;
       }
 
   -- the thread that runs then is in order
-  pub runner_stands : (x : Setting) (b : At M T H G) → Stands says course c x b → IfSome (running_of b.store.state) (λ n. CoreInOrder c (turn.Run n) b.store.state.core)
-  runner_stands x b stands = subst (λ (o : Option ℕ). IfSome o (λ n. CoreInOrder c (turn.Run n) b.store.state.core)) (sym stands.running) (by b.turn stands.order)
+  pub runner_stands : (x : Setting) (b : At M T H G) → MayTakeTurn says course c x b → IfSome (running_of b.store.state) (λ n. CoreInOrder c (turn.Run n) b.store.state.core)
+  runner_stands x b may_turn = subst (λ (o : Option ℕ). IfSome o (λ n. CoreInOrder c (turn.Run n) b.store.state.core)) (sym may_turn.running) (by b.turn may_turn.order)
     where
       by : (q : Turn) → CoreInOrder c q b.store.state.core → IfSome (runs_in q) (λ n. CoreInOrder c (turn.Run n) b.store.state.core)
-      by (turn.Run n) sits = sits
-      by turn.Main sits = tt
-      by (turn.Futures n) sits = tt
-      by (turn.Take b) sits = tt
-      by turn.Over sits = tt
+      by (turn.Run n) in_turn = in_turn
+      by turn.Main in_turn = tt
+      by (turn.Futures n) in_turn = tt
+      by (turn.Take b) in_turn = tt
+      by turn.Over in_turn = tt
 
   module _ (run : RunConcurrent) (main : run.turn ≡ turn.Main) (m : M) (suits : says.suits m c) (covered : IsWellFormed c) (st new : Store T H G) (begun : new ≡ record st { running = true }) (trace : List Label) where
     -- of a store in which no thread runs

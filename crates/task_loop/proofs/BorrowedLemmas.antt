@@ -29,8 +29,8 @@ module _ (s : StateView) (id : TableId ThreadKey) (o : Option (TableId ThreadKey
         (subst (λ (b : Bool). UnlessBorrowed b (comes (thread_of s id)) s r t) (sym is) op_result)
 
 -- nothing is changed, so it is in order still
-pub sits_still : (c : Component) (s : StateView) → IsRunningIn c s → CoreInOrder c (turn_in s) s.core
-sits_still c s q = subst (λ (o : Option ℕ). CoreInOrder c (turn_for o) s.core) (sym q.runs) q.order
+pub in_turn_still : (c : Component) (s : StateView) → IsRunningIn c s → CoreInOrder c (turn_in s) s.core
+in_turn_still c s q = subst (λ (o : Option ℕ). CoreInOrder c (turn_for o) s.core) (sym q.runs) q.order
 
 -- what is so of the thread that runs is so whatever else is asked
 pub runs_on : (o : Option ℕ) (P Q : ℕ → Type 0) → ((n : ℕ) → P n → Q n) → IfSome o P → IfSome o Q

@@ -39,12 +39,12 @@ use Rattle.core_primitives.specs.StateView.{StateView, on_core}
 -- ---- What stays of a store
 
 pub keeps_all : {T H G : Type 0} (c : Component) (s : Store T H G) → KeepsStore c s s
-keeps_all c s = record { order = λ p sits. sits; works = λ course h. h; asked = λ is. is; hook = refl; rest = refl }
+keeps_all c s = record { order = λ p in_turn. in_turn; works = λ course h. h; asked = λ is. is; hook = refl; rest = refl }
 
 -- one call after another
 pub keeps_then : {T H G : Type 0} (c : Component) (s m t : Store T H G) → KeepsStore c s m → KeepsStore c m t → KeepsStore c s t
 keeps_then {T} {H} {G} c s m t a b = record {
-  order = λ p sits. b.order p (a.order p sits);
+  order = λ p in_turn. b.order p (a.order p in_turn);
   works = λ course h. b.works course (a.works course h);
   asked = λ is. b.asked (a.asked is);
   hook = b.hook ∙ a.hook;
@@ -54,7 +54,7 @@ keeps_then {T} {H} {G} c s m t a b = record {
 -- the state is as before
 pub keeps_still : {T H G : Type 0} (c : Component) (s : Store T H G) (u : StateView) (l : Listeners) → u ≡ s.state → is_some l.hook ≡ is_some s.listeners.hook → KeepsStore c s (record s { state = u; listeners = l })
 keeps_still c s u l state hook = record {
-  order = λ p sits. subst (λ (v : StateView). CoreInOrder c p v.core) (sym state) sits;
+  order = λ p in_turn. subst (λ (v : StateView). CoreInOrder c p v.core) (sym state) in_turn;
   works = λ course h. subst (λ (v : StateView). HoldsWorks (held_by course s) v.core) (sym state) h;
   asked = λ is. subst (λ (v : StateView). IsAsked v) (sym state) is;
   hook = hook;
@@ -69,7 +69,7 @@ module _ {T H G : Type 0} (s m t : Store T H G) (is : t ≡ record m { state = a
 
   pub keeps_trapped : (c : Component) → KeepsStore c s m → KeepsStore c s t
   keeps_trapped c k = record {
-    order = λ p sits. subst (λ (v : StateView). CoreInOrder c p v.core) (sym trapped_state) (trap_in_order c p m.state.core (k.order p sits));
+    order = λ p in_turn. subst (λ (v : StateView). CoreInOrder c p v.core) (sym trapped_state) (trap_in_order c p m.state.core (k.order p in_turn));
     works = λ course h. subst (λ (x : Store T H G). HoldsHosts course x) (sym is) (trapped_hosts course m t.listeners (k.works course h));
     asked = λ was. subst (λ (v : StateView). IsAsked v) (sym trapped_state) refl;
     hook = told.same_hook ∙ k.hook;

@@ -39,7 +39,7 @@ module _ {M T H G : Type 0} (says : Says M) (course : H → HostDef) (c : Compon
         has = record {
           ran = ran;
           few = subst (λ (ls : List Label). length ls ≤ steps) same p.few;
-          stands = record {
+          may_turn = record {
             order = paused.order;
             settled = paused.settled;
             running = paused.running;

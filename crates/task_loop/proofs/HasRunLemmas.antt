@@ -91,11 +91,11 @@ module _ {M T H G : Type 0} (says : Says M) (course : H → HostDef) (c : Compon
 
   -- how the store is at the turn
   pub at_turn : (r : ℕ) (u : At M T H G) → MayTurn says course c r u → IsAtTurn c u.turn u.store.state
-  at_turn r u may = record { order = may.stands.order; running = may.stands.running; settled = may.stands.settled; unfinished = may.unfinished }
+  at_turn r u may = record { order = may.may_turn.order; running = may.may_turn.running; settled = may.may_turn.settled; unfinished = may.unfinished }
 
   pub come_first : (a : At M T H G) → MayRun says course c a → HasCome says course c a a 0
   come_first a may =
-      let s = may.stands in
+      let s = may.may_turn in
       record {
         on = on_begins (setting says course c a) a.trace a.turn (says.part a.main) a.store.state
             (record { order = s.order; running = s.running; settled = s.settled; unfinished = may.unfinished }) s.pends;
@@ -122,7 +122,7 @@ module _ {M T H G : Type 0} (says : Says M) (course : H → HostDef) (c : Compon
           has = record {
             ran = ran;
             few = subst (λ (ls : List Label). length ls ≤ steps) same drove.drives.few;
-            stands = record {
+            may_turn = record {
               order = drove.order;
               settled = drove.settled;
               running = drove.running;
@@ -146,7 +146,7 @@ module _ {M T H G : Type 0} (says : Says M) (course : H → HostDef) (c : Compon
     pub come_may : (r : ℕ) → IsWellFormed c → numbers says course c u + 4 < 2 ^ 61 → r ≡ group_running u.store.state u.turn → MayTurn says course c r u
     come_may r covered few group = record {
       covered = covered;
-      stands = record {
+      may_turn = record {
         order = come.on.at.order;
         settled = come.on.at.settled;
         running = come.on.at.running;

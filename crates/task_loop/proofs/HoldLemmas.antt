@@ -51,17 +51,17 @@ taking_makes_none ops s ended is (CallsHost n runs queues) = cc
 
 pub held_taken : {E : Type 0} (x : Setting) (b ended : Bool) (m : Main) (s t : StateView) (left : ℕ → Option HeldWork) (r : Result (Option StepResult) E) (before after : List Label) → CoreInOrder x.component (turn.Take ended) s.core →
     x.idle ≡ idle_line_of b → PendsIn x s.core m (turn.Take ended) → IfOk r (λ o. AddedOrNone (λ made. TurnedBeside x.component b (turn.Take ended) s made t) o before after) → HoldsWorks left s.core → OnOk r (HoldsWorks left t.core)
-held_taken x b ended m s t left (Err e) before after sits idle pends turned h = tt
-held_taken x b ended m s t left (Ok None) before after sits idle pends turned h =
+held_taken x b ended m s t left (Err e) before after in_turn idle pends turned h = tt
+held_taken x b ended m s t left (Ok None) before after in_turn idle pends turned h =
     let k : Turned x (turn.Take ended) m s None m t = turned.0 x refl idle m pends in
     subst (λ (v : StateView). HoldsWorks left v.core) (sym k.1.1) h
-held_taken x b ended m s t left (Ok (Some q)) before after sits idle pends turned h =
+held_taken x b ended m s t left (Ok (Some q)) before after in_turn idle pends turned h =
     let made = turned.0 in
     let k : Turned x (turn.Take ended) m s (Some made) m t = turned.1.1 x refl idle m pends in
     let a = state_at s.core m (turn.Take ended) in
     let b = state_at t.core m made.turn in
     let ops = ops_of x.component s.core in
-    holds_quiet ops x a made.label b (step_walks x a made.label b k.step) (Takes ended) (sits.order m).works.made (taken_stays x a made.label b ended (sits.order m) k.step refl left h) left h
+    holds_quiet ops x a made.label b (step_walks x a made.label b k.step) (Takes ended) (in_turn.order m).works.made (taken_stays x a made.label b ended (in_turn.order m) k.step refl left h) left h
     (taking_makes_none ops a ended refl)
 
 -- ---- Ops of the running thread
@@ -86,7 +86,7 @@ first_left host_def.Open l host_poll.Pending h = same_left host_def.Open l h
 first_left host_def.Open l (host_poll.Value v) h = absurd (cc)
 first_left host_def.Open l host_poll.Failed h = absurd (cc)
 
-module _ (answer : HostPoll) (c : Component) (n : ℕ) (s t : StateView) (made : MadeStep) (work : Option (TableId HostTaskKey)) (sits : CoreInOrder c (turn.Run n) s.core) (makes : MakesStep c (turn.Run n) s made t) (polls : WorkMade answer (host_polled c n s.core) work s t)
+module _ (answer : HostPoll) (c : Component) (n : ℕ) (s t : StateView) (made : MadeStep) (work : Option (TableId HostTaskKey)) (in_turn : CoreInOrder c (turn.Run n) s.core) (makes : MakesStep c (turn.Run n) s made t) (polls : WorkMade answer (host_polled c n s.core) work s t)
     (left : ℕ → Option HeldWork) (h : HoldsWorks left s.core) where
   x : Setting
   x = record { component = c; script = []; idle = idle_line.Wait }
@@ -113,18 +113,18 @@ module _ (answer : HostPoll) (c : Component) (n : ℕ) (s t : StateView) (made :
 
   stays : (i : ℕ) → StaysWork (get s.core.works i) (get t.core.works i)
   unfolding x before after
-  stays = running_stays x before made.label after n (runs_works c n s.core (sits.order Unscripted)) (makes.step x refl Unscripted) refl left h
+  stays = running_stays x before made.label after n (runs_works c n s.core (in_turn.order Unscripted)) (makes.step x refl Unscripted) refl left h
 
   unmade : WorkMade answer (host_polled c n s.core) None s t → HoldsWorks left t.core
   unfolding x before after
-  unmade (inl none) = holds_quiet own_ops x before made.label after walked (Runs n) (sits.order Unscripted).works.made stays left h (makes_none none)
-  unmade (inr gone) = holds_unmade own_ops x before made.label after walked (Runs n) (sits.order Unscripted).works.made stays left h gone
+  unmade (inl none) = holds_quiet own_ops x before made.label after walked (Runs n) (in_turn.order Unscripted).works.made stays left h (makes_none none)
+  unmade (inr gone) = holds_unmade own_ops x before made.label after walked (Runs n) (in_turn.order Unscripted).works.made stays left h gone
 
   made_held : (id : TableId HostTaskKey) (right : ℕ → Option HeldWork) → WorkMade answer (host_polled c n s.core) (Some id) s t → ((i : ℕ) → right i ≡ held_after_call (Some (work_of t id)) (option_map one_fewer (host_polled c n s.core)) left i) → HoldsWorks right t.core
   unfolding x before after
   made_held id right m is =
       let d = m.0 in let l = m.1.0 in let polled = m.1.1.0 in let first = m.1.1.1.0 in let number = m.1.1.1.1.0 in let goes = m.1.1.1.1.1 in
-      holds_made own_ops x before made.label after walked (Runs n) (sits.order Unscripted).works.made stays left h l right
+      holds_made own_ops x before made.label after walked (Runs n) (in_turn.order Unscripted).works.made stays left h l right
       (subst (λ (k : ℕ). course_of k t.core ≡ courses.Continues l) number goes)
       (λ i. is i ∙ (ap (λ (o : Option HostDef). held_after_call (Some (work_of t id)) (option_map one_fewer o) left i) polled ∙ (ap (λ (k : ℕ). cond (k == i) (running (one_fewer d)) (left i)) number
       ∙ ap (λ (e : HostDef). cond (s.core.made.works + 1 == i) (running e) (left i)) (first_left d l answer first))))

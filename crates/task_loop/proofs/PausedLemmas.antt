@@ -237,8 +237,8 @@ module _ (x : Setting) (s : State) (before : List Label) (numbers : ℕ) (yield_
     abbrev Stops : Result RunPoll TaskError → Type 0
     Stops r = Paused x s before numbers yield_budget steps r p m t mid yield_budget'
 
-    stands : (r : Result RunPoll TaskError) → may_poll r ≡ true → n ≤ steps → Polls x s before yield_budget steps r (state_at t.core m p) mid yield_budget' → Stops r
-    stands r may room polls = record {
+    pauses : (r : Result RunPoll TaskError) → may_poll r ≡ true → n ≤ steps → Polls x s before yield_budget steps r (state_at t.core m p) mid yield_budget' → Stops r
+    pauses r may room polls = record {
       polls = polls;
       unfinished = on.at.unfinished ∙ sym may;
       order = on.at.order;
@@ -250,7 +250,7 @@ module _ (x : Setting) (s : State) (before : List Label) (numbers : ℕ) (yield_
 
     -- before an entry
     pub yields_now : n < steps → yields_before b' k' (next_mark p t.core) ≡ true → yield_budget'.since ≡ 0 → yield_budget'.passes ≡ true → Stops (Ok poll.Yielded)
-    yields_now less h fresh passes = stands (Ok poll.Yielded) refl (omega arith) (record {
+    yields_now less h fresh passes = pauses (Ok poll.Yielded) refl (omega arith) (record {
       added = added;
       trace = so_far.trace;
       run = run;
@@ -264,7 +264,7 @@ module _ (x : Setting) (s : State) (before : List Label) (numbers : ℕ) (yield_
 
     -- where the steps are used up
     pub used_up : n ≡ steps → is_at_rest x (state_at t.core m p) ≡ false → yield_budget'.since ≡ 0 → yield_budget'.passes ≡ false → Stops (Ok poll.Yielded)
-    used_up all moves fresh passes = stands (Ok poll.Yielded) refl (omega arith) (record {
+    used_up all moves fresh passes = pauses (Ok poll.Yielded) refl (omega arith) (record {
       added = added;
       trace = so_far.trace;
       run = run;
@@ -278,7 +278,7 @@ module _ (x : Setting) (s : State) (before : List Label) (numbers : ℕ) (yield_
 
     -- where nothing can go on
     pub idles : n ≤ steps → is_at_rest x (state_at t.core m p) ≡ true → yield_budget'.since ≡ k' → yield_budget'.passes ≡ false → Stops (Ok poll.Idle)
-    idles room rests since passes = stands (Ok poll.Idle) refl room (record {
+    idles room rests since passes = pauses (Ok poll.Idle) refl room (record {
       added = added;
       trace = so_far.trace;
       run = run;

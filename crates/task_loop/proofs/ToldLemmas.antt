@@ -45,7 +45,7 @@ use Rattle.ops_turns.proofs.KeptLemmas.{core_in_order_after}
 use Rattle.ops_turns.specs.Does.{label_of_step}
 use Rattle.ops_turns.specs.Drive.{Computes}
 use Rattle.ops_turns.specs.Main.{IsOpOfMain, Steps, main_setting}
-use Rattle.ops_turns.specs.StepResult.{Added, AddedOrNone, Stands}
+use Rattle.ops_turns.specs.StepResult.{Added, AddedOrNone, MayTakeTurn}
 use Rattle.ops_turns.specs.Turn.{IsFree, MakesStep, PendsIn, CoreInOrder, Turned, Turns, running_of, runs_in, setting_of, state_at}
 use Rattle.ops_turns.specs.declared.made.MadeStep.{MadeStep}
 use Rattle.ops_turns.specs.declared.made.StepResult.{StepResult}
@@ -94,7 +94,7 @@ idle_running t (turn.Take b) e none = refl
 idle_running t turn.Over e none = refl
 
 -- the turn after a step whose label is in the trace
-pub stands_turn : (q : StepResult) (before : List Label) (made : MadeStep) (after : List Label) → Stands q before made after → made.turn ≡ turn_of q
+pub stands_turn : (q : StepResult) (before : List Label) (made : MadeStep) (after : List Label) → MayTakeTurn q before made after → made.turn ≡ turn_of q
 stands_turn q before made after h = h.1
 
 -- ---- A thread that runs on
@@ -166,11 +166,11 @@ running_told listens a answer r t u old new told =
     ⊎_elim (λ h. ap running_of h.told.asked ∙ running_asked t)
     (λ h. ⊎_elim (λ q. ap running_of q.same) (λ q. ap running_of q.asked ∙ running_asked t) h.told) told
 
-pub sits_told : {A : Type 0} (listens : Bool) (a : GroupsBefore) (answer r : Result A TaskError) (c : Component) (t u : StateView) (old new : Listeners) → TellsCall listens a answer r t u old new →
+pub in_turn_told : {A : Type 0} (listens : Bool) (a : GroupsBefore) (answer r : Result A TaskError) (c : Component) (t u : StateView) (old new : Listeners) → TellsCall listens a answer r t u old new →
     CoreInOrder c (turn_in t) t.core → CoreInOrder c (turn_in u) u.core
-sits_told listens a answer r c t u old new told sits =
+in_turn_told listens a answer r c t u old new told in_turn =
     subst (λ (o : Option ℕ). CoreInOrder c (turn_for o) u.core) (sym (running_told listens a answer r t u old new told))
-    (subst (λ (d : Core). CoreInOrder c (turn_in t) d) (sym (told_core listens a answer r t u old new told)) sits)
+    (subst (λ (d : Core). CoreInOrder c (turn_in t) d) (sym (told_core listens a answer r t u old new told)) in_turn)
 
 -- ---- The groups before the step of a turn
 
@@ -244,11 +244,11 @@ runs_same turn.Over q e = absurd (cc)
 
 -- is of the same group after the step
 pub group_on : (x : Setting) (p q : Turn) (m n : Main) (s t : Core) (l : Label) → CoreInOrder x.component p s → Step x (state_at s m p) l (state_at t n q) → (gs : List ℕ) → runs_on p q ≡ true → running_in gs t q ≡ running_in gs s p
-group_on x p q m n s t l sits step gs on =
+group_on x p q m n s t l in_turn step gs on =
     let same = runs_same p q on in
     let k = same.0 in
-    let after = subst (λ (w : Turn). CoreInOrder x.component w t) same.1.1 (core_in_order_after x s t m n p q l sits step) in
-    let before = subst (λ (w : Turn). CoreInOrder x.component w s) same.1.0 sits in
+    let after = subst (λ (w : Turn). CoreInOrder x.component w t) same.1.1 (core_in_order_after x s t m n p q l in_turn step) in
+    let before = subst (λ (w : Turn). CoreInOrder x.component w s) same.1.0 in_turn in
     ap (running_in gs t) same.1.1 ∙ (ap (if_tracked gs) (stays_in x.component k s t before after (steady x (state_at s m p) l (state_at t n q) step)) ∙ sym (ap (running_in gs s) same.1.0))
 
 module _ (c : Component) (n : ℕ) (s t : StateView) (q : StepResult) (before after : List Label)
@@ -262,14 +262,14 @@ module _ (c : Component) (n : ℕ) (s t : StateView) (q : StepResult) (before af
 
   -- one that runs on stays in its group
   pub run_stays : CoreInOrder c (turn.Run n) s.core → t.tags.tracked ≡ s.tags.tracked → running_of s ≡ Some n → runs_on (turn.Run n) (turn_of q) ≡ true → current_group t ≡ current_group s
-  run_stays sits known runs on =
+  run_stays in_turn known runs on =
       let x = setting_of c [] false in
       let step = subst (λ (p : Turn). Step x (state_at s.core Unscripted (turn.Run n)) (made.0).label (state_at t.core Unscripted p))
       (stands_turn q before made.0 after made.1.0) (((made.1.1).0).step x refl Unscripted) in
       let same = runs_same (turn.Run n) (turn_of q) on in
       current_is t (turn_of q) run_runs
       ∙ (ap (λ (ks : List ℕ). running_in ks t.core (turn_of q)) known
-      ∙ (group_on x (turn.Run n) (turn_of q) Unscripted Unscripted s.core t.core (made.0).label sits step s.tags.tracked on ∙ sym (current_is s (turn.Run n) runs)))
+      ∙ (group_on x (turn.Run n) (turn_of q) Unscripted Unscripted s.core t.core (made.0).label in_turn step s.tags.tracked on ∙ sym (current_is s (turn.Run n) runs)))
 
   module _ (is : IsAsked s) (old : Listeners) (new : Listeners) (told : TellsTurn s (turn.Run n) t old new) where
     pub run_told : errors_of new ≡ errors_of old → Added (λ made. RunTold c n s old made t new) q before after

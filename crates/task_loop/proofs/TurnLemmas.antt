@@ -53,18 +53,18 @@ module _ {M T H G : Type 0} (says : Says M) (course : H → HostDef) (c : Compon
   Taken o = AddedOrNone (λ (k : Option MadeStep). TurnedBeside c b p s.state k t.state) o before after
 
   pends : PendsIn x s.state.core part p
-  pends = subst (λ (r : Turn). PendsIn x s.state.core part r) is may.stands.pends
+  pends = subst (λ (r : Turn). PendsIn x s.state.core part r) is may.may_turn.pends
 
   order : CoreInOrder c p s.state.core
-  order = subst (λ (r : Turn). CoreInOrder c r s.state.core) is may.stands.order
+  order = subst (λ (r : Turn). CoreInOrder c r s.state.core) is may.may_turn.order
 
   works : (o : Option StepResult) → Taken o → HoldsHosts course t
   works o turned =
       subst (λ (st : Store T H G). HoldsHosts course st) (sym rest)
-      (held_taken {E = Halt} x b ended part s.state t.state (held_by course s) (Ok o) before after order refl pends turned may.stands.works)
+      (held_taken {E = Halt} x b ended part s.state t.state (held_by course s) (Ok o) before after order refl pends turned may.may_turn.works)
 
   knows : (o : Option StepResult) → Taken o → KeepsWorks s.state t.state → says.knows m t.state
-  knows o turned kept = by_take (says.knows m) s.state t.state (λ last. stays t.state last may.stands.knows) {E = Halt} x b ended part (Ok o) before after order refl pends turned kept
+  knows o turned kept = by_take (says.knows m) s.state t.state (λ last. stays t.state last may.may_turn.knows) {E = Halt} x b ended part (Ok o) before after order refl pends turned kept
 
   -- nothing was told where nothing is there
   beside_told : (o : Option StepResult) → IfSome o (λ k. ToldBeside s.state s.listeners p running t.state t.listeners) → (◌≡◌ {A = Result (Option StepResult) Halt} (Ok o) (Ok None) → t.listeners ≡ s.listeners) →
@@ -79,10 +79,10 @@ module _ {M T H G : Type 0} (says : Says M) (course : H → HostDef) (c : Compon
       let all = turned_beside {E = Halt} x b p part s.state t.state (Ok o) before after refl pends turned in
       record {
         turn = refl;
-        told = taken_told x ended part s.state t.state before after {E = Halt} s.listeners t.listeners (Ok o) may.stands.asked all none told.0 told.1.0;
+        told = taken_told x ended part s.state t.state before after {E = Halt} s.listeners t.listeners (Ok o) may.may_turn.asked all none told.0 told.1.0;
         did = still_taken says.does m x part s.state t.state {E = Halt} b ended (Ok o) before after refl pends turned;
         group = taken_running x ended part s.state t.state before after {E = Halt} running (Ok o) all told.1.1;
-        suits = may.stands.suits;
+        suits = may.may_turn.suits;
         knows = knows o turned kept;
         works = works o turned;
         asked = asked;

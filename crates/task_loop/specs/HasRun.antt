@@ -81,7 +81,7 @@ module _ {M T H G : Type 0} (says : Says M) (course : H → HostDef) (c : Compon
   numbers a = given a.store.state.core
 
   -- Main and the store are such that the loop may take a turn.
-  pub record Stands (x : Setting) (a : At M T H G) : Type 0 where
+  pub record MayTakeTurn (x : Setting) (a : At M T H G) : Type 0 where
     -- the core is in order at this turn
     pub order : CoreInOrder c a.turn a.store.state.core
     -- the moves that show no label are made
@@ -101,7 +101,7 @@ module _ {M T H G : Type 0} (says : Says M) (course : H → HostDef) (c : Compon
   -- What a call on a run asks.
   pub record MayRun (a : At M T H G) : Type 0 where
     pub covered : IsWellFormed c
-    pub stands : Stands (setting a) a
+    pub may_turn : MayTakeTurn (setting a) a
     -- the run isn't over
     pub unfinished : is_open a.turn ≡ true
     pub few : numbers a ≤ 2 ^ 60
@@ -143,7 +143,7 @@ module _ {M T H G : Type 0} (says : Says M) (course : H → HostDef) (c : Compon
   -- What a turn asks. The thread that runs is of this group, if one runs.
   pub record MayTurn (running : ℕ) (a : At M T H G) : Type 0 where
     pub covered : IsWellFormed c
-    pub stands : Stands (setting a) a
+    pub may_turn : MayTakeTurn (setting a) a
     pub unfinished : is_open a.turn ≡ true
     pub few : numbers a + 4 < 2 ^ 61
     pub group : running ≡ group_running a.store.state a.turn
@@ -203,7 +203,7 @@ module _ {M T H G : Type 0} (says : Says M) (course : H → HostDef) (c : Compon
   pub record HasRun (steps : ℕ) (a b : At M T H G) : Type 0 where
     pub ran : RanTo a b
     pub few : length ran.added ≤ steps
-    pub stands : Stands (setting a) b
+    pub may_turn : MayTakeTurn (setting a) b
     -- at most two numbers were given for each label
     pub numbers : numbers b ≤ numbers a + 2 * steps
 
@@ -332,7 +332,7 @@ module _ {M T H G : Type 0} (says : Says M) (course : H → HostDef) (c : Compon
   PollGives listens steps r run m s before run' n t after =
       PollsTo listens steps r run.yield_budget (at run m s before) (at run' n t after) run'.yield_budget
 
-  -- of one turn, which the run stands at before and after it
+  -- of one turn, in which the run is before and after it
   abbrev pub TurnGives : Result (Option StepResult) Halt → (running : ℕ) → RunConcurrent → M → Store T H G → List Label → M →
       Store T H G → List Label → Type 0
   TurnGives r running run m s before n t after = TurnsTo r running (at run m s before) (at run n t after)

@@ -31,7 +31,7 @@ pub trait MainTask<T, H: HostWork, G: TaskGroupHook> {
     ) -> Result<MainStep, TaskError>
         requires may { MayStep says H.course component.now self.old access.old.store.now }
         ensures same { access.new.store.ghost_name ≡ access.old.store.ghost_name }
-        ensures stands { constants access.new.store.now ≡ constants access.old.store.now }
+        ensures constants_stay { constants access.new.store.now ≡ constants access.old.store.now }
         ensures script { says.script self.new ≡ says.script self.old }
         ensures steps { StepsTo says H.course component.now result self.old access.old.store.now self.new access.new.store.now };
 

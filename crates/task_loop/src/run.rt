@@ -89,7 +89,7 @@ fn ask_main<T, H: HostWork, G: TaskGroupHook, M: MainTask<T, H, G>>(
     main: &mut M,
 ) -> Result<MainStep, TaskError>
     requires may { MayStep M.says H.course component.now main.old store.old }
-    ensures stands { constants store.new ≡ constants store.old }
+    ensures constants_stay { constants store.new ≡ constants store.old }
     ensures script { M.says.script main.new ≡ M.says.script main.old }
     ensures steps { StepsTo M.says H.course component.now result main.old store.old main.new store.new }
 {
@@ -105,7 +105,7 @@ fn step_main<T, H: HostWork, G: TaskGroupHook, M: MainTask<T, H, G>>(
     trace: &mut PackedLabels,
 ) -> Result<StepResult, Halt>
     requires may { MayStep M.says H.course component.now main.old store.old }
-    ensures stands { constants store.new ≡ constants store.old }
+    ensures constants_stay { constants store.new ≡ constants store.old }
     ensures script { M.says.script main.new ≡ M.says.script main.old }
     ensures turned { MainTurned M.says H.course component.now result main.old store.old trace.old main.new store.new trace.new }
 {
@@ -140,7 +140,7 @@ fn call_host_outlined<T, H: AccessorTask<T> + FromHost, G: TaskGroupHook>(
 ) -> Result<StepResult, NoMemory>
     requires runs { RunsThread H.course component.now thread store.old }
     requires calls { calls_host (op_of component.now thread store.old.state.core) ≡ true }
-    ensures stands { constants store.new ≡ constants store.old }
+    ensures constants_stay { constants store.new ≡ constants store.old }
     ensures steps { IfOk result (λ stepped. StepsUntold H.course component.now thread store.old stepped store.new trace.old trace.new) }
     ensures listeners { OnOk result (store.new.listeners ≡ store.old.listeners) }
     ensures err { OnErr result (trace.new ≡ trace.old) }
@@ -163,7 +163,7 @@ fn call_host<T, H: AccessorTask<T> + FromHost, G: TaskGroupHook>(
 ) -> Result<StepResult, NoMemory>
     requires runs { RunsThread H.course component.now thread store.old }
     requires calls { calls_host (op_of component.now thread store.old.state.core) ≡ true }
-    ensures stands { constants store.new ≡ constants store.old }
+    ensures constants_stay { constants store.new ≡ constants store.old }
     ensures steps { IfOk result (λ stepped. StepsUntold H.course component.now thread store.old stepped store.new trace.old trace.new) }
     ensures listeners { OnOk result (store.new.listeners ≡ store.old.listeners) }
     ensures err { OnErr result (trace.new ≡ trace.old) }
@@ -181,7 +181,7 @@ fn step_thread<T, H: AccessorTask<T> + FromHost, G: TaskGroupHook>(
     trace: &mut PackedLabels,
 ) -> Result<StepResult, NoMemory>
     requires runs { RunsThread H.course component.now thread store.old }
-    ensures stands { constants store.new ≡ constants store.old }
+    ensures constants_stay { constants store.new ≡ constants store.old }
     ensures steps { IfOk result (λ stepped. StepsUntold H.course component.now thread store.old stepped store.new trace.old trace.new) }
     ensures listeners { OnOk result (store.new.listeners ≡ store.old.listeners) }
     ensures err { OnErr result (trace.new ≡ trace.old) }
@@ -208,7 +208,7 @@ fn run_thread<T, H: AccessorTask<T> + FromHost, G: TaskGroupHook>(
     requires runs { RunsThread H.course component.now thread store.old }
     requires running { running.old ≡ group_running store.old.state (Turn.Run thread) }
     requires asked { IsAsked store.old.state }
-    ensures stands { constants store.new ≡ constants store.old }
+    ensures constants_stay { constants store.new ≡ constants store.old }
     ensures ran { RunsTo H.course component.now thread store.old result running.new store.new trace.old trace.new }
 {
     store.state.none_is_zero();
@@ -242,7 +242,7 @@ fn poll_work<T, H: AccessorTask<T> + FromHost, G: TaskGroupHook>(
     requires at { IsAtTurn component.now (Turn.Futures polled) store.old.state }
     requires hosts { HoldsHosts H.course store.old }
     requires asked { IsAsked store.old.state }
-    ensures stands { constants store.new ≡ constants store.old }
+    ensures constants_stay { constants store.new ≡ constants store.old }
     ensures works { KeepsWorks store.old.state store.new.state × HoldsHosts H.course store.new }
     ensures polled { WorkPollsTo (Turn.Futures polled) store.old result running.new store.new trace.old trace.new }
 {

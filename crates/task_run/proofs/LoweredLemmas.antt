@@ -11,9 +11,9 @@ use Rattle.text_scenario.specs.declared.tree.PartText.{PartText}
 use Rattle.text_scenario.specs.declared.tree.PartText.TheVariants as part
 use Rattle.text_scenario.specs.declared.tree.ScenarioText.{ScenarioText}
 use Rattle.text_scenario.specs.Spelling.{exports_in, exports_of}
-use Rattle.text_scenario.specs.Placement.{EachStands, ExportStands, InstanceStands, IsWellFormed, OpStands, PartStands, ReactStands, ScriptStands, params_of}
-use Rattle.text_scenario.proofs.ExportLaws.{export_stands}
-use Rattle.text_scenario.proofs.StandingLaws.{some_map, stands_at}
+use Rattle.text_scenario.specs.Placement.{EachIsPlaced, ExportIsPlaced, InstanceIsPlaced, IsWellFormed, OpIsPlaced, PartIsPlaced, ReactIsPlaced, ScriptIsPlaced, params_of}
+use Rattle.text_scenario.proofs.ExportLaws.{export_placed}
+use Rattle.text_scenario.proofs.PlacementLaws.{some_map, stands_at}
 use Rattle.machine_data.specs.Read.{is_callback}
 use Rattle.machine_data.specs.declared.component.Callee.{Callee}
 use Rattle.machine_data.specs.declared.component.Component.{Component}
@@ -29,7 +29,7 @@ use Rattle.machine_rules.specs.Scripts.{export_at, script_in, slot_at, slot_scri
 use Rattle.task_run.specs.Lower.{export_def, instance_def, scenario_of, slots_after}
 
 -- each op had room
-pub short : (hosts : List HostText) (earlier : List InstanceText) (callback : Bool) (before ops : List Op) → EachStands (OpStands hosts earlier callback) before ops → length before ≤ 4096
+pub short : (hosts : List HostText) (earlier : List InstanceText) (callback : Bool) (before ops : List Op) → EachIsPlaced (OpIsPlaced hosts earlier callback) before ops → length before ≤ 4096
     → length before + length ops ≤ 4096
 short hosts earlier callback before [] stands few = omega arith
 short hosts earlier callback before (o ∷ ops) stands few =
@@ -111,26 +111,26 @@ module _ (hosts : List HostText) (earlier : List InstanceText) where
   abbrev at_slot : List Slot → ℕ → List Op
   at_slot slots j = slot_script (unwrap_or (slice_get slots j) slot.Empty)
 
-  abbrev SlotsStand : List Slot → Type 0
-  SlotsStand slots = (j : ℕ) → ScriptStands hosts earlier false (at_slot slots j)
+  abbrev SlotsArePlaced : List Slot → Type 0
+  SlotsArePlaced slots = (j : ℕ) → ScriptIsPlaced hosts earlier false (at_slot slots j)
 
-  filled : (slots : List Slot) (k : ℕ) (x : Slot) → SlotsStand slots → ScriptStands hosts earlier false (slot_script x) → SlotsStand (slice_set slots k x)
+  filled : (slots : List Slot) (k : ℕ) (x : Slot) → SlotsArePlaced slots → ScriptIsPlaced hosts earlier false (slot_script x) → SlotsArePlaced (slice_set slots k x)
   filled slots k x stand stands j = elim (in_set slots k x j) [
-    | inl same ↦ subst (λ (o : Option Slot). ScriptStands hosts earlier false (slot_script (unwrap_or o slot.Empty))) (sym same) (stand j)
-    | inr there ↦ subst (λ (o : Option Slot). ScriptStands hosts earlier false (slot_script (unwrap_or o slot.Empty))) (sym there) stands
+    | inl same ↦ subst (λ (o : Option Slot). ScriptIsPlaced hosts earlier false (slot_script (unwrap_or o slot.Empty))) (sym same) (stand j)
+    | inr there ↦ subst (λ (o : Option Slot). ScriptIsPlaced hosts earlier false (slot_script (unwrap_or o slot.Empty))) (sym there) stands
   ]
 
-  slots_stand : (before parts : List PartText) (slots : List Slot) → EachStands (PartStands hosts earlier) before parts → SlotsStand slots → SlotsStand (slots_after slots parts)
-  slots_stand before [] slots each stand = stand
-  slots_stand before (part.Export e ∷ parts) slots each stand = slots_stand (before ++ part.Export e ∷ []) parts slots each.1 stand
-  slots_stand before (part.Thread s ops ∷ parts) slots each stand =
-      slots_stand (before ++ part.Thread s ops ∷ []) parts (slice_set slots s (slot.Script ops)) each.1 (filled slots s (slot.Script ops) stand each.0.1)
-  slots_stand before (part.Bad s ∷ parts) slots each stand = slots_stand (before ++ part.Bad s ∷ []) parts (slice_set slots s slot.Bad) each.1 (filled slots s slot.Bad stand tt)
+  slots_placed : (before parts : List PartText) (slots : List Slot) → EachIsPlaced (PartIsPlaced hosts earlier) before parts → SlotsArePlaced slots → SlotsArePlaced (slots_after slots parts)
+  slots_placed before [] slots each stand = stand
+  slots_placed before (part.Export e ∷ parts) slots each stand = slots_placed (before ++ part.Export e ∷ []) parts slots each.1 stand
+  slots_placed before (part.Thread s ops ∷ parts) slots each stand =
+      slots_placed (before ++ part.Thread s ops ∷ []) parts (slice_set slots s (slot.Script ops)) each.1 (filled slots s (slot.Script ops) stand each.0.1)
+  slots_placed before (part.Bad s ∷ parts) slots each stand = slots_placed (before ++ part.Bad s ∷ []) parts (slice_set slots s slot.Bad) each.1 (filled slots s slot.Bad stand tt)
 
-  empty_stand : (n : ℕ) → SlotsStand (replicate n slot.Empty)
-  empty_stand zero j = tt
-  empty_stand (suc n) zero = tt
-  empty_stand (suc n) (suc j) = empty_stand n j
+  empty_placed : (n : ℕ) → SlotsArePlaced (replicate n slot.Empty)
+  empty_placed zero j = tt
+  empty_placed (suc n) zero = tt
+  empty_placed (suc n) (suc j) = empty_placed n j
 
 -- ---- The component
 
@@ -146,39 +146,39 @@ module _ (s : ScenarioText) (formed : IsWellFormed s) where
     pub before : List PartText
     pub e : ExportText
     pub is_def : export_def e ≡ d
-    pub stands : ExportStands s.hosts (take f.instance s.instances) before e
+    pub stands : ExportIsPlaced s.hosts (take f.instance s.instances) before e
 
   pub exported : (f : Callee) (d : ExportDef) → export_at (lowered s) f ≡ Some d → Exported f d
   exported f d at =
       let t = export_text s.instances f d (sym (at_lowered s f) ∙ at) in
-      let i = stands_at (InstanceStands s.hosts) s.instances f.instance t.i formed.instances t.at in
-      let x = export_stands s.hosts (take f.instance s.instances) t.i.parts f.export t.e i.parts t.within in
+      let i = stands_at (InstanceIsPlaced s.hosts) s.instances f.instance t.i formed.instances t.at in
+      let x = export_placed s.hosts (take f.instance s.instances) t.i.parts f.export t.e i.parts t.within in
       record { before = x.before; e = t.e; is_def = t.is_def; stands = x.stands }
 
   -- a script is after some instances, in a callback or not
   pub record Known (ops : List Op) : Type 0 where
     pub instances : ℕ
     pub callback : Bool
-    pub stands : ScriptStands s.hosts (take instances s.instances) callback ops
+    pub stands : ScriptIsPlaced s.hosts (take instances s.instances) callback ops
 
   none_known : Known []
   none_known = record { instances = 0; callback = false; stands = tt }
 
-  react_known : (k : ℕ) (x : ExportKind) (react : Option (List Op)) → ReactStands s.hosts (take k s.instances) x react → Known (unwrap_or react [])
+  react_known : (k : ℕ) (x : ExportKind) (react : Option (List Op)) → ReactIsPlaced s.hosts (take k s.instances) x react → Known (unwrap_or react [])
   react_known k x None stands = none_known
   react_known k x (Some ops) stands = record { instances = k; callback = true; stands = stands.1 }
 
   abbrev in_slot : ℕ → Option InstanceDef → List Op
   in_slot j o = slot_script (unwrap_or (option_and_then (λ (d : InstanceDef). slice_get d.slots j) o) slot.Empty)
 
-  pub slot_stands : (i j : ℕ) → ScriptStands s.hosts (take i s.instances) false (slot_script (slot_at (lowered s) i j))
-  slot_stands i j = subst (λ o. ScriptStands s.hosts (take i s.instances) false (in_slot j o)) (sym (slice_get-map instance_def s.instances i)) (by_instance (slice_get s.instances i) refl)
+  pub slot_placed : (i j : ℕ) → ScriptIsPlaced s.hosts (take i s.instances) false (slot_script (slot_at (lowered s) i j))
+  slot_placed i j = subst (λ o. ScriptIsPlaced s.hosts (take i s.instances) false (in_slot j o)) (sym (slice_get-map instance_def s.instances i)) (by_instance (slice_get s.instances i) refl)
     where
-      by_instance : (o : Option InstanceText) → slice_get s.instances i ≡ o → ScriptStands s.hosts (take i s.instances) false (in_slot j (option_map instance_def o))
+      by_instance : (o : Option InstanceText) → slice_get s.instances i ≡ o → ScriptIsPlaced s.hosts (take i s.instances) false (in_slot j (option_map instance_def o))
       by_instance None none = tt
       by_instance (Some t) some =
-          let stands = stands_at (InstanceStands s.hosts) s.instances i t formed.instances some in
-          slots_stand s.hosts (take i s.instances) [] t.parts (replicate 16 slot.Empty) stands.parts (empty_stand s.hosts (take i s.instances) 16) j
+          let stands = stands_at (InstanceIsPlaced s.hosts) s.instances i t formed.instances some in
+          slots_placed s.hosts (take i s.instances) [] t.parts (replicate 16 slot.Empty) stands.parts (empty_placed s.hosts (take i s.instances) 16) j
 
   -- each script of the component is such a one
   pub script_known : (f : Callee) (x : Script) → Known (script_in (lowered s) f x)
@@ -196,4 +196,4 @@ module _ (s : ScenarioText) (formed : IsWellFormed s) where
       by_export (Some d) some =
           let x = exported f d some in
           subst (λ (d : ExportDef). Known d.react) x.is_def (react_known f.instance x.e.kind x.e.react x.stands.react)
-  script_known f (script.Slot j) = record { instances = f.instance; callback = false; stands = slot_stands f.instance j }
+  script_known f (script.Slot j) = record { instances = f.instance; callback = false; stands = slot_placed f.instance j }

@@ -11,9 +11,9 @@ use Rattle.text_scenario.specs.declared.tree.InstanceText.{InstanceText}
 use Rattle.text_scenario.specs.declared.tree.MainOpText.{MainOpText}
 use Rattle.text_scenario.specs.declared.tree.MainOpText.TheVariants as text
 use Rattle.text_scenario.specs.declared.tree.ScenarioText.{ScenarioText}
-use Rattle.text_scenario.specs.Placement.{CallStands, EachStands, InstanceStands, IsWellFormed, MainOpStands, OpFits, OpStands, ReactStands, ScriptStands, finish_opens, is_callback_end, main_has_room, op_suits, params_of}
+use Rattle.text_scenario.specs.Placement.{CallIsPlaced, EachIsPlaced, InstanceIsPlaced, IsWellFormed, MainOpIsPlaced, OpFits, OpIsPlaced, ReactIsPlaced, ScriptIsPlaced, finish_opens, is_callback_end, main_has_room, op_suits, params_of}
 use Rattle.text_scenario.proofs.CalleeLaws.{some_at}
-use Rattle.text_scenario.proofs.StandingLaws.{stands_at}
+use Rattle.text_scenario.proofs.PlacementLaws.{stands_at}
 use Rattle.laws_states.specs.Settings.{CodesInCallbacks, HasNoCode}
 use Rattle.task_loop.specs.LoopCalls.{callee_of}
 use Rattle.task_loop.specs.declared.call.Func.{Func}
@@ -34,7 +34,7 @@ use Rattle.machine_data.specs.declared.op.TaskOp.TheVariants as task_op
 use Rattle.machine_rules.specs.MainOps.{takes_words}
 use Rattle.machine_rules.specs.OpParts.{ends_activation}
 use Rattle.machine_rules.specs.Scripts.{export_at, script_in, slot_at, slot_script}
-use Rattle.task_run.proofs.LoweredLemmas.{at_lowered, export_params, exported, lowered, params_later, script_known, short, slot_stands}
+use Rattle.task_run.proofs.LoweredLemmas.{at_lowered, export_params, exported, lowered, params_later, script_known, short, slot_placed}
 use Rattle.task_run.specs.Runnable.{IsRunnable}
 use Rattle.task_run.specs.Script.{SuitsOps}
 use Rattle.task_run.specs.Lower as lower
@@ -67,7 +67,7 @@ some_there : (d : HostDef) → IsSome (Some d)
 some_there d = refl
 
 -- each instance had room
-below_64 : (hosts : List HostText) (before is : List InstanceText) → EachStands (InstanceStands hosts) before is → length before ≤ 64 → length before + length is ≤ 64
+below_64 : (hosts : List HostText) (before is : List InstanceText) → EachIsPlaced (InstanceIsPlaced hosts) before is → length before ≤ 64 → length before + length is ≤ 64
 below_64 hosts before [] stands few = omega arith
 below_64 hosts before (i ∷ is) stands few =
     let room : nat_lt (length before) 64 ≡ true = first_of_and _ _ stands.0.opens in
@@ -96,11 +96,11 @@ no_end (op.Set o) suits = refl
 no_end (op.Call o) suits = refl
 no_end (op.Thread o) suits = refl
 
-no_codes : (hosts : List HostText) (earlier : List InstanceText) (ops : List Op) → ScriptStands hosts earlier false ops → HasNoCode ops
-no_codes hosts earlier ops stands = λ p o at. no_end o (stands_at (OpStands hosts earlier false) ops p o stands at).suits
+no_codes : (hosts : List HostText) (earlier : List InstanceText) (ops : List Op) → ScriptIsPlaced hosts earlier false ops → HasNoCode ops
+no_codes hosts earlier ops stands = λ p o at. no_end o (stands_at (OpIsPlaced hosts earlier false) ops p o stands at).suits
 
 -- only a callback has a react script
-no_react : (hosts : List HostText) (earlier : List InstanceText) (k : ExportKind) (react : Option (List Op)) → ReactStands hosts earlier k react → is_callback k ≡ false → HasNoCode (unwrap_or react [])
+no_react : (hosts : List HostText) (earlier : List InstanceText) (k : ExportKind) (react : Option (List Op)) → ReactIsPlaced hosts earlier k react → is_callback k ≡ false → HasNoCode (unwrap_or react [])
 no_react hosts earlier k None stands other = λ p o at. absurd (cc)
 no_react hosts earlier k (Some ops) stands other = absurd (let called : is_callback k ≡ true = stands.0 in cc)
 
@@ -132,7 +132,7 @@ module _ (s : ScenarioText) (formed : IsWellFormed s) where
         few = le-leb _ _ (omega (arith, few, p.1.1));
       }
 
-  call_fits : (k : ℕ) (o : CallOp) → CallStands s.hosts (take k s.instances) o → call_op_fits (lowered s) o ≡ true
+  call_fits : (k : ℕ) (o : CallOp) → CallIsPlaced s.hosts (take k s.instances) o → call_op_fits (lowered s) o ≡ true
   call_fits k (call_op.Call r q f xs) stands = let c = called k f (length xs) stands.1 in and_from _ _ c.takes c.few
   call_fits k (call_op.CallSync r f xs) stands = let c = called k f (length xs) stands.1 in and_from _ _ c.takes c.few
   call_fits k (call_op.CallHost r q h) stands = refl
@@ -157,7 +157,7 @@ module _ (s : ScenarioText) (formed : IsWellFormed s) where
         omega (arith, few);
     ops = λ f x p o at.
         let k = script_known s formed f x in
-        fits k.instances o (stands_at (OpStands s.hosts (take k.instances s.instances) k.callback) (script_in (lowered s) f x) p o k.stands at).fits;
+        fits k.instances o (stands_at (OpIsPlaced s.hosts (take k.instances s.instances) k.callback) (script_in (lowered s) f x) p o k.stands at).fits;
   }
 
   -- ---- Codes
@@ -166,7 +166,7 @@ module _ (s : ScenarioText) (formed : IsWellFormed s) where
   start_codes f d at =
       let x = exported s formed f d at in
       subst (λ (d : ExportDef). is_callback d.kind ≡ false → HasNoCode d.start) x.is_def
-      (λ other. no_codes s.hosts (take f.instance s.instances) x.e.start (subst (λ (callback : Bool). ScriptStands s.hosts (take f.instance s.instances) callback x.e.start) other x.stands.start))
+      (λ other. no_codes s.hosts (take f.instance s.instances) x.e.start (subst (λ (callback : Bool). ScriptIsPlaced s.hosts (take f.instance s.instances) callback x.e.start) other x.stands.start))
 
   react_codes : (f : Callee) (d : ExportDef) → export_at (lowered s) f ≡ Some d → is_callback d.kind ≡ false → HasNoCode d.react
   react_codes f d at =
@@ -177,7 +177,7 @@ module _ (s : ScenarioText) (formed : IsWellFormed s) where
   codes = record {
     starts = start_codes;
     reacts = react_codes;
-    slots = λ i j. no_codes s.hosts (take i s.instances) (slot_script (slot_at (lowered s) i j)) (slot_stands s formed i j);
+    slots = λ i j. no_codes s.hosts (take i s.instances) (slot_script (slot_at (lowered s) i j)) (slot_placed s formed i j);
   }
 
   few_instances : length (lowered s).instances ≤ 64
@@ -192,10 +192,10 @@ module _ (s : ScenarioText) (formed : IsWellFormed s) where
   line_or_answer (l ∷ lines) zero o at = inl (l, (refl, same_Some _ _ at))
   line_or_answer (l ∷ lines) (suc i) o at = line_or_answer lines i o at
 
-  abbrev Stands : List MainOpText → MainOpText → Type 0
-  Stands = MainOpStands s.hosts s.instances
+  abbrev IsPlaced : List MainOpText → MainOpText → Type 0
+  IsPlaced = MainOpIsPlaced s.hosts s.instances
 
-  start_line : (l : MainOpText) (f : Func) (xs : List Operand) → lower.main_op l ≡ main_op.Start f xs → (before : List MainOpText) → Stands before l → params_of s.instances (callee_of f) ≡ Some (length xs)
+  start_line : (l : MainOpText) (f : Func) (xs : List Operand) → lower.main_op l ≡ main_op.Start f xs → (before : List MainOpText) → IsPlaced before l → params_of s.instances (callee_of f) ≡ Some (length xs)
   start_line (text.Start g ys) f xs is before stands =
       let callee : g ≡ callee_of f = same_callee g f (start_func g ys f xs is) in
       let words : ys ≡ xs = start_words g ys f xs is in
@@ -207,7 +207,7 @@ module _ (s : ScenarioText) (formed : IsWellFormed s) where
   start_line text.Quiet f xs is before stands = absurd (cc)
   start_line (text.Ready g) f xs is before stands = absurd (cc)
 
-  spawn_line : (l : MainOpText) (h : ℕ) → lower.main_op l ≡ main_op.Spawn h → (before : List MainOpText) → Stands before l → h < length s.hosts
+  spawn_line : (l : MainOpText) (h : ℕ) → lower.main_op l ≡ main_op.Spawn h → (before : List MainOpText) → IsPlaced before l → h < length s.hosts
   spawn_line (text.Spawn g) h is before stands = subst (λ (n : ℕ). n < length s.hosts) (same_host g h is) stands.1
   spawn_line (text.Start f xs) h is before stands = absurd (cc)
   spawn_line (text.Finish k r) h is before stands = absurd (cc)
@@ -222,7 +222,7 @@ module _ (s : ScenarioText) (formed : IsWellFormed s) where
       subst (λ (o : Option HostDef). IsSome o) (sym (slice_get-map host_def s.hosts h ∙ ap (option_map host_def) t.1)) (some_there (host_def t.0))
 
   -- each line of main had room
-  had_room : (before : List MainOpText) (l : MainOpText) → Stands before l → main_has_room before ≡ true
+  had_room : (before : List MainOpText) (l : MainOpText) → IsPlaced before l → main_has_room before ≡ true
   had_room before (text.Start f xs) stands = first_of_and _ _ stands.0
   had_room before (text.Finish k r) stands = let opens : finish_opens before k ≡ true = stands.0 in grind (arith, opens)
   had_room before (text.Spawn h) stands = first_of_and _ _ stands.0
@@ -231,7 +231,7 @@ module _ (s : ScenarioText) (formed : IsWellFormed s) where
   had_room before text.Quiet stands = stands
   had_room before (text.Ready f) stands = stands.0
 
-  few_lines : (before lines : List MainOpText) → EachStands Stands before lines → length before ≤ 4095 → length before + length lines ≤ 4095
+  few_lines : (before lines : List MainOpText) → EachIsPlaced IsPlaced before lines → length before ≤ 4095 → length before + length lines ≤ 4095
   few_lines before [] stands few = omega arith
   few_lines before (l ∷ lines) stands few =
       let room : nat_lt (length before) 4095 ≡ true = had_room before l stands.0 in
@@ -247,19 +247,19 @@ module _ (s : ScenarioText) (formed : IsWellFormed s) where
       let more = length_push (map lower.main_op s.main) (main_op.Answer s.answer) in
       omega arith
 
-  line_stands : (i : ℕ) (l : MainOpText) → slice_get s.main i ≡ Some l → Stands (take i s.main) l
-  line_stands i l at = stands_at Stands s.main i l formed.main at
+  line_placed : (i : ℕ) (l : MainOpText) → slice_get s.main i ≡ Some l → IsPlaced (take i s.main) l
+  line_placed i l at = stands_at IsPlaced s.main i l formed.main at
 
   suits : SuitsOps (scenario_of s).main (lowered s)
   suits = record {
     few = few_ops;
     spawns = λ i h at. elim (line_or_answer s.main i (main_op.Spawn h) at) [
-      | inl l ↦ host_there h (spawn_line l.0 h l.1.1 (take i s.main) (line_stands i l.0 l.1.0))
+      | inl l ↦ host_there h (spawn_line l.0 h l.1.1 (take i s.main) (line_placed i l.0 l.1.0))
       | inr answer ↦ absurd (cc)
     ];
     starts = λ i f xs at. elim (line_or_answer s.main i (main_op.Start f xs) at) [
       | inl l ↦
-          let p = export_params s.instances (callee_of f) (length xs) (start_line l.0 f xs l.1.1 (take i s.main) (line_stands i l.0 l.1.0)) in
+          let p = export_params s.instances (callee_of f) (length xs) (start_line l.0 f xs l.1.1 (take i s.main) (line_placed i l.0 l.1.0)) in
           (p.0, (at_lowered s (callee_of f) ∙ p.1.0, p.1.1))
       | inr answer ↦ absurd (cc)
     ];

@@ -53,17 +53,17 @@ spawn_known m s k (Some h) is knows = knows k h (sym is)
 
 steps_last : (c : Component) (ops : List MainOpDef) (m n : Main) (s t : StateView) (r : MainStep) → CoreInOrder c turn.Main s.core → Steps c ops m s.core r n t.core → KeepsWorks s t → WorksLast s t
 unfolding Step
-steps_last c ops m n s t (step.Did l) sits h names = last_by_step (main_setting c ops) turn.Main turn.Main m n l s t sits h.step names
-steps_last c ops m n s t step.Pends sits h names = last_by_core s t h.core names
-steps_last c ops m n s t (step.Answer v) sits h names = last_by_core s t h.core names
+steps_last c ops m n s t (step.Did l) in_turn h names = last_by_step (main_setting c ops) turn.Main turn.Main m n l s t in_turn h.step names
+steps_last c ops m n s t step.Pends in_turn h names = last_by_core s t h.core names
+steps_last c ops m n s t (step.Answer v) in_turn h names = last_by_core s t h.core names
 
 pub knows_still : (c : Component) (ops : List MainOpDef) (m n : ScriptMain) (s t : StateView) (r : MainStep) → n.spawns ≡ m.spawns → CoreInOrder c turn.Main s.core → Steps c ops (part_of m) s.core r (part_of n) t.core → KeepsWorks s t → KnowsSpawns m s → KnowsSpawns n t
-knows_still c ops m n s t r same sits steps names knows k h at =
-    knows_later m s t (steps_last c ops (part_of m) (part_of n) s t r sits steps names) knows k h (sym (ap (λ v. slice_get v.items k) same) ∙ at)
+knows_still c ops m n s t r same in_turn steps names knows k h at =
+    knows_later m s t (steps_last c ops (part_of m) (part_of n) s t r in_turn steps names) knows k h (sym (ap (λ v. slice_get v.items k) same) ∙ at)
 
 pub knows_result : (c : Component) (ops : List MainOpDef) (m n : ScriptMain) (s t : StateView) (r : Result MainStep TaskError) → n.spawns ≡ m.spawns → CoreInOrder c turn.Main s.core → IfOk r (λ q. Steps c ops (part_of m) s.core q (part_of n) t.core) → KeepsWorks s t → KnowsSpawns m s → OnOk r (KnowsSpawns n t)
-knows_result c ops m n s t (Ok q) same sits steps names knows = knows_still c ops m n s t q same sits steps names knows
-knows_result c ops m n s t (Err e) same sits steps names knows = tt
+knows_result c ops m n s t (Ok q) same in_turn steps names knows = knows_still c ops m n s t q same in_turn steps names knows
+knows_result c ops m n s t (Err e) same in_turn steps names knows = tt
 
 -- ---- Ids over calls by the host
 
@@ -77,7 +77,7 @@ start_names c e words s t None (Err why) h id live = h.1.tags.works id live
 -- the work that was spawned is known, as the others are
 pub knows_more : (c : Component) (ops : List MainOpDef) (a b : Main) (l : Label) (m n : ScriptMain) (s t : StateView) (h : SpawnHandle) → n.spawns.items ≡ m.spawns.items ++ h ∷ [] →
     IsSpawnedIn h t → CoreInOrder c turn.Main s.core → Steps c ops a s.core (step.Did l) b t.core → KeepsWorks s t → KnowsSpawns m s → KnowsSpawns n t
-knows_more c ops a b l m n s t h grown spawned sits steps names knows k g at =
-    ⊎_elim (λ old. knows_later m s t (steps_last c ops a b s t (step.Did l) sits steps names) knows k g old)
+knows_more c ops a b l m n s t h grown spawned in_turn steps names knows k g at =
+    ⊎_elim (λ old. knows_later m s t (steps_last c ops a b s t (step.Did l) in_turn steps names) knows k g old)
     (λ same. subst (λ (q : SpawnHandle). IsSpawnedIn q t) same spawned)
     (one_more m.spawns.items h g k (sym (ap (λ (xs : List SpawnHandle). slice_get xs k) grown) ∙ at))

@@ -166,7 +166,7 @@ fn make_start<T, H: HostWork, G: TaskGroupHook>(
     requires may { MayStep script_says H.course component.now main.old access.old.store.now }
     requires op { slice_get main.old.ops.now main.old.at ≡ Some (main_op.Start func params.now) }
     ensures same { access.new.store.ghost_name ≡ access.old.store.ghost_name }
-    ensures stands { constants access.new.store.now ≡ constants access.old.store.now }
+    ensures constants_stay { constants access.new.store.now ≡ constants access.old.store.now }
     ensures ops { main.new.ops ≡ main.old.ops }
     ensures steps { StepsTo script_says H.course component.now result main.old access.old.store.now main.new access.new.store.now }
 {
@@ -203,7 +203,7 @@ fn finish_call<T, H: HostWork, G: TaskGroupHook>(
     requires may { MayStep script_says H.course component.now main.old access.old.store.now }
     requires op { slice_get main.old.ops.now main.old.at ≡ Some (main_op.Finish start register) }
     ensures same { access.new.store.ghost_name ≡ access.old.store.ghost_name }
-    ensures stands { constants access.new.store.now ≡ constants access.old.store.now }
+    ensures constants_stay { constants access.new.store.now ≡ constants access.old.store.now }
     ensures ops { main.new.ops ≡ main.old.ops }
     ensures steps { StepsTo script_says H.course component.now result main.old access.old.store.now main.new access.new.store.now }
 {
@@ -244,7 +244,7 @@ fn spawn_work<T, H: AccessorTask<T> + FromHost, G: TaskGroupHook>(
     requires may { MayStep script_says H.course component.now main.old access.old.store.now }
     requires op { slice_get main.old.ops.now main.old.at ≡ Some (main_op.Spawn host) }
     ensures same { access.new.store.ghost_name ≡ access.old.store.ghost_name }
-    ensures stands { constants access.new.store.now ≡ constants access.old.store.now }
+    ensures constants_stay { constants access.new.store.now ≡ constants access.old.store.now }
     ensures ops { main.new.ops ≡ main.old.ops }
     ensures steps { StepsTo script_says H.course component.now result main.old access.old.store.now main.new access.new.store.now }
 {
@@ -290,7 +290,7 @@ fn abort_work<T, H: HostWork, G: TaskGroupHook>(
     requires may { MayStep script_says H.course component.now main.old access.old.store.now }
     requires op { slice_get main.old.ops.now main.old.at ≡ Some (main_op.Abort spawn) }
     ensures same { access.new.store.ghost_name ≡ access.old.store.ghost_name }
-    ensures stands { constants access.new.store.now ≡ constants access.old.store.now }
+    ensures constants_stay { constants access.new.store.now ≡ constants access.old.store.now }
     ensures ops { main.new.ops ≡ main.old.ops }
     ensures step { HasStepResult script_says H.course component.now result main.old access.old.store.now main.new access.new.store.now }
 {
@@ -333,7 +333,7 @@ fn await_work<T, H: HostWork, G: TaskGroupHook>(
     requires may { MayStep script_says H.course component.now main.old access.old.store.now }
     requires op { slice_get main.old.ops.now main.old.at ≡ Some (main_op.Await spawn) }
     ensures same { access.new.store.ghost_name ≡ access.old.store.ghost_name }
-    ensures stands { constants access.new.store.now ≡ constants access.old.store.now }
+    ensures constants_stay { constants access.new.store.now ≡ constants access.old.store.now }
     ensures ops { main.new.ops ≡ main.old.ops }
     ensures step { HasStepResult script_says H.course component.now result main.old access.old.store.now main.new access.new.store.now }
 {

@@ -88,8 +88,8 @@ there_more m n i x there = ap is_some (get-insert m n x i) ∙ by (i == n)
 pub instance_keeps : (s : Core) → get s.instances (size s.instances) ≡ None → get s.handles (size s.instances) ≡ None → (c : Component) (p : Turn) →
     CoreInOrder c p s → CoreInOrder c p (with_instance s)
 unfolding with_instance
-instance_keeps s fresh unnamed c p sits = record {
-  order = λ m. more_in_order s fresh unnamed c p m (sits.order m);
-  there = λ i below. there_more s.instances (size s.instances) i untouched (sits.there i below);
-  handles = λ i below. there_more s.handles (size s.instances) i no_handles (sits.handles i below);
+instance_keeps s fresh unnamed c p in_turn = record {
+  order = λ m. more_in_order s fresh unnamed c p m (in_turn.order m);
+  there = λ i below. there_more s.instances (size s.instances) i untouched (in_turn.there i below);
+  handles = λ i below. there_more s.handles (size s.instances) i no_handles (in_turn.handles i below);
 }

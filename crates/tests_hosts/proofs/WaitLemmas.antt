@@ -73,14 +73,14 @@ given_after n k none few = omega (arith, none, few)
 pub given_few : (n k : ℕ) → n ≡ k → k ≤ 200 → n ≤ 2 ^ 60
 given_few n k same few = omega (arith, same, few)
 
--- what is in order sits
+-- what is in order at a turn
 pub stays_sitting : (s t : Core) → StaysInOrder s t → (c : Component) (p : Turn) → is_open p ≡ true → CoreInOrder c p s → CoreInOrder c p t
-stays_sitting s t stays c p going sits =
-    let r = stays c p None going sits.order in
+stays_sitting s t stays c p going in_turn =
+    let r = stays c p None going in_turn.order in
     record {
       order = r.0;
-      there = λ i below. r.1.instances i ∙ sits.there i below;
-      handles = λ i below. r.1.handles i ∙ sits.handles i below;
+      there = λ i below. r.1.instances i ∙ in_turn.there i below;
+      handles = λ i below. r.1.handles i ∙ in_turn.handles i below;
     }
 
 -- a call that hasn't ended can tell that it has begun
@@ -201,11 +201,11 @@ settled_take_of s p is = subst (λ (q : Turn). IsSettled s q) (sym is) refl
 -- ---- What the calls of a state ask
 
 pub core_in_order_placed : (c : Component) (p : Turn) (s : Core) → CoreInOrder c p s → Placed s
-core_in_order_placed c p s sits = (sits.order Unscripted).in_place.placed
+core_in_order_placed c p s in_turn = (in_turn.order Unscripted).in_place.placed
 
 instance_unchecked : (i : ℕ) (o : Option Set) → option_map (λ (r : Set). r.instance) o ≡ Some i → is_some o ≡ true
 instance_unchecked i (Some r) e = refl
 instance_unchecked i None e = absurd (cc)
 
 pub core_in_order_joins : (c : Component) (p : Turn) (s : Core) → CoreInOrder c p s → (k : ℕ) → IsJoinThere (subtask.Guest k) s
-core_in_order_joins c p s sits k x at = let n = (sits.order Unscripted).joins_named.joins (subtask.Guest k) x at in instance_unchecked n.instance (get s.sets x) n.home
+core_in_order_joins c p s in_turn k x at = let n = (in_turn.order Unscripted).joins_named.joins (subtask.Guest k) x at in instance_unchecked n.instance (get s.sets x) n.home

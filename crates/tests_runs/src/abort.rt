@@ -10,7 +10,7 @@ use futures::task::{Context, Doorbell, Poll, Solo};
 use std::sync::Wait;
 use std::thread;
 use task_abort::{
-    Abortable, JoinHandle, JoinPass, OwnCell, Phase, known_callers, late_calls_stand_last,
+    Abortable, JoinHandle, JoinPass, OwnCell, Phase, known_callers, late_calls_are_last,
     phases_of_seen_calls, staged_log_is_legal, staged_log_keeps_lists, unfinished_calls,
 };
 
@@ -246,7 +246,7 @@ fn a_pass_that_met_all_knows_all_callers(rt: HostRuntime) {
     known_callers(&pass);
     staged_log_is_legal(&pass);
     staged_log_keeps_lists(&pass);
-    late_calls_stand_last(&pass);
+    late_calls_are_last(&pass);
     unfinished_calls(&pass);
     phases_of_seen_calls(&pass);
     assert!(rt; found(aborted) == RUNNING && found(finished) == ABORT_REQUESTED);

@@ -38,7 +38,7 @@ pub turn_of : (p : Turn) (n : ℕ) → runs_in p ≡ Some n → p ≡ turn.Run n
 turn_of (turn.Run k) n e = cc
 turn_of p n e = absurd (cc)
 
--- the new store sits at main's turn
+-- the new store is in order at main's turn
 pub opens : (c : Component) → HasPlainExports c → length c.instances ≡ 1 → (s : StateView) → s ≡ with_core (fresh 1 100000 1000000) nothing → CoreInOrder c turn.Main s.core
 opens c plain one s is = subst (λ (u : StateView). CoreInOrder c turn.Main u.core) (sym is) (core_in_order_fresh c (codes_of c plain) 1 100000 1000000 (omega (arith, one)))
 

@@ -1,4 +1,4 @@
--- What the calls of a state ask, in a store that sits.
+-- What the calls of a state ask, in a store that is in order at a turn.
 use Rattle.std.proofs.Common.{arith, refl, subst, sym, ◌∙◌}
 use Rattle.std.proofs.lemmas.Bool.Decides.{nat_tests}
 use Rattle.std.specs.Prelude.{Bool, None, Option, Result, Some, is_none, is_some, option_map, true, ℕ, ◌<◌, ◌≡◌}
@@ -26,14 +26,14 @@ use Rattle.task_wait.specs.declared.keys.ThreadKey.{ThreadKey}
 use Rattle.core_primitives.specs.StateView.{StateView, call_of, on_core, thread_of}
 
 pub core_in_order_placed : (c : Component) (p : Turn) (s : Core) → CoreInOrder c p s → Placed s
-core_in_order_placed c p s sits = (sits.order Unscripted).in_place.placed
+core_in_order_placed c p s in_turn = (in_turn.order Unscripted).in_place.placed
 
 instance_unchecked : (i : ℕ) (o : Option Set) → option_map (λ (r : Set). r.instance) o ≡ Some i → is_some o ≡ true
 instance_unchecked i (Some r) e = refl
 instance_unchecked i None e = absurd (cc)
 
 pub core_in_order_joins : (c : Component) (p : Turn) (s : Core) → CoreInOrder c p s → (k : ℕ) → IsJoinThere (subtask.Guest k) s
-core_in_order_joins c p s sits k x at = let n = (sits.order Unscripted).joins_named.joins (subtask.Guest k) x at in instance_unchecked n.instance (get s.sets x) n.home
+core_in_order_joins c p s in_turn k x at = let n = (in_turn.order Unscripted).joins_named.joins (subtask.Guest k) x at in instance_unchecked n.instance (get s.sets x) n.home
 
 -- ---- After an event
 

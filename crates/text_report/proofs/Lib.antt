@@ -3,6 +3,6 @@ mod Lines
 mod Pages
 pub mod Printed
 pub mod Tree
-pub mod Standing
+pub mod PlacedLemmas
 pub mod Spelled
 pub mod Sizes

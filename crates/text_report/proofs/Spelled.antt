@@ -13,7 +13,7 @@ use Rattle.text_scenario.specs.Grammar.{IsTextOf, spelled, tokens}
 use Rattle.text_scenario.specs.Spelling.{Lines, lines_of, main_op_tokens}
 use Rattle.text_report.specs.Generated.{each_to, finish_line, front_lines, gen, gen_lines, last_lines, start_line}
 use Rattle.text_report.proofs.Printed.{decimal_lacks, first_token, lacks, last_token, lines_again}
-use Rattle.text_report.proofs.Standing.{tree_stands}
+use Rattle.text_report.proofs.PlacedLemmas.{tree_placed}
 use Rattle.text_report.proofs.Tree.{finish_op, hosts, instances, main_ops, start_op, tree}
 
 -- ---- No line has a line feed
@@ -85,4 +85,4 @@ module _ (n : ℕ) (small : n < 2 ^ 64) where
 
 -- the generated text is one of the grammar
 pub generated_reads : (n : ℕ) → n ≤ 256 → (x : ScenarioText) × IsTextOf x (gen n)
-generated_reads n few = (tree n, record { well_formed = tree_stands n few; lines = text_again n (omega arith) })
+generated_reads n few = (tree n, record { well_formed = tree_placed n few; lines = text_again n (omega arith) })

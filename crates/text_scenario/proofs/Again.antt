@@ -31,9 +31,9 @@ use Rattle.text_scenario.specs.declared.tree.MainOpText.TheVariants as main
 use Rattle.text_scenario.specs.declared.tree.ScenarioText.{ScenarioText}
 use Rattle.text_scenario.specs.Spelling.{Lines, head_lines, host_line, exports_of, instance_name, export_name, host_name, script_lines, react_lines, export_lines, part_lines, instance_lines, lines_after, body_lines, main_op_tokens, main_lines, lines_of}
 use Rattle.machine_data.specs.Read.{is_callback}
-use Rattle.text_scenario.specs.Placement.{EachStands, HostStands, ReactStands, ExportStands, PartStands, InstanceStands, main_has_room, is_start, is_spawn, start_count, spawn_count, finish_opens, is_spawned, spawn_named, MainOpStands, AborterStands, IsWellFormed}
+use Rattle.text_scenario.specs.Placement.{EachIsPlaced, HostIsPlaced, ReactIsPlaced, ExportIsPlaced, PartIsPlaced, InstanceIsPlaced, main_has_room, is_start, is_spawn, start_count, spawn_count, finish_opens, is_spawned, spawn_named, MainOpIsPlaced, AborterIsPlaced, IsWellFormed}
 use Rattle.text_scenario.specs.State.{with_host, with_instance, with_part, with_export, script_closed, instance_closed, main_open, after_title, after_handles, after_table, after_idle, after_head, after_host, after_instance, after_export, after_react, after_thread, after_bad, after_part, after_main, start_of, finish_of, spawn_of, ready_of, main_op_of, after_main_op, after_answer, after_aborter, after_end, after, read_from, scenario_of}
-use Rattle.text_scenario.proofs.StandingLaws.{few_after}
+use Rattle.text_scenario.proofs.PlacementLaws.{few_after}
 use Rattle.text_scenario.proofs.SoFar.{BodyFits, with_instance_fits}
 use Rattle.text_scenario.proofs.CalleeLaws.{host_again, callee_again, fitting_again}
 use Rattle.text_scenario.proofs.ScriptsAgain.{ReadsTo, nothing, both, one_line, ops_read, start_takes, react_takes, thread_takes}
@@ -48,15 +48,15 @@ abbrev ReadsParts : State → Body → Lines → InstanceText → Type 0
 ReadsParts s b ls i = (t : State) × ReadsTo s ls t × (script_closed t ≡ Some (b, i))
 
 module _ (b : Body) (fits : BodyFits b) where
-  export_opened : (s : State) (i : InstanceText) (x : ExportText) → script_closed s ≡ Some (b, i) → ExportStands b.hosts b.instances i.parts x
+  export_opened : (s : State) (i : InstanceText) (x : ExportText) → script_closed s ≡ Some (b, i) → ExportIsPlaced b.hosts b.instances i.parts x
       → ReadsTo s (export_tokens x.name x.kind x.params ∷ script_lines b.hosts b.instances x.start) (state.Script b i (opening_of x) x.start)
   unfolding after after_part after_export
-  export_opened s i x closed stands =
+  export_opened s i x closed placed =
       let h : Opening = opening_of x in
       let l = line.Part (part_line.Export x.name x.kind x.params) in
-      let one = one_line s (state.Script b i h []) l (and_from _ _ stands.name (le-leb _ _ stands.params)) (rw (closed, stands.opens) refl) in
+      let one = one_line s (state.Script b i h []) l (and_from _ _ placed.name (le-leb _ _ placed.params)) (rw (closed, placed.opens) refl) in
       both s (state.Script b i h []) (state.Script b i h x.start) (export_tokens x.name x.kind x.params ∷ []) (script_lines b.hosts b.instances x.start) one
-      (ops_read b fits (is_callback x.kind) (λ ops. state.Script b i h ops) (start_takes b i h) [] x.start stands.start)
+      (ops_read b fits (is_callback x.kind) (λ ops. state.Script b i h ops) (start_takes b i h) [] x.start placed.start)
 
   closes_start : (i : InstanceText) (h : Opening) (start : List Op) → script_closed (state.Script b i h start) ≡ Some (b, with_export i h start None)
   unfolding script_closed
@@ -66,22 +66,22 @@ module _ (b : Body) (fits : BodyFits b) where
   unfolding script_closed
   closes_react i h start react = refl
 
-  react_read : (i : InstanceText) (h : Opening) (start : List Op) (react : Option (List Op)) → ReactStands b.hosts b.instances h.kind react
+  react_read : (i : InstanceText) (h : Opening) (start : List Op) (react : Option (List Op)) → ReactIsPlaced b.hosts b.instances h.kind react
       → ReadsParts (state.Script b i h start) b (react_lines b.hosts b.instances react) (with_export i h start react)
   unfolding after after_part after_react
-  react_read i h start None stands = (state.Script b i h start, nothing (state.Script b i h start), closes_start i h start)
-  react_read i h start (Some ops) stands =
+  react_read i h start None placed = (state.Script b i h start, nothing (state.Script b i h start), closes_start i h start)
+  react_read i h start (Some ops) placed =
       let s : State = state.Script b i h start in
-      let one = one_line s (state.React b i h start []) (line.Part part_line.React) refl (rw stands.0 refl) in
-      let more = ops_read b fits true (λ ops. state.React b i h start ops) (react_takes b i h start) [] ops stands.1 in
+      let one = one_line s (state.React b i h start []) (line.Part part_line.React) refl (rw placed.0 refl) in
+      let more = ops_read b fits true (λ ops. state.React b i h start ops) (react_takes b i h start) [] ops placed.1 in
       (state.React b i h start ops, both s (state.React b i h start []) (state.React b i h start ops) (react_tokens ∷ []) (script_lines b.hosts b.instances ops) one more, closes_react i h start ops)
 
-  export_read : (s : State) (i : InstanceText) (x : ExportText) → script_closed s ≡ Some (b, i) → ExportStands b.hosts b.instances i.parts x
+  export_read : (s : State) (i : InstanceText) (x : ExportText) → script_closed s ≡ Some (b, i) → ExportIsPlaced b.hosts b.instances i.parts x
       → ReadsParts s b (export_lines b.hosts b.instances x) (with_part i (part.Export x))
-  export_read s i x closed stands =
+  export_read s i x closed placed =
       let h : Opening = opening_of x in
-      let one = export_opened s i x closed stands in
-      let more = react_read i h x.start x.react stands.react in
+      let one = export_opened s i x closed placed in
+      let more = react_read i h x.start x.react placed.react in
       (more.0, both s (state.Script b i h x.start) more.0 (export_tokens x.name x.kind x.params ∷ script_lines b.hosts b.instances x.start) (react_lines b.hosts b.instances x.react) one more.1, more.2)
 
   closes_thread : (i : InstanceText) (slot : ℕ) (ops : List Op) → script_closed (state.Thread b i slot ops) ≡ Some (b, with_part i (part.Thread slot ops))
@@ -92,18 +92,18 @@ module _ (b : Body) (fits : BodyFits b) where
   unfolding script_closed
   closes_bad i = refl
 
-  part_read : (s : State) (i : InstanceText) (p : PartText) → script_closed s ≡ Some (b, i) → PartStands b.hosts b.instances i.parts p → ReadsParts s b (part_lines b.hosts b.instances p) (with_part i p)
+  part_read : (s : State) (i : InstanceText) (p : PartText) → script_closed s ≡ Some (b, i) → PartIsPlaced b.hosts b.instances i.parts p → ReadsParts s b (part_lines b.hosts b.instances p) (with_part i p)
   unfolding after after_part after_thread after_bad
-  part_read s i (part.Export x) closed stands = export_read s i x closed stands
-  part_read s i (part.Thread slot ops) closed stands =
-      let one = one_line s (state.Thread b i slot []) (line.Part (part_line.Thread slot)) stands.0.fits (rw (closed, stands.0.opens) refl) in
-      let more = ops_read b fits false (λ ops. state.Thread b i slot ops) (thread_takes b i slot) [] ops stands.1 in
+  part_read s i (part.Export x) closed placed = export_read s i x closed placed
+  part_read s i (part.Thread slot ops) closed placed =
+      let one = one_line s (state.Thread b i slot []) (line.Part (part_line.Thread slot)) placed.0.fits (rw (closed, placed.0.opens) refl) in
+      let more = ops_read b fits false (λ ops. state.Thread b i slot ops) (thread_takes b i slot) [] ops placed.1 in
       (state.Thread b i slot ops, both s (state.Thread b i slot []) (state.Thread b i slot ops) (thread_tokens slot ∷ []) (script_lines b.hosts b.instances ops) one more, closes_thread i slot ops)
-  part_read s i (part.Bad slot) closed stands =
+  part_read s i (part.Bad slot) closed placed =
       let t : State = state.Instance b (with_part i (part.Bad slot)) in
-      (t, one_line s t (line.Part (part_line.Bad slot)) stands.fits (rw (closed, stands.opens) refl), closes_bad (with_part i (part.Bad slot)))
+      (t, one_line s t (line.Part (part_line.Bad slot)) placed.fits (rw (closed, placed.opens) refl), closes_bad (with_part i (part.Bad slot)))
 
-  parts_read : (s : State) (i : InstanceText) (ps : List PartText) → script_closed s ≡ Some (b, i) → EachStands (PartStands b.hosts b.instances) i.parts ps
+  parts_read : (s : State) (i : InstanceText) (ps : List PartText) → script_closed s ≡ Some (b, i) → EachIsPlaced (PartIsPlaced b.hosts b.instances) i.parts ps
       → ReadsParts s b (flat_map (part_lines b.hosts b.instances) ps) (record i { parts = i.parts ++ ps })
   parts_read s i [] closed each =
       subst (λ (ps : List PartText). ReadsParts s b [] (record i { parts = ps })) (sym (append-nil i.parts)) (s, nothing s, closed)
@@ -124,15 +124,15 @@ closes t p e = ap (λ o. o >>= λ (q : Body × InstanceText). Some (with_instanc
 abbrev ReadsInstances : State → Lines → Body → Type 0
 ReadsInstances s ls b = (t : State) × ReadsTo s ls t × (instance_closed t ≡ Some b)
 
-instance_read : (s : State) (b : Body) (i : InstanceText) → BodyFits b → instance_closed s ≡ Some b → InstanceStands b.hosts b.instances i → ReadsInstances s (instance_lines b.hosts b.instances i) (with_instance b i)
+instance_read : (s : State) (b : Body) (i : InstanceText) → BodyFits b → instance_closed s ≡ Some b → InstanceIsPlaced b.hosts b.instances i → ReadsInstances s (instance_lines b.hosts b.instances i) (with_instance b i)
 unfolding after after_part after_instance script_closed
-instance_read s b i fits closed stands =
+instance_read s b i fits closed placed =
     let fresh : InstanceText = record { name = i.name; parts = [] } in
-    let one = one_line s (state.Instance b fresh) (line.Part (part_line.Instance i.name)) stands.name (rw (closed, stands.opens) refl) in
-    let more = parts_read b fits (state.Instance b fresh) fresh i.parts refl stands.parts in
+    let one = one_line s (state.Instance b fresh) (line.Part (part_line.Instance i.name)) placed.name (rw (closed, placed.opens) refl) in
+    let more = parts_read b fits (state.Instance b fresh) fresh i.parts refl placed.parts in
     (more.0, both s (state.Instance b fresh) more.0 (instance_tokens i.name ∷ []) (flat_map (part_lines b.hosts b.instances) i.parts) one more.1, closes more.0 (b, i) more.2)
 
-instances_read : (s : State) (b : Body) (is : List InstanceText) → BodyFits b → instance_closed s ≡ Some b → EachStands (InstanceStands b.hosts) b.instances is
+instances_read : (s : State) (b : Body) (is : List InstanceText) → BodyFits b → instance_closed s ≡ Some b → EachIsPlaced (InstanceIsPlaced b.hosts) b.instances is
     → ReadsInstances s (lines_after b.hosts b.instances is) (record b { instances = b.instances ++ is })
 instances_read s b [] fits closed each =
     subst (λ (is : List InstanceText). ReadsInstances s [] (record b { instances = is })) (sym (append-nil b.instances)) (s, nothing s, closed)
@@ -144,7 +144,7 @@ instances_read s b (i ∷ is) fits closed each =
 
 -- ---- Hosts
 
-hosts_read : (b : Body) (hs : List HostText) → EachStands HostStands b.hosts hs → ReadsTo (state.Hosts b) (map host_line hs) (state.Hosts (record b { hosts = b.hosts ++ hs }))
+hosts_read : (b : Body) (hs : List HostText) → EachIsPlaced HostIsPlaced b.hosts hs → ReadsTo (state.Hosts b) (map host_line hs) (state.Hosts (record b { hosts = b.hosts ++ hs }))
 unfolding after after_part after_host
 hosts_read b [] each = subst (λ (hs : List HostText). ReadsTo (state.Hosts b) [] (state.Hosts (record b { hosts = hs }))) (sym (append-nil b.hosts)) (nothing (state.Hosts b))
 hosts_read b (h ∷ hs) each =
@@ -182,39 +182,39 @@ record MainLine (b : Body) (before : List MainOpText) (o : MainOpText) : Type 0 
   fits : named_fits of ≡ true
   read : main_op_of b before of ≡ Some o
 
-main_line : (b : Body) (before : List MainOpText) (o : MainOpText) → BodyFits b → MainOpStands b.hosts b.instances before o → MainLine b before o
+main_line : (b : Body) (before : List MainOpText) (o : MainOpText) → BodyFits b → MainOpIsPlaced b.hosts b.instances before o → MainLine b before o
 unfolding main_op_of start_of finish_of spawn_of ready_of
-main_line b before (main.Start f xs) fits stands =
-    let names = callee_again b.hosts b.instances fits.instances f (length xs) stands.1 in
+main_line b before (main.Start f xs) fits placed =
+    let names = callee_again b.hosts b.instances fits.instances f (length xs) placed.1 in
     record {
       of = named.Start (instance_name b.instances f.instance) (export_name (exports_of b.instances f.instance) f.export) xs;
       tokens = refl;
-      fits = and_from _ _ (and_from _ _ names.instance names.export) stands.2;
-      read = rw (fitting_again b.hosts b.instances fits.instances f xs stands.1, stands.0) refl;
+      fits = and_from _ _ (and_from _ _ names.instance names.export) placed.2;
+      read = rw (fitting_again b.hosts b.instances fits.instances f xs placed.1, placed.0) refl;
     }
-main_line b before (main.Finish k r) fits stands =
+main_line b before (main.Finish k r) fits placed =
     record {
       of = named.Finish k r;
       tokens = refl;
-      fits = and_from _ _ (le-leb _ _ (few_starts before k stands.0)) stands.1;
-      read = rw stands.0 refl;
+      fits = and_from _ _ (le-leb _ _ (few_starts before k placed.0)) placed.1;
+      read = rw placed.0 refl;
     }
-main_line b before (main.Spawn h) fits stands =
-    let name = host_again b.hosts h fits.hosts stands.1 in
-    record { of = named.Spawn (host_name b.hosts h); tokens = refl; fits = name.name; read = rw (name.again, stands.0) refl }
-main_line b before (main.Abort k) fits stands = record { of = named.Abort k; tokens = refl; fits = few_named before k stands; read = rw stands refl }
-main_line b before (main.Await k) fits stands = record { of = named.Await k; tokens = refl; fits = few_named before k stands; read = rw stands refl }
-main_line b before main.Quiet fits stands = record { of = named.Quiet; tokens = refl; fits = refl; read = rw stands refl }
-main_line b before (main.Ready f) fits stands =
-    let names = callee_again b.hosts b.instances fits.instances f stands.1 stands.2 in
+main_line b before (main.Spawn h) fits placed =
+    let name = host_again b.hosts h fits.hosts placed.1 in
+    record { of = named.Spawn (host_name b.hosts h); tokens = refl; fits = name.name; read = rw (name.again, placed.0) refl }
+main_line b before (main.Abort k) fits placed = record { of = named.Abort k; tokens = refl; fits = few_named before k placed; read = rw placed refl }
+main_line b before (main.Await k) fits placed = record { of = named.Await k; tokens = refl; fits = few_named before k placed; read = rw placed refl }
+main_line b before main.Quiet fits placed = record { of = named.Quiet; tokens = refl; fits = refl; read = rw placed refl }
+main_line b before (main.Ready f) fits placed =
+    let names = callee_again b.hosts b.instances fits.instances f placed.1 placed.2 in
     record {
       of = named.Ready (instance_name b.instances f.instance) (export_name (exports_of b.instances f.instance) f.export);
       tokens = refl;
       fits = and_from _ _ names.instance names.export;
-      read = rw (names.again, stands.2, stands.0) refl;
+      read = rw (names.again, placed.2, placed.0) refl;
     }
 
-main_ops_read : (b : Body) (before ops : List MainOpText) → BodyFits b → EachStands (MainOpStands b.hosts b.instances) before ops
+main_ops_read : (b : Body) (before ops : List MainOpText) → BodyFits b → EachIsPlaced (MainOpIsPlaced b.hosts b.instances) before ops
     → ReadsTo (state.Main b before) (map (main_op_tokens b.hosts b.instances) ops) (state.Main b (before ++ ops))
 unfolding after after_main_op main_open
 main_ops_read b before [] fits stand =
@@ -229,17 +229,17 @@ main_ops_read b before (o ∷ ops) fits stand =
     (both (state.Main b before) next (state.Main b (before ++ o ∷ [] ++ ops)) (tokens o ∷ []) (map tokens ops)
     (subst (λ (ws : List (List ℕ)). ReadsTo (state.Main b before) (ws ∷ []) next) l.tokens one) more)
 
-main_room : (hosts : List HostText) (is : List InstanceText) (before : List MainOpText) (o : MainOpText) → MainOpStands hosts is before o → length before < 4095
-main_room hosts is before (main.Start f xs) stands = ltb-true _ _ (and_parts (main_has_room before) _ stands.0).0
-main_room hosts is before (main.Finish k r) stands =
-    let p = and_parts (main_has_room before && nat_le 1 k && nat_le k (start_count before)) _ stands.0 in
+main_room : (hosts : List HostText) (is : List InstanceText) (before : List MainOpText) (o : MainOpText) → MainOpIsPlaced hosts is before o → length before < 4095
+main_room hosts is before (main.Start f xs) placed = ltb-true _ _ (and_parts (main_has_room before) _ placed.0).0
+main_room hosts is before (main.Finish k r) placed =
+    let p = and_parts (main_has_room before && nat_le 1 k && nat_le k (start_count before)) _ placed.0 in
     let q = and_parts (main_has_room before && nat_le 1 k) (nat_le k (start_count before)) p.0 in
     ltb-true _ _ (and_parts (main_has_room before) (nat_le 1 k) q.0).0
-main_room hosts is before (main.Spawn h) stands = ltb-true _ _ (and_parts (main_has_room before) _ stands.0).0
-main_room hosts is before (main.Abort k) stands = ltb-true _ _ (and_parts (main_has_room before) (is_spawned before k) stands).0
-main_room hosts is before (main.Await k) stands = ltb-true _ _ (and_parts (main_has_room before) (is_spawned before k) stands).0
-main_room hosts is before main.Quiet stands = ltb-true _ _ stands
-main_room hosts is before (main.Ready f) stands = ltb-true _ _ stands.0
+main_room hosts is before (main.Spawn h) placed = ltb-true _ _ (and_parts (main_has_room before) _ placed.0).0
+main_room hosts is before (main.Abort k) placed = ltb-true _ _ (and_parts (main_has_room before) (is_spawned before k) placed).0
+main_room hosts is before (main.Await k) placed = ltb-true _ _ (and_parts (main_has_room before) (is_spawned before k) placed).0
+main_room hosts is before main.Quiet placed = ltb-true _ _ placed
+main_room hosts is before (main.Ready f) placed = ltb-true _ _ placed.0
 
 -- ---- Aborters
 
@@ -247,7 +247,7 @@ spawns_fit : (ops : List MainOpText) (ks : List ℕ) → length ops ≤ 4095 →
 spawns_fit ops [] few all = refl
 spawns_fit ops (k ∷ ks) few all = let p = and_parts (is_spawned ops k) _ all in and_from _ _ (few_spawns ops k few p.0) (spawns_fit ops ks few p.1)
 
-aborters_read : (s : ScenarioText) (b : Body) (before more : List (List ℕ)) → length s.main ≤ 4095 → EachStands (AborterStands s.main) before more
+aborters_read : (s : ScenarioText) (b : Body) (before more : List (List ℕ)) → length s.main ≤ 4095 → EachIsPlaced (AborterIsPlaced s.main) before more
     → ReadsTo (state.Answered b s.main s.answer before) (map aborter_tokens more) (state.Answered b s.main s.answer (before ++ more))
 unfolding after after_aborter
 aborters_read s b before [] few each =
@@ -311,7 +311,7 @@ tree_read s fits =
     let front = head_lines s.handles s.table s.idle ++ body_lines s.hosts s.instances in
     let main_part = main_lines s.hosts s.instances s.main in
     let aborters = map aborter_tokens s.aborters in
-    let few : length s.main ≤ 4095 = few_after (MainOpStands s.hosts s.instances) 4095 (main_room s.hosts s.instances) [] s.main (lit≤ tt) fits.main in
+    let few : length s.main ≤ 4095 = few_after (MainOpIsPlaced s.hosts s.instances) 4095 (main_room s.hosts s.instances) [] s.main (lit≤ tt) fits.main in
     let answered : List (List ℕ) → State = λ all. state.Answered b s.main s.answer all in
     let body = body_read s fits in
     let until_main = both state.Empty body.0 (state.Main b s.main) front main_part body.1 (main_read s fits body.0 body.2) in

@@ -25,10 +25,10 @@ use Rattle.text_scenario.specs.declared.tree.HostText.{HostText}
 use Rattle.text_scenario.specs.declared.tree.ExportText.{ExportText}
 use Rattle.text_scenario.specs.declared.tree.InstanceText.{InstanceText}
 use Rattle.text_scenario.specs.Spelling.{exports_in, exports_of, instance_name, export_name, name_of, host_name, call_op_tokens}
-use Rattle.text_scenario.specs.Placement.{EachStands, HostStands, params_of, CallStands, exports_among, export_count, export_opens, InstanceStands}
+use Rattle.text_scenario.specs.Placement.{EachIsPlaced, HostIsPlaced, params_of, CallIsPlaced, exports_among, export_count, export_opens, InstanceIsPlaced}
 use Rattle.text_scenario.specs.State.{small, host_place, instance_place, export_place, callee_of, fitting_export, fitting_host, call_to, call_sync_to, call_of}
-use Rattle.text_scenario.proofs.StandingLaws.{place_takes, place_again, same_bytes, bytes_same, stands_at, some_map, length_before}
-use Rattle.text_scenario.proofs.ExportLaws.{exports_counted, exports_named, export_stands}
+use Rattle.text_scenario.proofs.PlacementLaws.{place_takes, place_again, same_bytes, bytes_same, placed_at, some_map, length_before}
+use Rattle.text_scenario.proofs.ExportLaws.{exports_counted, exports_named, export_placed}
 
 -- ---- What was found
 
@@ -84,7 +84,7 @@ host_fits hosts name xs h e =
 -- ---- A named call is this call, and its callee is on an earlier line
 
 abbrev pub IsCall : List HostText → List InstanceText → NamedCall → CallOp → Type 0
-IsCall hosts is c o = (named_call_tokens c ≡ call_op_tokens hosts is o) × CallStands hosts is o
+IsCall hosts is c o = (named_call_tokens c ≡ call_op_tokens hosts is o) × CallIsPlaced hosts is o
 
 call_is : (hosts : List HostText) (is : List InstanceText) (r q : ℕ) (c : CalleeName) (xs : List Operand) (o : CallOp) → call_to hosts is r q c xs ≡ Some o
     → (register_fits r && register_fits q) ≡ true → list_all operand_fits xs ≡ true → IsCall hosts is (named_call.Call r q c xs) o
@@ -142,13 +142,13 @@ some_at [] k None at lt = absurd (omega arith)
 some_at (y ∷ xs) zero None at lt = absurd cc
 some_at (y ∷ xs) (suc k) None at lt = some_at xs k None at (omega arith)
 
-pub host_again : (hosts : List HostText) (k : ℕ) → EachStands HostStands [] hosts → k < length hosts → NamedHost hosts k
+pub host_again : (hosts : List HostText) (k : ℕ) → EachIsPlaced HostIsPlaced [] hosts → k < length hosts → NamedHost hosts k
 host_again hosts k each lt =
     let h = some_at hosts k (slice_get hosts k) refl lt in
-    let stands = stands_at HostStands hosts k h.0 each h.1 in
-    let opens = and_parts (ltb (length (take k hosts)) 256) _ stands.opens in
+    let placed = placed_at HostIsPlaced hosts k h.0 each h.1 in
+    let opens = and_parts (ltb (length (take k hosts)) 256) _ placed.opens in
     let place = small_again (λ (h : HostText). h.name) hosts k h.0 h.1 (not-true _ opens.1) (ltb-true _ _ opens.0) in
-    record { name = rw h.1 stands.name; again = rw h.1 place }
+    record { name = rw h.1 placed.name; again = rw h.1 place }
 
 -- the export that is named, with its instance
 record Found (is : List InstanceText) (f : Callee) (n : ℕ) : Type 0 where
@@ -172,15 +172,15 @@ pub record Named (is : List InstanceText) (f : Callee) : Type 0 where
   pub export : is_name (export_name (exports_of is f.instance) f.export) ≡ true
   pub again : callee_of is (instance_name is f.instance) (export_name (exports_of is f.instance) f.export) ≡ Some f
 
-module _ (hosts : List HostText) (is : List InstanceText) (each : EachStands (InstanceStands hosts) [] is) where
+module _ (hosts : List HostText) (is : List InstanceText) (each : EachIsPlaced (InstanceIsPlaced hosts) [] is) where
   named_at : (f : Callee) (n : ℕ) → Found is f n → Named is f
   unfolding callee_of export_opens
   named_at f n g =
-      let stands = stands_at (InstanceStands hosts) is f.instance g.i each g.at in
-      let within = export_stands hosts (take f.instance is) g.i.parts f.export g.x stands.parts g.within in
+      let placed = placed_at (InstanceIsPlaced hosts) is f.instance g.i each g.at in
+      let within = export_placed hosts (take f.instance is) g.i.parts f.export g.x placed.parts g.within in
       let front = take f.export (exports_in g.i.parts) in
-      let opens_i = and_parts (ltb (length (take f.instance is)) 64) _ stands.opens in
-      let opens_x = and_parts (ltb (export_count (take f.instance is) + exports_among within.before) 256) _ within.stands.opens in
+      let opens_i = and_parts (ltb (length (take f.instance is)) 64) _ placed.opens in
+      let opens_x = and_parts (ltb (export_count (take f.instance is) + exports_among within.before) 256) _ within.placed.opens in
       let few_i = ltb-true _ _ opens_i.0 in
       let few_x = ltb-true _ _ opens_x.0 in
       let same : length front ≡ exports_among within.before = ap (λ es. length es) (sym within.is) ∙ sym (exports_counted within.before) in
@@ -189,8 +189,8 @@ module _ (hosts : List HostText) (is : List InstanceText) (each : EachStands (In
       let place_i = small_again (λ (i : InstanceText). i.name) is f.instance g.i g.at (not-true _ opens_i.1) (omega (arith, few_i)) in
       let place_x = small_again (λ (x : ExportText). x.name) (exports_in g.i.parts) f.export g.x g.within fresh_x (omega (arith, few_x, same)) in
       record {
-        instance = rw g.at stands.name;
-        export = rw (g.at, g.within) within.stands.name;
+        instance = rw g.at placed.name;
+        export = rw (g.at, g.within) within.placed.name;
         again = rw (g.at, g.within, place_i, g.at, place_x) refl;
       }
 
@@ -210,49 +210,49 @@ pub record CallLine (hosts : List HostText) (is : List InstanceText) (o : CallOp
   pub fits : named_call_fits of ≡ true
   pub read : call_of hosts is of ≡ Some o
 
-module _ (hosts : List HostText) (is : List InstanceText) (each_host : EachStands HostStands [] hosts) (each : EachStands (InstanceStands hosts) [] is) where
-  pub call_line : (r q : ℕ) (f : Callee) (xs : List Operand) → CallStands hosts is (call_op.Call r q f xs) → CallLine hosts is (call_op.Call r q f xs)
+module _ (hosts : List HostText) (is : List InstanceText) (each_host : EachIsPlaced HostIsPlaced [] hosts) (each : EachIsPlaced (InstanceIsPlaced hosts) [] is) where
+  pub call_line : (r q : ℕ) (f : Callee) (xs : List Operand) → CallIsPlaced hosts is (call_op.Call r q f xs) → CallLine hosts is (call_op.Call r q f xs)
   unfolding call_of call_to
-  call_line r q f xs stands =
-      let names = callee_again hosts is each f (length xs) stands.1 in
-      let p = and_parts (register_fits r && register_fits q) (list_all operand_fits xs) stands.0 in
+  call_line r q f xs placed =
+      let names = callee_again hosts is each f (length xs) placed.1 in
+      let p = and_parts (register_fits r && register_fits q) (list_all operand_fits xs) placed.0 in
       record {
         of = named_call.Call r q (callee.Export (instance_name is f.instance) (export_name (exports_of is f.instance) f.export)) xs;
         tokens = refl;
         fits = and_from _ _ p.0 (and_from _ _ (and_from _ _ names.instance names.export) p.1);
-        read = rw (fitting_again hosts is each f xs stands.1) refl;
+        read = rw (fitting_again hosts is each f xs placed.1) refl;
       }
 
-  pub call_sync_line : (r : ℕ) (f : Callee) (xs : List Operand) → CallStands hosts is (call_op.CallSync r f xs) → CallLine hosts is (call_op.CallSync r f xs)
+  pub call_sync_line : (r : ℕ) (f : Callee) (xs : List Operand) → CallIsPlaced hosts is (call_op.CallSync r f xs) → CallLine hosts is (call_op.CallSync r f xs)
   unfolding call_of call_sync_to
-  call_sync_line r f xs stands =
-      let names = callee_again hosts is each f (length xs) stands.1 in
-      let p = and_parts (register_fits r) (list_all operand_fits xs) stands.0 in
+  call_sync_line r f xs placed =
+      let names = callee_again hosts is each f (length xs) placed.1 in
+      let p = and_parts (register_fits r) (list_all operand_fits xs) placed.0 in
       record {
         of = named_call.CallSync r (callee.Export (instance_name is f.instance) (export_name (exports_of is f.instance) f.export)) xs;
         tokens = refl;
         fits = and_from _ _ p.0 (and_from _ _ (and_from _ _ names.instance names.export) p.1);
-        read = rw (fitting_again hosts is each f xs stands.1) refl;
+        read = rw (fitting_again hosts is each f xs placed.1) refl;
       }
 
-  pub call_host_line : (r q h : ℕ) → CallStands hosts is (call_op.CallHost r q h) → CallLine hosts is (call_op.CallHost r q h)
+  pub call_host_line : (r q h : ℕ) → CallIsPlaced hosts is (call_op.CallHost r q h) → CallLine hosts is (call_op.CallHost r q h)
   unfolding call_of call_to fitting_host
-  call_host_line r q h stands =
-      let name = host_again hosts h each_host stands.1 in
+  call_host_line r q h placed =
+      let name = host_again hosts h each_host placed.1 in
       record {
         of = named_call.Call r q (callee.Host (host_name hosts h)) [];
         tokens = refl;
-        fits = and_from _ _ stands.0 (and_from _ _ name.name refl);
+        fits = and_from _ _ placed.0 (and_from _ _ name.name refl);
         read = rw name.again refl;
       }
 
-  pub call_sync_host_line : (r h : ℕ) → CallStands hosts is (call_op.CallSyncHost r h) → CallLine hosts is (call_op.CallSyncHost r h)
+  pub call_sync_host_line : (r h : ℕ) → CallIsPlaced hosts is (call_op.CallSyncHost r h) → CallLine hosts is (call_op.CallSyncHost r h)
   unfolding call_of call_sync_to fitting_host
-  call_sync_host_line r h stands =
-      let name = host_again hosts h each_host stands.1 in
+  call_sync_host_line r h placed =
+      let name = host_again hosts h each_host placed.1 in
       record {
         of = named_call.CallSync r (callee.Host (host_name hosts h)) [];
         tokens = refl;
-        fits = and_from _ _ stands.0 (and_from _ _ name.name refl);
+        fits = and_from _ _ placed.0 (and_from _ _ name.name refl);
         read = rw name.again refl;
       }

@@ -13,7 +13,7 @@ use Rattle.text_scenario.specs.declared.tree.InstanceText.{InstanceText}
 use Rattle.text_scenario.specs.declared.tree.PartText.{PartText}
 use Rattle.text_scenario.specs.declared.tree.PartText.TheVariants as part
 use Rattle.text_scenario.specs.Spelling.{exports_in}
-use Rattle.text_scenario.specs.Placement.{EachStands, PartStands, ExportStands, is_export, is_export_named, exports_among}
+use Rattle.text_scenario.specs.Placement.{EachIsPlaced, PartIsPlaced, ExportIsPlaced, is_export, is_export_named, exports_among}
 
 -- ---- Counts and names, part by part
 
@@ -42,38 +42,38 @@ exports_append (part.Bad s ∷ xs) ys = exports_append xs ys
 pub record ExportAt (hosts : List HostText) (earlier : List InstanceText) (front : List ExportText) (x : ExportText) : Type 0 where
   pub before : List PartText
   pub is : exports_in before ≡ front
-  pub stands : ExportStands hosts earlier before x
+  pub placed : ExportIsPlaced hosts earlier before x
 
 module _ (hosts : List HostText) (earlier : List InstanceText) where
-  export_after : (before parts : List PartText) (k : ℕ) (x : ExportText) → EachStands (PartStands hosts earlier) before parts → slice_get (exports_in parts) k ≡ Some x
+  export_after : (before parts : List PartText) (k : ℕ) (x : ExportText) → EachIsPlaced (PartIsPlaced hosts earlier) before parts → slice_get (exports_in parts) k ≡ Some x
       → ExportAt hosts earlier (exports_in before ++ take k (exports_in parts)) x
   export_after before [] k x each e = absurd cc
   export_after before (part.Export y ∷ parts) zero x each e =
-      record { before = before; is = sym (append-nil (exports_in before)); stands = subst (ExportStands hosts earlier before) (some_is y x e) each.0 }
+      record { before = before; is = sym (append-nil (exports_in before)); placed = subst (ExportIsPlaced hosts earlier before) (some_is y x e) each.0 }
   export_after before (part.Export y ∷ parts) (suc k) x each e =
       let at = export_after (before ++ part.Export y ∷ []) parts k x each.1 e in
       record {
         before = at.before;
         is = at.is ∙ ap (λ es. es ++ take k (exports_in parts)) (exports_append before (part.Export y ∷ [])) ∙ append_assoc (exports_in before) (y ∷ []) (take k (exports_in parts));
-        stands = at.stands;
+        placed = at.placed;
       }
   export_after before (part.Thread s ops ∷ parts) k x each e =
       let at = export_after (before ++ part.Thread s ops ∷ []) parts k x each.1 e in
       record {
         before = at.before;
         is = at.is ∙ ap (λ es. es ++ take k (exports_in parts)) (exports_append before (part.Thread s ops ∷ []) ∙ append-nil (exports_in before));
-        stands = at.stands;
+        placed = at.placed;
       }
   export_after before (part.Bad s ∷ parts) k x each e =
       let at = export_after (before ++ part.Bad s ∷ []) parts k x each.1 e in
       record {
         before = at.before;
         is = at.is ∙ ap (λ es. es ++ take k (exports_in parts)) (exports_append before (part.Bad s ∷ []) ∙ append-nil (exports_in before));
-        stands = at.stands;
+        placed = at.placed;
       }
 
-  pub export_stands : (parts : List PartText) (k : ℕ) (x : ExportText) → EachStands (PartStands hosts earlier) [] parts → slice_get (exports_in parts) k ≡ Some x → ExportAt hosts earlier (take k (exports_in parts)) x
-  export_stands parts k x each e = export_after [] parts k x each e
+  pub export_placed : (parts : List PartText) (k : ℕ) (x : ExportText) → EachIsPlaced (PartIsPlaced hosts earlier) [] parts → slice_get (exports_in parts) k ≡ Some x → ExportAt hosts earlier (take k (exports_in parts)) x
+  export_placed parts k x each e = export_after [] parts k x each e
 
 -- ---- Going through the parts, as a loop does
 

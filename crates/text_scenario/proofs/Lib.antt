@@ -3,7 +3,7 @@ pub mod ReadFrom
 pub mod FirstByte
 pub mod TokenEnd
 pub mod MainKept
-pub mod StandingLaws
+pub mod PlacementLaws
 pub mod ExportLaws
 pub mod CalleeLaws
 pub mod SoFar

@@ -16,7 +16,7 @@ use Rattle.text_scenario.specs.declared.state.State.TheVariants as state
 use Rattle.text_scenario.specs.declared.tree.InstanceText.{InstanceText}
 use Rattle.text_scenario.specs.Spelling.{Lines, op_tokens, script_lines}
 use Rattle.machine_data.specs.Read.{is_callback}
-use Rattle.text_scenario.specs.Placement.{EachStands, CallStands, OpFits, OpStands}
+use Rattle.text_scenario.specs.Placement.{EachIsPlaced, CallIsPlaced, OpFits, OpIsPlaced}
 use Rattle.text_scenario.specs.State.{script_body, with_op, after_op, after_call, after, after_tokens, read_from}
 use Rattle.text_scenario.proofs.SoFar.{BodyFits}
 use Rattle.text_scenario.proofs.StateLaws.{plain}
@@ -58,21 +58,21 @@ named_line : (b : Body) (o : CallOp) → CallLine b.hosts b.instances o → OpLi
 unfolding after after_call
 named_line b o l = record { of = line.Call l.of; tokens = l.tokens; fits = l.fits; takes = λ s at. rw (at, l.read) refl }
 
-subtask_line : (b : Body) (o : CallOp) → BodyFits b → CallStands b.hosts b.instances o → OpLine b (op.Call o)
-subtask_line b (call_op.Call r q f xs) fits stands = named_line b (call_op.Call r q f xs) (call_line b.hosts b.instances fits.hosts fits.instances r q f xs stands)
-subtask_line b (call_op.CallSync r f xs) fits stands = named_line b (call_op.CallSync r f xs) (call_sync_line b.hosts b.instances fits.hosts fits.instances r f xs stands)
-subtask_line b (call_op.CallHost r q h) fits stands = named_line b (call_op.CallHost r q h) (call_host_line b.hosts b.instances fits.hosts fits.instances r q h stands)
-subtask_line b (call_op.CallSyncHost r h) fits stands = named_line b (call_op.CallSyncHost r h) (call_sync_host_line b.hosts b.instances fits.hosts fits.instances r h stands)
-subtask_line b (call_op.Cancel r x) fits stands = plain_line b (op.Call (call_op.Cancel r x)) stands
-subtask_line b (call_op.CancelSync r x) fits stands = plain_line b (op.Call (call_op.CancelSync r x)) stands
-subtask_line b (call_op.Drop x) fits stands = plain_line b (op.Call (call_op.Drop x)) stands
+subtask_line : (b : Body) (o : CallOp) → BodyFits b → CallIsPlaced b.hosts b.instances o → OpLine b (op.Call o)
+subtask_line b (call_op.Call r q f xs) fits placed = named_line b (call_op.Call r q f xs) (call_line b.hosts b.instances fits.hosts fits.instances r q f xs placed)
+subtask_line b (call_op.CallSync r f xs) fits placed = named_line b (call_op.CallSync r f xs) (call_sync_line b.hosts b.instances fits.hosts fits.instances r f xs placed)
+subtask_line b (call_op.CallHost r q h) fits placed = named_line b (call_op.CallHost r q h) (call_host_line b.hosts b.instances fits.hosts fits.instances r q h placed)
+subtask_line b (call_op.CallSyncHost r h) fits placed = named_line b (call_op.CallSyncHost r h) (call_sync_host_line b.hosts b.instances fits.hosts fits.instances r h placed)
+subtask_line b (call_op.Cancel r x) fits placed = plain_line b (op.Call (call_op.Cancel r x)) placed
+subtask_line b (call_op.CancelSync r x) fits placed = plain_line b (op.Call (call_op.CancelSync r x)) placed
+subtask_line b (call_op.Drop x) fits placed = plain_line b (op.Call (call_op.Drop x)) placed
 
 op_line : (b : Body) (o : Op) → BodyFits b → OpFits b.hosts b.instances o → OpLine b o
-op_line b (op.Data o) fits stands = plain_line b (op.Data o) stands
-op_line b (op.Task o) fits stands = plain_line b (op.Task o) stands
-op_line b (op.Set o) fits stands = plain_line b (op.Set o) stands
-op_line b (op.Call o) fits stands = subtask_line b o fits stands
-op_line b (op.Thread o) fits stands = plain_line b (op.Thread o) stands
+op_line b (op.Data o) fits placed = plain_line b (op.Data o) placed
+op_line b (op.Task o) fits placed = plain_line b (op.Task o) placed
+op_line b (op.Set o) fits placed = plain_line b (op.Set o) placed
+op_line b (op.Call o) fits placed = subtask_line b o fits placed
+op_line b (op.Thread o) fits placed = plain_line b (op.Thread o) placed
 
 -- ---- Scripts
 
@@ -81,18 +81,18 @@ pub record TakesOps (b : Body) (callback : Bool) (at : List Op → State) : Type
   pub body : (ops : List Op) → script_body (at ops) ≡ Some b
   pub takes : (ops : List Op) (o : Op) → with_op callback ops o ≡ Some (ops ++ o ∷ []) → after_op (at ops) o ≡ Some (at (ops ++ o ∷ []))
 
-with_op_is : (b : Body) (callback : Bool) (ops : List Op) (o : Op) → OpStands b.hosts b.instances callback ops o → with_op callback ops o ≡ Some (ops ++ o ∷ [])
+with_op_is : (b : Body) (callback : Bool) (ops : List Op) (o : Op) → OpIsPlaced b.hosts b.instances callback ops o → with_op callback ops o ≡ Some (ops ++ o ∷ [])
 unfolding with_op
-with_op_is b callback ops o stands = rw (stands.room, stands.suits) refl
+with_op_is b callback ops o placed = rw (placed.room, placed.suits) refl
 
 module _ (b : Body) (fits : BodyFits b) (callback : Bool) (at : List Op → State) (takes : TakesOps b callback at) where
-  op_read : (ops : List Op) (o : Op) → OpStands b.hosts b.instances callback ops o → ReadsTo (at ops) (op_tokens b.hosts b.instances o ∷ []) (at (ops ++ o ∷ []))
-  op_read ops o stands =
-      let l = op_line b o fits stands.fits in
-      let next : after (at ops) l.of ≡ Some (at (ops ++ o ∷ [])) = l.takes (at ops) (takes.body ops) ∙ takes.takes ops o (with_op_is b callback ops o stands) in
+  op_read : (ops : List Op) (o : Op) → OpIsPlaced b.hosts b.instances callback ops o → ReadsTo (at ops) (op_tokens b.hosts b.instances o ∷ []) (at (ops ++ o ∷ []))
+  op_read ops o placed =
+      let l = op_line b o fits placed.fits in
+      let next : after (at ops) l.of ≡ Some (at (ops ++ o ∷ [])) = l.takes (at ops) (takes.body ops) ∙ takes.takes ops o (with_op_is b callback ops o placed) in
       subst (λ (ws : List (List ℕ)). ReadsTo (at ops) (ws ∷ []) (at (ops ++ o ∷ []))) l.tokens (one_line (at ops) (at (ops ++ o ∷ [])) l.of l.fits next)
 
-  pub ops_read : (before os : List Op) → EachStands (OpStands b.hosts b.instances callback) before os → ReadsTo (at before) (script_lines b.hosts b.instances os) (at (before ++ os))
+  pub ops_read : (before os : List Op) → EachIsPlaced (OpIsPlaced b.hosts b.instances callback) before os → ReadsTo (at before) (script_lines b.hosts b.instances os) (at (before ++ os))
   ops_read before [] each = subst (λ (os : List Op). ReadsTo (at before) [] (at os)) (sym (append-nil before)) (nothing (at before))
   ops_read before (o ∷ os) each =
       let one = op_read before o each.0 in

@@ -22,9 +22,9 @@ use Rattle.text_scenario.specs.declared.tree.PartText.TheVariants as part
 use Rattle.text_scenario.specs.declared.tree.MainOpText.{MainOpText}
 use Rattle.text_scenario.specs.Spelling.{Lines, head_lines, host_line, op_tokens, script_lines, part_lines, instance_lines, lines_after, body_lines, main_lines, lines_of}
 use Rattle.machine_data.specs.Read.{is_callback}
-use Rattle.text_scenario.specs.Placement.{EachStands, HostStands, has_room_for_op, op_suits, OpFits, OpStands, ScriptStands, PartStands, InstanceStands, MainOpStands, AborterStands, IsWellFormed}
+use Rattle.text_scenario.specs.Placement.{EachIsPlaced, HostIsPlaced, has_room_for_op, op_suits, OpFits, OpIsPlaced, ScriptIsPlaced, PartIsPlaced, InstanceIsPlaced, MainOpIsPlaced, AborterIsPlaced, IsWellFormed}
 use Rattle.text_scenario.specs.State.{with_host, with_instance, with_part, export_from, script_closed, instance_closed, with_op}
-use Rattle.text_scenario.proofs.StandingLaws.{each_more}
+use Rattle.text_scenario.proofs.PlacementLaws.{each_more}
 
 -- ---- What a state has read
 
@@ -63,22 +63,22 @@ so_far (state.Ended s) = lines_of s
 pub record BodyFits (b : Body) : Type 0 where
   pub handles : handles_fit b.handles ≡ true
   pub table : table_fits b.table ≡ true
-  pub hosts : EachStands HostStands [] b.hosts
-  pub instances : EachStands (InstanceStands b.hosts) [] b.instances
+  pub hosts : EachIsPlaced HostIsPlaced [] b.hosts
+  pub instances : EachIsPlaced (InstanceIsPlaced b.hosts) [] b.instances
 
 pub record PartFits (b : Body) (i : InstanceText) (p : PartText) : Type 0 where
   pub body : BodyFits b
-  pub instance : InstanceStands b.hosts b.instances i
-  pub part : PartStands b.hosts b.instances i.parts p
+  pub instance : InstanceIsPlaced b.hosts b.instances i
+  pub part : PartIsPlaced b.hosts b.instances i.parts p
 
 pub record MainFits (b : Body) (ops : List MainOpText) : Type 0 where
   pub body : BodyFits b
-  pub each : EachStands (MainOpStands b.hosts b.instances) [] ops
+  pub each : EachIsPlaced (MainOpIsPlaced b.hosts b.instances) [] ops
 
 pub record AnswerFits (b : Body) (ops : List MainOpText) (x : Operand) (aborters : List (List ℕ)) : Type 0 where
   pub main : MainFits b ops
   pub answer : operand_fits x ≡ true
-  pub each : EachStands (AborterStands ops) [] aborters
+  pub each : EachIsPlaced (AborterIsPlaced ops) [] aborters
 
 -- what was read is where it does
 abbrev pub IsSound : State → Type 0
@@ -87,7 +87,7 @@ IsSound state.Titled = Unit {0}
 IsSound (state.Handles h) = handles_fit h ≡ true
 IsSound (state.Table h t) = (handles_fit h ≡ true) × (table_fits t ≡ true)
 IsSound (state.Hosts b) = BodyFits b × (b.instances ≡ [])
-IsSound (state.Instance b i) = BodyFits b × InstanceStands b.hosts b.instances i
+IsSound (state.Instance b i) = BodyFits b × InstanceIsPlaced b.hosts b.instances i
 IsSound (state.Script b i h start) = PartFits b i (start_part h start)
 IsSound (state.React b i h start react) = PartFits b i (react_part h start react)
 IsSound (state.Thread b i slot ops) = PartFits b i (part.Thread slot ops)
@@ -115,12 +115,12 @@ host_grows b h none =
     let more : head ++ map host_line (b.hosts ++ h ∷ []) ≡ head ++ (hosts ++ host_line h ∷ []) = ap (λ (ls : Lines). head ++ ls) (map-append host_line b.hosts (h ∷ [])) in
     empty_front (with_host b h) none ∙ more ∙ sym (append_assoc head hosts (host_line h ∷ [])) ∙ ap (λ (ls : Lines). ls ++ host_line h ∷ []) (sym (empty_front b none))
 
-pub with_host_fits : (b : Body) (h : HostText) → BodyFits b → b.instances ≡ [] → HostStands b.hosts h → BodyFits (with_host b h)
-with_host_fits b h fits none stands = record {
+pub with_host_fits : (b : Body) (h : HostText) → BodyFits b → b.instances ≡ [] → HostIsPlaced b.hosts h → BodyFits (with_host b h)
+with_host_fits b h fits none placed = record {
   handles = fits.handles;
   table = fits.table;
-  hosts = each_more HostStands b.hosts h fits.hosts stands;
-  instances = subst (λ (is : List InstanceText). EachStands (InstanceStands (b.hosts ++ h ∷ [])) [] is) (sym none) tt;
+  hosts = each_more HostIsPlaced b.hosts h fits.hosts placed;
+  instances = subst (λ (is : List InstanceText). EachIsPlaced (InstanceIsPlaced (b.hosts ++ h ∷ [])) [] is) (sym none) tt;
 }
 
 pub instance_grows : (hosts : List HostText) (is : List InstanceText) (i : InstanceText) (p : PartText) → instance_lines hosts is (with_part i p) ≡ instance_lines hosts is i ++ part_lines hosts is p
@@ -144,11 +144,11 @@ front_grows b i =
     let more = instance_lines b.hosts b.instances i in
     ap (λ (ls : Lines). head ++ (hosts ++ ls)) (lines_grow b.hosts [] b.instances i) ∙ ap (λ (ls : Lines). head ++ ls) (sym (append_assoc hosts lines more)) ∙ sym (append_assoc head (hosts ++ lines) more)
 
-pub with_part_stands : (b : Body) (i : InstanceText) (p : PartText) → InstanceStands b.hosts b.instances i → PartStands b.hosts b.instances i.parts p → InstanceStands b.hosts b.instances (with_part i p)
-with_part_stands b i p fits stands = record { name = fits.name; opens = fits.opens; parts = each_more (PartStands b.hosts b.instances) i.parts p fits.parts stands }
+pub with_part_placed : (b : Body) (i : InstanceText) (p : PartText) → InstanceIsPlaced b.hosts b.instances i → PartIsPlaced b.hosts b.instances i.parts p → InstanceIsPlaced b.hosts b.instances (with_part i p)
+with_part_placed b i p fits placed = record { name = fits.name; opens = fits.opens; parts = each_more (PartIsPlaced b.hosts b.instances) i.parts p fits.parts placed }
 
-pub with_instance_fits : (b : Body) (i : InstanceText) → BodyFits b → InstanceStands b.hosts b.instances i → BodyFits (with_instance b i)
-with_instance_fits b i fits stands = record { handles = fits.handles; table = fits.table; hosts = fits.hosts; instances = each_more (InstanceStands b.hosts) b.instances i fits.instances stands }
+pub with_instance_fits : (b : Body) (i : InstanceText) → BodyFits b → InstanceIsPlaced b.hosts b.instances i → BodyFits (with_instance b i)
+with_instance_fits b i fits placed = record { handles = fits.handles; table = fits.table; hosts = fits.hosts; instances = each_more (InstanceIsPlaced b.hosts) b.instances i fits.instances placed }
 
 pub part_grows : (b : Body) (i : InstanceText) (p : PartText) → part_after b i p ≡ until b (with_part i p)
 part_grows b i p =
@@ -158,14 +158,14 @@ part_grows b i p =
 
 pub record ScriptClosed (s : State) (b : Body) (i : InstanceText) : Type 0 where
   pub body : BodyFits b
-  pub instance : InstanceStands b.hosts b.instances i
+  pub instance : InstanceIsPlaced b.hosts b.instances i
   pub lines : so_far s ≡ until b i
 
 closes_part : (s : State) (b : Body) (i : InstanceText) (x : PartText) (p : Body × InstanceText) → so_far s ≡ part_after b i x → PartFits b i x → Some (b, with_part i x) ≡ Some p → ScriptClosed s p.0 p.1
 closes_part s b i x p read sound e =
     let made : ScriptClosed s b (with_part i x) = record {
       body = sound.body;
-      instance = with_part_stands b i x sound.instance sound.part;
+      instance = with_part_placed b i x sound.instance sound.part;
       lines = read ∙ part_grows b i x;
     } in
     subst (λ (q : Body × InstanceText). ScriptClosed s q.0 q.1) (some_is (b, with_part i x) p e) made
@@ -204,8 +204,8 @@ closes_instance s b e sound = closes_by_script s b e sound
 pub record OpenAt (b : Body) (callback : Bool) (at : List Op → State) : Type 0 where
   pub before : Lines
   pub lines : (ops : List Op) → so_far (at ops) ≡ before ++ script_lines b.hosts b.instances ops
-  pub stands : (ops : List Op) → IsSound (at ops) → ScriptStands b.hosts b.instances callback ops
-  pub sound : (ops more : List Op) → IsSound (at ops) → ScriptStands b.hosts b.instances callback more → IsSound (at more)
+  pub placed : (ops : List Op) → IsSound (at ops) → ScriptIsPlaced b.hosts b.instances callback ops
+  pub sound : (ops more : List Op) → IsSound (at ops) → ScriptIsPlaced b.hosts b.instances callback more → IsSound (at more)
 
 pub start_open : (b : Body) (i : InstanceText) (h : Opening) → OpenAt b (is_callback h.kind) (λ ops. state.Script b i h ops)
 start_open b i h =
@@ -216,7 +216,7 @@ start_open b i h =
       lines = λ ops.
           let lines = script_lines b.hosts b.instances ops in
           ap (λ (ls : Lines). before ++ opening ∷ ls) (append-nil lines) ∙ sym (append_assoc before (opening ∷ []) lines);
-      stands = λ ops sound. sound.part.start;
+      placed = λ ops sound. sound.part.start;
       sound = λ ops more sound each.
           record { body = sound.body; instance = sound.instance; part = record { name = sound.part.name; params = sound.part.params; opens = sound.part.opens; start = each; react = tt } };
     }
@@ -231,7 +231,7 @@ react_open b i h start =
       lines = λ ops.
           let lines = script_lines b.hosts b.instances ops in
           ap (λ (ls : Lines). before ++ opening ∷ ls) (sym (append_assoc scripts (react_tokens ∷ []) lines)) ∙ sym (append_assoc before (opening ∷ scripts ++ react_tokens ∷ []) lines);
-      stands = λ ops sound. sound.part.react.1;
+      placed = λ ops sound. sound.part.react.1;
       sound = λ ops more sound each.
           record { body = sound.body; instance = sound.instance; part = record { name = sound.part.name; params = sound.part.params; opens = sound.part.opens; start = sound.part.start; react = (sound.part.react.0, each) } };
     }
@@ -242,7 +242,7 @@ thread_open b i slot =
     record {
       before = before ++ thread_tokens slot ∷ [];
       lines = λ ops. sym (append_assoc before (thread_tokens slot ∷ []) (script_lines b.hosts b.instances ops));
-      stands = λ ops sound. sound.part.1;
+      placed = λ ops sound. sound.part.1;
       sound = λ ops more sound each. record { body = sound.body; instance = sound.instance; part = (sound.part.0, each) };
     }
 
@@ -255,7 +255,7 @@ takes_op b callback at open_at ops o t e fits sound =
     let m = bind_some (with_op callback ops o) (λ more. Some (at more)) t e in
     let g = guarded (has_room_for_op ops && op_suits callback o) (ops ++ o ∷ []) m.0 m.1 in
     let tests = and_parts (has_room_for_op ops) (op_suits callback o) g.0 in
-    let each = each_more (OpStands b.hosts b.instances callback) ops o (open_at.stands ops sound) (record { room = tests.0; suits = tests.1; fits = fits }) in
+    let each = each_more (OpIsPlaced b.hosts b.instances callback) ops o (open_at.placed ops sound) (record { room = tests.0; suits = tests.1; fits = fits }) in
     let made : Follows (at ops) (tokens o) (at (ops ++ o ∷ [])) = record {
       lines =
           open_at.lines (ops ++ o ∷ []) ∙ ap (λ (ls : Lines). open_at.before ++ ls) (map-append tokens ops (o ∷ [])) ∙ sym (append_assoc open_at.before (map tokens ops) (tokens o ∷ []))

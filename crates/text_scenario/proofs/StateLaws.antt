@@ -36,11 +36,11 @@ use Rattle.text_scenario.specs.declared.tree.MainOpText.{MainOpText}
 use Rattle.text_scenario.specs.declared.tree.MainOpText.TheVariants as main
 use Rattle.text_scenario.specs.Spelling.{Lines, host_line, op_tokens, script_lines, main_op_tokens, main_lines}
 use Rattle.machine_data.specs.Read.{is_callback}
-use Rattle.text_scenario.specs.Placement.{host_opens, OpFits, export_opens, slot_opens, instance_opens, main_has_room, start_opens, finish_opens, spawn_opens, spawn_named, params_of, MainOpStands, aborter_opens, AborterStands, IsWellFormed}
+use Rattle.text_scenario.specs.Placement.{host_opens, OpFits, export_opens, slot_opens, instance_opens, main_has_room, start_opens, finish_opens, spawn_opens, spawn_named, params_of, MainOpIsPlaced, aborter_opens, AborterIsPlaced, IsWellFormed}
 use Rattle.text_scenario.specs.State.{with_host, with_part, script_closed, instance_closed, main_open, script_body, after_title, after_handles, after_table, after_idle, after_head, after_host, after_instance, after_export, after_react, after_thread, after_bad, after_part, after_op, after_call, after_main, host_place, callee_of, fitting_export, start_of, finish_of, spawn_of, ready_of, main_op_of, call_of, after_main_op, after_answer, after_aborter, whole, after_end, after}
-use Rattle.text_scenario.proofs.StandingLaws.{each_more}
+use Rattle.text_scenario.proofs.PlacementLaws.{each_more}
 use Rattle.text_scenario.proofs.CalleeLaws.{host_named, callee_named, export_fits, named_call_is}
-use Rattle.text_scenario.proofs.SoFar.{front, until, IsSound, Follows, BodyFits, AnswerFits, host_grows, with_host_fits, part_grows, with_part_stands, closes_script, closes_instance, start_open, react_open, thread_open, takes_op}
+use Rattle.text_scenario.proofs.SoFar.{front, until, IsSound, Follows, BodyFits, AnswerFits, host_grows, with_host_fits, part_grows, with_part_placed, closes_script, closes_instance, start_open, react_open, thread_open, takes_op}
 
 -- ---- The head
 
@@ -148,7 +148,7 @@ bad_follows s t slot e fits sound =
     subst (Follows s (bad_tokens slot)) g.1
     (record {
       lines = sym (part_grows p.0.0 p.0.1 (part.Bad slot)) ∙ ap (λ (ls : Lines). ls ++ bad_tokens slot ∷ []) (sym c.lines);
-      sound = (c.body, with_part_stands p.0.0 p.0.1 (part.Bad slot) c.instance (record { fits = fits; opens = g.0 }));
+      sound = (c.body, with_part_placed p.0.0 p.0.1 (part.Bad slot) c.instance (record { fits = fits; opens = g.0 }));
     })
 
 part_follows : (s t : State) (l : PartLine) → after_part s l ≡ Some t → part_line_fits l ≡ true → IsSound s → Follows s (part_line_tokens l) t
@@ -224,7 +224,7 @@ main_follows s t e sound =
 
 -- named ops are this op of main, and it is after those before it
 abbrev pub IsMainOp : Body → List MainOpText → NamedOp → MainOpText → Type 0
-IsMainOp b before l o = (named_tokens l ≡ main_op_tokens b.hosts b.instances o) × MainOpStands b.hosts b.instances before o
+IsMainOp b before l o = (named_tokens l ≡ main_op_tokens b.hosts b.instances o) × MainOpIsPlaced b.hosts b.instances before o
 
 module _ (b : Body) (before : List MainOpText) where
   start_is : (instance export : List ℕ) (xs : List Operand) (o : MainOpText) → start_of b.instances before instance export xs ≡ Some o → list_all operand_fits xs ≡ true → IsMainOp b before (named.Start instance export xs) o
@@ -279,7 +279,7 @@ main_op_follows (state.Main b ops) t l e fits sound =
     subst (Follows (state.Main b ops) (named_tokens l)) (some_is (state.Main b (ops ++ o.0 ∷ [])) t o.2)
     (record {
       lines = ap (λ (ls : Lines). front b ++ ls) grown ∙ sym (append_assoc (front b) (lines ops) (named_tokens l ∷ []));
-      sound = record { body = sound.body; each = each_more (MainOpStands b.hosts b.instances) ops o.0 sound.each is.1 };
+      sound = record { body = sound.body; each = each_more (MainOpIsPlaced b.hosts b.instances) ops o.0 sound.each is.1 };
     })
 main_op_follows _ t l e fits sound = absurd cc
 
@@ -298,7 +298,7 @@ aborter_follows (state.Answered b ops x before) t ks e sound =
     subst (Follows (state.Answered b ops x before) (aborter_tokens ks)) g.1
     (record {
       lines = ap (λ (ls : Lines). lines ++ ls) (map-append aborter_tokens before (ks ∷ [])) ∙ sym (append_assoc lines (map aborter_tokens before) (aborter_tokens ks ∷ []));
-      sound = record { main = sound.main; answer = sound.answer; each = each_more (AborterStands ops) before ks sound.each g.0 };
+      sound = record { main = sound.main; answer = sound.answer; each = each_more (AborterIsPlaced ops) before ks sound.each g.0 };
     })
 aborter_follows _ t ks e sound = absurd cc
 

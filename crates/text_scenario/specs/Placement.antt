@@ -25,9 +25,9 @@ use Rattle.text_scenario.specs.declared.tree.ScenarioText.{ScenarioText}
 use Rattle.text_scenario.specs.Spelling.{exports_of}
 
 -- each item is after those before it
-abbrev pub EachStands : {X : Type 0} → (List X → X → Type 0) → List X → List X → Type 0
-EachStands Stands before [] = Unit {0}
-EachStands Stands before (x ∷ xs) = Stands before x × EachStands Stands (before ++ x ∷ []) xs
+abbrev pub EachIsPlaced : {X : Type 0} → (List X → X → Type 0) → List X → List X → Type 0
+EachIsPlaced IsPlaced before [] = Unit {0}
+EachIsPlaced IsPlaced before (x ∷ xs) = IsPlaced before x × EachIsPlaced IsPlaced (before ++ x ∷ []) xs
 
 -- ---- Hosts
 
@@ -35,7 +35,7 @@ EachStands Stands before (x ∷ xs) = Stands before x × EachStands Stands (befo
 abbrev pub host_opens : List HostText → List ℕ → Bool
 host_opens before name = nat_lt (length before) 256 && not (list_any (λ h. bytes_eq h.name name) before)
 
-pub record HostStands (before : List HostText) (h : HostText) : Type 0 where
+pub record HostIsPlaced (before : List HostText) (h : HostText) : Type 0 where
   pub name : is_name h.name ≡ true
   pub work : work_fits h.work ≡ true
   pub opens : host_opens before h.name ≡ true
@@ -47,14 +47,14 @@ abbrev pub params_of : List InstanceText → Callee → Option ℕ
 params_of instances f = option_map (λ e. e.params) (slice_get (exports_of instances f.instance) f.export)
 
 -- a callee is on an earlier line, an export's instance is an earlier one, and there are as many operands as parameters
-abbrev pub CallStands : List HostText → List InstanceText → CallOp → Type 0
-CallStands hosts earlier (call_op.Call r q f xs) =
+abbrev pub CallIsPlaced : List HostText → List InstanceText → CallOp → Type 0
+CallIsPlaced hosts earlier (call_op.Call r q f xs) =
     (register_fits r && register_fits q && list_all operand_fits xs ≡ true) × (params_of earlier f ≡ Some (length xs))
-CallStands hosts earlier (call_op.CallSync r f xs) =
+CallIsPlaced hosts earlier (call_op.CallSync r f xs) =
     (register_fits r && list_all operand_fits xs ≡ true) × (params_of earlier f ≡ Some (length xs))
-CallStands hosts earlier (call_op.CallHost r q h) = (register_fits r && register_fits q ≡ true) × (h < length hosts)
-CallStands hosts earlier (call_op.CallSyncHost r h) = (register_fits r ≡ true) × (h < length hosts)
-CallStands hosts earlier o = subtask_op_fits o ≡ true
+CallIsPlaced hosts earlier (call_op.CallHost r q h) = (register_fits r && register_fits q ≡ true) × (h < length hosts)
+CallIsPlaced hosts earlier (call_op.CallSyncHost r h) = (register_fits r ≡ true) × (h < length hosts)
+CallIsPlaced hosts earlier o = subtask_op_fits o ≡ true
 
 -- it ends an activation of a callback
 abbrev pub is_callback_end : TaskOp → Bool
@@ -70,26 +70,26 @@ op_suits callback _ = true
 
 -- the op's values fit, and its callee is known
 abbrev pub OpFits : List HostText → List InstanceText → Op → Type 0
-OpFits hosts earlier (op.Call o) = CallStands hosts earlier o
+OpFits hosts earlier (op.Call o) = CallIsPlaced hosts earlier o
 OpFits hosts earlier o = plain_op_fits o ≡ true
 
 abbrev pub has_room_for_op : List Op → Bool
 has_room_for_op before = nat_lt (length before) 4096
 
 -- an op may be after these in a script, of a callback or not, of an instance after these
-pub record OpStands (hosts : List HostText) (earlier : List InstanceText) (callback : Bool) (before : List Op) (o : Op) : Type 0 where
+pub record OpIsPlaced (hosts : List HostText) (earlier : List InstanceText) (callback : Bool) (before : List Op) (o : Op) : Type 0 where
   pub room : has_room_for_op before ≡ true
   pub suits : op_suits callback o ≡ true
   pub fits : OpFits hosts earlier o
 
-abbrev pub ScriptStands : List HostText → List InstanceText → Bool → List Op → Type 0
-ScriptStands hosts earlier callback ops = EachStands (OpStands hosts earlier callback) [] ops
+abbrev pub ScriptIsPlaced : List HostText → List InstanceText → Bool → List Op → Type 0
+ScriptIsPlaced hosts earlier callback ops = EachIsPlaced (OpIsPlaced hosts earlier callback) [] ops
 
 -- ---- Instances and their parts
 
-abbrev pub ReactStands : List HostText → List InstanceText → ExportKind → Option (List Op) → Type 0
-ReactStands hosts earlier k None = Unit {0}
-ReactStands hosts earlier k (Some ops) = (is_callback k ≡ true) × ScriptStands hosts earlier true ops
+abbrev pub ReactIsPlaced : List HostText → List InstanceText → ExportKind → Option (List Op) → Type 0
+ReactIsPlaced hosts earlier k None = Unit {0}
+ReactIsPlaced hosts earlier k (Some ops) = (is_callback k ≡ true) × ScriptIsPlaced hosts earlier true ops
 
 abbrev pub is_export : PartText → Bool
 is_export (part.Export e) = true
@@ -109,12 +109,12 @@ export_count instances = sum_by (λ i. exports_among i.parts) instances
 unfoldable pub export_opens : List InstanceText → List PartText → List ℕ → Bool
 export_opens earlier before name = nat_lt (export_count earlier + exports_among before) 256 && not (list_any (is_export_named name) before)
 
-pub record ExportStands (hosts : List HostText) (earlier : List InstanceText) (before : List PartText) (e : ExportText) : Type 0 where
+pub record ExportIsPlaced (hosts : List HostText) (earlier : List InstanceText) (before : List PartText) (e : ExportText) : Type 0 where
   pub name : is_name e.name ≡ true
   pub params : e.params ≤ 16
   pub opens : export_opens earlier before e.name ≡ true
-  pub start : ScriptStands hosts earlier (is_callback e.kind) e.start
-  pub react : ReactStands hosts earlier e.kind e.react
+  pub start : ScriptIsPlaced hosts earlier (is_callback e.kind) e.start
+  pub react : ReactIsPlaced hosts earlier e.kind e.react
 
 abbrev pub fills : ℕ → PartText → Bool
 fills s (part.Export e) = false
@@ -125,23 +125,23 @@ fills s (part.Bad t) = t == s
 abbrev pub slot_opens : List PartText → ℕ → Bool
 slot_opens before s = not (list_any (fills s) before)
 
-pub record SlotStands (before : List PartText) (s : ℕ) : Type 0 where
+pub record SlotIsPlaced (before : List PartText) (s : ℕ) : Type 0 where
   pub fits : slot_fits s ≡ true
   pub opens : slot_opens before s ≡ true
 
-abbrev pub PartStands : List HostText → List InstanceText → List PartText → PartText → Type 0
-PartStands hosts earlier before (part.Export e) = ExportStands hosts earlier before e
-PartStands hosts earlier before (part.Thread s ops) = SlotStands before s × ScriptStands hosts earlier false ops
-PartStands hosts earlier before (part.Bad s) = SlotStands before s
+abbrev pub PartIsPlaced : List HostText → List InstanceText → List PartText → PartText → Type 0
+PartIsPlaced hosts earlier before (part.Export e) = ExportIsPlaced hosts earlier before e
+PartIsPlaced hosts earlier before (part.Thread s ops) = SlotIsPlaced before s × ScriptIsPlaced hosts earlier false ops
+PartIsPlaced hosts earlier before (part.Bad s) = SlotIsPlaced before s
 
 -- an instance of this name may begin after those before it: 64, with other names
 abbrev pub instance_opens : List InstanceText → List ℕ → Bool
 instance_opens before name = nat_lt (length before) 64 && not (list_any (λ i. bytes_eq i.name name) before)
 
-pub record InstanceStands (hosts : List HostText) (before : List InstanceText) (i : InstanceText) : Type 0 where
+pub record InstanceIsPlaced (hosts : List HostText) (before : List InstanceText) (i : InstanceText) : Type 0 where
   pub name : is_name i.name ≡ true
   pub opens : instance_opens before i.name ≡ true
-  pub parts : EachStands (PartStands hosts before) [] i.parts
+  pub parts : EachIsPlaced (PartIsPlaced hosts before) [] i.parts
 
 -- ---- Main
 
@@ -185,30 +185,30 @@ is_spawned before k = nat_le 1 k && nat_le k (spawn_count before)
 abbrev pub spawn_named : List MainOpText → ℕ → Bool
 spawn_named before k = main_has_room before && is_spawned before k
 
-abbrev pub MainOpStands : List HostText → List InstanceText → List MainOpText → MainOpText → Type 0
-MainOpStands hosts instances before (main.Start f xs) =
+abbrev pub MainOpIsPlaced : List HostText → List InstanceText → List MainOpText → MainOpText → Type 0
+MainOpIsPlaced hosts instances before (main.Start f xs) =
     (start_opens before ≡ true) × (params_of instances f ≡ Some (length xs)) × (list_all operand_fits xs ≡ true)
-MainOpStands hosts instances before (main.Finish k r) = (finish_opens before k ≡ true) × (register_fits r ≡ true)
-MainOpStands hosts instances before (main.Spawn h) = (spawn_opens before ≡ true) × (h < length hosts)
-MainOpStands hosts instances before (main.Abort k) = spawn_named before k ≡ true
-MainOpStands hosts instances before (main.Await k) = spawn_named before k ≡ true
-MainOpStands hosts instances before main.Quiet = main_has_room before ≡ true
-MainOpStands hosts instances before (main.Ready f) = (main_has_room before ≡ true) × (n : ℕ) × (params_of instances f ≡ Some n)
+MainOpIsPlaced hosts instances before (main.Finish k r) = (finish_opens before k ≡ true) × (register_fits r ≡ true)
+MainOpIsPlaced hosts instances before (main.Spawn h) = (spawn_opens before ≡ true) × (h < length hosts)
+MainOpIsPlaced hosts instances before (main.Abort k) = spawn_named before k ≡ true
+MainOpIsPlaced hosts instances before (main.Await k) = spawn_named before k ≡ true
+MainOpIsPlaced hosts instances before main.Quiet = main_has_room before ≡ true
+MainOpIsPlaced hosts instances before (main.Ready f) = (main_has_room before ≡ true) × (n : ℕ) × (params_of instances f ≡ Some n)
 
 -- an aborter may follow those before it: 8, each with 1 to 16 spawns of main
 abbrev pub aborter_opens : List MainOpText → List (List ℕ) → List ℕ → Bool
 aborter_opens ops before ks = nat_lt (length before) 8 && nat_le 1 (length ks) && nat_le (length ks) 16 && list_all (is_spawned ops) ks
 
-abbrev pub AborterStands : List MainOpText → List (List ℕ) → List ℕ → Type 0
-AborterStands ops before ks = aborter_opens ops before ks ≡ true
+abbrev pub AborterIsPlaced : List MainOpText → List (List ℕ) → List ℕ → Type 0
+AborterIsPlaced ops before ks = aborter_opens ops before ks ≡ true
 
 -- ---- The whole
 
 pub record IsWellFormed (s : ScenarioText) : Type 0 where
   pub handles : handles_fit s.handles ≡ true
   pub table : table_fits s.table ≡ true
-  pub hosts : EachStands HostStands [] s.hosts
-  pub instances : EachStands (InstanceStands s.hosts) [] s.instances
-  pub main : EachStands (MainOpStands s.hosts s.instances) [] s.main
+  pub hosts : EachIsPlaced HostIsPlaced [] s.hosts
+  pub instances : EachIsPlaced (InstanceIsPlaced s.hosts) [] s.instances
+  pub main : EachIsPlaced (MainOpIsPlaced s.hosts s.instances) [] s.main
   pub answer : operand_fits s.answer ≡ true
-  pub aborters : EachStands (AborterStands s.main) [] s.aborters
+  pub aborters : EachIsPlaced (AborterIsPlaced s.main) [] s.aborters

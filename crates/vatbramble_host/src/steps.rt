@@ -27,7 +27,7 @@ fn start<T, H: HostWork, D: Drop>(
     requires takes { TakesWords component.now func (length words.now) }
     requires numbered { length main.old.calls.items < 4294967295 }
     ensures same { access.new.store.ghost_name ≡ access.old.store.ghost_name }
-    ensures stands { constants access.new.store.now ≡ constants access.old.store.now }
+    ensures constants_stay { constants access.new.store.now ≡ constants access.old.store.now }
     ensures step { IfOk result (λ step.
         HasStepResult asking_says H.course component.now step main.old access.old.store.now main.new access.new.store.now) }
     ensures err { IfErr result (λ e. e ≡ task_error.NoMemory) }
@@ -72,7 +72,7 @@ fn finish<T, H: HostWork, D: Drop>(
     requires may { MayStep asking_says H.course component.now main.old access.old.store.now }
     requires untaken { MayFinish main.old.calls.items call }
     ensures same { access.new.store.ghost_name ≡ access.old.store.ghost_name }
-    ensures stands { constants access.new.store.now ≡ constants access.old.store.now }
+    ensures constants_stay { constants access.new.store.now ≡ constants access.old.store.now }
     ensures step { HasStepResult asking_says H.course component.now result main.old access.old.store.now main.new access.new.store.now }
 {
     // only the contract speaks of `component`
@@ -148,7 +148,7 @@ fn spawn<T, H: AccessorTask<T> + FromHost, D: Drop>(
     requires may { MayStep asking_says H.course component.now main.old access.old.store.now }
     requires numbered { length main.old.spawns.items < 4294967295 }
     ensures same { access.new.store.ghost_name ≡ access.old.store.ghost_name }
-    ensures stands { constants access.new.store.now ≡ constants access.old.store.now }
+    ensures constants_stay { constants access.new.store.now ≡ constants access.old.store.now }
     ensures step { IfOk result (λ step.
         HasStepResult asking_says H.course component.now step main.old access.old.store.now main.new access.new.store.now) }
     ensures err { IfErr result (λ e. e ≡ task_error.NoMemory) }
@@ -177,7 +177,7 @@ fn abort<T, H: HostWork, D: Drop>(
     requires may { MayStep asking_says H.course component.now main.old access.old.store.now }
     requires there { work.place < length main.old.spawns.items }
     ensures same { access.new.store.ghost_name ≡ access.old.store.ghost_name }
-    ensures stands { constants access.new.store.now ≡ constants access.old.store.now }
+    ensures constants_stay { constants access.new.store.now ≡ constants access.old.store.now }
     ensures step { HasStepResult asking_says H.course component.now result main.old access.old.store.now main.new access.new.store.now }
 {
     // only the contract speaks of `component`
@@ -200,7 +200,7 @@ fn wait<T, H: HostWork, D: Drop>(
     requires may { MayStep asking_says H.course component.now main.old access.old.store.now }
     requires there { work.place < length main.old.spawns.items }
     ensures same { access.new.store.ghost_name ≡ access.old.store.ghost_name }
-    ensures stands { constants access.new.store.now ≡ constants access.old.store.now }
+    ensures constants_stay { constants access.new.store.now ≡ constants access.old.store.now }
     ensures step { HasStepResult asking_says H.course component.now result main.old access.old.store.now main.new access.new.store.now }
 {
     // only the contract speaks of `component`

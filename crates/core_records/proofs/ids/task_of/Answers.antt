@@ -4,13 +4,13 @@ use Rattle.core_records.proofs.HomeLemmas.{task_live, task_place}
 use Rattle.core_records.proofs.StandLemmas.{shown_beyond}
 use Rattle.core_records.proofs.ids.task_of.Goals as goal
 
-pub standing_call-requires : goal.standing_call-requires
-standing_call-requires c =
+pub call_at_unchecked-requires : goal.call_at_unchecked-requires
+call_at_unchecked-requires c =
     let a = c.args.parts.now in
     subst (λ (k : ℕ). 0 < k) (sym (task_place a c.requires c.args.thread c.in-Some.entry.now c.in-Some.ensures.item)) (task_live a c.requires c.args.thread c.in-Some.entry.now c.in-Some.ensures.item)
 
 pub returns-in-Some-clause-is : goal.returns-in-Some-clause-is
-returns-in-Some-clause-is c = c.standing_call.ensures ∙ task_place c.args.parts.now c.requires c.args.thread c.in-Some.entry.now c.in-Some.ensures.item
+returns-in-Some-clause-is c = c.call_at_unchecked.ensures ∙ task_place c.args.parts.now c.requires c.args.thread c.in-Some.entry.now c.in-Some.ensures.item
 
 pub returns-in-None-clause-is : goal.returns-in-None-clause-is
 unfolding seen IsSoundCore call_number
@@ -22,7 +22,7 @@ returns-in-None-clause-is c =
 pub returns-in-Some-clause-live : goal.returns-in-Some-clause-live
 returns-in-Some-clause-live c there =
     let a = c.args.parts.now in
-    let at = c.standing_call.ensures ∙ task_place a c.requires c.args.thread c.in-Some.entry.now c.in-Some.ensures.item in
+    let at = c.call_at_unchecked.ensures ∙ task_place a c.requires c.args.thread c.in-Some.entry.now c.in-Some.ensures.item in
     subst (λ (k : ℕ). 0 < k) (sym at) (task_live a c.requires c.args.thread c.in-Some.entry.now c.in-Some.ensures.item)
 
 pub returns-in-None-clause-live : goal.returns-in-None-clause-live

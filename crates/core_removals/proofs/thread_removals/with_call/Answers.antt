@@ -2,8 +2,8 @@ use Rattle.core_removals.proofs.thread_removals.with_call.Goals as goal
 use Rattle.core_records.proofs.Core.{subst, sym, ℕ, ◌<◌, ◌∙◌}
 use Rattle.core_records.proofs.HomeLemmas.{task_live, task_place, thread_task}
 
-pub standing_call-task-requires : goal.standing_call-task-requires
-standing_call-task-requires c =
+pub call_at_unchecked-task-requires : goal.call_at_unchecked-task-requires
+call_at_unchecked-task-requires c =
     let a = c.args.parts.now in
     let g = c.thread_there-found.result.now in
     let is = c.thread_there-found.ensures.item in
@@ -14,11 +14,11 @@ call_there-requires-clause-live c =
     let a = c.args.parts.now in
     let g = c.thread_there-found.result.now in
     let is = c.thread_there-found.ensures.item in
-    subst (λ (k : ℕ). 0 < k) (sym (c.standing_call-task.ensures ∙ task_place a c.requires.sound c.args.thread g is)) (task_live a c.requires.sound c.args.thread g is)
+    subst (λ (k : ℕ). 0 < k) (sym (c.call_at_unchecked-task.ensures ∙ task_place a c.requires.sound c.args.thread g is)) (task_live a c.requires.sound c.args.thread g is)
 
 pub returns-clause-of : goal.returns-clause-of
 returns-clause-of c =
     let a = c.args.parts.now in
     let g = c.thread_there-found.result.now in
     let is = c.thread_there-found.ensures.item in
-    c.call_there.ensures.number ∙ (c.standing_call-task.ensures ∙ (task_place a c.requires.sound c.args.thread g is ∙ thread_task a c.requires.sound c.args.thread g is))
+    c.call_there.ensures.number ∙ (c.call_at_unchecked-task.ensures ∙ (task_place a c.requires.sound c.args.thread g is ∙ thread_task a c.requires.sound c.args.thread g is))

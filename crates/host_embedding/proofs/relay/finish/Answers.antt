@@ -28,8 +28,8 @@ returns-in_default-clause-step c =
     stepped_quietly relay_says (λ (w : ScriptedHost). w.left) d step.Pends main s _ t (ap (λ k. k.listeners) c.turn.ensures.keeps.rest) (ap (λ v. v.tags.tracked) none.1) steps refl c.requires.may.asked (ap running_of none.1) refl c.requires.may.suits
     (record { of = c.turn.ensures.of; few = rw none.0 c.requires.may.knows.few }) c.turn.ensures.hosts
 
-pub returns-in_default-clause-stands : goal.returns-in_default-clause-stands
-returns-in_default-clause-stands c = rw c.turn.ensures.keeps.rest refl
+pub returns-in_default-clause-constants_stay : goal.returns-in_default-clause-constants_stay
+returns-in_default-clause-constants_stay c = rw c.turn.ensures.keeps.rest refl
 
 -- what has ended is none of the calls
 pub returns-in_default-value-clause-step : goal.returns-in_default-value-clause-step
@@ -50,8 +50,8 @@ returns-in_default-value-clause-step c =
     stepped_quietly relay_says (λ (w : ScriptedHost). w.left) d step.Pends main s _ t (ap (λ k. k.listeners) c.turn.ensures.keeps.rest) (ap (λ v. v.tags.tracked) e.1) steps refl c.requires.may.asked (ap running_of e.1) refl c.requires.may.suits
     (record { of = c.turn.ensures.of; few = as_many n c.turn.new.self s.state.core k main.started e.0 c.requires.may.knows.few }) c.turn.ensures.hosts
 
-pub returns-in_default-value-clause-stands : goal.returns-in_default-value-clause-stands
-returns-in_default-value-clause-stands c = rw c.turn.ensures.keeps.rest refl
+pub returns-in_default-value-clause-constants_stay : goal.returns-in_default-value-clause-constants_stay
+returns-in_default-value-clause-constants_stay c = rw c.turn.ensures.keeps.rest refl
 
 -- it is the call, which is finished
 pub returns-clause-step : goal.returns-clause-step
@@ -69,5 +69,5 @@ returns-clause-step c =
     stepped_quietly relay_says (λ (w : ScriptedHost). w.left) d (step.Did (label.Main (main_label.Finish k value))) main s _ t (ap (λ k. k.listeners) c.turn.ensures.keeps.rest) (ap (λ v. v.tags.tracked) e.1) steps refl c.requires.may.asked (ap running_of e.1) refl c.requires.may.suits
     (record { of = c.turn.ensures.of; few = as_many n c.turn.new.self s.state.core k main.started e.0 c.requires.may.knows.few }) c.turn.ensures.hosts
 
-pub returns-clause-stands : goal.returns-clause-stands
-returns-clause-stands c = rw c.turn.ensures.keeps.rest refl
+pub returns-clause-constants_stay : goal.returns-clause-constants_stay
+returns-clause-constants_stay c = rw c.turn.ensures.keeps.rest refl

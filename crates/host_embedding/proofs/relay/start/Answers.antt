@@ -35,8 +35,8 @@ unreachable-requires c =
     let clash = sym c.in_default.is ∙ (c.thread.ensures ∙ made_thread n c.start.new.self c.args.func b.0 c.in-Ok.child b.1 b.2) in
     absurd (cc)
 
-pub returns-in-Some-clause-stands : goal.returns-in-Some-clause-stands
-returns-in-Some-clause-stands c = rw c.in-Ok.ensures.keeps.rest refl
+pub returns-in-Some-clause-constants_stay : goal.returns-in-Some-clause-constants_stay
+returns-in-Some-clause-constants_stay c = rw c.in-Ok.ensures.keeps.rest refl
 
 pub returns-in-Some-clause-step : goal.returns-in-Some-clause-step
 returns-in-Some-clause-step c =
@@ -58,8 +58,8 @@ returns-in-Some-clause-step c =
 
 -- ---- The store has refused it
 
-pub returns-in-Err-Trap-clause-stands : goal.returns-in-Err-Trap-clause-stands
-returns-in-Err-Trap-clause-stands c = rw c.start.ensures.keeps.rest refl
+pub returns-in-Err-Trap-clause-constants_stay : goal.returns-in-Err-Trap-clause-constants_stay
+returns-in-Err-Trap-clause-constants_stay c = rw c.start.ensures.keeps.rest refl
 
 pub returns-in-Err-Trap-clause-step : goal.returns-in-Err-Trap-clause-step
 returns-in-Err-Trap-clause-step c =
@@ -81,13 +81,13 @@ returns-in-Err-Trap-clause-step c =
 
 -- ---- It is out of memory
 
-pub returns-in-Err-NoMemory-clause-stands : goal.returns-in-Err-NoMemory-clause-stands
-returns-in-Err-NoMemory-clause-stands c = rw c.start.ensures.keeps.rest refl
+pub returns-in-Err-NoMemory-clause-constants_stay : goal.returns-in-Err-NoMemory-clause-constants_stay
+returns-in-Err-NoMemory-clause-constants_stay c = rw c.start.ensures.keeps.rest refl
 
 -- ---- The scope has refused it
 
-pub returns-in-Err-Closed-clause-stands : goal.returns-in-Err-Closed-clause-stands
-returns-in-Err-Closed-clause-stands c = rw c.start.ensures.keeps.rest refl
+pub returns-in-Err-Closed-clause-constants_stay : goal.returns-in-Err-Closed-clause-constants_stay
+returns-in-Err-Closed-clause-constants_stay c = rw c.start.ensures.keeps.rest refl
 
 pub returns-in-Err-Closed-clause-step : goal.returns-in-Err-Closed-clause-step
 returns-in-Err-Closed-clause-step c =
@@ -104,8 +104,8 @@ returns-in-Err-Closed-clause-step c =
     stepped_quietly relay_says (λ (w : ScriptedHost). w.left) d step.Pends main s _ t (ap (λ q. q.listeners) same) (ap (λ q. q.state.tags.tracked) same) steps refl c.requires.may.asked (ap (λ q. running_of q.state) same) refl c.requires.may.suits
     (record { of = has.of; few = rw has.refuses.same c.requires.may.knows.few }) (c.start.ensures.keeps.works (λ (w : ScriptedHost). w.left) c.requires.may.works)
 
-pub returns-in-Err-Full-clause-stands : goal.returns-in-Err-Full-clause-stands
-returns-in-Err-Full-clause-stands c = rw c.start.ensures.keeps.rest refl
+pub returns-in-Err-Full-clause-constants_stay : goal.returns-in-Err-Full-clause-constants_stay
+returns-in-Err-Full-clause-constants_stay c = rw c.start.ensures.keeps.rest refl
 
 pub returns-in-Err-Full-clause-step : goal.returns-in-Err-Full-clause-step
 returns-in-Err-Full-clause-step c =

@@ -1,4 +1,4 @@
--- The new store sits at main's turn, and what was driven begins there.
+-- The new store is in order at main's turn, and what was driven begins there.
 use Rattle.std.proofs.Common.{ap, arith, refl, ◌∙◌}
 use Rattle.std.specs.Prelude.{Bool, []}
 use Rattle.machine_data.specs.Core.{Unscripted}

@@ -45,6 +45,6 @@ pub returns-in-Err-clause-starts : goal.returns-in-Err-clause-starts
 returns-in-Err-clause-starts g c = out_of_memory _ _ _ _ _ _ _ c.in-Err.ensures.asked c.in-Err.ensures.err c.set_trapped.ensures
 
 pub returns-in-Err-clause-order : goal.returns-in-Err-clause-order
-returns-in-Err-clause-order g c = λ p sits.
+returns-in-Err-clause-order g c = λ p in_turn.
     subst (λ (s : StateView). CoreInOrder c.args.component.now p s.core) (sym c.set_trapped.ensures)
-    (trap_in_order _ p _ (subst (λ (s : StateView). CoreInOrder c.args.component.now p s.core) (sym c.in-Err.ensures.err) sits))
+    (trap_in_order _ p _ (subst (λ (s : StateView). CoreInOrder c.args.component.now p s.core) (sym c.in-Err.ensures.err) in_turn))

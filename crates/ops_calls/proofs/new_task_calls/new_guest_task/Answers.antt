@@ -26,13 +26,13 @@ returns-else-trapped-clause-begins g c =
     (sym (trapped c.args.kind c.args.instance c.args.caller s t c.in-Ok.id e.thread e.task e.core e.current e.tags) ∙ (let a = c.trapped.ensures in let n = c.if-trapped.false in grind arith)))
 
 pub returns-then-trapped-clause-order : goal.returns-then-trapped-clause-order
-returns-then-trapped-clause-order g c = λ component p kind sits.
+returns-then-trapped-clause-order g c = λ component p kind in_turn.
     let s = g.W.View.view c.args.w.now in
-    begins_in_order component p c.args.instance s sits c.args.kind c.args.caller (fits (entries_of c.args.caller) s.core) (Ok c.in-Ok.id) (g.W.View.view c.set_trapped.new.self)
+    begins_in_order component p c.args.instance s in_turn c.args.kind c.args.caller (fits (entries_of c.args.caller) s.core) (Ok c.in-Ok.id) (g.W.View.view c.set_trapped.new.self)
     (returns-then-trapped-clause-begins g c) kind
 
 pub returns-else-trapped-clause-order : goal.returns-else-trapped-clause-order
-returns-else-trapped-clause-order g c = λ component p kind sits.
+returns-else-trapped-clause-order g c = λ component p kind in_turn.
     let s = g.W.View.view c.args.w.now in
-    begins_in_order component p c.args.instance s sits c.args.kind c.args.caller (fits (entries_of c.args.caller) s.core) (Ok c.in-Ok.id) (g.W.View.view c.make_task.new.w)
+    begins_in_order component p c.args.instance s in_turn c.args.kind c.args.caller (fits (entries_of c.args.caller) s.core) (Ok c.in-Ok.id) (g.W.View.view c.make_task.new.w)
     (returns-else-trapped-clause-begins g c) kind

@@ -1,4 +1,4 @@
-use Rattle.ops_dispatch.proofs.StandsLemmas.{answers_right, event_fits, stands_below}
+use Rattle.ops_dispatch.proofs.BeforeEndLemmas.{answers_right, event_fits, below_end}
 use Rattle.std.proofs.Common.{arith}
 use Rattle.ops_guests.specs.Works.{NamesTold}
 use Rattle.ops_dispatch.proofs.EndLemmas.{data_op, end_op, not_data}
@@ -18,7 +18,7 @@ pub finish-requires-clause-position : goal.finish-requires-clause-position
 finish-requires-clause-position g c due =
     let v = g.W.View.view in
     let o = c.args.op.now in
-    let b = stands_below NamesTold c.args.component.now o c.args.thread (v c.args.w.now) (v c.do_other_op.new.w) c.in_ok-done.done.op_result (not_data o c.in_default.not-Data) c.in_ok-done.ensures.does.does due in
+    let b = below_end NamesTold c.args.component.now o c.args.thread (v c.args.w.now) (v c.do_other_op.new.w) c.in_ok-done.done.op_result (not_data o c.in_default.not-Data) c.in_ok-done.ensures.does.does due in
     let p = c.requires.within.0 in
     grind (arith, b, p)
 

@@ -12,7 +12,7 @@ returns-clause-shown g c =
     let label = c.made_of-made.ensures.label in
     let turns = c.made_of-made.ensures.turn in
     record {
-      stands = (c.in-Ok.ensures.ok ∙ ap (λ (l : Label). before ++ l ∷ []) label, c.requires.falls);
+      in_trace = (c.in-Ok.ensures.ok ∙ ap (λ (l : Label). before ++ l ∷ []) label, c.requires.falls);
       core = c.made_of-made.ensures.core;
       running = c.made_of-made.ensures.running ∙ ap runs_in turns;
       tags = c.made_of-made.ensures.tags;

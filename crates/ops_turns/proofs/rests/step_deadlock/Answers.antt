@@ -6,7 +6,7 @@ use Rattle.ops_turns.proofs.rests.step_deadlock.Goals as goal
 use Rattle.ops_turns.specs.declared.made.MadeStep.{MadeStep}
 
 pub returns-clause-turns : goal.returns-clause-turns
-returns-clause-turns g c x sits idle m pends =
+returns-clause-turns g c x in_turn idle m pends =
     let v = g.W.View.view in
-    deadlock_turns x (v c.args.w.now) (v c.deadlock.new.w) m c.requires.current c.requires.none c.requires.moving c.requires.live c.requires.rest (sits.order m) idle pends c.deadlock.ensures.new
+    deadlock_turns x (v c.args.w.now) (v c.deadlock.new.w) m c.requires.current c.requires.none c.requires.moving c.requires.live c.requires.rest (in_turn.order m) idle pends c.deadlock.ensures.new
     (record { label = label.Loop c.deadlock.result; turn = turn.Over }) (ap (λ l. let k : MadeStep = record { label = label.Loop l; turn = turn.Over } in k) c.deadlock.ensures.label)

@@ -1,4 +1,4 @@
-use Rattle.ops_dispatch.proofs.StandsLemmas.{answers_right, event_fits, stands_below}
+use Rattle.ops_dispatch.proofs.BeforeEndLemmas.{answers_right, event_fits, below_end}
 use Rattle.ops_dispatch.specs.Rules.{rule_of}
 use Rattle.std.proofs.Common.{arith}
 use Rattle.ops_turns.proofs.SteppedLemmas.{IfOk_then}
@@ -17,7 +17,7 @@ pub finish-requires-clause-position : goal.finish-requires-clause-position
 finish-requires-clause-position g c due =
     let v = g.W.View.view in
     let o = c.args.op.now in
-    let b = stands_below NamesTold c.args.component.now o c.args.thread (v c.args.w.now) (v c.do_plain_op.new.w) c.in-Ok.op_result (plain_other o c.requires.plain) c.in-Ok.ensures.does due in
+    let b = below_end NamesTold c.args.component.now o c.args.thread (v c.args.w.now) (v c.do_plain_op.new.w) c.in-Ok.op_result (plain_other o c.requires.plain) c.in-Ok.ensures.does due in
     let p = c.requires.position in
     grind (arith, b, p)
 

@@ -78,7 +78,7 @@ returns-in-Ok-put-clause-took g c =
     (next_is s c.take_next.result q.mark (entries.Push q.work) c.take_next.ensures.next at) c.step_push-made.ensures.made c.step_push-made.ensures.new in
     let t = v c.step_push-made.new.w in
     let before = c.args.trace.now in
-    (c.step_push-made.result, (c.in-Ok-put.ensures.stands, makes))
+    (c.step_push-made.result, (c.in-Ok-put.ensures.in_trace, makes))
 
 -- ---- An ended host work
 
@@ -125,7 +125,7 @@ returns-in-Ok-put-in-Some-default-Host-clause-took g c =
     (next_is s c.take_next.result q.mark (entries.Host q.work) c.take_next.ensures.next at) c.step_host-made.ensures.picks c.step_host-made.ensures.current c.step_host-made.ensures.turn in
     let t = v c.step_host-made.new.w in
     let before = c.args.trace.now in
-    (c.step_host-made.result, (c.in-Ok-put-in-Some-default-Host.ensures.stands, makes))
+    (c.step_host-made.result, (c.in-Ok-put-in-Some-default-Host.ensures.in_trace, makes))
 
 -- ---- The group that is worked on
 

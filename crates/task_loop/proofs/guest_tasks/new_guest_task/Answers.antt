@@ -64,7 +64,7 @@ returns-in-Ok g c =
             let same = settles_open b made.state u made.listeners new (begun_open x i f s made.state core untrapped) settle.settles in
             on_ok_of _ r c.in-Ok.id (if_hook_ok_at listens made.listeners new (r ≡ Ok c.in-Ok.id) settle.answer (λ err. let no = ap errors_of same in omega (arith, err, no)));
         refused = settled_ok listens store.listeners made.listeners new _ r c.in-Ok.id e.begun.told.same_hook (settles_hook b made.state u made.listeners new settle.settles) settle.answer;
-        order = λ component p kind sits. subst (CoreInOrder component p) (sym (settles_core b made.state u made.listeners new settle.settles ∙ core)) (begun_in_order component p i s sits x f kind);
+        order = λ component p kind in_turn. subst (CoreInOrder component p) (sym (settles_core b made.state u made.listeners new settle.settles ∙ core)) (begun_in_order component p i s in_turn x f kind);
         works = λ course h. rw c.in-Ok.ensures.rest
             (subst (λ (d : Core). HoldsWorks (held_by course store) d) (sym (settles_core b made.state u made.listeners new settle.settles)) (begun_hosts (held_by course store) x i f s made.state core h));
         asked = λ is. settles_asked b made.state u made.listeners new settle.settles (λ untrapped. begun_asked x i f s made.state room c.in-Ok.id e.begins untrapped is);
@@ -88,7 +88,7 @@ returns-in-Err g c =
         makes = (e.reason, inl (e.state, e.told));
         kept = λ untrapped. e.state;
         refused = e.unhooked;
-        order = λ component p kind sits. subst (λ (v : StateView). CoreInOrder component p v.core) (sym e.state) sits;
+        order = λ component p kind in_turn. subst (λ (v : StateView). CoreInOrder component p v.core) (sym e.state) in_turn;
         works = λ course h. rw c.in-Err.ensures.rest (still_hosts (held_by course store) s made.state e.state h);
         asked = λ is. subst (λ (v : StateView). IsAsked v) (sym e.state) is;
         rest = c.in-Err.ensures.rest;

@@ -42,7 +42,7 @@ returns-clause-polled g c =
       (
         c.poll_next-made.result,
         (
-          c.in-Ok.ensures.stands,
+          c.in-Ok.ensures.constants_stay,
           λ x m pends.
               turns_asked x (turn.Futures c.args.polled) m s.state c.poll_next-made.result m t.state u told.whole.asked (c.poll_next-made.ensures.turns x m pends),
         ),
@@ -86,7 +86,7 @@ returns-in_default-tell_poll-clause-polled g c =
         (
           c.poll_next-made.result,
           (
-            c.in-Ok.ensures.stands,
+            c.in-Ok.ensures.constants_stay,
             λ x m pends.
                 turns_part a t.state u t.listeners new told.part x (turn.Futures c.args.polled) m s.state c.poll_next-made.result m (c.poll_next-made.ensures.turns x m pends),
           ),

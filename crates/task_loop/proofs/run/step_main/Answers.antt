@@ -16,15 +16,15 @@ made_by_main-made-requires g c = c.in-Ok.ensures.steps.idle ∙ c.requires.may.i
 pub returns-in-Pends-clause-turned : goal.returns-in-Pends-clause-turned
 returns-in-Pends-clause-turned g c =
     step_turned g.M.MainTask.says g.H.HostWork.course c.args.component.now c.in-Ok.step step.Pends c.in-Pends.is c.args.main.now c.args.store.now c.ask_main.new.main c.ask_main.new.store c.in-Ok.ensures.steps c.requires.may.idle
-    c.made_by_main-pends.result c.made_by_main-pends.ensures.label c.made_by_main-pends.ensures.turns c.in-Ok-put.stepped c.args.trace.now c.put.new.trace c.in-Ok-put.ensures.stands
+    c.made_by_main-pends.result c.made_by_main-pends.ensures.label c.made_by_main-pends.ensures.turns c.in-Ok-put.stepped c.args.trace.now c.put.new.trace c.in-Ok-put.ensures.in_trace
 
 pub returns : goal.returns
 returns g c = record {
-  stands = c.in-Ok.ensures.stands;
+  constants_stay = c.in-Ok.ensures.constants_stay;
   script = c.in-Ok.ensures.script;
   turned =
       step_turned g.M.MainTask.says g.H.HostWork.course c.args.component.now c.in-Ok.step c.in-Ok.step refl c.args.main.now c.args.store.now c.ask_main.new.main c.ask_main.new.store c.in-Ok.ensures.steps c.requires.may.idle
-      c.made_by_main-made.result c.made_by_main-made.ensures.label c.made_by_main-made.ensures.turns c.in-Ok-put-2.stepped c.args.trace.now c.put-2.new.trace c.in-Ok-put-2.ensures.stands;
+      c.made_by_main-made.result c.made_by_main-made.ensures.label c.made_by_main-made.ensures.turns c.in-Ok-put-2.stepped c.args.trace.now c.put-2.new.trace c.in-Ok-put-2.ensures.in_trace;
 }
 
 -- ---- It isn't made
@@ -37,10 +37,10 @@ returns-in-Err-Trap-clause-turned g c =
     (λ u last. g.met.M.MainTask.stays main s.state u last) c.requires.may.knows c.args.trace.now c.args.trace.now refl
 
 pub returns-in-Err : goal.returns-in-Err
-returns-in-Err g c = record { stands = c.in-Err.ensures.stands; script = c.in-Err.ensures.script; turned = λ b. refl }
+returns-in-Err g c = record { constants_stay = c.in-Err.ensures.constants_stay; script = c.in-Err.ensures.script; turned = λ b. refl }
 
 pub returns-in_default-put-clause-turned : goal.returns-in_default-put-clause-turned
 returns-in_default-put-clause-turned g c = λ b. c.in_default-put.ensures.err
 
 pub returns-in_default-put-2 : goal.returns-in_default-put-2
-returns-in_default-put-2 g c = record { stands = c.in-Ok.ensures.stands; script = c.in-Ok.ensures.script; turned = λ b. c.in_default-put-2.ensures.err }
+returns-in_default-put-2 g c = record { constants_stay = c.in-Ok.ensures.constants_stay; script = c.in-Ok.ensures.script; turned = λ b. c.in_default-put-2.ensures.err }

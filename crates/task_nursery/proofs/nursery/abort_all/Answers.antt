@@ -14,6 +14,6 @@ running-preserved g c =
       core = rw core (those_next (numbered c.args.children.now) ns c.running.at c.running.store.state.core within ∙ c.running.invariant.core);
       rest = rw c.abort_at.ensures.state (rw c.running.invariant.rest refl);
       of = c.abort_at.ensures.of;
-      order = λ d p sits. c.abort_at.ensures.order d p (c.running.invariant.order d p sits);
+      order = λ d p in_turn. c.abort_at.ensures.order d p (c.running.invariant.order d p in_turn);
       hosts = c.abort_at.ensures.hosts;
     }

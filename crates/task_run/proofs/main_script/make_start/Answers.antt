@@ -110,8 +110,8 @@ returns-in-HookFailed-clause-steps c w =
     let is = w.in-HookFailed.is in
     start_failed script_says c.H.HostWork.course d e words main s w.requires.may t w.in-Err-Trap.ensures.keeps k c.G.TaskGroupHook.listens (task_error.Trap w.in-Err-Trap.trap) _ w.in-Err-Trap.ensures.does (cc) (cc)
 
-pub returns-in-Ok-clause-stands : goal.returns-in-Ok-clause-stands
-returns-in-Ok-clause-stands c w = rw w.in-Ok.ensures.keeps.rest refl
+pub returns-in-Ok-clause-constants_stay : goal.returns-in-Ok-clause-constants_stay
+returns-in-Ok-clause-constants_stay c w = rw w.in-Ok.ensures.keeps.rest refl
 
-pub returns-in-Err-Trap-clause-stands : goal.returns-in-Err-Trap-clause-stands
-returns-in-Err-Trap-clause-stands c w = rw w.in-Err-Trap.ensures.keeps.rest refl
+pub returns-in-Err-Trap-clause-constants_stay : goal.returns-in-Err-Trap-clause-constants_stay
+returns-in-Err-Trap-clause-constants_stay c w = rw w.in-Err-Trap.ensures.keeps.rest refl

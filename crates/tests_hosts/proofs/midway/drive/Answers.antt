@@ -18,4 +18,4 @@ pub returns-clause-order : goal.returns-clause-order
 returns-clause-order g c =
     let steps : c.drive-driven.result ≡ Ok outcome.OutOfSteps = c.in-Ok-OutOfSteps.is ∙ ap (λ (o : Outcome). Ok o) (rw c.in-Ok-OutOfSteps.is at c.in-Ok-OutOfSteps.field-0-is) in
     let driven = rw steps at c.drive-driven.ensures.drives in
-    rw c.end.ensures (runner_stands _ _ _ _ _ driven.gone.has.stands)
+    rw c.end.ensures (runner_stands _ _ _ _ _ driven.gone.has.may_turn)

@@ -18,7 +18,7 @@ abort-requires-clause-hosts g c =
     c.spawn.ensures.spawns.hosts (none_numbered _ 1 100000 c.args.table core) (new_holds (λ (w : ScriptedHost). w.left) c.args.store.now 1 100000 c.args.table c.requires.works core)
 
 pub returns-after-matches-clause-order : goal.returns-after-matches-clause-order
-returns-after-matches-clause-order g c d p sits = c.abort.ensures.order d p (c.spawn.ensures.spawns.order d p sits)
+returns-after-matches-clause-order g c d p in_turn = c.abort.ensures.order d p (c.spawn.ensures.spawns.order d p in_turn)
 
 pub returns-after-matches-clause-given : goal.returns-after-matches-clause-given
 returns-after-matches-clause-given g c = rw c.abort.ensures.state (given_aborted _ _ ∙ rw (c.in-Ok.ensures.spawns.core, c.requires.fresh) (given_queued _ 1 100000 c.args.table))
@@ -27,7 +27,7 @@ pub returns-after-matches-clause-groups : goal.returns-after-matches-clause-grou
 returns-after-matches-clause-groups g c is = rw c.abort.ensures.state (c.spawn.ensures.spawns.tags.same ∙ (is ∙ sym (groups_aborted _ _ ∙ (ap (λ (u : Core). u.groups) c.in-Ok.ensures.spawns.core ∙ groups_queued _ _))))
 
 pub returns-else-aborts-clause-order : goal.returns-else-aborts-clause-order
-returns-else-aborts-clause-order g c d p sits = c.spawn.ensures.spawns.order d p sits
+returns-else-aborts-clause-order g c d p in_turn = c.spawn.ensures.spawns.order d p in_turn
 
 pub returns-else-aborts-clause-given : goal.returns-else-aborts-clause-given
 returns-else-aborts-clause-given g c = rw (c.in-Ok.ensures.spawns.core, c.requires.fresh) (given_queued _ 1 100000 c.args.table)

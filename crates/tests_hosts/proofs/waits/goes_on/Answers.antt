@@ -24,7 +24,7 @@ drive-outcome-requires g c =
     record {
       may = record {
         covered = c.requires.runnable.component;
-        stands = record {
+        may_turn = record {
           order = subst (λ (p : Turn). CoreInOrder d p c.wakes-woken.new.store.state.core) (sym e.turn) (woken.order d (turn.Take false) refl e.order);
           settled = settled_take_of _ _ e.turn;
           running = woken.current ∙ (e.current ∙ sym (ap runs_in e.turn));

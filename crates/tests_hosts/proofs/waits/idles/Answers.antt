@@ -23,18 +23,18 @@ pub returns-clause-order : goal.returns-clause-order
 returns-clause-order g c =
     let gone = (rw c.in-Ok-Idle.is at c.drive.ensures.drives).gone in
     let taking = idle_turn _ _ _ _ _ _ _ (drives_of _ _ _ _ _ 100 _ gone) c.in-Ok-Idle.field-0-is in
-    subst (λ (p : Turn). CoreInOrder c.args.scenario.now.component p c.drive.new.store.state.core) taking gone.has.stands.order
+    subst (λ (p : Turn). CoreInOrder c.args.scenario.now.component p c.drive.new.store.state.core) taking gone.has.may_turn.order
 
 pub returns-clause-current : goal.returns-clause-current
 returns-clause-current g c =
     let gone = (rw c.in-Ok-Idle.is at c.drive.ensures.drives).gone in
-    let taking = idle_turn _ _ _ _ _ _ _ (drives_of _ _ _ _ _ 100 _ gone) c.in-Ok-Idle.field-0-is in gone.has.stands.running ∙ ap runs_in taking
+    let taking = idle_turn _ _ _ _ _ _ _ (drives_of _ _ _ _ _ 100 _ gone) c.in-Ok-Idle.field-0-is in gone.has.may_turn.running ∙ ap runs_in taking
 
 pub returns-clause-hosts : goal.returns-clause-hosts
-returns-clause-hosts g c = let d = rw c.in-Ok-Idle.is at c.drive.ensures.drives in d.gone.has.stands.works
+returns-clause-hosts g c = let d = rw c.in-Ok-Idle.is at c.drive.ensures.drives in d.gone.has.may_turn.works
 
 pub returns-clause-groups : goal.returns-clause-groups
-returns-clause-groups g c = let d = rw c.in-Ok-Idle.is at c.drive.ensures.drives in d.gone.has.stands.asked
+returns-clause-groups g c = let d = rw c.in-Ok-Idle.is at c.drive.ensures.drives in d.gone.has.may_turn.asked
 
 pub returns-clause-given : goal.returns-clause-given
 returns-clause-given g c =

@@ -9,7 +9,7 @@ drive-requires g c =
     record { may = may_start _ _ _ c.in-Ok.run' c.in-Ok.ensures.turn _ tt c.requires.covered c.args.store.now _ c.run_concurrent.ensures.store _ ready.order ready.current c.requires.of ready.hosts ready.groups (let few = ready.few in omega (arith, few)) }
 
 pub returns-clause-hosts : goal.returns-clause-hosts
-returns-clause-hosts g c = rw c.end.ensures c.in-Ok-drive.ensures.drives.gone.has.stands.works
+returns-clause-hosts g c = rw c.end.ensures c.in-Ok-drive.ensures.drives.gone.has.may_turn.works
 
 pub returns-clause-of : goal.returns-clause-of
-returns-clause-of g c = rw c.end.ensures c.in-Ok-drive.ensures.drives.gone.has.stands.knows
+returns-clause-of g c = rw c.end.ensures c.in-Ok-drive.ensures.drives.gone.has.may_turn.knows

@@ -1,4 +1,4 @@
--- The new store sits at main's turn.
+-- The new store is in order at main's turn.
 use Rattle.store_works.specs.declared.scripted.ScriptedHost.{ScriptedHost}
 use Rattle.std.proofs.Common.{ap}
 use Rattle.tests_surface.proofs.DriveLemmas.{opens, opens_current, opens_given}

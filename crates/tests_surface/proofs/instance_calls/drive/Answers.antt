@@ -14,7 +14,7 @@ drive-driven-requires g c =
     }
 
 pub returns-clause-order : goal.returns-clause-order
-returns-clause-order g c = let driven = rw c.in-Ok-OutOfSteps.is at c.drive-driven.ensures.drives in rw c.end.ensures (runner_stands _ _ _ _ _ driven.gone.has.stands)
+returns-clause-order g c = let driven = rw c.in-Ok-OutOfSteps.is at c.drive-driven.ensures.drives in rw c.end.ensures (runner_stands _ _ _ _ _ driven.gone.has.may_turn)
 
 pub returns-clause-given : goal.returns-clause-given
 returns-clause-given g c =
@@ -25,4 +25,4 @@ returns-clause-given g c =
     rw c.end.ensures (omega (arith, few, none, steps))
 
 pub returns-clause-hosts : goal.returns-clause-hosts
-returns-clause-hosts g c = let driven = rw c.in-Ok-OutOfSteps.is at c.drive-driven.ensures.drives in rw c.end.ensures driven.gone.has.stands.works
+returns-clause-hosts g c = let driven = rw c.in-Ok-OutOfSteps.is at c.drive-driven.ensures.drives in rw c.end.ensures driven.gone.has.may_turn.works

@@ -12,7 +12,7 @@ calls-preserved g c =
     let more = begun_given _ _ _ _ _ _ _ c.in-Ok.ensures.does.starts in
     let so_far = c.calls.invariant.given in
     record {
-      order = λ p sits. c.start_call_concurrent.ensures.keeps.order p (c.calls.invariant.order p sits);
+      order = λ p in_turn. c.start_call_concurrent.ensures.keeps.order p (c.calls.invariant.order p in_turn);
       given = omega (arith, more, so_far);
       current = start_current _ _ _ _ _ _ _ c.calls.invariant.current c.in-Ok.ensures.does.starts;
       hosts = c.start_call_concurrent.ensures.keeps.works g.H.HostWork.course c.calls.invariant.hosts;

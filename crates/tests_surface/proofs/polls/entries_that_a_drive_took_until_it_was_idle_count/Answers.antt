@@ -22,7 +22,7 @@ drive-requires g c =
     }
 
 pub call_often-requires-2-clause-order : goal.call_often-requires-2-clause-order
-call_often-requires-2-clause-order g c = let driven = rw c.in-Ok-Idle.is at c.drive.ensures.drives in (c.drive.new.self.turn, driven.gone.has.stands.order)
+call_often-requires-2-clause-order g c = let driven = rw c.in-Ok-Idle.is at c.drive.ensures.drives in (c.drive.new.self.turn, driven.gone.has.may_turn.order)
 
 pub call_often-requires-2-clause-given : goal.call_often-requires-2-clause-given
 call_often-requires-2-clause-given g c =
@@ -36,13 +36,13 @@ pub call_often-requires-2-clause-current : goal.call_often-requires-2-clause-cur
 call_often-requires-2-clause-current g c =
     let driven = rw c.in-Ok-Idle.is at c.drive.ensures.drives in
     let taking = idle_turn _ _ _ _ _ _ _ (drives_of _ _ _ _ _ 2000 _ driven.gone) c.in-Ok-Idle.field-0-is in
-    driven.gone.has.stands.running ∙ ap runs_in taking
+    driven.gone.has.may_turn.running ∙ ap runs_in taking
 
 pub call_often-requires-2-clause-hosts : goal.call_often-requires-2-clause-hosts
-call_often-requires-2-clause-hosts g c = let driven = rw c.in-Ok-Idle.is at c.drive.ensures.drives in driven.gone.has.stands.works
+call_often-requires-2-clause-hosts g c = let driven = rw c.in-Ok-Idle.is at c.drive.ensures.drives in driven.gone.has.may_turn.works
 
 pub call_often-requires-2-clause-groups : goal.call_often-requires-2-clause-groups
-call_often-requires-2-clause-groups g c = let driven = rw c.in-Ok-Idle.is at c.drive.ensures.drives in driven.gone.has.stands.asked
+call_often-requires-2-clause-groups g c = let driven = rw c.in-Ok-Idle.is at c.drive.ensures.drives in driven.gone.has.may_turn.asked
 
 pub poll-polled-requires : goal.poll-polled-requires
 poll-polled-requires g c =
@@ -57,8 +57,8 @@ poll-polled-requires g c =
     record {
       may = record {
         covered = c.component-component.ensures.covered;
-        stands = record {
-          order = e.order c.drive.new.self.turn driven.gone.has.stands.order;
+        may_turn = record {
+          order = e.order c.drive.new.self.turn driven.gone.has.may_turn.order;
           settled = settled_take_of c.call_often-2.new.store.state.core c.drive.new.self.turn taking;
           running = e.current ∙ sym (ap runs_in taking);
           pends = pends_outside (setting_of c.component-component.result [] c.drive.new.self.trap_on_idle) c.call_often-2.new.store.state.core c.drive.new.self.turn taking;
@@ -90,8 +90,8 @@ poll-polled-requires-2 g c =
       may = may_again _ _ _ _ _ 2000
           (record {
             covered = c.component-component.ensures.covered;
-            stands = record {
-              order = e.order c.drive.new.self.turn driven.gone.has.stands.order;
+            may_turn = record {
+              order = e.order c.drive.new.self.turn driven.gone.has.may_turn.order;
               settled = settled_take_of c.call_often-2.new.store.state.core c.drive.new.self.turn taking;
               running = e.current ∙ sym (ap runs_in taking);
               pends = pends_outside (setting_of c.component-component.result [] c.drive.new.self.trap_on_idle) c.call_often-2.new.store.state.core c.drive.new.self.turn taking;

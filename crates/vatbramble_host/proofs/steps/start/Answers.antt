@@ -63,14 +63,14 @@ returns-in-Err-Trap-clause-step g c =
     (rw state (did_refuse d e words s.state (on_core set_trapped s.state) k (takes_these d c.args.func _ c.requires.takes) c.in-Err-Trap.trap starts)) refl tt
     (subst (λ (u : StateView). KnowsSpawns c.args.main.now.spawns.items u) (sym state) (spawns_later c.args.main.now.spawns.items s.state _ (works_trapped s.state) c.requires.may.knows))
 
-pub returns-in-Ok-push-clause-stands : goal.returns-in-Ok-push-clause-stands
-returns-in-Ok-push-clause-stands g c = rw c.start_call_concurrent.ensures.keeps.rest refl
+pub returns-in-Ok-push-clause-constants_stay : goal.returns-in-Ok-push-clause-constants_stay
+returns-in-Ok-push-clause-constants_stay g c = rw c.start_call_concurrent.ensures.keeps.rest refl
 
-pub returns-in_default-clause-stands : goal.returns-in_default-clause-stands
-returns-in_default-clause-stands g c = rw c.start_call_concurrent.ensures.keeps.rest refl
+pub returns-in_default-clause-constants_stay : goal.returns-in_default-clause-constants_stay
+returns-in_default-clause-constants_stay g c = rw c.start_call_concurrent.ensures.keeps.rest refl
 
-pub returns-in-Err-Trap-clause-stands : goal.returns-in-Err-Trap-clause-stands
-returns-in-Err-Trap-clause-stands g c = rw c.start_call_concurrent.ensures.keeps.rest refl
+pub returns-in-Err-Trap-clause-constants_stay : goal.returns-in-Err-Trap-clause-constants_stay
+returns-in-Err-Trap-clause-constants_stay g c = rw c.start_call_concurrent.ensures.keeps.rest refl
 
-pub returns-in-Err-clause-stands : goal.returns-in-Err-clause-stands
-returns-in-Err-clause-stands g c = rw c.start_call_concurrent.ensures.keeps.rest refl
+pub returns-in-Err-clause-constants_stay : goal.returns-in-Err-clause-constants_stay
+returns-in-Err-clause-constants_stay g c = rw c.start_call_concurrent.ensures.keeps.rest refl

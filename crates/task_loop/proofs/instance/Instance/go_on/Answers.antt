@@ -5,7 +5,7 @@ use Rattle.task_loop.proofs.HostOpHoldLemmas.{gone_on_holds}
 use Rattle.task_loop.proofs.InstanceCallLemmas.{does_call}
 use Rattle.task_loop.proofs.TrackedLemmas.{answers_known}
 use Rattle.task_loop.proofs.RuleTrapLemmas.{here_not}
-use Rattle.task_loop.proofs.ToldLemmas.{sits_told}
+use Rattle.task_loop.proofs.ToldLemmas.{in_turn_told}
 use Rattle.task_loop.proofs.instance.Instance.go_on.Goals as goal
 
 pub go_on-answer-requires-clause-paused : goal.go_on-answer-requires-clause-paused
@@ -26,6 +26,6 @@ returns g c =
             (answers_known s.state u q.number q.runs (takes_here d s.state) (op_rule_at d s.state.core) whole_answer go.result go.ensures.answers)
             (λ e. here_not s.state u d q whole_answer go.result go.ensures.answers e)
             (λ left h. gone_on_holds left s.state u h d q whole_answer go.result c.args.self.index c.requires.paused go.ensures.answers) told;
-        order = sits_told g.G.TaskGroupHook.listens c.asked-before.result go.result c.tell_call.result d u c.tell_call.new.core s.listeners c.tell_call.new.listeners told go.ensures.order;
+        order = in_turn_told g.G.TaskGroupHook.listens c.asked-before.result go.result c.tell_call.result d u c.tell_call.new.core s.listeners c.tell_call.new.listeners told go.ensures.order;
       };
     }

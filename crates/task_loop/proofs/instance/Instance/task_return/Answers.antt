@@ -31,9 +31,9 @@ returns g c =
     let told = c.tell_call.ensures in
     let runs : running_of s.state ≡ Some n =
     ap (option_map (λ id. thread_of s.state id)) (sym c.current.ensures ∙ c.in-Some.is) ∙ ap (λ (k : ℕ). Some k) (sym c.number-number.ensures) in
-    let sits : CoreInOrder d (turn.Run n) s.state.core =
+    let in_turn : CoreInOrder d (turn.Run n) s.state.core =
     subst (λ (o : Option ℕ). IfSome o (λ k. CoreInOrder d (turn.Run k) s.state.core)) runs c.requires.order in
-    let order = sits.order Unscripted in
+    let order = in_turn.order Unscripted in
     let lends =
     subst (λ (b : Bool). return_holds_borrows (thread_of s.state c.in-Some.thread) b s.state.core ≡ false) c.is_own_type-own_type.ensures
     (sym c.return_holds_borrows.ensures ∙ c.if-return_holds_borrows.false) in

@@ -29,7 +29,7 @@ turns-init g c =
       kept = λ driven. refl;
       spent = λ polled. spent_none c.args.self.now.yield_budget.passes c.args.self.now.yield_budget.since c.args.trace.now;
       few = omega arith;
-      running = c.group_now-running.ensures ∙ current_is c.args.store.now.state c.args.self.now.turn c.requires.may.stands.running;
+      running = c.group_now-running.ensures ∙ current_is c.args.store.now.state c.args.self.now.turn c.requires.may.may_turn.running;
     }
 
 pub turn-requires : goal.turn-requires

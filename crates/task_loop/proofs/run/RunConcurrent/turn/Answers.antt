@@ -37,12 +37,12 @@ step_main-requires-clause-may g c =
     let u = at c.args.self.now main c.args.store.now c.args.trace.now in
     record {
       covered = may.covered;
-      order = subst (λ (p : Turn). CoreInOrder d p c.args.store.now.state.core) c.in-Main.is may.stands.order;
-      idle = may.stands.running ∙ ap (λ (p : Turn). runs_in p) c.in-Main.is;
-      suits = may.stands.suits;
-      knows = may.stands.knows;
-      works = may.stands.works;
-      asked = may.stands.asked;
+      order = subst (λ (p : Turn). CoreInOrder d p c.args.store.now.state.core) c.in-Main.is may.may_turn.order;
+      idle = may.may_turn.running ∙ ap (λ (p : Turn). runs_in p) c.in-Main.is;
+      suits = may.may_turn.suits;
+      knows = may.may_turn.knows;
+      works = may.may_turn.works;
+      asked = may.may_turn.asked;
       few = may.few;
     }
 
@@ -83,17 +83,17 @@ run_thread-requires-clause-runs g c =
     let u = at c.args.self.now main c.args.store.now c.args.trace.now in
     record {
       covered = may.covered;
-      order = subst (λ (p : Turn). CoreInOrder d p c.args.store.now.state.core) c.in-Run.is may.stands.order;
-      current = may.stands.running ∙ ap (λ (p : Turn). runs_in p) c.in-Run.is;
+      order = subst (λ (p : Turn). CoreInOrder d p c.args.store.now.state.core) c.in-Run.is may.may_turn.order;
+      current = may.may_turn.running ∙ ap (λ (p : Turn). runs_in p) c.in-Run.is;
       few = may.few;
-      hosts = may.stands.works;
+      hosts = may.may_turn.works;
     }
 
 pub run_thread-requires-clause-running : goal.run_thread-requires-clause-running
 run_thread-requires-clause-running g c = subst (λ (p : Turn). c.args.running.now ≡ group_running c.args.store.now.state p) c.in-Run.is c.requires.may.group
 
 pub run_thread-requires-clause-asked : goal.run_thread-requires-clause-asked
-run_thread-requires-clause-asked g c = c.requires.may.stands.asked
+run_thread-requires-clause-asked g c = c.requires.may.may_turn.asked
 
 pub returns-in-Ok-run_thread-clause-turned : goal.returns-in-Ok-run_thread-clause-turned
 returns-in-Ok-run_thread-clause-turned g c =
@@ -118,8 +118,8 @@ returns-in-Ok-run_thread-clause-turned g c =
       did = added_as (λ (made : MadeStep). MakesStep d (turn.Run n) s made t × IsFree made.turn) (λ (made : MadeStep). DoesStep says.does main s.core (step_shown made.label) main t.core) c.in-Ok-run_thread.stepped c.args.trace.now c.run_thread.new.trace
           (λ made h. still_run says.does main x part s t n made h.0) made;
       group = e.ran.group;
-      suits = may.stands.suits;
-      knows = by_run (says.knows main) s t (λ last. g.met.M.MainTask.stays main s t last may.stands.knows) x part n made.0 (subst (λ (p : Turn). CoreInOrder d p s.core) c.in-Run.is may.stands.order) made.1.1.0 steps.works;
+      suits = may.may_turn.suits;
+      knows = by_run (says.knows main) s t (λ last. g.met.M.MainTask.stays main s t last may.may_turn.knows) x part n made.0 (subst (λ (p : Turn). CoreInOrder d p s.core) c.in-Run.is may.may_turn.order) made.1.1.0 steps.works;
       works = steps.hosts;
       asked = e.ran.asked;
     }
@@ -148,7 +148,7 @@ returns-in-Err-run_thread-clause-turned g c =
       stops = stops_after x c.args.self.now.turn (turn.Run n) c.in-Run.is (λ no. absurd (cc)) part s before after c.args.store.now.listeners c.run_thread.new.store.listeners (fails.told.answered, fails.hook) q.0 part t fails.told
           (made.0, (made.1.0, run_turns d n s t q.0 before after made x refl part));
       main = refl;
-      knows = by_run (says.knows main) s t (λ last. g.met.M.MainTask.stays main s t last may.stands.knows) x part n made.0 (subst (λ (p : Turn). CoreInOrder d p s.core) c.in-Run.is may.stands.order) made.1.1.0 q.1.works;
+      knows = by_run (says.knows main) s t (λ last. g.met.M.MainTask.stays main s t last may.may_turn.knows) x part n made.0 (subst (λ (p : Turn). CoreInOrder d p s.core) c.in-Run.is may.may_turn.order) made.1.1.0 q.1.works;
       works = q.1.hosts;
     }) c.in-Err-run_thread.ensures.ran
 
@@ -165,10 +165,10 @@ poll_work-requires-clause-at g c =
     subst (λ (p : Turn). IsAtTurn d p c.args.store.now.state) c.in-Futures.is (at_turn says course d c.args.running.now u may)
 
 pub poll_work-requires-clause-asked : goal.poll_work-requires-clause-asked
-poll_work-requires-clause-asked g c = c.requires.may.stands.asked
+poll_work-requires-clause-asked g c = c.requires.may.may_turn.asked
 
 pub poll_work-requires-clause-hosts : goal.poll_work-requires-clause-hosts
-poll_work-requires-clause-hosts g c = c.requires.may.stands.works
+poll_work-requires-clause-hosts g c = c.requires.may.may_turn.works
 
 pub returns-in-Ok-poll_work-clause-turned : goal.returns-in-Ok-poll_work-clause-turned
 returns-in-Ok-poll_work-clause-turned g c =
@@ -189,16 +189,16 @@ returns-in-Ok-poll_work-clause-turned g c =
     let new = c.poll_work.new.store.listeners in
     let q = c.in-Ok-poll_work.stepped in
     let e = c.in-Ok-poll_work.ensures in
-    let pends : PendsIn x s.core m p = subst (λ (w : Turn). PendsIn x s.core m w) c.in-Futures.is may.stands.pends in
+    let pends : PendsIn x s.core m p = subst (λ (w : Turn). PendsIn x s.core m w) c.in-Futures.is may.may_turn.pends in
     let made : Added (λ (made : MadeStep). Turns x p m s made m t) q before after = any_turns x p m s t q before after pends e.polled.0 in
     let told = e.polled.1 in
     record {
       turn = refl;
-      told = subst (λ (w : Turn). Added (λ (made : MadeStep). TurnTold x w m s old (Some made) m t new) q before after) (sym c.in-Futures.is) (other_told x p refl m s may.stands.asked old m t new told.told q before after made told.hook_is_ok);
+      told = subst (λ (w : Turn). Added (λ (made : MadeStep). TurnTold x w m s old (Some made) m t new) q before after) (sym c.in-Futures.is) (other_told x p refl m s may.may_turn.asked old m t new told.told q before after made told.hook_is_ok);
       did = (made.0, (made.1.0, still says.does main x m s t p refl made.0 made.1.1));
       group = told.group ∙ current_is t (turn_of q) (turns_runs x p m s m t q before after made);
-      suits = may.stands.suits;
-      knows = by_poll (says.knows main) s t (λ last. g.met.M.MainTask.stays main s t last may.stands.knows) x m c.in-Futures.polled made.0 (subst (λ (w : Turn). CoreInOrder d w s.core) c.in-Futures.is may.stands.order) made.1.1 c.poll_work.ensures.works.0;
+      suits = may.may_turn.suits;
+      knows = by_poll (says.knows main) s t (λ last. g.met.M.MainTask.stays main s t last may.may_turn.knows) x m c.in-Futures.polled made.0 (subst (λ (w : Turn). CoreInOrder d w s.core) c.in-Futures.is may.may_turn.order) made.1.1 c.poll_work.ensures.works.0;
       works = c.poll_work.ensures.works.1;
       asked = told.asked;
     }
@@ -219,7 +219,7 @@ returns-in-Err-poll_work-clause-turned g c =
     let x = setting_of d (says.script main) c.args.self.now.trap_on_idle in
     let before = c.args.trace.now in
     let after = c.poll_work.new.trace in
-    let pends : PendsIn x s.core m p = subst (λ (w : Turn). PendsIn x s.core m w) c.in-Futures.is may.stands.pends in
+    let pends : PendsIn x s.core m p = subst (λ (w : Turn). PendsIn x s.core m w) c.in-Futures.is may.may_turn.pends in
     halts_by says course d c.in-Err-poll_work.why u v (λ k. WorkPollsTo p c.args.store.now (Err k) c.poll_work.new.running c.poll_work.new.store before after) (λ lost. lost) (λ failed.
     let fails = failed.0 in
     let q = failed.1 in
@@ -227,7 +227,7 @@ returns-in-Err-poll_work-clause-turned g c =
     record {
       stops = stops_after x c.args.self.now.turn p c.in-Futures.is (λ no. absurd (cc)) m s before after c.args.store.now.listeners c.poll_work.new.store.listeners (fails.told.answered, fails.hook) q.0 m t fails.told made;
       main = refl;
-      knows = by_poll (says.knows main) s t (λ last. g.met.M.MainTask.stays main s t last may.stands.knows) x m c.in-Futures.polled made.0 (subst (λ (w : Turn). CoreInOrder d w s.core) c.in-Futures.is may.stands.order) made.1.1 c.poll_work.ensures.works.0;
+      knows = by_poll (says.knows main) s t (λ last. g.met.M.MainTask.stays main s t last may.may_turn.knows) x m c.in-Futures.polled made.0 (subst (λ (w : Turn). CoreInOrder d w s.core) c.in-Futures.is may.may_turn.order) made.1.1 c.poll_work.ensures.works.0;
       works = c.poll_work.ensures.works.1;
     }) c.in-Err-poll_work.ensures.polled
 
@@ -244,7 +244,7 @@ take_entry-requires-clause-at g c =
     subst (λ (p : Turn). IsAtTurn d p c.args.store.now.state) c.in-Take.is (at_turn says course d c.args.running.now u may)
 
 pub take_entry-requires-clause-asked : goal.take_entry-requires-clause-asked
-take_entry-requires-clause-asked g c = c.requires.may.stands.asked
+take_entry-requires-clause-asked g c = c.requires.may.may_turn.asked
 
 pub returns-in-Take-clause-turned : goal.returns-in-Take-clause-turned
 returns-in-Take-clause-turned g c =
@@ -261,22 +261,22 @@ returns-in-Take-clause-turned g c =
 -- ---- What stays
 
 pub returns-in-Ok-clause-keeps : goal.returns-in-Ok-clause-keeps
-returns-in-Ok-clause-keeps g c = record { script = c.step_main.ensures.script; idle = refl; constants = c.step_main.ensures.stands }
+returns-in-Ok-clause-keeps g c = record { script = c.step_main.ensures.script; idle = refl; constants = c.step_main.ensures.constants_stay }
 
 pub returns-in-Err-clause-keeps : goal.returns-in-Err-clause-keeps
-returns-in-Err-clause-keeps g c = record { script = c.step_main.ensures.script; idle = refl; constants = c.step_main.ensures.stands }
+returns-in-Err-clause-keeps g c = record { script = c.step_main.ensures.script; idle = refl; constants = c.step_main.ensures.constants_stay }
 
 pub returns-in-Ok-poll_work-clause-keeps : goal.returns-in-Ok-poll_work-clause-keeps
-returns-in-Ok-poll_work-clause-keeps g c = record { script = refl; idle = refl; constants = c.poll_work.ensures.stands }
+returns-in-Ok-poll_work-clause-keeps g c = record { script = refl; idle = refl; constants = c.poll_work.ensures.constants_stay }
 
 pub returns-in-Err-poll_work-clause-keeps : goal.returns-in-Err-poll_work-clause-keeps
-returns-in-Err-poll_work-clause-keeps g c = record { script = refl; idle = refl; constants = c.poll_work.ensures.stands }
+returns-in-Err-poll_work-clause-keeps g c = record { script = refl; idle = refl; constants = c.poll_work.ensures.constants_stay }
 
 pub returns-in-Ok-run_thread-clause-keeps : goal.returns-in-Ok-run_thread-clause-keeps
-returns-in-Ok-run_thread-clause-keeps g c = record { script = refl; idle = refl; constants = c.run_thread.ensures.stands }
+returns-in-Ok-run_thread-clause-keeps g c = record { script = refl; idle = refl; constants = c.run_thread.ensures.constants_stay }
 
 pub returns-in-Err-run_thread-clause-keeps : goal.returns-in-Err-run_thread-clause-keeps
-returns-in-Err-run_thread-clause-keeps g c = record { script = refl; idle = refl; constants = c.run_thread.ensures.stands }
+returns-in-Err-run_thread-clause-keeps g c = record { script = refl; idle = refl; constants = c.run_thread.ensures.constants_stay }
 
 pub returns-in-Take-clause-keeps : goal.returns-in-Take-clause-keeps
 returns-in-Take-clause-keeps g c = record { script = refl; idle = refl; constants = ap (λ (st : Store _ _ _). constants st) c.take_entry.ensures.rest }

@@ -4,7 +4,7 @@ use Rattle.machine_data.specs.declared.component.Component.{Component}
 use Rattle.task_nursery.proofs.children.Kept.end.Goals as goal
 
 pub returns-in-Ready-clause-order : goal.returns-in-Ready-clause-order
-returns-in-Ready-clause-order g c = λ component p sits. (c.finish_call_concurrent.ensures.keeps component).order p sits
+returns-in-Ready-clause-order g c = λ component p in_turn. (c.finish_call_concurrent.ensures.keeps component).order p in_turn
 
 pub returns-in-Ready-clause-groups : goal.returns-in-Ready-clause-groups
 returns-in-Ready-clause-groups g c = λ holds.

@@ -154,7 +154,7 @@ pub returns-in-Some-clause-keeps : goal.returns-in-Some-clause-keeps
 returns-in-Some-clause-keeps g c =
     let same = sym (ap (λ store. store.state) c.first_ended.ensures.rest) in
     record {
-      order = λ d p sits. c.end.ensures.order d p (subst (λ (u : StateView). CoreInOrder d p u.core) same sits);
+      order = λ d p in_turn. c.end.ensures.order d p (subst (λ (u : StateView). CoreInOrder d p u.core) same in_turn);
       asked = λ is. c.end.ensures.groups (subst (λ (u : StateView). IsAsked u) same is);
       rest = rw (c.end.ensures.rest, c.first_ended.ensures.rest) refl;
     }
@@ -163,7 +163,7 @@ pub returns-in-None-clause-keeps : goal.returns-in-None-clause-keeps
 returns-in-None-clause-keeps g c =
     let same = sym (ap (λ store. store.state) c.first_ended.ensures.rest) in
     record {
-      order = λ d p sits. subst (λ (u : StateView). CoreInOrder d p u.core) same sits;
+      order = λ d p in_turn. subst (λ (u : StateView). CoreInOrder d p u.core) same in_turn;
       asked = λ is. subst (λ (u : StateView). IsAsked u) same is;
       rest = rw c.first_ended.ensures.rest refl;
     }

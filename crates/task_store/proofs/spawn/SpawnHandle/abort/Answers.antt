@@ -43,7 +43,7 @@ returns-clause-hosts g c =
     (holds_aborted c.args.self.now.number store.state.core (held_by g.H.HostWork.course store) (held g.H.HostWork.course c.abort-phase.new.self) (spawn_caller c.args.self.now.number store.state.core c.requires.spawned.there) c.abort-phase.ensures.held c.requires.hosts)
 
 pub returns-clause-order : goal.returns-clause-order
-returns-clause-order g c d p sits =
+returns-clause-order g c d p in_turn =
     let s = c.args.store.now.state.core in
     let state = ap (λ k. k.state.core) (aborted g c) in
-    subst (λ (u : Core). CoreInOrder d p u) (sym state) (abort_in_order d p c.args.self.now.number s c.requires.spawned.there sits)
+    subst (λ (u : Core). CoreInOrder d p u) (sym state) (abort_in_order d p c.args.self.now.number s c.requires.spawned.there in_turn)

@@ -1,5 +1,5 @@
 use Rattle.core_records.proofs.StandLemmas.{number_placed, shown_here}
-use Rattle.core_records.proofs.ids.standing_thread.Goals as goal
+use Rattle.core_records.proofs.ids.thread_at_unchecked.Goals as goal
 use Rattle.core_records.proofs.Core.{seen, thread_number}
 use Rattle.core_records.specs.declared.{thread_records.GuestThread.GuestThread}
 

@@ -1,4 +1,4 @@
--- Items that each stand after those before them, and the places of their names.
+-- Items that are each placed after those before them, and the places of their names.
 use Rattle.std.proofs.Common.{◌≡◌, ℕ, zero, suc, ◌<◌, ◌≤◌, Bool, true, false, List, [], ◌∷◌, ◌++◌, length, take, Option, Some, None, refl, sym, ap, subst, ◌∙◌, append_assoc, length-append, arith}
 use Rattle.std.specs.Prelude.{position, slice_get}
 use Rattle.std.specs.List.{list_any}
@@ -7,32 +7,32 @@ use Rattle.std.specs.Str.{bytes_eq}
 use Rattle.std.proofs.lemmas.Bool.{or_parts}
 use Rattle.std.proofs.lemmas.List.{append-nil}
 use Rattle.std.proofs.lemmas.Slice.Eq.{bytes_eq-Decides}
-use Rattle.text_scenario.specs.Placement.{EachStands}
+use Rattle.text_scenario.specs.Placement.{EachIsPlaced}
 use Rattle.text_lines.proofs.Position.{position_head, position_tail}
 use Rattle.text_lines.proofs.TokenLaws.{some_is}
 
 -- ---- One item more
 
-stands_last : {X : Type 0} (S : List X → X → Type 0) (before xs : List X) (x : X) → EachStands S before xs → S (before ++ xs) x → EachStands S before (xs ++ x ∷ [])
-stands_last S before [] x each last = (subst (λ ys. S ys x) (append-nil before) last, tt)
-stands_last S before (y ∷ xs) x each last =
-    (each.0, stands_last S (before ++ y ∷ []) xs x each.1 (subst (λ ys. S ys x) (sym (append_assoc before (y ∷ []) xs)) last))
+placed_last : {X : Type 0} (S : List X → X → Type 0) (before xs : List X) (x : X) → EachIsPlaced S before xs → S (before ++ xs) x → EachIsPlaced S before (xs ++ x ∷ [])
+placed_last S before [] x each last = (subst (λ ys. S ys x) (append-nil before) last, tt)
+placed_last S before (y ∷ xs) x each last =
+    (each.0, placed_last S (before ++ y ∷ []) xs x each.1 (subst (λ ys. S ys x) (sym (append_assoc before (y ∷ []) xs)) last))
 
 -- an item that is after all may follow them
-pub each_more : {X : Type 0} (S : List X → X → Type 0) (xs : List X) (x : X) → EachStands S [] xs → S xs x → EachStands S [] (xs ++ x ∷ [])
-each_more S xs x each last = stands_last S [] xs x each last
+pub each_more : {X : Type 0} (S : List X → X → Type 0) (xs : List X) (x : X) → EachIsPlaced S [] xs → S xs x → EachIsPlaced S [] (xs ++ x ∷ [])
+each_more S xs x each last = placed_last S [] xs x each last
 
 -- ---- The item at a place
 
-stands_after : {X : Type 0} (S : List X → X → Type 0) (before xs : List X) (k : ℕ) (x : X) → EachStands S before xs → slice_get xs k ≡ Some x → S (before ++ take k xs) x
-stands_after S before [] k x each e = absurd cc
-stands_after S before (y ∷ xs) zero x each e = subst (λ z. S (before ++ []) z) (some_is y x e) (subst (λ ys. S ys y) (sym (append-nil before)) each.0)
-stands_after S before (y ∷ xs) (suc k) x each e =
-    subst (λ ys. S ys x) (append_assoc before (y ∷ []) (take k xs)) (stands_after S (before ++ y ∷ []) xs k x each.1 e)
+placed_after : {X : Type 0} (S : List X → X → Type 0) (before xs : List X) (k : ℕ) (x : X) → EachIsPlaced S before xs → slice_get xs k ≡ Some x → S (before ++ take k xs) x
+placed_after S before [] k x each e = absurd cc
+placed_after S before (y ∷ xs) zero x each e = subst (λ z. S (before ++ []) z) (some_is y x e) (subst (λ ys. S ys y) (sym (append-nil before)) each.0)
+placed_after S before (y ∷ xs) (suc k) x each e =
+    subst (λ ys. S ys x) (append_assoc before (y ∷ []) (take k xs)) (placed_after S (before ++ y ∷ []) xs k x each.1 e)
 
 -- it is after those before that place
-pub stands_at : {X : Type 0} (S : List X → X → Type 0) (xs : List X) (k : ℕ) (x : X) → EachStands S [] xs → slice_get xs k ≡ Some x → S (take k xs) x
-stands_at S xs k x each e = stands_after S [] xs k x each e
+pub placed_at : {X : Type 0} (S : List X → X → Type 0) (xs : List X) (k : ℕ) (x : X) → EachIsPlaced S [] xs → slice_get xs k ≡ Some x → S (take k xs) x
+placed_at S xs k x each e = placed_after S [] xs k x each e
 
 -- ---- Places of names
 
@@ -69,7 +69,7 @@ pub bytes_same : (xs : List ℕ) → bytes_eq xs xs ≡ true
 bytes_same xs = (bytes_eq-Decides xs xs).1 refl
 
 -- as many as may be
-pub few_after : {X : Type 0} (S : List X → X → Type 0) (n : ℕ) → ((before : List X) (x : X) → S before x → length before < n) → (before xs : List X) → length before ≤ n → EachStands S before xs → length (before ++ xs) ≤ n
+pub few_after : {X : Type 0} (S : List X → X → Type 0) (n : ℕ) → ((before : List X) (x : X) → S before x → length before < n) → (before xs : List X) → length before ≤ n → EachIsPlaced S before xs → length (before ++ xs) ≤ n
 few_after S n bound before [] le each = omega (arith, length-append before [])
 few_after S n bound before (x ∷ xs) le each =
     let lt = bound before x each.0 in

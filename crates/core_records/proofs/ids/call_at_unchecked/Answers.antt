@@ -1,5 +1,5 @@
 use Rattle.core_records.proofs.StandLemmas.{number_placed, shown_here}
-use Rattle.core_records.proofs.ids.standing_call.Goals as goal
+use Rattle.core_records.proofs.ids.call_at_unchecked.Goals as goal
 use Rattle.core_records.proofs.Core.{call_number, seen}
 use Rattle.core_records.specs.declared.{call_records.GuestTask.GuestTask}
 

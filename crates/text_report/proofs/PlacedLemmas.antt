@@ -5,15 +5,15 @@ use Rattle.std.proofs.lemmas.Bool.{lt-ltb, le-leb, ne_eqb}
 use Rattle.std.proofs.lemmas.List.Folds.{list_any-append}
 use Rattle.std.proofs.lemmas.List.Sums.{sum_by-append}
 use Rattle.text_scenario.specs.declared.tree.MainOpText.{MainOpText}
-use Rattle.text_scenario.specs.Placement.{EachStands, ExportStands, InstanceStands, IsWellFormed, MainOpStands, ScriptStands, export_opens, finish_opens, finishes, is_start, start_count}
-use Rattle.text_scenario.proofs.StandingLaws.{each_more}
+use Rattle.text_scenario.specs.Placement.{EachIsPlaced, ExportIsPlaced, InstanceIsPlaced, IsWellFormed, MainOpIsPlaced, ScriptIsPlaced, export_opens, finish_opens, finishes, is_start, start_count}
+use Rattle.text_scenario.proofs.PlacementLaws.{each_more}
 use Rattle.text_report.specs.Generated.{each_to}
 use Rattle.text_report.proofs.Tree.{api, db, do_it, do_react, do_start, finish_op, get, get_react, get_start, hosts, instances, req, req_start, start_op, tree}
 
 -- ---- Scripts
 
-get_start_stands : ScriptStands hosts [] true get_start
-get_start_stands = (
+get_start_placed : ScriptIsPlaced hosts [] true get_start
+get_start_placed = (
   record { room = refl; suits = refl; fits = refl },
   (
     record { room = refl; suits = refl; fits = refl },
@@ -36,8 +36,8 @@ get_start_stands = (
   ),
 )
 
-get_react_stands : ScriptStands hosts [] true get_react
-get_react_stands = (
+get_react_placed : ScriptIsPlaced hosts [] true get_react
+get_react_placed = (
   record { room = refl; suits = refl; fits = refl },
   (
     record { room = refl; suits = refl; fits = refl },
@@ -57,8 +57,8 @@ get_react_stands = (
   ),
 )
 
-do_start_stands : ScriptStands hosts (db ∷ []) true do_start
-do_start_stands = (
+do_start_placed : ScriptIsPlaced hosts (db ∷ []) true do_start
+do_start_placed = (
   record { room = refl; suits = refl; fits = refl },
   (
     record { room = refl; suits = refl; fits = (refl, refl) },
@@ -78,8 +78,8 @@ do_start_stands = (
   ),
 )
 
-do_react_stands : ScriptStands hosts (db ∷ []) true do_react
-do_react_stands = (
+do_react_placed : ScriptIsPlaced hosts (db ∷ []) true do_react
+do_react_placed = (
   record { room = refl; suits = refl; fits = refl },
   (
     record { room = refl; suits = refl; fits = refl },
@@ -102,8 +102,8 @@ do_react_stands = (
   ),
 )
 
-req_start_stands : ScriptStands hosts (db ∷ api ∷ []) false req_start
-req_start_stands = (
+req_start_placed : ScriptIsPlaced hosts (db ∷ api ∷ []) false req_start
+req_start_placed = (
   record { room = refl; suits = refl; fits = (refl, refl) },
   (
     record { room = refl; suits = refl; fits = refl },
@@ -116,25 +116,25 @@ req_start_stands = (
 
 -- ---- Instances
 
-get_stands : ExportStands hosts [] [] get
+get_placed : ExportIsPlaced hosts [] [] get
 unfolding export_opens
-get_stands = record { name = refl; params = omega arith; opens = refl; start = get_start_stands; react = (refl, get_react_stands) }
+get_placed = record { name = refl; params = omega arith; opens = refl; start = get_start_placed; react = (refl, get_react_placed) }
 
-do_stands : ExportStands hosts (db ∷ []) [] do_it
+do_placed : ExportIsPlaced hosts (db ∷ []) [] do_it
 unfolding export_opens
-do_stands = record { name = refl; params = omega arith; opens = refl; start = do_start_stands; react = (refl, do_react_stands) }
+do_placed = record { name = refl; params = omega arith; opens = refl; start = do_start_placed; react = (refl, do_react_placed) }
 
-req_stands : ExportStands hosts (db ∷ api ∷ []) [] req
+req_placed : ExportIsPlaced hosts (db ∷ api ∷ []) [] req
 unfolding export_opens
-req_stands = record { name = refl; params = omega arith; opens = refl; start = req_start_stands; react = tt }
+req_placed = record { name = refl; params = omega arith; opens = refl; start = req_start_placed; react = tt }
 
-instances_stand : EachStands (InstanceStands hosts) [] instances
-instances_stand = (
-  record { name = refl; opens = refl; parts = (get_stands, tt) },
+instances_placed : EachIsPlaced (InstanceIsPlaced hosts) [] instances
+instances_placed = (
+  record { name = refl; opens = refl; parts = (get_placed, tt) },
   (
-    record { name = refl; opens = refl; parts = (do_stands, tt) },
+    record { name = refl; opens = refl; parts = (do_placed, tt) },
     (
-      record { name = refl; opens = refl; parts = (req_stands, tt) },
+      record { name = refl; opens = refl; parts = (req_placed, tt) },
       tt,
     ),
   ),
@@ -167,16 +167,16 @@ finished_later k (suc n) lt =
     list_any-append (finishes k) (each_to finish_op n) (finish_op (suc n) ∷ [])
     ∙ rw (finished_later k n (omega arith), ne_eqb (suc n) k (λ e. absurd (omega (arith, e)))) refl
 
-start_stands : (n : ℕ) → n < 256 → MainOpStands hosts instances (each_to start_op n) (start_op (suc n))
-start_stands n lt = (
+start_placed : (n : ℕ) → n < 256 → MainOpIsPlaced hosts instances (each_to start_op n) (start_op (suc n))
+start_placed n lt = (
   rw (length_each start_op n, starts_in n, lt-ltb n 4095 (omega arith), lt-ltb n 256 lt) refl,
   refl,
   rw (lt-ltb (suc n) (2 ^ 64) (omega arith)) refl,
 )
 
-starts_stand : (n : ℕ) → n ≤ 256 → EachStands (MainOpStands hosts instances) [] (each_to start_op n)
-starts_stand zero le = tt
-starts_stand (suc n) le = each_more (MainOpStands hosts instances) (each_to start_op n) (start_op (suc n)) (starts_stand n (omega arith)) (start_stands n (omega arith))
+starts_placed : (n : ℕ) → n ≤ 256 → EachIsPlaced (MainOpIsPlaced hosts instances) [] (each_to start_op n)
+starts_placed zero le = tt
+starts_placed (suc n) le = each_more (MainOpIsPlaced hosts instances) (each_to start_op n) (start_op (suc n)) (starts_placed n (omega arith)) (start_placed n (omega arith))
 
 finish_opens_is : (n k : ℕ) → n ≤ 256 → k < n → finish_opens (each_to start_op n ++ each_to finish_op k) (suc k) ≡ true
 finish_opens_is n k le lt =
@@ -186,21 +186,21 @@ finish_opens_is n k le lt =
     list_any-append (finishes (suc k)) (each_to start_op n) (each_to finish_op k) ∙ rw (finished_by_starts (suc k) n, finished_later (suc k) k (omega arith)) refl in
     rw (many, starts, none, lt-ltb (n + k) 4095 (omega arith), le-leb 1 (suc k) (omega arith), le-leb (suc k) (n + 0) (omega arith)) refl
 
-mains_stand : (n k : ℕ) → n ≤ 256 → k ≤ n → EachStands (MainOpStands hosts instances) [] (each_to start_op n ++ each_to finish_op k)
-mains_stand n zero few le = subst (λ (ops : List MainOpText). EachStands (MainOpStands hosts instances) [] ops) (sym (append-nil (each_to start_op n))) (starts_stand n few)
-mains_stand n (suc k) few le =
-    subst (λ (ops : List MainOpText). EachStands (MainOpStands hosts instances) [] ops) (append_assoc (each_to start_op n) (each_to finish_op k) (finish_op (suc k) ∷ []))
-    (each_more (MainOpStands hosts instances) (each_to start_op n ++ each_to finish_op k) (finish_op (suc k)) (mains_stand n k few (omega arith)) (finish_opens_is n k few (omega arith), refl))
+mains_placed : (n k : ℕ) → n ≤ 256 → k ≤ n → EachIsPlaced (MainOpIsPlaced hosts instances) [] (each_to start_op n ++ each_to finish_op k)
+mains_placed n zero few le = subst (λ (ops : List MainOpText). EachIsPlaced (MainOpIsPlaced hosts instances) [] ops) (sym (append-nil (each_to start_op n))) (starts_placed n few)
+mains_placed n (suc k) few le =
+    subst (λ (ops : List MainOpText). EachIsPlaced (MainOpIsPlaced hosts instances) [] ops) (append_assoc (each_to start_op n) (each_to finish_op k) (finish_op (suc k) ∷ []))
+    (each_more (MainOpIsPlaced hosts instances) (each_to start_op n ++ each_to finish_op k) (finish_op (suc k)) (mains_placed n k few (omega arith)) (finish_opens_is n k few (omega arith), refl))
 
 -- ---- The whole
 
-pub tree_stands : (n : ℕ) → n ≤ 256 → IsWellFormed (tree n)
-tree_stands n few = record {
+pub tree_placed : (n : ℕ) → n ≤ 256 → IsWellFormed (tree n)
+tree_placed n few = record {
   handles = refl;
   table = refl;
   hosts = (record { name = refl; work = refl; opens = refl }, tt);
-  instances = instances_stand;
-  main = mains_stand n n few (omega arith);
+  instances = instances_placed;
+  main = mains_placed n n few (omega arith);
   answer = refl;
   aborters = tt;
 }

@@ -143,8 +143,8 @@ module _ (AreKept : StateView → StateView → Type 0) (c : Component) (o : Op)
   leaves = ops_leave_places c number s.core (choice_of (label_of number r)) o finished
 
   -- it is no farther in its script
-  pub stands_below : position_of (thread_of t id) t.core ≤ position_of number s.core
-  stands_below =
+  pub below_end : position_of (thread_of t id) t.core ≤ position_of number s.core
+  below_end =
       let p = met_below (KeepsPlace number s.core o) (answers_of o) number s.core _ r (ended SomeHost number r t.core) leaves (did.implements SomeHost) in
       let q = same_place number t.core (ended SomeHost number r t.core) (ended_place number r t.core) in
       let m = ap (λ (k : ℕ). position_of k t.core) (did.named due) in

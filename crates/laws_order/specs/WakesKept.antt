@@ -47,12 +47,12 @@ pub record NoWakeLost (s : Core) : Type 0 where
   pub switch : SwitchReady s
 
 -- in each state in order whose turns aren't over no wake is lost
-unfoldable pub OrderStands : Type 0
-OrderStands = (c : Component) (s : State) → InOrder c s → is_open s.turn ≡ true → NoWakeLost s.core
+unfoldable pub OrderLosesNoWake : Type 0
+OrderLosesNoWake = (c : Component) (s : State) → InOrder c s → is_open s.turn ≡ true → NoWakeLost s.core
 
 -- nor in each such state in which each thread has this op
-unfoldable pub OrderStandsAs : Type 0
-OrderStandsAs = (ops : ℕ → Op) (c : Component) (s : State) → InOrderAs ops c s → is_open s.turn ≡ true → NoWakeLost s.core
+unfoldable pub OrderLosesNoWakeAs : Type 0
+OrderLosesNoWakeAs = (ops : ℕ → Op) (c : Component) (s : State) → InOrderAs ops c s → is_open s.turn ≡ true → NoWakeLost s.core
 
 -- ---- Steps
 
