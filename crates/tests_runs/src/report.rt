@@ -82,8 +82,6 @@ fn a_full_page_is_taken_away(rt: HostRuntime) {
     page.take_full();
     let behind: &[u8] = b"st\n";
     assert!(rt; page.as_slice() == behind);
-    list.clear();
-    assert!(rt; list.len() == 0);
 }
 
 // The outcome's line is this.
