@@ -4,7 +4,7 @@ use Rattle.std.proofs.Common.{arith}
 use Rattle.ops_turns.proofs.SteppedLemmas.{IfOk_then}
 use Rattle.ops_guests.specs.Works.{NamesTold}
 use Rattle.machine_rules.specs.Step.{own_script}
-use Rattle.ops_dispatch.proofs.EndLemmas.{end_goes, end_implements, end_stays, end_works, plain_other}
+use Rattle.ops_dispatch.proofs.EndLemmas.{end_goes, end_implements, end_picks, end_stays, end_works, plain_other}
 use Rattle.ops_turns.proofs.OrderLemmas.{unwinds}
 use Rattle.ops_turns.proofs.RanLemmas.{works_told}
 use Rattle.ops_turns.proofs.runs.run_plain.Goals as goal
@@ -59,6 +59,7 @@ returns-clause-shown g c =
       op_result = c.in-Ok.op_result;
       left = u;
       implements = end_implements NamesTold (rule_of k o) (own_script o) c.args.thread s m u c.in-Ok.op_result c.in-Ok.ensures.does c.finish.ensures;
+      picks = end_picks NamesTold (rule_of k o) (own_script o) c.args.thread s m u c.in-Ok.op_result c.in-Ok.ensures.does c.finish.ensures;
       stays = end_stays NamesTold (rule_of k o) (own_script o) c.args.thread s m u c.in-Ok.op_result c.in-Ok.ensures.does c.finish.ensures;
       shown = h;
     })
