@@ -1,3 +1,4 @@
+pub mod ById
 pub mod Queued
 pub mod Named
 pub mod Refused
