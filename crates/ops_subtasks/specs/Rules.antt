@@ -1,7 +1,6 @@
 -- The rules of ops on subtasks, by what their contracts name.
 use Rattle.machine_data.specs.declared.records.OpProgress.TheVariants as op_progress
 use Rattle.machine_data.specs.Statuses.{status_code}
-use Rattle.machine_data.specs.Labels.{cancel_label}
 use Rattle.ops_guests.specs.Shown.{goes_as}
 use Rattle.ops_subtasks.specs.Refused.{mode_of}
 use Rattle.std.specs.Prelude.{Bool, IfOk, List, None, Option, false, not, option_map, Result, true, ℕ}
@@ -22,7 +21,7 @@ use Rattle.machine_data.specs.declared.trap.Trap.TheVariants as trap
 use Rattle.ops_guests.specs.Does.{DoesRule, KeepsNames, Rule}
 use Rattle.ops_guests.specs.declared.op_result.OpResult.{OpResult}
 use Rattle.machine_rules.specs.Calls.{FirstPoll, call_host_by, call_let_go, call_queues, call_status_by, call_sync_host_by, call_sync_status_by, call_taken, call_with_handle, enter_rule, next_thread, status_found, work_deleted, work_value}
-use Rattle.machine_rules.specs.Cancels.{Mode, after_cancel_by, cancel_asks, cancel_case, cancel_ended_by, cancel_guest_by, cancel_host_by, cancel_rule}
+use Rattle.machine_rules.specs.Cancels.{Mode, after_cancel_by, cancel_label, cancel_asks, cancel_case, cancel_ended_by, cancel_guest_by, cancel_host_by, cancel_rule}
 use Rattle.machine_rules.specs.Finish.{OneNumber, finish}
 use Rattle.machine_rules.specs.Progress.{Continues, Stops, trap_if}
 use Rattle.machine_rules.specs.Sets.{join_done_by}
