@@ -58,10 +58,10 @@ pub record Polls (answer : HostPoll) (c : Component) (h : OpProgress) (o : Op) (
   pub none : done.work ≡ None → (done.polled ≡ None) ⊎ (t.core.works ≡ s.core.works)
 
 -- The op was done as its rule says, and what polled is so.
-pub record DoesPolled (answer : HostPoll) (c : Component) (o : Op) (id : TableId ThreadKey) (s : StateView) (done : Done) (t : StateView) : Type 0
-  where
-    pub does : DoesOp NamesTold (rule_of c o) id s done.op_result t
-    pub polls : Polls answer c (op_progress_of (thread_of s id) s.core) o s done t
+pub record DoesPolled (answer : HostPoll) (c : Component) (o : Op) (id : TableId ThreadKey) (s : StateView) (done : Done)
+    (t : StateView) : Type 0 where
+  pub does : DoesOp NamesTold (rule_of c o) id s done.op_result t
+  pub polls : Polls answer c (op_progress_of (thread_of s id) s.core) o s done t
 
 -- unless it is out of memory the call of a host was done so, whichever register it has for its answer
 abbrev pub DoesHostCall :
