@@ -2,7 +2,7 @@
 ghost use Rattle.ops_dispatch.specs.Fits.{calls_host, is_data_op, op_fits};
 ghost use Rattle.ops_dispatch.specs.Continues.{given};
 ghost use Rattle.ops_dispatch.specs.Makes.{takes_memory};
-ghost use Rattle.std.specs.Prelude.{◌≡◌, ◌<◌, ◌^◌, ℕ, IfErr, IfOk, OnErr, false, true};
+ghost use Rattle.std.specs.Prelude.{◌≡◌, ◌<◌, ◌^◌, ℕ, IfErr, OnErr, false, true};
 ghost use Rattle.ops_calls.specs.OpAnswers.{at_once, event_answered, nothing_answered, number_answered, whole_answer};
 ghost use Rattle.ops_calls.specs.HostOps.{AnswersHere, AnswersOp, HasPaused, IsRunningIn, MayDo, is_at_once, left_by, op_rule_at, scripted_rule_of, takes_here, turn_in};
 ghost use Rattle.ops_turns.specs.Turn.{CoreInOrder};
