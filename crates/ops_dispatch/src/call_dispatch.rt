@@ -1,11 +1,10 @@
 //! The ops on subtasks, as they begin or resumed inside them.
-ghost use Rattle.ops_subtasks.specs.ById.{HasHandleTable};
 ghost use Rattle.ops_dispatch.specs.Fits.{HasInstances, call_op_fits, is_host_call};
 ghost use Rattle.ops_dispatch.specs.Continues.{cancels_here, given, MayDoOp};
 ghost use Rattle.ops_dispatch.specs.Makes.{takes_memory, HasNumbersForCall, HasNumbersFor};
 ghost use Rattle.ops_dispatch.specs.Polls.{DoesPolled, DoesHostCall, polled_by, polled_if_any};
 ghost use Rattle.ops_dispatch.specs.Rules.{calls_here, calls_in_sync, rule_of};
-ghost use Rattle.ops_dispatch.specs.Runner.{Runner, UnderWay, called_call, called_work, given_answer, progress_of};
+ghost use Rattle.ops_dispatch.specs.Runner.{HasHandleTable, Runner, UnderWay, called_call, called_work, given_answer, progress_of};
 ghost use Rattle.std.specs.Prelude.{◌≡◌, ◌<◌, ◌≤◌, ◌^◌, IfOk, IfSome, IsOk, IsSome, None, OnErr, false, length, option_copied, option_map, true, ℕ};
 ghost use Rattle.ops_subtasks.specs.Refused.{mode_of};
 ghost use Rattle.machine_data.specs.Maps.{get};

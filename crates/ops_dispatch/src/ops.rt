@@ -1,12 +1,11 @@
 //! An op of the running thread, by its group.
-ghost use Rattle.ops_subtasks.specs.ById.{HasHandleTable};
 ghost use Rattle.ops_dispatch.specs.Did.{DidOp, IsBeforeEnd};
 ghost use Rattle.ops_dispatch.specs.Fits.{HasInstances, is_data_op, is_plain, op_fits};
 ghost use Rattle.ops_dispatch.specs.Continues.{MayDoOp};
 ghost use Rattle.ops_dispatch.specs.Makes.{takes_memory, HasNumbersFor};
 ghost use Rattle.ops_dispatch.specs.Polls.{DoesPolled};
 ghost use Rattle.ops_dispatch.specs.Rules.{rule_of};
-ghost use Rattle.ops_dispatch.specs.Runner.{Runner};
+ghost use Rattle.ops_dispatch.specs.Runner.{HasHandleTable, Runner};
 ghost use Rattle.std.specs.Prelude.{◌≡◌, ◌<◌, ◌^◌, IfOk, OnErr, false, true};
 ghost use Rattle.ops_guests.specs.Works.{NamesTold};
 ghost use Rattle.core_primitives.specs.StateView.{thread_of};

@@ -1,9 +1,8 @@
 //! The ops on waitable sets.
-ghost use Rattle.ops_subtasks.specs.ById.{HasHandleTable};
 ghost use Rattle.ops_dispatch.specs.Continues.{given, MayDoOp};
 ghost use Rattle.ops_dispatch.specs.Makes.{takes_memory};
 ghost use Rattle.ops_dispatch.specs.Rules.{waits_here};
-ghost use Rattle.ops_dispatch.specs.Runner.{Runner};
+ghost use Rattle.ops_dispatch.specs.Runner.{HasHandleTable, Runner};
 ghost use Rattle.std.specs.Prelude.{◌≡◌, ◌<◌, ◌^◌, OnErr, true};
 ghost use Rattle.machine_data.specs.declared.op.Op.TheVariants as ops;
 ghost use Rattle.ops_guests.specs.Does.{DoesRule, SameNames};

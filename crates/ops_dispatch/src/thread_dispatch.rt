@@ -1,9 +1,8 @@
 //! The ops on the task's own threads.
-ghost use Rattle.ops_subtasks.specs.ById.{HasHandleTable};
 ghost use Rattle.ops_dispatch.specs.Continues.{given, MayDoOp};
 ghost use Rattle.ops_dispatch.specs.Makes.{takes_memory};
 ghost use Rattle.ops_dispatch.specs.Rules.{halts_here, promotes_here, resumes_here};
-ghost use Rattle.ops_dispatch.specs.Runner.{Runner, is_halting, is_resumed, progress_of};
+ghost use Rattle.ops_dispatch.specs.Runner.{HasHandleTable, Runner, is_halting, is_resumed, progress_of};
 ghost use Rattle.std.specs.Prelude.{◌≡◌, ◌<◌, ◌^◌, OnErr, true};
 ghost use Rattle.machine_data.specs.Read.{instance_of};
 ghost use Rattle.machine_data.specs.declared.component.Component.{Component};

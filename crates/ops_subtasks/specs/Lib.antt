@@ -1,4 +1,3 @@
-pub mod ById
 pub mod Queued
 pub mod Named
 pub mod Refused

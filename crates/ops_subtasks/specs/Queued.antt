@@ -1,17 +1,17 @@
 -- The work that a call of a host has made.
-use Rattle.ops_subtasks.specs.ById.{answer_with}
 use Rattle.task_wait.specs.declared.keys.ThreadKey.{ThreadKey}
 use Rattle.machine_data.specs.declared.statuses.Status.TheVariants as status
+use Rattle.machine_data.specs.Statuses.{packed}
 use Rattle.std.specs.Prelude.{None, Option, Some, option_map, ℕ, ◌≡◌}
 use Rattle.machine_data.specs.Core.{Core}
-use Rattle.machine_data.specs.Read.{course_of}
+use Rattle.machine_data.specs.Read.{course_of, instance_of, new_handle}
 use Rattle.machine_data.specs.declared.records.Course.TheVariants as course
 use Rattle.ops_guests.specs.declared.op_result.OpResult.{OpResult}
 use Rattle.ops_guests.specs.declared.op_result.OpResult.TheVariants as op_result
 use Rattle.machine_rules.specs.Calls.{FirstPoll, Later, next_work}
 use Rattle.task_table.specs.declared.id.TableId.{TableId}
 use Rattle.task_wait.specs.declared.keys.HostTaskKey.{HostTaskKey}
-use Rattle.core_primitives.specs.StateView.{StateView, work_of}
+use Rattle.core_primitives.specs.StateView.{StateView, work_of, thread_of}
 
 -- the next one, where the host pends and the call hasn't trapped
 abbrev pub queued_work : FirstPoll → OpResult → Core → Option ℕ
@@ -31,4 +31,4 @@ pub record NamesQueued (p : FirstPoll) (s : StateView) (r : OpResult × Option (
 
 -- what a `call` answers whose work is queued: its handle, and that it has started
 abbrev pub queued_answer : TableId ThreadKey → StateView → ℕ
-queued_answer id s = answer_with id status.Started s
+queued_answer id s = packed (new_handle (instance_of (thread_of s id) s.core) s.core) status.Started

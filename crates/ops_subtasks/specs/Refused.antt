@@ -9,11 +9,6 @@ use Rattle.machine_data.specs.declared.trap.Trap.{Trap}
 use Rattle.machine_data.specs.declared.trap.Trap.TheVariants as trap
 use Rattle.machine_data.specs.declared.statuses.Status.{Status}
 use Rattle.machine_rules.specs.Cancels.{Async, Mode, Sync, subtask_instance}
-use Rattle.task_table.specs.declared.id.TableId.{TableId}
-use Rattle.task_wait.specs.declared.keys.ThreadKey.{ThreadKey}
-use Rattle.core_primitives.specs.Names.{subtask_in}
-use Rattle.core_primitives.specs.StateView.{StateView, thread_of}
-use Rattle.core_primitives.specs.declared.names.SubtaskId.{SubtaskId}
 
 abbrev pub mode_of : (sync : Bool) → Mode
 mode_of true = Sync
@@ -33,13 +28,6 @@ refused_block Sync n s = if passes_check (instance_of n s) s then None else Some
 unfoldable pub refused : Mode → ℕ → Subtask → Core → Option Trap
 refused mode n sub s = if subtask_ended sub s then refused_end (undelivered_end (event_of sub s)) else refused_block mode n s
 
--- the same, of what the ids name
-abbrev pub refused_by : (sync : Bool) → TableId ThreadKey → SubtaskId → StateView → Option Trap
-refused_by sync id sub s = refused (mode_of sync) (thread_of s id) (subtask_in s.tags sub) s.core
-
--- the first, once the flag that the thread saved is written back
+-- the same, once the flag that the thread saved is written back
 abbrev pub refused_after : Mode → ℕ → Subtask → Core → Option Trap
 refused_after mode n sub s = refused mode n sub (put_back (saved_callee_of n s) (subtask_instance sub s) s)
-
-abbrev pub refused_after_by : (sync : Bool) → TableId ThreadKey → SubtaskId → StateView → Option Trap
-refused_after_by sync id sub s = refused_after (mode_of sync) (thread_of s id) (subtask_in s.tags sub) s.core

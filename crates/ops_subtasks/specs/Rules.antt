@@ -1,12 +1,9 @@
 -- The rules of ops on subtasks, by what their contracts name.
 use Rattle.machine_data.specs.declared.records.OpProgress.TheVariants as op_progress
-use Rattle.machine_data.specs.Statuses.{status_code}
-use Rattle.ops_guests.specs.Shown.{goes_as}
 use Rattle.ops_subtasks.specs.Refused.{mode_of}
-use Rattle.std.specs.Prelude.{Bool, IfOk, List, None, Option, false, not, option_map, Result, true, ℕ}
+use Rattle.std.specs.Prelude.{Bool, List, None, Option, false, not, option_map, true, ℕ}
 use Rattle.machine_data.specs.Core.{Core}
-use Rattle.machine_data.specs.Read.{event_of, fits, is_async_lifted, undelivered_end}
-use Rattle.machine_data.specs.declared.statuses.Status.{Status}
+use Rattle.machine_data.specs.Read.{event_of, fits, undelivered_end}
 use Rattle.machine_data.specs.Write.{set_event, set_saved_callee}
 use Rattle.machine_data.specs.declared.component.Callee.{Callee}
 use Rattle.machine_data.specs.declared.component.ExportKind.{ExportKind}
@@ -18,20 +15,16 @@ use Rattle.machine_data.specs.declared.records.OpProgress.{OpProgress}
 use Rattle.machine_data.specs.declared.records.Subtask.{Subtask}
 use Rattle.machine_data.specs.declared.records.Subtask.TheVariants as subtask
 use Rattle.machine_data.specs.declared.trap.Trap.TheVariants as trap
-use Rattle.ops_guests.specs.Does.{DoesRule, KeepsNames, Rule}
-use Rattle.ops_guests.specs.declared.op_result.OpResult.{OpResult}
+use Rattle.ops_guests.specs.Does.{Rule}
 use Rattle.machine_rules.specs.Calls.{FirstPoll, call_host_by, call_let_go, call_queues, call_status_by, call_sync_host_by, call_sync_status_by, call_taken, call_with_handle, enter_rule, next_thread, status_found, work_deleted, work_value}
-use Rattle.machine_rules.specs.Cancels.{Mode, after_cancel_by, cancel_label, cancel_asks, cancel_case, cancel_ended_by, cancel_guest_by, cancel_host_by, cancel_rule}
+use Rattle.machine_rules.specs.Cancels.{Mode, after_cancel_by, cancel_asks, cancel_case, cancel_ended_by, cancel_guest_by, cancel_host_by, cancel_rule}
 use Rattle.machine_rules.specs.Finish.{OneNumber, finish}
 use Rattle.machine_rules.specs.Progress.{Continues, Stops, trap_if}
 use Rattle.machine_rules.specs.Sets.{join_done_by}
 use Rattle.task_table.specs.declared.id.TableId.{TableId}
-use Rattle.task_wait.specs.declared.keys.GuestTaskKey.{GuestTaskKey}
-use Rattle.task_wait.specs.declared.keys.HostTaskKey.{HostTaskKey}
 use Rattle.task_wait.specs.declared.keys.SetKey.{SetKey}
-use Rattle.task_wait.specs.declared.keys.ThreadKey.{ThreadKey}
 use Rattle.core_primitives.specs.Names.{subtask_in}
-use Rattle.core_primitives.specs.StateView.{StateView, call_of, set_of, thread_of, work_of}
+use Rattle.core_primitives.specs.StateView.{StateView, set_of}
 use Rattle.core_primitives.specs.declared.names.SubtaskId.{SubtaskId}
 
 -- ---- Calls
@@ -50,10 +43,6 @@ enters_call x e words d n ch s = enter_rule n e x words s
 abbrev pub begins_call : (async_lifted : Bool) → ExportKind → Callee → (words : List ℕ) → Rule
 begins_call true x e words d n ch s = queues_call x goal.Answer e words d n ch s
 begins_call false x e words d n ch s = enters_call x e words d n ch s
-
--- by whether this one is
-abbrev pub begins_call_sync : ExportKind → Callee → (words : List ℕ) → Rule
-begins_call_sync x = begins_call (is_async_lifted x) x
 
 -- `call_sync R F X*`, once its direct callee has answered this
 abbrev pub answers_value : (value : ℕ) → Rule
@@ -87,10 +76,6 @@ calls_sync_host p d n ch s = call_sync_host_by d n s p
 abbrev pub answers_work : (work : ℕ) → Rule
 answers_work i d n ch s =
     Continues (label.Call (call_label.CallSync n (work_value i s))) (finish d n (OneNumber (work_value i s)) (work_deleted i s)) n
-
--- unless it is out of memory a call of a host did its rule; beside what it resulted in it names its work
-abbrev pub MayCallHost : {A E : Type 0} → Rule → TableId ThreadKey → StateView → Result (OpResult × A) E → StateView → Type 0
-MayCallHost rule id s r t = IfOk r (λ q. DoesRule KeepsNames rule id s q.0 t)
 
 -- ---- Cancels
 
@@ -128,26 +113,6 @@ after_cancels mode sub d n ch s = after_cancel_by d mode n sub s
 
 abbrev pub asks_to_end : Mode → (call : ℕ) → Rule
 asks_to_end mode k d n ch s = after_cancel_by d mode n (subtask.Guest k) (cancel_asks k s)
-
--- each of these of what the id names
-abbrev pub cancels_call : (sync : Bool) → TableId GuestTaskKey → StateView → Rule
-cancels_call sync call v = cancels_guest (mode_of sync) (call_of v call)
-
-abbrev pub asks_call : (sync : Bool) → TableId GuestTaskKey → StateView → Rule
-asks_call sync call v = asks_to_end (mode_of sync) (call_of v call)
-
-abbrev pub cancels_work : (sync : Bool) → TableId HostTaskKey → StateView → Rule
-cancels_work sync work v = cancels_host (mode_of sync) (work_of v work)
-
-abbrev pub takes_end : (sync : Bool) → SubtaskId → StateView → Rule
-takes_end sync sub v = cancels_ended (mode_of sync) (subtask_in v.tags sub)
-
-abbrev pub goes_on_asked : (sync : Bool) → SubtaskId → StateView → Rule
-goes_on_asked sync sub v = after_cancels (mode_of sync) (subtask_in v.tags sub)
-
--- what a cancel shows that answers this status
-abbrev pub cancel_answers : (sync : Bool) → TableId ThreadKey → Status → StateView → OpResult
-cancel_answers sync id e v = goes_as (cancel_label (mode_of sync) (thread_of v id) (status_code e)) (thread_of v id)
 
 -- ---- Joins
 

@@ -19,8 +19,7 @@ call_starts n m k j x s =
     set_op_progress n (op_progress.Calls (subtask.Guest k)) (behind m (n ∷ []) (call_clears_flag n j x (put_switch m why.Start s)))
 
 -- the same, by ids
-abbrev pub call_started :
-    (thread first : TableId ThreadKey) → TableId GuestTaskKey → (instance : ℕ) → ExportKind → StateView → StateView
+abbrev pub call_started : (thread first : TableId ThreadKey) → TableId GuestTaskKey → (instance : ℕ) → ExportKind → StateView → StateView
 call_started id first call j x s = on_core (call_starts (thread_of s id) (thread_of s first) (call_of s call) j x) s
 
 -- the thread's entries are gone

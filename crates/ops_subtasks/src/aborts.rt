@@ -1,6 +1,7 @@
 //! The cancel of a host call.
 ghost use Rattle.std.specs.Prelude.{◌≡◌, ◌<◌};
-ghost use Rattle.ops_subtasks.specs.Rules.{cancels_work};
+ghost use Rattle.ops_subtasks.specs.Refused.{mode_of};
+ghost use Rattle.ops_subtasks.specs.Rules.{cancels_host};
 ghost use Rattle.ops_guests.specs.Does.{DoesRule, SameNames};
 ghost use Rattle.ops_guests.specs.Running.{IsRunning};
 ghost use Rattle.machine_rules.specs.Cancels.{aborted_phase, cancel_aborts_host};
@@ -40,7 +41,7 @@ pub(crate) fn cancel_host<W: Primitives>(
 ) -> OpResult
     requires live { 0 < thread_of (W.view w.old) thread }
     requires running { IsRunning (thread_of (W.view w.old) thread) (W.view w.old).core }
-    ensures does { DoesRule SameNames (cancels_work sync work (W.view w.old)) thread (W.view w.old) result (W.view w.new) }
+    ensures does { DoesRule SameNames (cancels_host (mode_of sync) (work_of (W.view w.old) work)) thread (W.view w.old) result (W.view w.new) }
 {
     if w.was_cancelled(work) {
         return OpResult::Traps(Trap::SubtaskCancelAfterTerminal);

@@ -6,7 +6,7 @@ ghost use Rattle.ops_subtasks.specs.Rules.{queues_call};
 ghost use Rattle.ops_subtasks.specs.Starts.{call_started};
 ghost use Rattle.machine_data.specs.declared.records.Place.TheVariants as places;
 ghost use Rattle.ops_guests.specs.OpResult.{IsCurrent};
-ghost use Rattle.ops_guests.specs.Does.{KeepsNames, MayDoRule};
+ghost use Rattle.ops_guests.specs.Does.{DoesRule, KeepsNames};
 ghost use Rattle.ops_guests.specs.Running.{IsRunning};
 ghost use Rattle.machine_rules.specs.Calls.{call_clears_flag, call_queues};
 ghost use Rattle.core_primitives.specs.StateView.{on_core, thread_of};
@@ -87,7 +87,7 @@ pub fn begin_call<W: Primitives>(
     requires there { IsSome (get (W.view w.old).core.instances callee.instance) }
     requires words { length words.now ≤ 16 }
     requires few { (W.view w.old).core.made.threads + 1 < 2 ^ 64 }
-    ensures does { MayDoRule KeepsNames (queues_call kind goal callee words.now) thread (W.view w.old) result (W.view w.new) }
+    ensures does { IfOk result (λ op_result. DoesRule KeepsNames (queues_call kind goal callee words.now) thread (W.view w.old) op_result (W.view w.new)) }
     ensures goes { IfOk result (λ op_result. IsCurrent op_result (W.view w.new)) }
     ensures err { OnErr result (W.view w.new ≡ W.view w.old) }
 {

@@ -1,9 +1,9 @@
 //! Direct calls, of sync and blocking exports.
 ghost use Rattle.ops_subtasks.specs.Starts.{IsMadeNext};
 ghost use Rattle.std.specs.Prelude.{◌≡◌, ◌+◌, ◌<◌, ◌≤◌, ◌^◌, IfOk, IsSome, OnErr, OnOk, false, length, true};
-ghost use Rattle.ops_subtasks.specs.Rules.{answers_value, enters_call, queues_call, begins_call_sync};
+ghost use Rattle.ops_subtasks.specs.Rules.{answers_value, begins_call, enters_call, queues_call};
 ghost use Rattle.machine_data.specs.Maps.{get};
-ghost use Rattle.machine_data.specs.Read.{at_handle_limit, fits};
+ghost use Rattle.machine_data.specs.Read.{at_handle_limit, fits, is_async_lifted};
 ghost use Rattle.machine_data.specs.declared.records.Goal.TheVariants as goals;
 ghost use Rattle.ops_guests.specs.OpResult.{IsCurrent};
 ghost use Rattle.ops_guests.specs.Does.{DoesRule, KeepsTags, SameNames, MayDoRule};
@@ -126,7 +126,7 @@ pub fn begin_call_sync<W: Primitives>(
     requires there { IsSome (get (W.view w.old).core.instances callee.instance) }
     requires words { length words.now ≤ 16 }
     requires few { (W.view w.old).core.made.threads + 1 < 2 ^ 64 }
-    ensures does { MayDoRule KeepsTags (begins_call_sync kind callee words.now) thread (W.view w.old) result (W.view w.new) }
+    ensures does { MayDoRule KeepsTags (begins_call (is_async_lifted kind) kind callee words.now) thread (W.view w.old) result (W.view w.new) }
     ensures current { IfOk result (λ op_result. IsCurrent op_result (W.view w.new)) }
     ensures err { OnErr result (W.view w.new ≡ W.view w.old) }
 {

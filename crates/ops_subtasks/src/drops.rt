@@ -1,5 +1,4 @@
 //! Dropping a subtask.
-ghost use Rattle.ops_subtasks.specs.ById.{by_subtask, HasNoWorkEntry};
 ghost use Rattle.std.specs.Prelude.{◌≡◌, ◌<◌, IsSome, true, ℕ};
 ghost use Rattle.ops_subtasks.specs.Named.{lost_subtask, SettlesSubtask};
 ghost use Rattle.laws_states.specs.Order.{WorksQueued};
@@ -32,7 +31,7 @@ fn delete_work<W: Primitives>(w: &mut W, work: WorkId)
 // What has no handle any more is gone, if nothing else keeps it.
 fn settle<W: Primitives>(w: &mut W, subtask: SubtaskId)
     requires live { (k : ℕ) → subtask_in (W.view w.old).tags subtask ≡ subtasks.Guest k → 0 < k }
-    requires unqueued { HasNoWorkEntry subtask (W.view w.old) }
+    requires unqueued { (i : ℕ) → subtask_in (W.view w.old).tags subtask ≡ subtasks.Host i → work_entries i (W.view w.old).core.queues.high ≡ 0 }
     ensures { SettlesSubtask (subtask_in (W.view w.old).tags subtask) (W.view w.old) (W.view w.new) }
 {
     match subtask {
@@ -48,7 +47,7 @@ fn part<W: Primitives>(w: &mut W, thread: ThreadId, handle: u32, subtask: Subtas
     requires names { IsSome (subtask_at (instance_of (thread_of (W.view w.old) thread) (W.view w.old).core) handle (W.view w.old).core) }
     requires ended { subtask_ended (subtask_in (W.view w.old).tags subtask) (W.view w.old).core ≡ true }
     requires works { WorksQueued (W.view w.old).core }
-    ensures core { (W.view w.new).core ≡ (by_subtask (λ n. unnamed n handle) thread subtask (W.view w.old)).core }
+    ensures core { (W.view w.new).core ≡ unnamed (thread_of (W.view w.old) thread) handle (subtask_in (W.view w.old).tags subtask) (W.view w.old).core }
     ensures thread { thread_of (W.view w.new) thread ≡ thread_of (W.view w.old) thread }
     ensures current { (W.view w.new).current ≡ (W.view w.old).current }
     ensures tags { KeepsBut (lost_subtask (subtask_in (W.view w.old).tags subtask)) (W.view w.old).tags (W.view w.new).tags }

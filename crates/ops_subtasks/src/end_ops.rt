@@ -1,16 +1,16 @@
 //! What follows a cancel: the end is answered, or it is waited for.
-ghost use Rattle.ops_subtasks.specs.ById.{by_subtask};
 ghost use Rattle.std.specs.Prelude.{◌≡◌, ◌<◌, None};
-ghost use Rattle.ops_subtasks.specs.Refused.{mode_of, refused, refused_by};
-ghost use Rattle.ops_subtasks.specs.Rules.{end_answered, takes_end, goes_on_asked, cancel_answers};
+ghost use Rattle.ops_subtasks.specs.Refused.{mode_of, refused};
+ghost use Rattle.ops_subtasks.specs.Rules.{after_cancels, cancels_ended, end_answered};
 ghost use Rattle.machine_data.specs.Read.{event_of, undelivered_end};
+ghost use Rattle.machine_data.specs.Statuses.{status_code};
 ghost use Rattle.ops_guests.specs.Does.{DoesRule, SameNames};
 ghost use Rattle.ops_guests.specs.Running.{IsRunning};
 ghost use Rattle.ops_guests.specs.Shown.{goes_as};
 ghost use Rattle.ops_guests.specs.Stays.{StaysAfter};
 ghost use Rattle.machine_rules.specs.Cancels.{cancel_label, cancel_stops};
 ghost use Rattle.core_primitives.specs.Names.{subtask_in};
-ghost use Rattle.core_primitives.specs.StateView.{StateView, thread_of};
+ghost use Rattle.core_primitives.specs.StateView.{StateView, on_core, thread_of};
 
 use core_primitives::{JoinId, OpProgressId, PlaceId, Primitives, SubtaskId, ThreadId};
 use machine_data::{CallLabel, Label, Status, ThreadLabel, Trap};
@@ -49,8 +49,8 @@ pub(crate) fn answer_end<W: Primitives>(
     subtask: SubtaskId,
     status: Status,
 ) -> OpResult
-    ensures is { result ≡ cancel_answers sync thread status (W.view w.old) }
-    ensures new { W.view w.new ≡ by_subtask end_answered thread subtask (W.view w.old) }
+    ensures is { result ≡ goes_as (cancel_label (mode_of sync) (thread_of (W.view w.old) thread) (status_code status)) (thread_of (W.view w.old) thread) }
+    ensures new { W.view w.new ≡ on_core (end_answered (thread_of (W.view w.old) thread) (subtask_in (W.view w.old).tags subtask)) (W.view w.old) }
 {
     let number = w.number(thread);
     w.set_event(subtask, None);
@@ -65,7 +65,7 @@ pub(crate) fn cancel_ended<W: Primitives>(
     sync: bool,
     subtask: SubtaskId,
 ) -> OpResult
-    ensures does { DoesRule SameNames (takes_end sync subtask (W.view w.old)) thread (W.view w.old) result (W.view w.new) }
+    ensures does { DoesRule SameNames (cancels_ended (mode_of sync) (subtask_in (W.view w.old).tags subtask)) thread (W.view w.old) result (W.view w.new) }
 {
     match undelivered_end(w, subtask) {
         None => OpResult::Traps(Trap::SubtaskCancelAfterTerminal),
@@ -78,7 +78,7 @@ pub(crate) fn cancel_ended<W: Primitives>(
 fn await_end<W: Primitives>(w: &mut W, thread: ThreadId, subtask: SubtaskId)
     requires live { 0 < thread_of (W.view w.old) thread }
     requires running { IsRunning (thread_of (W.view w.old) thread) (W.view w.old).core }
-    ensures { W.view w.new ≡ by_subtask cancel_stops thread subtask (W.view w.old) }
+    ensures { W.view w.new ≡ on_core (cancel_stops (thread_of (W.view w.old) thread) (subtask_in (W.view w.old).tags subtask)) (W.view w.old) }
 {
     let instance = w.instance_of(thread);
     w.set_saved_callee(thread, None);
@@ -101,7 +101,7 @@ pub(crate) fn refusal<W: Primitives>(
     sync: bool,
     subtask: SubtaskId,
 ) -> Option<Trap>
-    ensures { result ≡ refused_by sync thread subtask (W.view w.now) }
+    ensures { result ≡ refused (mode_of sync) (thread_of (W.view w.now) thread) (subtask_in (W.view w.now).tags subtask) (W.view w.now).core }
 {
     if w.has_ended(subtask) {
         match undelivered_end(w, subtask) {
@@ -125,8 +125,8 @@ pub(crate) fn finish_cancel<W: Primitives>(
 ) -> OpResult
     requires live { 0 < thread_of (W.view w.old) thread }
     requires running { IsRunning (thread_of (W.view w.old) thread) (W.view w.old).core }
-    requires may { refused_by sync thread subtask (W.view w.old) ≡ None }
-    ensures does { DoesRule SameNames (goes_on_asked sync subtask (W.view w.old)) thread (W.view w.old) result (W.view w.new) }
+    requires may { refused (mode_of sync) (thread_of (W.view w.old) thread) (subtask_in (W.view w.old).tags subtask) (W.view w.old).core ≡ None }
+    ensures does { DoesRule SameNames (after_cancels (mode_of sync) (subtask_in (W.view w.old).tags subtask)) thread (W.view w.old) result (W.view w.new) }
     ensures goes { (s : StateView) → StaysAfter result s (W.view w.new) }
 {
     let number = w.number(thread);

@@ -1,13 +1,14 @@
 //! The cancel of a guest call.
-ghost use Rattle.ops_subtasks.specs.ById.{by_call, start_withdrawn};
 ghost use Rattle.std.specs.Prelude.{◌≡◌, ◌<◌, None, false, is_some, true};
-ghost use Rattle.ops_subtasks.specs.Rules.{cancels_call, asks_call};
+ghost use Rattle.ops_subtasks.specs.Refused.{mode_of};
+ghost use Rattle.ops_subtasks.specs.Rules.{asks_to_end, cancels_guest};
 ghost use Rattle.laws_states.specs.Order.{StartsAwaited, StartsThere};
 ghost use Rattle.machine_data.specs.Maps.{get};
 ghost use Rattle.machine_data.specs.Read.{has_ended, is_at, is_callback_yield, place_of, was_started};
 ghost use Rattle.ops_guests.specs.Does.{DoesRule, KeepsRest, SameNames};
 ghost use Rattle.ops_guests.specs.Running.{IsRunning};
 ghost use Rattle.machine_rules.specs.Cancels.{behind_switch, cancel_asks, cancel_goes_behind, cancel_promotes_yield, cancel_wakes_callback, is_callback_wait};
+ghost use Rattle.machine_data.specs.Moves.{withdrawn};
 ghost use Rattle.machine_data.specs.Write.{set_saved_callee};
 ghost use Rattle.machine_rules.specs.Places.{is_fresh, is_there};
 ghost use Rattle.core_primitives.specs.Apart.{IsBehindNobody};
@@ -98,7 +99,7 @@ fn wake_callback<W: Primitives>(w: &mut W, thread: ThreadId, call: CallId, first
     requires named { 0 < call_of (W.view w.old) call }
     requires first { thread_of (W.view w.old) first ≡ call_of (W.view w.old) call }
     requires waits { is_at (call_of (W.view w.old) call) (W.view w.old).core is_callback_wait ≡ true }
-    ensures { W.view w.new ≡ by_call cancel_wakes_callback thread call (W.view w.old) }
+    ensures { W.view w.new ≡ on_core (cancel_wakes_callback (thread_of (W.view w.old) thread) (call_of (W.view w.old) call)) (W.view w.old) }
 {
     ask(w, call);
     put_switch(w, first, WhyId::Delivery(DeliveryId::Cancel));
@@ -113,7 +114,7 @@ fn promote_yield<W: Primitives>(w: &mut W, thread: ThreadId, call: CallId, first
     requires named { 0 < call_of (W.view w.old) call }
     requires first { thread_of (W.view w.old) first ≡ call_of (W.view w.old) call }
     requires yields { is_at (call_of (W.view w.old) call) (W.view w.old).core is_callback_yield ≡ true }
-    ensures { W.view w.new ≡ by_call cancel_promotes_yield thread call (W.view w.old) }
+    ensures { W.view w.new ≡ on_core (cancel_promotes_yield (thread_of (W.view w.old) thread) (call_of (W.view w.old) call)) (W.view w.old) }
 {
     ask(w, call);
     promote_unless(w, first);
@@ -124,7 +125,7 @@ fn promote_yield<W: Primitives>(w: &mut W, thread: ThreadId, call: CallId, first
 fn ask_running<W: Primitives>(w: &mut W, thread: ThreadId, sync: bool, call: CallId) -> OpResult
     requires live { 0 < thread_of (W.view w.old) thread }
     requires running { IsRunning (thread_of (W.view w.old) thread) (W.view w.old).core }
-    ensures does { DoesRule SameNames (asks_call sync call (W.view w.old)) thread (W.view w.old) result (W.view w.new) }
+    ensures does { DoesRule SameNames (asks_to_end (mode_of sync) (call_of (W.view w.old) call)) thread (W.view w.old) result (W.view w.new) }
 {
     let subtask = SubtaskId::Guest(call);
     if let Some(trap) = refusal(w, thread, sync, subtask) {
@@ -141,7 +142,7 @@ fn cancel_started<W: Primitives>(w: &mut W, thread: ThreadId, sync: bool, call: 
     requires named { 0 < call_of (W.view w.old) call }
     requires unended { has_ended (call_of (W.view w.old) call) (W.view w.old).core ≡ false }
     requires started { was_started (call_of (W.view w.old) call) (W.view w.old).core ≡ true }
-    ensures does { DoesRule SameNames (cancels_call sync call (W.view w.old)) thread (W.view w.old) result (W.view w.new) }
+    ensures does { DoesRule SameNames (cancels_guest (mode_of sync) (call_of (W.view w.old) call)) thread (W.view w.old) result (W.view w.new) }
 {
     w.none_is_zero();
     let number = w.number(thread);
@@ -165,7 +166,7 @@ fn withdraw_start<W: Primitives>(w: &mut W, thread: ThreadId, call: CallId)
     requires there { is_there (call_of (W.view w.old) call) (W.view w.old).core ≡ true }
     requires fresh { is_fresh (place_of (call_of (W.view w.old) call) (W.view w.old).core) ≡ true }
     ensures tags { KeepsBut (lost_thread (call_of (W.view w.old) call)) (W.view w.old).tags (W.view w.new).tags }
-    ensures core { (W.view w.new).core ≡ (by_call start_withdrawn thread call (W.view w.old)).core }
+    ensures core { (W.view w.new).core ≡ set_saved_callee (thread_of (W.view w.old) thread) None (withdrawn (call_of (W.view w.old) call) (W.view w.old).core) }
     ensures thread { thread_of (W.view w.new) thread ≡ thread_of (W.view w.old) thread }
     ensures current { (W.view w.new).current ≡ (W.view w.old).current }
 {
@@ -187,7 +188,7 @@ pub(crate) fn cancel_guest<W: Primitives>(
     requires there { is_some (get (W.view w.old).core.calls (call_of (W.view w.old) call)) ≡ true }
     requires starts { StartsAwaited (W.view w.old).core }
     requires waiting { StartsThere (W.view w.old).core }
-    ensures does { DoesRule KeepsRest (cancels_call sync call (W.view w.old)) thread (W.view w.old) result (W.view w.new) }
+    ensures does { DoesRule KeepsRest (cancels_guest (mode_of sync) (call_of (W.view w.old) call)) thread (W.view w.old) result (W.view w.new) }
     ensures thread { thread_of (W.view w.new) thread ≡ thread_of (W.view w.old) thread }
 {
     if w.end_of(call).is_some() {

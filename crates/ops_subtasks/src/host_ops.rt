@@ -3,7 +3,7 @@ ghost use Rattle.std.specs.Prelude.{◌≡◌, ◌+◌, ◌<◌, ◌^◌, IfOk, 
 ghost use Rattle.ops_subtasks.specs.First.{first_heard, first_named};
 ghost use Rattle.ops_subtasks.specs.Named.{LosesWork};
 ghost use Rattle.ops_subtasks.specs.Queued.{NamesQueued, queued_answer};
-ghost use Rattle.ops_subtasks.specs.Rules.{answers_work, calls_host, calls_sync_host, MayCallHost};
+ghost use Rattle.ops_subtasks.specs.Rules.{answers_work, calls_host, calls_sync_host};
 ghost use Rattle.machine_data.specs.Maps.{get};
 ghost use Rattle.machine_data.specs.Read.{at_handle_limit, fits};
 ghost use Rattle.ops_guests.specs.Does.{DoesRule, KeepsNames};
@@ -124,7 +124,7 @@ fn call_host_found<W: Primitives>(
 ) -> Result<(OpResult, Option<WorkId>), NoMemory>
     requires live { 0 < thread_of (W.view w.old) thread }
     requires few { (W.view w.old).core.made.works + 1 < 2 ^ 64 }
-    ensures does { MayCallHost (calls_host register (first_named first)) thread (W.view w.old) result (W.view w.new) }
+    ensures does { IfOk result (λ r. DoesRule KeepsNames (calls_host register (first_named first)) thread (W.view w.old) r.0 (W.view w.new)) }
     ensures work { IfOk result (λ r. NamesQueued (first_named first) (W.view w.old) r (W.view w.new)) }
     ensures err { OnErr result (W.view w.new ≡ W.view w.old) }
 {
@@ -160,7 +160,7 @@ pub fn call_host<W: Primitives>(
 ) -> Result<(OpResult, Option<WorkId>), NoMemory>
     requires live { 0 < thread_of (W.view w.old) thread }
     requires few { (W.view w.old).core.made.works + 1 < 2 ^ 64 }
-    ensures does { MayCallHost (calls_host register (first_heard host answer)) thread (W.view w.old) result (W.view w.new) }
+    ensures does { IfOk result (λ r. DoesRule KeepsNames (calls_host register (first_heard host answer)) thread (W.view w.old) r.0 (W.view w.new)) }
     ensures work { IfOk result (λ r. NamesQueued (first_heard host answer) (W.view w.old) r (W.view w.new)) }
     ensures err { OnErr result (W.view w.new ≡ W.view w.old) }
 {
@@ -253,7 +253,7 @@ pub fn call_sync_host<W: Primitives>(
     requires live { 0 < thread_of (W.view w.old) thread }
     requires running { IsRunning (thread_of (W.view w.old) thread) (W.view w.old).core }
     requires few { (W.view w.old).core.made.works + 1 < 2 ^ 64 }
-    ensures does { MayCallHost (calls_sync_host (first_heard host answer)) thread (W.view w.old) result (W.view w.new) }
+    ensures does { IfOk result (λ r. DoesRule KeepsNames (calls_sync_host (first_heard host answer)) thread (W.view w.old) r.0 (W.view w.new)) }
     ensures work { IfOk result (λ r. NamesQueued (first_heard host answer) (W.view w.old) r (W.view w.new)) }
     ensures err { OnErr result (W.view w.new ≡ W.view w.old) }
 {

@@ -1,6 +1,8 @@
 //! The words that a call passes.
-ghost use Rattle.ops_subtasks.specs.ById.{values_of};
 ghost use Rattle.std.specs.Prelude.{◌≡◌, ◌≤◌, length, take};
+ghost use Rattle.machine_data.specs.Read.{registers_of};
+ghost use Rattle.machine_rules.specs.Scripts.{values_in};
+ghost use Rattle.core_primitives.specs.StateView.{thread_of};
 
 use core_primitives::{Primitives, ThreadId};
 use machine_data::Operand;
@@ -14,7 +16,7 @@ pub fn read_operands<W: Primitives>(
     words: &mut [u64; 16],
 )
     requires { length operands.now ≤ 16 }
-    ensures { take (length operands.now) words.new ≡ values_of thread operands.now (W.view w.now) }
+    ensures { take (length operands.now) words.new ≡ values_in (registers_of (thread_of (W.view w.now) thread) (W.view w.now).core) operands.now }
 {
     for place in 0..operands.len() {
         words[place] = value_of(w, thread, operands[place]);

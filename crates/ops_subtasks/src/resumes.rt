@@ -1,7 +1,6 @@
 //! Cancels that go on.
-ghost use Rattle.ops_subtasks.specs.ById.{by_subtask};
 ghost use Rattle.std.specs.Prelude.{◌≡◌, ◌<◌};
-ghost use Rattle.ops_subtasks.specs.Refused.{refused_after_by};
+ghost use Rattle.ops_subtasks.specs.Refused.{mode_of, refused_after};
 ghost use Rattle.ops_subtasks.specs.Rules.{goes_on_awaiting, goes_on_cancelling};
 ghost use Rattle.ops_guests.specs.Does.{DoesRule, SameNames};
 ghost use Rattle.ops_guests.specs.Running.{IsRunning};
@@ -41,7 +40,7 @@ fn refusal_after<W: Primitives>(
     sync: bool,
     subtask: SubtaskId,
 ) -> Option<Trap>
-    ensures is { result ≡ refused_after_by sync thread subtask (W.view w.old) }
+    ensures is { result ≡ refused_after (mode_of sync) (thread_of (W.view w.old) thread) (subtask_in (W.view w.old).tags subtask) (W.view w.old).core }
     ensures same { W.view w.new ≡ W.view w.old }
 {
     let instance = subtask_instance(w, subtask);
@@ -56,7 +55,7 @@ fn refusal_after<W: Primitives>(
 // The saved flag is written back, and the subtask leaves its set.
 #[tactic(auto, unfolding(machine_rules::specs::Cancels::cancel_resumed))]
 fn resume_canceller<W: Primitives>(w: &mut W, thread: ThreadId, subtask: SubtaskId)
-    ensures { W.view w.new ≡ by_subtask cancel_resumed thread subtask (W.view w.old) }
+    ensures { W.view w.new ≡ on_core (cancel_resumed (thread_of (W.view w.old) thread) (subtask_in (W.view w.old).tags subtask)) (W.view w.old) }
 {
     let saved = w.saved_callee(thread);
     let instance = subtask_instance(w, subtask);

@@ -1,14 +1,15 @@
 //! Calls of exports whose start was queued, as they go on.
-ghost use Rattle.ops_subtasks.specs.ById.{by_call, by_subtask, answer_with, HasHandleTable};
-ghost use Rattle.std.specs.Prelude.{◌≡◌, ◌+◌, ◌*◌, ◌<◌, IfOk, OnErr, false};
+ghost use Rattle.std.specs.Prelude.{◌≡◌, ◌+◌, ◌*◌, ◌<◌, IfOk, OnErr, false, is_some, true};
 ghost use Rattle.ops_subtasks.specs.Named.{LosesCallOf};
 ghost use Rattle.ops_subtasks.specs.Rules.{call_pends, goes_on_in_sync, goes_on_with, result_taken, return_taken};
+ghost use Rattle.machine_data.specs.Maps.{get};
 ghost use Rattle.machine_data.specs.Moves.{passes_check};
-ghost use Rattle.machine_data.specs.Read.{at_handle_limit, instance_of, result_of};
-ghost use Rattle.machine_data.specs.Statuses.{status_code};
+ghost use Rattle.machine_data.specs.Read.{at_handle_limit, instance_of, new_handle, result_of};
+ghost use Rattle.machine_data.specs.Statuses.{packed, status_code};
 ghost use Rattle.ops_guests.specs.Does.{DoesRule, MayDoRule};
 ghost use Rattle.ops_guests.specs.Running.{IsRunning};
 ghost use Rattle.machine_rules.specs.Calls.{call_resumes, call_stops, call_sync_stops, status_found};
+ghost use Rattle.core_primitives.specs.Names.{subtask_in};
 ghost use Rattle.core_primitives.specs.StateView.{KeepsBut, call_of, lost_call, on_core, thread_of};
 ghost use Rattle.core_primitives.specs.Records.{LosesCallBy};
 
@@ -56,7 +57,7 @@ fn resume<W: Primitives>(w: &mut W, thread: ThreadId, call: CallId)
 pub(crate) fn stop_blocked<W: Primitives>(w: &mut W, thread: ThreadId, subtask: SubtaskId)
     requires live { 0 < thread_of (W.view w.old) thread }
     requires running { IsRunning (thread_of (W.view w.old) thread) (W.view w.old).core }
-    ensures { W.view w.new ≡ by_subtask call_stops thread subtask (W.view w.old) }
+    ensures { W.view w.new ≡ on_core (call_stops (thread_of (W.view w.old) thread) (subtask_in (W.view w.old).tags subtask)) (W.view w.old) }
 {
     let foot = foot_of(w, thread);
     stop(w, foot);
@@ -86,10 +87,10 @@ fn pend<W: Primitives>(
     call: CallId,
     status: Status,
 ) -> Result<u32, NoMemory>
-    requires there { HasHandleTable thread (W.view w.old) }
+    requires there { is_some (get (W.view w.old).core.handles (instance_of (thread_of (W.view w.old) thread) (W.view w.old).core)) ≡ true }
     requires limit { at_handle_limit (W.view w.old).core ≡ false }
-    ensures value { IfOk result (λ v. v ≡ answer_with thread status (W.view w.old)) }
-    ensures new { IfOk result (λ v. W.view w.new ≡ by_call call_pends thread call (W.view w.old)) }
+    ensures value { IfOk result (λ v. v ≡ packed (new_handle (instance_of (thread_of (W.view w.old) thread) (W.view w.old).core) (W.view w.old).core) status) }
+    ensures new { IfOk result (λ v. W.view w.new ≡ on_core (call_pends (thread_of (W.view w.old) thread) (call_of (W.view w.old) call)) (W.view w.old)) }
     ensures err { OnErr result (W.view w.new ≡ W.view w.old) }
 {
     let instance = w.instance_of(thread);
@@ -108,7 +109,7 @@ pub fn go_on_calling<W: Primitives>(
 ) -> Result<OpResult, NoMemory>
     requires live { 0 < thread_of (W.view w.old) thread }
     requires call { 0 < call_of (W.view w.old) call }
-    requires there { HasHandleTable thread (W.view w.old) }
+    requires there { is_some (get (W.view w.old).core.handles (instance_of (thread_of (W.view w.old) thread) (W.view w.old).core)) ≡ true }
     ensures does { MayDoRule (LosesCallOf call) (goes_on_with (call_of (W.view w.old) call)) thread (W.view w.old) result (W.view w.new) }
     ensures thread { thread_of (W.view w.new) thread ≡ thread_of (W.view w.old) thread }
     ensures err { OnErr result (W.view w.new ≡ W.view w.old) }
@@ -140,7 +141,7 @@ fn take_answer<W: Primitives>(w: &mut W, thread: ThreadId, call: CallId) -> u64
     requires live { 0 < thread_of (W.view w.old) thread }
     requires call { 0 < call_of (W.view w.old) call }
     ensures value { result ≡ result_of (call_of (W.view w.old) call) (W.view w.old).core }
-    ensures core { (W.view w.new).core ≡ (by_call result_taken thread call (W.view w.old)).core }
+    ensures core { (W.view w.new).core ≡ result_taken (thread_of (W.view w.old) thread) (call_of (W.view w.old) call) (W.view w.old).core }
     ensures current { (W.view w.new).current ≡ (W.view w.old).current }
     ensures tags { KeepsBut (lost_call (call_of (W.view w.old) call)) (W.view w.old).tags (W.view w.new).tags }
 {
@@ -154,7 +155,7 @@ fn take_answer<W: Primitives>(w: &mut W, thread: ThreadId, call: CallId) -> u64
 
 // A check of the instance passes once the calling thread is resumed.
 fn passes_resumed<W: Primitives>(w: &mut W, thread: ThreadId, call: CallId, instance: u32) -> bool
-    ensures passes { result ≡ passes_check instance (by_call call_resumes thread call (W.view w.old)).core }
+    ensures passes { result ≡ passes_check instance (call_resumes (thread_of (W.view w.old) thread) (call_of (W.view w.old) call) (W.view w.old).core) }
     ensures same { W.view w.new ≡ W.view w.old }
 {
     let event = w.event(SubtaskId::Guest(call));

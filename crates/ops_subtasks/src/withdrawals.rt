@@ -1,5 +1,4 @@
 //! The withdrawal of a start.
-ghost use Rattle.ops_subtasks.specs.ById.{IsNoSwitch};
 ghost use Rattle.ops_subtasks.specs.Starts.{taken_out};
 ghost use Rattle.ops_subtasks.specs.Named.{WithdrawsCall};
 ghost use Rattle.std.specs.Prelude.{◌≡◌, ◌<◌, None, false, true};
@@ -14,7 +13,7 @@ use machine_data::CallEnd;
 // Whether the thread's entry is at switch.
 fn is_switched<W: Primitives>(w: &W, thread: ThreadId) -> bool
     ensures yes { result ≡ true → less_switch (thread_of (W.view w.now) thread) (W.view w.now).core.queues.switch ≡ None }
-    ensures no { result ≡ false → IsNoSwitch thread (W.view w.now) }
+    ensures no { result ≡ false → less_switch (thread_of (W.view w.now) thread) (W.view w.now).core.queues.switch ≡ (W.view w.now).core.queues.switch }
 {
     match w.switch() {
         Some(other) => w.number(thread) == w.number(other),
