@@ -24,7 +24,7 @@ pub test_label-requires : goal.test_label-requires
 test_label-requires g c =
     let says = g.M.MainTask.says in
     let main = c.args.self.now.main in
-    step_backed c.args.component.now (says.script main) c.in-Ok.step c.has_results.result c.has_interesting.result (says.part main) (says.part c.step.new.self) c.args.access.now.store.now.state.core c.step.new.access.store.now.state.core c.has_results.ensures.none c.has_interesting.ensures c.in-Ok.ensures.steps.steps
+    step_backed c.args.component.now (says.script main) c.in-Ok.step c.has_results-returned.result c.has_interesting-interesting.result (says.part main) (says.part c.step.new.self) c.args.access.now.store.now.state.core c.step.new.access.store.now.state.core c.has_results-returned.ensures.none c.has_interesting-interesting.ensures c.in-Ok.ensures.steps.steps
 
 pub test_trap-requires : goal.test_trap-requires
 test_trap-requires g c =
