@@ -40,10 +40,11 @@ use Rattle.ops_turns.proofs.IdleLemmas.{after_free, free_at}
 use Rattle.ops_turns.proofs.RunLemmas.{host_over, host_picks, label_same, picked_at, push_picks, ran_at, took, took_host, took_picks, took_push}
 use Rattle.ops_turns.specs.Drive.{Drove, IsOn}
 use Rattle.ops_turns.specs.Ran.{OpMade, WorkMade, host_polled, scripted_rule_of}
-use Rattle.ops_turns.specs.StepResult.{Added, AddedOrNone, CallStepped, OpPolls, OpStep, RuleRan, RuleShown, RunStepped, Shown, made_by, turn_of}
+use Rattle.ops_turns.specs.StepResult.{Added, AddedOrNone, CallStepped, IsFull, OpPolls, OpShown, OpStep, RuleRan, RuleShown, RunMade, RunStepped, Shown, is_made, made_by, turn_of}
 use Rattle.ops_turns.specs.Turn.{IsFree, MakesStep, Turned, Turns, is_open, running_of, runs_in, state_at}
 use Rattle.ops_turns.specs.declared.made.MadeStep.{MadeStep}
 use Rattle.ops_turns.specs.declared.made.StepResult.{StepResult}
+use Rattle.ops_turns.specs.declared.made.StepResult.TheVariants as stepped
 use Rattle.task_wait.specs.declared.keys.HostTaskKey.{HostTaskKey}
 use Rattle.task_wait.specs.declared.keys.ThreadKey.{ThreadKey}
 use Rattle.core_primitives.specs.Names.{entry_in}
@@ -73,13 +74,46 @@ closes p e = closed p (off (is_open p) e)
 pub added_as : (P Q : MadeStep → Type 0) (stepped : StepResult) (before after : List Label) → ((made : MadeStep) → P made → Q made) → Added P stepped before after → Added Q stepped before after
 added_as P Q stepped before after f h = (h.0, (h.1.0, f h.0 h.1.1))
 
-pub none_as : (P Q : Option MadeStep → Type 0) (o : Option StepResult) (before after : List Label) → ((made : Option MadeStep) → P made → Q made) → AddedOrNone P o before after → AddedOrNone Q o before after
-none_as P Q None before after f h = (f None h.0, h.1)
-none_as P Q (Some q) before after f h = added_as (λ made. P (Some made)) (λ made. Q (Some made)) q before after (λ made. f (Some made)) h
+-- ---- Whether a step was made
 
-pub IfOk_then : {X E : Type 0} (r : Result X E) {P Q : X → Type 0} → IfOk r P → ((x : X) → P x → Q x) → IfOk r Q
-IfOk_then (Ok x) h f = f x h
-IfOk_then (Err e) h f = tt
+-- one was, where nothing says why not
+pub made_else : (q : StepResult) → (q ≡ stepped.Nothing → ⊥) → (q ≡ stepped.Full → ⊥) → (q ≡ stepped.HookFailed → ⊥) → is_made q ≡ true
+made_else stepped.Nothing some room hook = absurd (some refl)
+made_else stepped.Full some room hook = absurd (room refl)
+made_else stepped.HookFailed some room hook = absurd (hook refl)
+made_else _ some room hook = refl
+
+-- then it isn't out of memory
+pub made_room : (q : StepResult) → is_made q ≡ true → q ≡ stepped.Full → ⊥
+made_room stepped.Full made full = absurd (cc)
+made_room _ made full = absurd (cc)
+
+-- the run goes on after it, if it isn't over
+pub made_open : (q : StepResult) → is_made q ≡ true → (q ≡ stepped.Over → ⊥) → is_open (turn_of q) ≡ true
+made_open stepped.Nothing made more = absurd (cc)
+made_open stepped.Full made more = absurd (cc)
+made_open stepped.HookFailed made more = absurd (cc)
+made_open stepped.Over made more = absurd (more refl)
+made_open _ made more = refl
+
+module _ (P : Option MadeStep → Type 0) (before after : List Label) where
+  pub added_of : (q : StepResult) → is_made q ≡ true → AddedOrNone P q before after → Added (λ made. P (Some made)) q before after
+  added_of stepped.Nothing made h = absurd (cc)
+  added_of stepped.Full made h = absurd (cc)
+  added_of stepped.HookFailed made h = absurd (cc)
+  added_of _ made h = h
+
+  pub of_added : (q : StepResult) → (is_made q ≡ true → Added (λ made. P (Some made)) q before after) → (is_made q ≡ false → IsFull q before after) → AddedOrNone P q before after
+  of_added stepped.Nothing added full = absurd (let none = (full refl).0 in cc)
+  of_added stepped.Full added full = (full refl).1
+  of_added stepped.HookFailed added full = absurd (let none = (full refl).0 in cc)
+  of_added _ added full = added refl
+
+pub none_as : (P Q : Option MadeStep → Type 0) (q : StepResult) (before after : List Label) → ((made : Option MadeStep) → P made → Q made) → AddedOrNone P q before after → AddedOrNone Q q before after
+none_as P Q stepped.Nothing before after f h = (f None h.0, h.1)
+none_as P Q stepped.Full before after f h = h
+none_as P Q stepped.HookFailed before after f h = h
+none_as P Q q before after f h = added_as (λ made. P (Some made)) (λ made. Q (Some made)) q before after (λ made. f (Some made)) h
 
 -- ---- A step of the running thread
 
@@ -144,14 +178,18 @@ module _ (c : Component) (id : TableId ThreadKey) (n : ℕ) (s t : StateView) (n
   polled_at : (host : Option HostDef) → host ≡ polled_host c (op_progress_of (thread_of s id) s.core) o → host ≡ polled_host c (op_progress_of n s.core) (op_of c n s.core)
   polled_at host e = subst (λ k. host ≡ polled_host c (op_progress_of k s.core) (op_of c k s.core)) number (e ∙ sym (ap (polled_host c (op_progress_of (thread_of s id) s.core)) is))
 
-  pub run_steps : (before after : List Label) (r : Result (Option StepResult) NoMemory) → IfOk r (λ q. OpStep c o id s before q t after) → IfOk r (λ q. OpPolls c o id s q) → IfOk r (λ q. RunStepped c n s q t before after)
-  run_steps before after (Err e) step polls = tt
-  run_steps before after (Ok (Some q)) step polls = (
-    run_added id s t q before after c n number (rule_as id s t q before after (λ op_result. scripted_op_rule c (thread_of s id) s.core (choice_of (label_of (thread_of s id) op_result)) o) (λ op_result. did c (thread_of s id) s.core (choice_of (label_of (thread_of s id) op_result))) same step),
-    sym (polled_at None (sym polls)),
-  )
-  run_steps before after (Ok None) step polls =
+  -- one that is done polls no host
+  pub step_made : (before after : List Label) (q : StepResult) → OpShown c o id s before q t after → polled_host c (op_progress_of (thread_of s id) s.core) o ≡ None → Added (λ made. RunMade c n s (Some made) t) q before after
+  step_made before after q step polls =
+      let added = run_added id s t q before after c n number (rule_as id s t q before after (λ op_result. scripted_op_rule c (thread_of s id) s.core (choice_of (label_of (thread_of s id) op_result)) o) (λ op_result. did c (thread_of s id) s.core (choice_of (label_of (thread_of s id) op_result))) same step) in
+      (added.0, (added.1.0, (added.1.1, sym (polled_at None (sym polls)))))
+
+  pub run_steps : (before after : List Label) (q : StepResult) → OpStep c o id s before q t after → OpPolls c o id s q → RunStepped c n s q t before after
+  run_steps before after stepped.Nothing step polls =
       ((step.0, subst (λ k. calls_host (op_of c k s.core) ≡ true) number (ap calls_host is ∙ polls)), step.1)
+  run_steps before after stepped.Full step polls = step
+  run_steps before after stepped.HookFailed step polls = step
+  run_steps before after q step polls = step_made before after q step polls
 
   -- so is what one came to that calls a host
   pub call_steps : (answer : HostPoll) (r : Result (MadeStep × Option (TableId HostTaskKey)) NoMemory) → IfOk r (λ q. RuleRan (scripted_rule_of c o id s) id s q.0 t) → IfOk r (λ q. OpMade answer c o id s q.1 t)
