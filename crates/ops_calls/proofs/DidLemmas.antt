@@ -1,6 +1,6 @@
 -- An op that a host has the running thread do keeps order in which the thread has it; once it is done the state is in order.
 use Rattle.ops_calls.specs.Methods.{HostOpsKeep, HostsKeep, InTurn, KeepsDone, KeepsFor, OpsKeep, Rests, hosts_rule}
-use Rattle.ops_dispatch.specs.ContinuesDispatch.{running_of}
+use Rattle.ops_dispatch.specs.Continues.{running_of}
 use Rattle.laws_order.proofs.GivenLemmas.{host_keeps}
 use Rattle.laws_order.proofs.HostCallLemmas.{host_calls_keep, host_instances}
 use Rattle.laws_order.proofs.HostLemmas.{host_calls_done, host_done}

@@ -9,7 +9,7 @@ use Rattle.ops_guests.specs.Ended.{ended}
 use Rattle.ops_dispatch.proofs.EndLemmas.{end_goes, end_implements, end_picks, end_stays, end_works}
 use Rattle.std.proofs.Common.{ap, arith, refl, subst, sym, ⊎_elim, ◌∙◌}
 use Rattle.std.specs.Prelude.{IfSome, Option, Some, false, option_map, true, ℕ, ◌≡◌, ◌⊎◌}
-use Rattle.ops_dispatch.specs.ContinuesDispatch.{DoesOp, OpGoesOn, running_of}
+use Rattle.ops_dispatch.specs.Continues.{DoesOp, OpGoesOn, running_of}
 use Rattle.ops_calls.proofs.AtOnceLemmas.{never_stops}
 use Rattle.ops_calls.specs.OpAnswers.{has_stopped}
 use Rattle.ops_calls.specs.HostOps.{Did, Does, after, is_at_once, left_by, scripted_rule_of, runs_after, turn_for, turn_in}

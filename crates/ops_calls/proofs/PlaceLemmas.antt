@@ -3,7 +3,7 @@ use Rattle.std.proofs.Common.{ap, arith, refl, subst, sym, ◌∙◌}
 use Rattle.std.proofs.lemmas.Bool.Decides.{nat_tests}
 use Rattle.std.specs.Prelude.{Bool, None, Option, Result, Some, false, is_some, true, ℕ, ◌==◌, ◌≡◌}
 use Rattle.std.specs.Option.{option_map_or}
-use Rattle.ops_dispatch.specs.ContinuesDispatch.{running_of}
+use Rattle.ops_dispatch.specs.Continues.{running_of}
 use Rattle.ops_state.specs.declared.error.TaskError.{TaskError}
 use Rattle.ops_calls.proofs.HostOpLemmas.{running_is}
 use Rattle.ops_dispatch.proofs.LeavesLemmas.{host_leaves_in_place}

@@ -1,7 +1,7 @@
 -- What becomes of another thread that the running one resumes.
 use Rattle.std.proofs.Common.{ap, ap₂, refl, subst, sym, ◌∙◌}
 use Rattle.std.specs.Prelude.{Bool, IfSome, None, Option, Result, Some, false, true, ℕ, ◌==◌, ◌≡◌}
-use Rattle.ops_dispatch.specs.ContinuesDispatch.{running_of}
+use Rattle.ops_dispatch.specs.Continues.{running_of}
 use Rattle.ops_state.specs.declared.error.TaskError.{TaskError}
 use Rattle.ops_calls.specs.Resumes.{Resumed, came_later, first_in, or_refused, resumed_by}
 use Rattle.ops_calls.specs.declared.intrinsics.ResumeThread.{ResumeThread}

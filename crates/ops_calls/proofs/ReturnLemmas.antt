@@ -20,7 +20,7 @@ use Rattle.machine_rules.specs.Finish.{SomeHost}
 use Rattle.ops_calls.specs.OpAnswers.{has_stopped}
 use Rattle.task_table.specs.declared.id.TableId.{TableId}
 use Rattle.ops_turns.specs.WellFormed.{IsWellFormed}
-use Rattle.ops_dispatch.specs.RunnerDispatch.{Runner}
+use Rattle.ops_dispatch.specs.Runner.{Runner}
 use Rattle.ops_turns.specs.Turn.{CoreInOrder}
 use Rattle.task_wait.specs.declared.keys.ThreadKey.{ThreadKey}
 use Rattle.core_primitives.specs.StateView.{StateView, Tags, thread_of, with_core}

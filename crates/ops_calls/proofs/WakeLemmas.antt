@@ -2,7 +2,7 @@
 use Rattle.ops_calls.proofs.DidLemmas.{hosts_keep, ops_keep}
 use Rattle.ops_calls.specs.Methods.{HostsKeep, KeepsDone, KeepsFor, OpsKeep}
 use Rattle.ops_calls.specs.MethodWakes.{HostsLose, OpsLoseNone}
-use Rattle.ops_dispatch.specs.ContinuesDispatch.{running_of}
+use Rattle.ops_dispatch.specs.Continues.{running_of}
 use Rattle.laws_order.specs.Given.{given, host_op}
 use Rattle.std.proofs.Common.{refl}
 use Rattle.std.specs.Prelude.{None, Option, Some, true, ℕ, ◌≡◌}

@@ -1,7 +1,7 @@
 -- What comes of an op that a host has the running thread do in place of the one at its place.
 use Rattle.std.specs.Prelude.{Bool, Err, IfSome, None, Option, Result, Some, false, length, true, ℕ, ◌<◌, ◌≡◌, ◌≢◌}
 use Rattle.std.specs.Option.{option_map_or}
-use Rattle.ops_dispatch.specs.ContinuesDispatch.{running_of}
+use Rattle.ops_dispatch.specs.Continues.{running_of}
 use Rattle.ops_dispatch.specs.Makes.{takes_memory}
 use Rattle.ops_state.specs.declared.error.TaskError.{TaskError}
 use Rattle.ops_state.specs.declared.error.TaskError.TheVariants as task_error

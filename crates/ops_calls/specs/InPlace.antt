@@ -1,6 +1,6 @@
 -- What an op leaves of the thread that a host has do it: its place in its script, and its registers.
 use Rattle.std.specs.Prelude.{Bool, Result, Some, false, true, ℕ, ◌==◌, ◌≡◌}
-use Rattle.ops_dispatch.specs.ContinuesDispatch.{running_of}
+use Rattle.ops_dispatch.specs.Continues.{running_of}
 pub use Rattle.ops_dispatch.specs.InPlace.{CallsItself, IsInPlace, IsUnderWay, in_script, is_return}
 unfoldable pub use Rattle.ops_dispatch.specs.InPlace.{HostLeavesInPlace}
 use Rattle.ops_state.specs.declared.error.TaskError.{TaskError}

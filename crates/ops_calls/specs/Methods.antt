@@ -1,6 +1,6 @@
 -- What the calls by which a host has the running thread do a piece of a rule, or a rule in place of the one at its place, leave in
 -- order.
-use Rattle.ops_dispatch.specs.ContinuesDispatch.{running_of}
+use Rattle.ops_dispatch.specs.Continues.{running_of}
 use Rattle.laws_order.specs.Given.{given, host_op, is_host_op}
 use Rattle.laws_order.specs.Pieces.{IsPrepared}
 use Rattle.ops_state.specs.declared.error.TaskError.{TaskError}

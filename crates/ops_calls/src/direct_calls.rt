@@ -1,5 +1,5 @@
 //! The two halves of a direct call, of a sync or blocking export.
-ghost use Rattle.ops_dispatch.specs.ContinuesDispatch.{given};
+ghost use Rattle.ops_dispatch.specs.Continues.{given};
 ghost use Rattle.std.specs.Prelude.{◌≡◌, ◌<◌, ◌^◌, IfOk, IfSome, IsSome, false, length};
 ghost use Rattle.ops_state.specs.Named.{IsLive};
 ghost use Rattle.ops_calls.specs.OpAnswers.{at_once, nothing_answered};

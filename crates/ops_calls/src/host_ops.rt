@@ -1,6 +1,6 @@
 //! An op that a host has the running thread do, in place of the one at its place.
 ghost use Rattle.ops_dispatch.specs.Fits.{calls_host, is_data_op, op_fits};
-ghost use Rattle.ops_dispatch.specs.ContinuesDispatch.{given};
+ghost use Rattle.ops_dispatch.specs.Continues.{given};
 ghost use Rattle.ops_dispatch.specs.Makes.{takes_memory};
 ghost use Rattle.std.specs.Prelude.{◌≡◌, ◌<◌, ◌^◌, ℕ, IfErr, IfOk, OnErr, false, true};
 ghost use Rattle.ops_calls.specs.OpAnswers.{at_once, event_answered, nothing_answered, number_answered, whole_answer};

@@ -1,5 +1,5 @@
 //! The calls of a host by the running thread, of a work that is polled first.
-ghost use Rattle.ops_dispatch.specs.ContinuesDispatch.{given};
+ghost use Rattle.ops_dispatch.specs.Continues.{given};
 ghost use Rattle.std.specs.Prelude.{◌≡◌, ◌<◌, ◌^◌, IfErr, IfOk, OnErr, false, true};
 ghost use Rattle.ops_calls.specs.OpAnswers.{at_once, has_stopped, number_answered, value_answered};
 ghost use Rattle.ops_calls.specs.HostOps.{Answers, Did, IsRunningIn};

@@ -1,5 +1,5 @@
 //! The two halves of a call by a thread whose start is queued.
-ghost use Rattle.ops_dispatch.specs.ContinuesDispatch.{given};
+ghost use Rattle.ops_dispatch.specs.Continues.{given};
 ghost use Rattle.std.specs.Prelude.{◌≡◌, ◌<◌, ◌^◌, IfSome, IsSome, None, Ok, Some, length};
 ghost use Rattle.ops_calls.specs.HostOps.{IsRunningIn};
 ghost use Rattle.ops_calls.specs.Prepared.{CanStart, goal_for, PreparesHere, QueuesAsWhole, StartsHere};

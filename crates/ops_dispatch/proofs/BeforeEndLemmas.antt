@@ -4,7 +4,7 @@ use Rattle.ops_dispatch.proofs.LeavesLemmas.{ops_leave_places}
 use Rattle.ops_dispatch.proofs.OpLemmas.{direct_unanswered, stops_unanswered}
 use Rattle.ops_dispatch.proofs.RuleLemmas.{blocking_exit_stops, code_stops, sync_exit_stops, thread_exit_stops}
 use Rattle.ops_dispatch.specs.Fits.{is_data_op, op_fits}
-use Rattle.ops_dispatch.specs.ContinuesDispatch.{DoesOp}
+use Rattle.ops_dispatch.specs.Continues.{DoesOp}
 use Rattle.ops_dispatch.specs.InPlace.{AnswerKind, KeepsPlace, LeavesPlace, OpsLeavePlaces, answers_of, answers_so, in_script, is_finished, may_answer}
 use Rattle.ops_dispatch.specs.Rules.{rule_of}
 use Rattle.std.proofs.Common.{ap, arith, refl, subst, sym, ◌∙◌}

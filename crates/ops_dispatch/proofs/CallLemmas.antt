@@ -6,7 +6,7 @@ use Rattle.ops_subtasks.specs.Rules.{begins_call, queues_call}
 use Rattle.std.proofs.Common.{ap, ap₂, refl, sym, ◌∙◌}
 use Rattle.std.specs.Prelude.{Bool, List, None, Some, false, not, true, ℕ, ◌≡◌}
 use Rattle.ops_dispatch.specs.Polls.{polled_host}
-use Rattle.ops_dispatch.specs.RunnerDispatch.{called_call, called_work, given_answer}
+use Rattle.ops_dispatch.specs.Runner.{called_call, called_work, given_answer}
 use Rattle.ops_subtasks.specs.Queued.{queued_work}
 use Rattle.machine_data.specs.Core.{Core}
 use Rattle.machine_data.specs.Moves.{passes_check}

@@ -9,11 +9,11 @@ use Rattle.ops_guests.proofs.DoesLemmas.{same_rest}
 use Rattle.machine_data.specs.declared.op.DataOp.{DataOp}
 use Rattle.ops_dispatch.proofs.StayLemmas.{same_stays}
 use Rattle.ops_dispatch.proofs.RuleLemmas.{data_shows}
-use Rattle.ops_dispatch.proofs.GoesLemmasDispatch.{same_goes}
+use Rattle.ops_dispatch.proofs.GoesLemmas.{same_goes}
 use Rattle.ops_dispatch.proofs.OpLemmas.{told_names}
 use Rattle.ops_dispatch.proofs.BeforeEndLemmas.{exit_unanswered}
 use Rattle.ops_dispatch.specs.Fits.{calls_host, is_data_op, is_plain, op_fits}
-use Rattle.ops_dispatch.specs.ContinuesDispatch.{DoesOp, OpGoesOn, running_of}
+use Rattle.ops_dispatch.specs.Continues.{DoesOp, OpGoesOn, running_of}
 use Rattle.ops_dispatch.specs.Polls.{DoesPolled, MakesWork, Polls}
 use Rattle.ops_dispatch.specs.Rules.{exits, rule_of}
 use Rattle.ops_dispatch.specs.declared.done.Done.{Done}

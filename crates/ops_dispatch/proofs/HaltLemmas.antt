@@ -1,5 +1,5 @@
 -- An op inside which its thread may have been resumed.
-use Rattle.ops_dispatch.specs.RunnerDispatch.{is_resumed}
+use Rattle.ops_dispatch.specs.Runner.{is_resumed}
 use Rattle.std.proofs.Common.{ap, refl, ◌∙◌}
 use Rattle.std.specs.Prelude.{false, true, ℕ, ◌≡◌}
 use Rattle.machine_data.specs.Core.{Core}

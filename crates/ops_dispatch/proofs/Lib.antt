@@ -2,7 +2,6 @@ pub mod Shows
 pub mod GoesLemmas
 pub mod CancelLemmas
 pub mod RuleLemmas
-pub mod GoesLemmasDispatch
 pub mod StayLemmas
 pub mod SubtaskRules
 pub mod OpLemmas

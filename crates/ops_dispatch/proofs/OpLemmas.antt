@@ -2,7 +2,7 @@
 use Rattle.ops_dispatch.proofs.GoesLemmas.{RuleShows, does_op, same_op}
 use Rattle.ops_dispatch.proofs.RuleLemmas.{ShowsAs, StopsAs, if_traps, stops_goes}
 use Rattle.ops_dispatch.proofs.SubtaskRules.{IsQuiet, anybody}
-use Rattle.ops_dispatch.specs.ContinuesDispatch.{DoesOp, OpGoesOn}
+use Rattle.ops_dispatch.specs.Continues.{DoesOp, OpGoesOn}
 use Rattle.std.proofs.Common.{ap, arith, inl, inr, refl, subst, sym, ◌∙◌}
 use Rattle.std.specs.Prelude.{Bool, None, Option, Some, false, not, option_map, true, ℕ, ◌<◌, ◌==◌, ◌≡◌}
 use Rattle.machine_data.specs.Core.{Core}
@@ -89,8 +89,8 @@ nought k j zero live e = none (subst (λ (i : ℕ). 0 < i) (e ∙ zero) live)
 pub but_told : (l : Lost) (s t : StateView) → l.work ≡ 0 → KeepsBut l s.tags t.tags → KeepsTold s t
 but_told l s t zero k = ((λ id live. k.works id (nought (work_of s id) l.work zero live)), k.same)
 
-pub call_told : (i : ℕ) (s t : StateView) → LosesCall i s t → NamesTold s t
-call_told i s t k = told_names s t (but_told (lost_call i) s t refl k.0)
+pub call_told : (i : ℕ) (s t : StateView) → LosesCall i s t → KeepsTold s t
+call_told i s t k = but_told (lost_call i) s t refl k.0
 
 -- of a work that is gone
 pub work_told : (i : ℕ) (s t : StateView) → get t.core.works i ≡ None → LosesWork i s t → NamesTold s t

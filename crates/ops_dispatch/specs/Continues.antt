@@ -18,7 +18,7 @@ use Rattle.task_wait.specs.declared.keys.ThreadKey.{ThreadKey}
 use Rattle.core_primitives.specs.Preferences.{preference}
 use Rattle.core_primitives.specs.StateView.{StateView, thread_of}
 use Rattle.machine_data.specs.declared.memory.NoMemory.{NoMemory}
-use Rattle.ops_guests.specs.Works.{NamesTold}
+use Rattle.ops_guests.specs.Works.{KeepsTold}
 
 -- the number of the thread that runs
 abbrev pub running_of : StateView → Option ℕ
@@ -37,7 +37,8 @@ Shows n (op_result.Stops l) = outcome_of_label l ≡ None
 Shows n _ = Unit {0}
 
 -- The running thread did an op as its rule says, whoever has it done: its core is the rule's once the op is ended with what it answers, and
--- until then the thread is named as it was. It picked what comes first, a thread that goes on runs, a trap has changed nothing, and of the names that much is kept.
+-- until then the thread is named as it was. It picked what comes first, a thread that goes on runs, a trap has changed nothing, and of the
+-- names that much is kept.
 pub record DoesOp (AreKept : StateView → StateView → Type 0) (rule : Rule) (id : TableId ThreadKey) (s : StateView) (r : OpResult)
     (t : StateView) : Type 0 where
   pub implements : (d : Doer) → Implements (rule d (thread_of s id) (choice_of (label_of (thread_of s id) r)) s.core) s.core r
@@ -57,6 +58,6 @@ cancels_here mode h d n ch s = cancel_rule d mode n h s (op_progress_of n s)
 abbrev pub given : Core → ℕ
 given s = s.made.threads + s.made.works + s.made.sets + s.made.groups
 
--- unless it is out of memory the running thread did an op as its rule says; the ids of works name what they named, but those that are gone
+-- unless it is out of memory the running thread did an op as its rule says, and each id of a work names what it named
 abbrev pub DoesIfOk : Rule → TableId ThreadKey → StateView → Result OpResult NoMemory → StateView → Type 0
-DoesIfOk rule id s result t = IfOk result (λ op_result. DoesOp NamesTold rule id s op_result t)
+DoesIfOk rule id s result t = IfOk result (λ op_result. DoesOp KeepsTold rule id s op_result t)

@@ -1,6 +1,6 @@
 -- What an op resulted in that the thread's script had it do, and that was ended.
 use Rattle.std.specs.Prelude.{length, ℕ, ◌<◌, ◌≡◌}
-use Rattle.ops_dispatch.specs.ContinuesDispatch.{OpGoesOn}
+use Rattle.ops_dispatch.specs.Continues.{OpGoesOn}
 use Rattle.ops_dispatch.specs.Polls.{Polls}
 use Rattle.ops_dispatch.specs.declared.done.Done.{Done}
 use Rattle.machine_data.specs.Core.{Core}

@@ -1,7 +1,5 @@
 pub mod Runner
 pub mod Continues
-pub mod RunnerDispatch
-pub mod ContinuesDispatch
 pub mod InPlace
 pub mod Fits
 pub mod Polls

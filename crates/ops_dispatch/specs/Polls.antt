@@ -1,6 +1,6 @@
 -- The host that an op polls first, and the work that it makes.
 use Rattle.std.specs.Prelude.{None, Option, Some, option_map, ℕ, ◌≡◌, ◌⊎◌, IfOk, Result}
-use Rattle.ops_dispatch.specs.ContinuesDispatch.{DoesOp}
+use Rattle.ops_dispatch.specs.Continues.{DoesOp}
 use Rattle.ops_dispatch.specs.Rules.{rule_of}
 use Rattle.ops_dispatch.specs.declared.done.Done.{Done}
 use Rattle.ops_subtasks.specs.First.{first_heard}

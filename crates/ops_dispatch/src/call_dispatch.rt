@@ -1,10 +1,10 @@
 //! The ops on subtasks, as they begin or resumed inside them.
 ghost use Rattle.ops_dispatch.specs.Fits.{HasInstances, call_op_fits, is_host_call};
-ghost use Rattle.ops_dispatch.specs.ContinuesDispatch.{DoesOp, cancels_here, given};
+ghost use Rattle.ops_dispatch.specs.Continues.{DoesIfOk, DoesOp, cancels_here, given};
 ghost use Rattle.ops_dispatch.specs.Makes.{makes, takes_memory, HasNumbersForCall};
 ghost use Rattle.ops_dispatch.specs.Polls.{DoesPolled, DoesHostCall, polled_by};
 ghost use Rattle.ops_dispatch.specs.Rules.{calls_here, calls_in_sync, rule_of};
-ghost use Rattle.ops_dispatch.specs.RunnerDispatch.{Runner, UnderWay, called_call, called_work, given_answer};
+ghost use Rattle.ops_dispatch.specs.Runner.{Runner, UnderWay, called_call, called_work, given_answer};
 ghost use Rattle.std.specs.Option.{option_map_or};
 ghost use Rattle.std.specs.Prelude.{◌≡◌, ◌<◌, ◌≤◌, ◌^◌, IfOk, IfSome, IsOk, IsSome, None, OnErr, false, is_some, length, option_copied, option_map, true, ℕ};
 ghost use Rattle.ops_subtasks.specs.Refused.{mode_of};
@@ -12,9 +12,8 @@ ghost use Rattle.machine_data.specs.Maps.{get};
 ghost use Rattle.machine_data.specs.Read.{op_progress_of, instance_of};
 ghost use Rattle.machine_data.specs.declared.op.CallOp.{CallOp};
 ghost use Rattle.machine_data.specs.declared.op.Op.TheVariants as ops;
-ghost use Rattle.ops_guests.specs.Works.{NamesTold};
+ghost use Rattle.ops_guests.specs.Works.{KeepsTold, NamesTold};
 ghost use Rattle.core_primitives.specs.StateView.{call_of, thread_of, work_of};
-ghost use Rattle.ops_dispatch.specs.Continues.{DoesIfOk};
 
 use crate::cancels;
 use crate::done::{Done, plain};
@@ -150,6 +149,7 @@ fn call_of_host<W: Primitives>(
     requires runner { Runner thread (W.view w.old) }
     requires few { given (W.view w.old).core < 2 ^ 61 }
     ensures does { DoesHostCall answer component.now (λ r. CallOp.CallHost r register host) thread (W.view w.old) result (W.view w.new) }
+    ensures kept { IfOk result (λ done. KeepsTold (W.view w.old) (W.view w.new)) }
     ensures err { OnErr result (W.view w.new ≡ W.view w.old) }
 {
     let host = host_def(component, host);
@@ -270,7 +270,7 @@ fn cancel<W: Primitives>(
     sync: bool,
 ) -> Result<OpResult, NoMemory>
     requires runner { Runner thread (W.view w.old) }
-    ensures does { IfOk result (λ op_result. DoesOp NamesTold (cancels_here (mode_of sync) handle) thread (W.view w.old) op_result (W.view w.new)) }
+    ensures does { IfOk result (λ op_result. DoesOp KeepsTold (cancels_here (mode_of sync) handle) thread (W.view w.old) op_result (W.view w.new)) }
     ensures ok { IsOk result }
 {
     Ok(cancels(w, thread, handle, sync))

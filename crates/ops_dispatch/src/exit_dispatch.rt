@@ -1,8 +1,8 @@
 //! `exit`, and a script's end, by what the thread is.
 ghost use Rattle.std.specs.Prelude.{◌≡◌};
-ghost use Rattle.ops_dispatch.specs.ContinuesDispatch.{DoesOp};
+ghost use Rattle.ops_dispatch.specs.Continues.{DoesOp};
 ghost use Rattle.ops_dispatch.specs.Rules.{exits, exits_by_kind};
-ghost use Rattle.ops_dispatch.specs.RunnerDispatch.{Runner};
+ghost use Rattle.ops_dispatch.specs.Runner.{Runner};
 ghost use Rattle.machine_data.specs.Read.{task_of};
 ghost use Rattle.ops_guests.specs.Works.{KeepsTold};
 ghost use Rattle.core_primitives.specs.StateView.{call_of, thread_of};

@@ -1,11 +1,11 @@
 //! An op of the running thread, by its group.
 ghost use Rattle.ops_dispatch.specs.Did.{DidOp, IsBeforeEnd};
 ghost use Rattle.ops_dispatch.specs.Fits.{HasInstances, is_data_op, is_plain, op_fits};
-ghost use Rattle.ops_dispatch.specs.ContinuesDispatch.{DoesOp, given};
+ghost use Rattle.ops_dispatch.specs.Continues.{DoesOp, given};
 ghost use Rattle.ops_dispatch.specs.Makes.{makes, takes_memory};
 ghost use Rattle.ops_dispatch.specs.Polls.{DoesPolled};
 ghost use Rattle.ops_dispatch.specs.Rules.{rule_of};
-ghost use Rattle.ops_dispatch.specs.RunnerDispatch.{Runner};
+ghost use Rattle.ops_dispatch.specs.Runner.{Runner};
 ghost use Rattle.std.specs.Prelude.{◌≡◌, ◌<◌, ◌^◌, IfOk, OnErr, false, is_some, true};
 ghost use Rattle.machine_data.specs.Maps.{get};
 ghost use Rattle.machine_data.specs.Read.{op_progress_of, instance_of};

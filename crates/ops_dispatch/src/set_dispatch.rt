@@ -1,8 +1,8 @@
 //! The ops on waitable sets.
-ghost use Rattle.ops_dispatch.specs.ContinuesDispatch.{DoesOp, given};
+ghost use Rattle.ops_dispatch.specs.Continues.{DoesOp, given};
 ghost use Rattle.ops_dispatch.specs.Makes.{takes_memory};
 ghost use Rattle.ops_dispatch.specs.Rules.{waits_here};
-ghost use Rattle.ops_dispatch.specs.RunnerDispatch.{Runner};
+ghost use Rattle.ops_dispatch.specs.Runner.{Runner};
 ghost use Rattle.std.specs.Prelude.{◌≡◌, ◌<◌, ◌^◌, IfOk, OnErr, is_some, true};
 ghost use Rattle.machine_data.specs.Maps.{get};
 ghost use Rattle.machine_data.specs.Read.{instance_of};

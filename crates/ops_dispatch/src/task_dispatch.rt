@@ -1,7 +1,7 @@
 //! The ops that end a task or an activation, or change backpressure.
-ghost use Rattle.ops_dispatch.specs.ContinuesDispatch.{DoesOp};
+ghost use Rattle.ops_dispatch.specs.Continues.{DoesOp};
 ghost use Rattle.ops_dispatch.specs.Rules.{ends_with, exits};
-ghost use Rattle.ops_dispatch.specs.RunnerDispatch.{Runner};
+ghost use Rattle.ops_dispatch.specs.Runner.{Runner};
 ghost use Rattle.std.specs.Prelude.{◌≡◌, ◌*◌, ◌+◌, None};
 ghost use Rattle.ops_guests.specs.Works.{KeepsTold};
 ghost use Rattle.machine_rules.specs.Picks.{Silent};

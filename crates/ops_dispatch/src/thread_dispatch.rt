@@ -1,8 +1,8 @@
 //! The ops on the task's own threads.
-ghost use Rattle.ops_dispatch.specs.ContinuesDispatch.{DoesOp, given};
+ghost use Rattle.ops_dispatch.specs.Continues.{DoesOp, given};
 ghost use Rattle.ops_dispatch.specs.Makes.{takes_memory};
 ghost use Rattle.ops_dispatch.specs.Rules.{halts_here, promotes_here, resumes_here};
-ghost use Rattle.ops_dispatch.specs.RunnerDispatch.{Runner, is_halting, is_resumed};
+ghost use Rattle.ops_dispatch.specs.Runner.{Runner, is_halting, is_resumed};
 ghost use Rattle.std.specs.Prelude.{◌≡◌, ◌<◌, ◌^◌, IfOk, OnErr, is_some, true};
 ghost use Rattle.machine_data.specs.Maps.{get};
 ghost use Rattle.machine_data.specs.Read.{op_progress_of, instance_of};

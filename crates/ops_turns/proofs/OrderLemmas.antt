@@ -3,7 +3,7 @@ use Rattle.std.proofs.Common.{ap, arith, inl, inr, refl, subst, sym, ◌∙◌}
 use Rattle.std.proofs.lemmas.Bool.Decides.{nat_tests}
 use Rattle.std.specs.Option.{option_and_then, option_map_or}
 use Rattle.std.specs.Prelude.{Bool, None, Option, Some, false, if◌then◌else◌, is_some, option_map, suc, true, zero, ℕ, ◌<◌, ◌≡◌}
-use Rattle.ops_dispatch.specs.RunnerDispatch.{Runner, UnderWay}
+use Rattle.ops_dispatch.specs.Runner.{Runner, UnderWay}
 use Rattle.ops_subtasks.specs.Named.{NamedCallsThere}
 use Rattle.laws_states.proofs.MemberLemmas.{members_named}
 use Rattle.laws_states.specs.Order.{InOrder, IsOf, cancelled_by, is_awaited, set_of_op, set_of_place}

@@ -40,7 +40,7 @@ use Rattle.ops_turns.proofs.IdleLemmas.{after_free, free_at}
 use Rattle.ops_turns.proofs.RunLemmas.{host_over, host_picks, label_same, picked_at, push_picks, ran_at, took, took_host, took_picks, took_push}
 use Rattle.ops_turns.specs.Drive.{Drove, IsOn}
 use Rattle.ops_turns.specs.Ran.{OpMade, WorkMade, host_polled, scripted_rule_of}
-use Rattle.ops_turns.specs.StepResult.{Added, AddedOrNone, CallStepped, IsFull, OpPolls, OpShown, OpStep, RuleRan, RuleShown, RunMade, RunStepped, Shown, is_made, made_by, turn_of}
+use Rattle.ops_turns.specs.StepResult.{Added, AddedOrNone, CallStepped, IsFull, OpPolls, OpShown, OpStep, RuleRan, RuleShown, RunMade, RunStepped, Shown, StepPolls, is_made, made_by, turn_of}
 use Rattle.ops_turns.specs.Turn.{IsFree, MakesStep, Turned, Turns, is_open, running_of, runs_in, state_at}
 use Rattle.ops_turns.specs.declared.made.MadeStep.{MadeStep}
 use Rattle.ops_turns.specs.declared.made.StepResult.{StepResult}
@@ -83,6 +83,24 @@ made_else stepped.Full some room hook = absurd (room refl)
 made_else stepped.HookFailed some room hook = absurd (hook refl)
 made_else _ some room hook = refl
 
+-- it is no more main's turn than another's
+pub over_else : (q : StepResult) → (q ≡ stepped.Main → ⊥) → ((n : ℕ) → q ≡ stepped.Polls n → ⊥) → (q ≡ stepped.Takes → ⊥) → (q ≡ stepped.TakesEnded → ⊥) → ((n : ℕ) → q ≡ stepped.Runs n → ⊥) → ((n : ℕ) → q ≡ stepped.Computes n → ⊥) → turn.Over ≡ turn_of q
+over_else stepped.Main main polls takes ended runs computes = absurd (main refl)
+over_else (stepped.Polls n) main polls takes ended runs computes = absurd (polls n refl)
+over_else stepped.Takes main polls takes ended runs computes = absurd (takes refl)
+over_else stepped.TakesEnded main polls takes ended runs computes = absurd (ended refl)
+over_else (stepped.Runs n) main polls takes ended runs computes = absurd (runs n refl)
+over_else (stepped.Computes n) main polls takes ended runs computes = absurd (computes n refl)
+over_else _ main polls takes ended runs computes = refl
+
+-- one was, where it isn't out of memory
+pub made_if : {before after : List Label} (q : StepResult) → (is_made q ≡ false → IsFull q before after) → (q ≡ stepped.Full → ⊥) → is_made q ≡ true
+made_if q full room = by (is_made q) refl
+  where
+    by : (b : Bool) → is_made q ≡ b → is_made q ≡ true
+    by true e = e
+    by false e = absurd (room (full e).0)
+
 -- then it isn't out of memory
 pub made_room : (q : StepResult) → is_made q ≡ true → q ≡ stepped.Full → ⊥
 made_room stepped.Full made full = absurd (cc)
@@ -116,6 +134,19 @@ none_as P Q stepped.HookFailed before after f h = h
 none_as P Q q before after f h = added_as (λ made. P (Some made)) (λ made. Q (Some made)) q before after (λ made. f (Some made)) h
 
 -- ---- A step of the running thread
+
+-- an op that was done polled no host
+pub unpolled : {before after : List Label} (host : Option HostDef) (o : Op) (q : StepResult) → host ≡ None → (is_made q ≡ false → IsFull q before after) → StepPolls host o q
+unpolled host o stepped.Nothing none full = absurd (let not_full = (full refl).0 in cc)
+unpolled host o stepped.Full none full = tt
+unpolled host o stepped.HookFailed none full = none
+unpolled host o _ none full = none
+
+pub op_stepped : (c : Component) (o : Op) (id : TableId ThreadKey) (s t : StateView) (before after : List Label) (q : StepResult) → (is_made q ≡ true → OpShown c o id s before q t after) → (is_made q ≡ false → IsFull q before after) → OpStep c o id s before q t after
+op_stepped c o id s t before after stepped.Nothing shown full = absurd (let not_full = (full refl).0 in cc)
+op_stepped c o id s t before after stepped.Full shown full = (full refl).1
+op_stepped c o id s t before after stepped.HookFailed shown full = absurd (let not_full = (full refl).0 in cc)
+op_stepped c o id s t before after _ shown full = shown refl
 
 module _ (id : TableId ThreadKey) (s t : StateView) (stepped : StepResult) (before after : List Label) where
   pub rule_as : (P Q : OpResult → Progress) → ((r : OpResult) → P r ≡ Q r) → RuleShown P id s before stepped t after → RuleShown Q id s before stepped t after

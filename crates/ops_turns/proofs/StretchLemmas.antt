@@ -25,10 +25,13 @@ use Rattle.machine_data.specs.declared.records.Script.{Script}
 use Rattle.machine_data.specs.declared.records.Thread.{Thread}
 use Rattle.machine_data.specs.declared.records.Turn.{Turn}
 use Rattle.machine_data.specs.declared.records.Turn.TheVariants as turn
-use Rattle.ops_guests.proofs.ImplementLemmas.{implementing_is_step}
-use Rattle.ops_guests.specs.OpResult.{Implements}
+use Rattle.ops_guests.proofs.CalmLemmas.{calm_picks}
+use Rattle.ops_guests.proofs.ImplementLemmas.{implementing_is_step, picking_is_picked}
+use Rattle.ops_guests.specs.OpResult.{Implements, PicksFirst}
 use Rattle.ops_guests.specs.declared.op_result.OpResult.TheVariants as op_result
+use Rattle.machine_rules.proofs.CalmLemmas.{data_calm}
 use Rattle.machine_rules.specs.Data.{data_rule}
+use Rattle.machine_rules.specs.Picks.{LeavesNoChoice, Picks, Preference}
 use Rattle.machine_rules.specs.Progress.{Continues, Progress}
 use Rattle.machine_rules.specs.Scripts.{op_of, script_in, script_of}
 use Rattle.machine_rules.specs.Stalled.{Setting}
@@ -45,6 +48,7 @@ use Rattle.ops_turns.specs.Turn.{CoreInOrder, Turns, running_of, state_at}
 use Rattle.ops_turns.specs.declared.context.ThreadContext.{ThreadContext}
 use Rattle.ops_turns.specs.declared.made.MadeStep.{MadeStep}
 use Rattle.core_primitives.specs.Context.{with_context}
+use Rattle.core_primitives.specs.Preferences.{preference}
 use Rattle.task_wait.specs.declared.keys.ThreadKey.{ThreadKey}
 use Rattle.core_primitives.specs.StateView.{StateView, Tags, on_core, thread_number, thread_of}
 use Rattle.ops_guests.specs.Shown.{goes_as}
@@ -118,9 +122,22 @@ module _ (c : Component) (n : ℕ) (t : StateView) (th : Thread) (found : get t.
         (implementing_is_step z (state_at there m (turn.Run n)) n (goes_as (label.Data l) n) (in_context n y u.core) refl
         (subst (λ (d : Component). Implements (did d n there (choice_of (label.Data l))) there (goes_as (label.Data l) n) (in_context n y u.core)) (sym component) implements))
 
+    -- it leaves no choice
+    calm : LeavesNoChoice (did c n there (choice_of (label.Data l)))
+    unfolding did
+    calm = subst (λ (q : Op). LeavesNoChoice (scripted_op_rule c n there (choice_of (label.Data l)) q)) (sym (op_there (op.Data o) here)) (data_calm c n there o)
+
+    picks_first : (p : Preference) (z : Setting) → z.component ≡ c → (m : Main) → Picks p z (state_at there m (turn.Run n)) (label.Data l) (state_at (in_context n y u.core) m (turn.Run n))
+    picks_first p z component m =
+        subst (Picks p z (state_at there m (turn.Run n)) (label.Data l)) (settled (goes_as (label.Data l) n) there m (turn.Run n) (in_context n y u.core))
+        (picking_is_picked p z (state_at there m (turn.Run n)) n (goes_as (label.Data l) n) (in_context n y u.core) refl
+        (subst (λ (d : Component). PicksFirst p (did d n there (choice_of (label.Data l))) (label.Data l) there (goes_as (label.Data l) n) (in_context n y u.core)) (sym component)
+        (calm_picks p n (did c n there (choice_of (label.Data l))) there (goes_as (label.Data l) n) (in_context n y u.core) calm implements)))
+
     turns : (z : Setting) → z.component ≡ c → (m : Main) → Turns z (turn.Run n) m (state_in n x t) made m (state_in n y u)
     turns z component m = record {
       step = step z component m;
+      picks = picks_first (preference (state_in n x t)) z component m;
       running = runs_still t u beside.tags beside.current ∙ runs;
       over = refl;
       pends = tt;

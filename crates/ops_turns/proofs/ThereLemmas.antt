@@ -10,11 +10,10 @@ use Rattle.machine_data.specs.declared.records.Thread.{Thread}
 use Rattle.machine_data.specs.declared.records.Turn.{Turn}
 use Rattle.machine_data.specs.declared.records.Turn.TheVariants as turn
 use Rattle.ops_turns.proofs.KeptLemmas.{made_in_order}
-use Rattle.ops_turns.proofs.SteppedLemmas.{added_of}
 use Rattle.ops_turns.proofs.OrderLemmas.{none_some, some_from}
 use Rattle.ops_turns.proofs.IdleLemmas.{makes_turns}
-use Rattle.ops_turns.specs.StepResult.{TakesBeside, TookShown, is_made}
-use Rattle.ops_turns.specs.Turn.{CoreInOrder, MakesStep, RunnerThere, Took, running_of, runs_in}
+use Rattle.ops_turns.specs.StepResult.{TakesBeside, TookShown}
+use Rattle.ops_turns.specs.Turn.{CoreInOrder, MakesStep, RunnerThere, running_of, runs_in}
 use Rattle.ops_turns.specs.declared.made.StepResult.{StepResult}
 use Rattle.ops_turns.specs.declared.made.StepResult.TheVariants as stepped
 use Rattle.core_primitives.specs.StateView.{StateView, thread_of}
@@ -38,10 +37,12 @@ pub idle_there : (t : StateView) → t.current ≡ None → RunnerThere t
 idle_there t idle n e = none_some (ap (option_map (λ i. thread_of t i)) idle) e
 
 -- after an entry was taken
-pub took_there : (c : Component) (ended : Bool) (s t : StateView) → CoreInOrder c (turn.Take ended) s.core → (q : StepResult) (before after : List Label) → is_made q ≡ true
+pub took_there : (c : Component) (ended : Bool) (s t : StateView) → CoreInOrder c (turn.Take ended) s.core → (q : StepResult) (before after : List Label) → (q ≡ stepped.Nothing → ⊥) → (q ≡ stepped.Full → ⊥)
     → TookShown c ended s before q t after → RunnerThere t
-took_there c ended s t in_turn q before after made took =
-    let h = added_of (λ step. Took c ended s step t) before after q made took in
+took_there c ended s t in_turn stepped.Nothing before after some room h = absurd (some refl)
+took_there c ended s t in_turn stepped.Full before after some room h = absurd (room refl)
+took_there c ended s t in_turn stepped.HookFailed before after some room h = absurd h
+took_there c ended s t in_turn q before after some room h =
     let makes = h.1.1.0 in
     core_in_order_there c h.0.turn t (made_in_order c (turn.Take ended) s h.0 t in_turn makes) makes.running
 

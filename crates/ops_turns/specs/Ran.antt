@@ -1,7 +1,7 @@
 -- What a step of the running thread did, which host it polled first, and which work it made.
 use Rattle.std.specs.Prelude.{None, Option, Some, true, ℕ, ◌+◌, ◌<◌, ◌^◌, ◌≡◌, ◌⊎◌}
 pub use Rattle.ops_dispatch.specs.Did.{DidOp, IsBeforeEnd, scripted_rule_of}
-use Rattle.ops_dispatch.specs.ContinuesDispatch.{given}
+use Rattle.ops_dispatch.specs.Continues.{given}
 use Rattle.ops_dispatch.specs.Makes.{makes, takes_memory}
 use Rattle.ops_dispatch.specs.Polls.{polled_host}
 use Rattle.ops_dispatch.specs.declared.done.Done.{Done}

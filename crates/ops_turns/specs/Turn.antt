@@ -17,7 +17,7 @@ use Rattle.machine_data.specs.declared.outcome.Outcome.TheVariants as outcome
 use Rattle.machine_data.specs.declared.scenario.IdleLine.{IdleLine}
 use Rattle.machine_data.specs.declared.scenario.IdleLine.TheVariants as idle_line
 use Rattle.machine_data.specs.declared.scenario.MainOpDef.{MainOpDef}
-pub use Rattle.ops_dispatch.specs.ContinuesDispatch.{OpGoesOn, Shows, given, running_of}
+pub use Rattle.ops_dispatch.specs.Continues.{OpGoesOn, Shows, given, running_of}
 use Rattle.machine_rules.specs.Outcome.{is_at_rest, outcome_of_label}
 use Rattle.machine_rules.specs.Stalled.{Setting, main_pends}
 use Rattle.machine_rules.specs.Step.{Step}
@@ -46,8 +46,8 @@ runs_in _ = None
 abbrev pub RunnerThere : StateView → Type 0
 RunnerThere s = (n : ℕ) → running_of s ≡ Some n → is_some (get s.core.threads n) ≡ true
 
--- The step that was made is one of the machine, whatever main's part, its script and the idle line are, and picks what comes first. Its label gives an outcome exactly
--- where the run is over.
+-- The step that was made is one of the machine, whatever main's part, its script and the idle line are, and picks what comes first. Its
+-- label gives an outcome exactly where the run is over.
 pub record MakesStep (c : Component) (p : Turn) (s : StateView) (made : MadeStep) (t : StateView) : Type 0 where
   pub step : (x : Setting) → x.component ≡ c → (m : Main) → Step x (state_at s.core m p) made.label (state_at t.core m made.turn)
   pub picks : (x : Setting) → x.component ≡ c → (m : Main) →

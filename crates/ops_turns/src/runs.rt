@@ -1,7 +1,7 @@
 //! The step of the running thread: its op is done by its rule.
 ghost use Rattle.ops_dispatch.specs.Fits.{HasHandles, HasInstances, calls_host, is_plain, op_fits};
 ghost use Rattle.ops_dispatch.specs.Polls.{polled_host};
-ghost use Rattle.ops_dispatch.specs.RunnerDispatch.{Runner};
+ghost use Rattle.ops_dispatch.specs.Runner.{Runner};
 ghost use Rattle.std.specs.Prelude.{◌≡◌, ◌≢◌, ◌+◌, ◌<◌, ◌^◌, IfOk, OnErr, OnOk, Some, false, is_some, true};
 ghost use Rattle.machine_data.specs.Maps.{get};
 ghost use Rattle.machine_data.specs.Read.{op_progress_of, instance_of, position_of};
@@ -64,7 +64,7 @@ fn run_data<W: Primitives>(
     requires runner { Runner thread (W.view w.old) }
     requires within { IsBeforeEnd end component.now (thread_of (W.view w.old) thread) (W.view w.old).core }
     ensures shown { is_made result ≡ true → DataShown component.now op.now thread (W.view w.old) trace.old result (W.view w.new) trace.new }
-    ensures works { is_made result ≡ true → KeepsTold (W.view w.old) (W.view w.new) }
+    ensures works { result ≢ StepResult.Full → KeepsTold (W.view w.old) (W.view w.new) }
     ensures full { is_made result ≡ false → IsFull result trace.old trace.new }
 {
     // only the contract speaks of `component`
@@ -96,7 +96,7 @@ fn run_plain<W: Primitives>(
     requires handles { is_some (get (W.view w.old).core.handles (instance_of (thread_of (W.view w.old) thread) (W.view w.old).core)) ≡ true }
     requires few { given (W.view w.old).core < 2 ^ 61 }
     ensures shown { is_made result ≡ true → OpShown component.now op.now thread (W.view w.old) trace.old result (W.view w.new) trace.new }
-    ensures works { is_made result ≡ true → NamesTold (W.view w.old) (W.view w.new) }
+    ensures works { result ≢ StepResult.Full → NamesTold (W.view w.old) (W.view w.new) }
     ensures full { is_made result ≡ false → IsFull result trace.old trace.new }
 {
     // The thread is there, which is asked once for all that its op looks up.
@@ -142,7 +142,7 @@ fn run_exit<W: Primitives>(
 ) -> StepResult
     requires runner { Runner thread (W.view w.old) }
     ensures shown { is_made result ≡ true → ExitShown thread (W.view w.old) trace.old result (W.view w.new) trace.new }
-    ensures works { is_made result ≡ true → KeepsTold (W.view w.old) (W.view w.new) }
+    ensures works { result ≢ StepResult.Full → KeepsTold (W.view w.old) (W.view w.new) }
     ensures full { is_made result ≡ false → IsFull result trace.old trace.new }
 {
     let op_result = exit(w, thread);

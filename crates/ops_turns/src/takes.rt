@@ -115,7 +115,7 @@ fn step_thread<W: Primitives>(
     requires taken { Taken mark (thread_of (W.view w.old) thread) (W.view w.old).core }
     requires finds { FindsSet (thread_of (W.view w.old) thread) (W.view w.old).core }
     ensures shown { is_made result ≡ true → TakingShown mark thread (W.view w.old) trace.old result (W.view w.new) trace.new }
-    ensures works { is_made result ≡ true → KeepsTold (W.view w.old) (W.view w.new) }
+    ensures works { result ≢ StepResult.Full → KeepsTold (W.view w.old) (W.view w.new) }
     ensures full { is_made result ≡ false → IsFull result trace.old trace.new }
 {
     w.set_current(Some(thread));

@@ -37,6 +37,7 @@ use Rattle.machine_data.specs.declared.scenario.MainOpDef.{MainOpDef}
 use Rattle.machine_rules.proofs.LawLemmas.{steady}
 use Rattle.machine_rules.specs.Laws.{Steady}
 use Rattle.machine_rules.specs.Notices.{finish_notices, is_in, moment_notices, notices, running_group, start_notices, told_of, work_notices}
+use Rattle.machine_rules.specs.Picks.{Picks}
 use Rattle.machine_rules.specs.Run.{Run}
 use Rattle.machine_rules.specs.Stalled.{Setting}
 use Rattle.machine_rules.specs.Step.{Step}
@@ -52,6 +53,7 @@ use Rattle.ops_turns.specs.declared.made.StepResult.{StepResult}
 use Rattle.ops_turns.specs.declared.mains.MainStep.{MainStep}
 use Rattle.ops_turns.specs.declared.mains.MainStep.TheVariants as step
 use Rattle.core_primitives.specs.Groups.{IsAsked, asked, ended_groups, if_tracked, tracked_group, CountsEnded}
+use Rattle.core_primitives.specs.Preferences.{preference}
 use Rattle.core_primitives.specs.StateView.{StateView, thread_number}
 
 -- ---- Main's step
@@ -146,13 +148,14 @@ asked_same t is = ap (λ (gs : List ℕ). record t { tags = record t.tags { trac
 pub turns_asked : (x : Setting) (p : Turn) (m : Main) (s : StateView) (made : MadeStep) (n : Main) (t u : StateView) → u ≡ asked t → Turns x p m s made n t → Turns x p m s made n u
 turns_asked x p m s made n t u is q = subst (λ (v : StateView). Turns x p m s made n v) (sym is) (record {
   step = q.step;
+  picks = q.picks;
   running = running_asked t ∙ q.running;
   over = q.over;
   pends = q.pends;
 })
 
 pub makes_asked : (c : Component) (p : Turn) (s : StateView) (made : MadeStep) (t u : StateView) → u ≡ asked t → MakesStep c p s made t → MakesStep c p s made u
-makes_asked c p s made t u is q = subst (λ (v : StateView). MakesStep c p s made v) (sym is) (record { step = q.step; running = running_asked t ∙ q.running; over = q.over })
+makes_asked c p s made t u is q = subst (λ (v : StateView). MakesStep c p s made v) (sym is) (record { step = q.step; picks = q.picks; running = running_asked t ∙ q.running; over = q.over })
 
 -- what is told leaves the core as it is
 pub told_core : {A : Type 0} (listens : Bool) (a : GroupsBefore) (answer r : Result A TaskError) (t u : StateView) (old new : Listeners) → TellsCall listens a answer r t u old new → u.core ≡ t.core
@@ -209,6 +212,7 @@ module _ (x : Setting) (p : Turn) (main : is_main_turn p ≡ false) (m : Main) (
   left_turns : (made : MadeStep) → Turns x p m s made n u → Turns x p m s made n told.left
   left_turns made q = record {
     step = subst (λ (d : Core). Step x (state_at s.core m p) made.label (state_at d n made.turn)) same_left q.step;
+    picks = subst (λ (d : Core). Picks (preference s) x (state_at s.core m p) made.label (state_at d n made.turn)) same_left q.picks;
     running = sym (running_asked told.left) ∙ (sym (ap running_of told.told.asked) ∙ q.running);
     over = q.over;
     pends = subst (λ (d : Core). PendsIn x d n made.turn) same_left q.pends;

@@ -1,8 +1,8 @@
 use Rattle.ops_dispatch.proofs.CallLemmas.{begins_quiet, begins_sync_as}
-use Rattle.ops_dispatch.proofs.OpLemmas.{made_op, named_op, scripted_op_rule, quiet_goes}
+use Rattle.ops_dispatch.proofs.OpLemmas.{made_op, scripted_op_rule, quiet_goes}
 use Rattle.ops_dispatch.proofs.StayLemmas.{ok_both}
 use Rattle.ops_dispatch.proofs.call_dispatch.begins_sync.Goals as goal
-use Rattle.ops_dispatch.specs.ContinuesDispatch.{DoesOp}
+use Rattle.ops_dispatch.specs.Continues.{DoesOp}
 use Rattle.ops_dispatch.specs.Rules.{calls_in_sync}
 use Rattle.std.specs.Prelude.{length, take}
 use Rattle.ops_subtasks.specs.Rules.{begins_call}
@@ -12,7 +12,7 @@ use Rattle.ops_guests.specs.OpResult.{IsCurrent}
 use Rattle.ops_guests.specs.Does.{DoesRule, KeepsTags}
 use Rattle.ops_guests.specs.Ended.{ended}
 use Rattle.ops_guests.specs.Steps.{label_of}
-use Rattle.ops_guests.specs.Works.{KeepsTold, NamesTold}
+use Rattle.ops_guests.specs.Works.{KeepsTold}
 use Rattle.ops_guests.specs.declared.op_result.OpResult.{OpResult}
 use Rattle.machine_rules.specs.Finish.{SomeHost}
 use Rattle.machine_rules.specs.Scripts.{values_in}
@@ -32,8 +32,8 @@ returns-clause-does g c =
     let b = is_async_lifted x in
     let rule = calls_in_sync comp c.args.callee c.args.params.now in
     let own = begins_call b x c.args.callee words in
-    ok_both (λ (r : OpResult). DoesRule KeepsTags own id s r t) (λ (r : OpResult). IsCurrent r t) (λ (r : OpResult). DoesOp NamesTold rule id s r t) c.begin_call_sync.result
+    ok_both (λ (r : OpResult). DoesRule KeepsTags own id s r t) (λ (r : OpResult). IsCurrent r t) (λ (r : OpResult). DoesOp KeepsTold rule id s r t) c.begin_call_sync.result
     (λ r h current.
     let goes = quiet_goes _ s.core r (ended SomeHost n r t.core) t (begins_quiet b x c.args.callee words SomeHost n (choice_of (label_of n r)) s.core) (h.implements SomeHost) current in
-    named_op rule id s t r (scripted_op_rule KeepsTold own rule id s t r (made_op own id s t r c.requires.runner.live goes h)
-    (λ d. begins_sync_as comp n d (choice_of (label_of n r)) c.args.callee words given x s.core (op_progress_of n s.core) c.export_kind-kind.ensures c.read_operands.ensures c.requires.unanswered c.requires.uncalled))) e.does e.current
+    scripted_op_rule KeepsTold own rule id s t r (made_op own id s t r c.requires.runner.live goes h)
+    (λ d. begins_sync_as comp n d (choice_of (label_of n r)) c.args.callee words given x s.core (op_progress_of n s.core) c.export_kind-kind.ensures c.read_operands.ensures c.requires.unanswered c.requires.uncalled)) e.does e.current

@@ -1,6 +1,6 @@
 use Rattle.machine_rules.proofs.CalmLemmas.{calls_calm}
 use Rattle.ops_dispatch.proofs.CallLemmas.{host_makes_none}
-use Rattle.ops_dispatch.proofs.OpLemmas.{asked_op}
+use Rattle.ops_dispatch.proofs.OpLemmas.{asked_op, tags_told}
 use Rattle.ops_dispatch.proofs.SubtaskRules.{host_shows}
 use Rattle.ops_dispatch.proofs.call_dispatch.call_of_host.Goals as goal
 use Rattle.ops_dispatch.specs.Rules.{rule_of}
@@ -42,3 +42,6 @@ returns-clause-does g c r =
         none = λ none. inr (sym (ended_works SomeHost n op_result t.core) ∙ host_makes_none s.core (ended SomeHost n op_result t.core) n SomeHost q p op_result (did.implements SomeHost) (sym e.work.work ∙ ap (option_map (λ id. work_of t id)) none));
       };
     }
+
+pub returns-clause-kept : goal.returns-clause-kept
+returns-clause-kept g c = tags_told (g.W.View.view c.args.w.now) (g.W.View.view c.call_host.new.w) c.in_ok-op_result.ensures.does.kept.0

@@ -1,7 +1,7 @@
 use Rattle.ops_dispatch.proofs.OpLemmas.{alike_op}
 use Rattle.ops_dispatch.proofs.SubtaskRules.{drop_shows}
 use Rattle.ops_dispatch.proofs.call_dispatch.do_plain_call.Goals as goal
-use Rattle.ops_dispatch.specs.ContinuesDispatch.{DoesOp}
+use Rattle.ops_dispatch.specs.Continues.{DoesOp}
 use Rattle.ops_dispatch.specs.Rules.{calls_in_sync, rule_of}
 use Rattle.std.proofs.Common.{ap, rules, subst, sym}
 use Rattle.std.specs.Prelude.{IfOk, List, ℕ, ◌≡◌}

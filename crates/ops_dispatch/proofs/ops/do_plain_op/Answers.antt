@@ -1,7 +1,7 @@
 use Rattle.ops_dispatch.proofs.OpLemmas.{named_op}
 use Rattle.ops_dispatch.proofs.StayLemmas.{ok_then}
 use Rattle.ops_dispatch.proofs.ops.do_plain_op.Goals as goal
-use Rattle.ops_dispatch.specs.ContinuesDispatch.{DoesOp}
+use Rattle.ops_dispatch.specs.Continues.{DoesOp}
 use Rattle.ops_guests.specs.Does.{Rule}
 use Rattle.ops_guests.specs.Works.{KeepsTold, NamesTold}
 use Rattle.ops_guests.specs.declared.op_result.OpResult.{OpResult}

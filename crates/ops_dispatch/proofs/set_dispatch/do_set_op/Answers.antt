@@ -3,7 +3,7 @@ use Rattle.ops_dispatch.proofs.StayLemmas.{ok_then}
 use Rattle.ops_dispatch.proofs.SubtaskRules.{set_shows}
 use Rattle.ops_dispatch.proofs.RuleLemmas.{drop_set_shows}
 use Rattle.ops_dispatch.proofs.set_dispatch.do_set_op.Goals as goal
-use Rattle.ops_dispatch.specs.ContinuesDispatch.{DoesOp}
+use Rattle.ops_dispatch.specs.Continues.{DoesOp}
 use Rattle.ops_dispatch.specs.Rules.{waits_here}
 use Rattle.std.proofs.Common.{ap, ap₂, refl, sym}
 use Rattle.std.specs.Prelude.{ℕ}

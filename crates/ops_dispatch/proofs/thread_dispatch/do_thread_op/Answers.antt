@@ -2,7 +2,7 @@ use Rattle.ops_dispatch.proofs.OpLemmas.{names_op, told_as, told_op}
 use Rattle.ops_dispatch.proofs.RuleLemmas.{thread_shows}
 use Rattle.ops_dispatch.proofs.StayLemmas.{ok_then}
 use Rattle.ops_dispatch.proofs.thread_dispatch.do_thread_op.Goals as goal
-use Rattle.ops_dispatch.specs.ContinuesDispatch.{DoesOp}
+use Rattle.ops_dispatch.specs.Continues.{DoesOp}
 use Rattle.std.proofs.Common.{ap, ap₂, rules, sym}
 use Rattle.std.specs.Prelude.{ℕ, ◌≡◌}
 use Rattle.machine_data.specs.Read.{instance_of}

@@ -1,5 +1,10 @@
 use Rattle.ops_dispatch.proofs.BeforeEndLemmas.{answers_right, event_fits, below_end}
-use Rattle.std.proofs.Common.{arith}
+use Rattle.std.proofs.Common.{arith, refl, subst, sym, ◌∙◌}
+use Rattle.core_primitives.specs.Preferences.{preference}
+use Rattle.machine_data.specs.declared.label.Label.{Label}
+use Rattle.ops_guests.specs.OpResult.{PicksFirst}
+use Rattle.ops_turns.proofs.RunLemmas.{label_same}
+use Rattle.ops_turns.specs.Ran.{scripted_rule_of}
 use Rattle.ops_guests.specs.Works.{NamesTold}
 use Rattle.ops_dispatch.proofs.EndLemmas.{end_op, host_fits, host_other}
 use Rattle.ops_turns.proofs.OrderLemmas.{unwinds}
@@ -43,12 +48,16 @@ made_of-requires-clause-goes g c =
 pub returns-clause-ran : goal.returns-clause-ran
 returns-clause-ran g c =
     let v = g.W.View.view in
+    let s = v c.args.w.now in
     let u = v c.finish.new.w in
-    let did = end_op c.args.answer c.args.component.now c.args.op.now c.args.thread (v c.args.w.now) (v c.do_host_call.new.w) u c.in_ok-done.done (rw c.in-Call.is c.in_ok-done.ensures.does) c.finish.ensures in
+    let r = c.in_ok-done.done.op_result in
+    let did = end_op c.args.answer c.args.component.now c.args.op.now c.args.thread s (v c.do_host_call.new.w) u c.in_ok-done.done (rw c.in-Call.is c.in_ok-done.ensures.does) c.finish.ensures in
+    let shown = c.made_of.ensures.label ∙ label_same c.args.thread (thread_of s c.args.thread) s u refl r did.stays in
     record {
-      op_result = c.in_ok-done.done.op_result;
+      op_result = r;
       left = u;
       implements = did.implements;
+      picks = subst (λ (l : Label). PicksFirst (preference s) (scripted_rule_of c.args.component.now c.args.op.now c.args.thread s r) l s.core r u.core) (sym shown) did.picks;
       stays = did.stays;
       label = c.made_of.ensures.label;
       turn = c.made_of.ensures.turn;
