@@ -29,7 +29,7 @@ use Rattle.ops_turns.proofs.DoesLemmas.{steps_shown}
 use Rattle.ops_turns.specs.Does.{label_of_step}
 use Rattle.ops_turns.specs.Later.{WorksLast}
 use Rattle.ops_turns.specs.Main.{Steps}
-use Rattle.ops_turns.specs.StepResult.{MayTakeTurn}
+use Rattle.ops_turns.specs.StepResult.{IsInTrace}
 use Rattle.ops_turns.specs.Turn.{Turns, running_of, setting_of}
 use Rattle.ops_turns.specs.declared.made.MadeStep.{MadeStep}
 use Rattle.ops_turns.specs.declared.made.StepResult.{StepResult}
@@ -63,7 +63,7 @@ module _ {M T H G : Type 0} (says : Says M) (course : H → HostDef) (c : Compon
 
   -- what main did is a turn, which was made into the step that is shown
   pub step_turned : (x y : MainStep) → x ≡ y → (m : M) (s : Store T H G) (n : M) (t : Store T H G) → HasStepResult says course c x m s n t → running_of s.state ≡ None → (made : MadeStep) → made.label ≡ label_of_step y →
-      ((z : Setting) → (k l : Main) → (v : StateView) → Steps z.component z.script k v.core y l t.state.core → Turns z turn.Main k v made l t.state) → (q : StepResult) (before after : List Label) → MayTakeTurn q before made after → (idle : Bool) →
+      ((z : Setting) → (k l : Main) → (v : StateView) → Steps z.component z.script k v.core y l t.state.core → Turns z turn.Main k v made l t.state) → (q : StepResult) (before after : List Label) → IsInTrace q before made after → (idle : Bool) →
       HasTurned says course c (Some q) 0 (at_main idle m s before) (at_main idle n t after)
   step_turned x y is m s n t did none made label turns q before after in_trace idle =
       let z = setting_of c (says.script m) idle in

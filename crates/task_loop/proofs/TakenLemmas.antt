@@ -14,14 +14,14 @@ use Rattle.machine_rules.specs.Stalled.{Setting}
 use Rattle.machine_data.specs.declared.component.Component.{Component}
 use Rattle.core_primitives.specs.Groups.{IsAsked, asked}
 use Rattle.ops_turns.proofs.SteppedLemmas.{none_as}
-use Rattle.ops_turns.specs.StepResult.{Added, AddedOrNone, MayTakeTurn}
+use Rattle.ops_turns.specs.StepResult.{Added, AddedOrNone, IsInTrace}
 use Rattle.ops_turns.specs.Turn.{PendsIn, Turned, TurnedBeside, Turns, idle_line_of, setting_of}
 use Rattle.ops_turns.specs.declared.made.MadeStep.{MadeStep}
 use Rattle.ops_turns.specs.declared.made.StepResult.{StepResult}
 use Rattle.core_primitives.specs.StateView.{StateView}
 
 -- the label of what was made was added
-pub stands_adds : (q : StepResult) (before : List Label) (made : MadeStep) (after : List Label) → MayTakeTurn q before made after → after ≡ before ++ made.label ∷ []
+pub stands_adds : (q : StepResult) (before : List Label) (made : MadeStep) (after : List Label) → IsInTrace q before made after → after ≡ before ++ made.label ∷ []
 stands_adds q before made after h = h.0
 
 -- a step of whatever main is one of this

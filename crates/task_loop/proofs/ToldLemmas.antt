@@ -46,7 +46,7 @@ use Rattle.ops_turns.proofs.KeptLemmas.{core_in_order_after}
 use Rattle.ops_turns.specs.Does.{label_of_step}
 use Rattle.ops_turns.specs.Drive.{Computes}
 use Rattle.ops_turns.specs.Main.{IsOpOfMain, Steps, main_setting}
-use Rattle.ops_turns.specs.StepResult.{Added, AddedOrNone, MayTakeTurn}
+use Rattle.ops_turns.specs.StepResult.{Added, AddedOrNone, IsInTrace}
 use Rattle.ops_turns.specs.Turn.{IsFree, MakesStep, PendsIn, CoreInOrder, Turned, Turns, running_of, runs_in, setting_of, state_at}
 use Rattle.ops_turns.specs.declared.made.MadeStep.{MadeStep}
 use Rattle.ops_turns.specs.declared.made.StepResult.{StepResult}
@@ -96,7 +96,7 @@ idle_running t (turn.Take b) e none = refl
 idle_running t turn.Over e none = refl
 
 -- the turn after a step whose label is in the trace
-pub stands_turn : (q : StepResult) (before : List Label) (made : MadeStep) (after : List Label) → MayTakeTurn q before made after → made.turn ≡ turn_of q
+pub stands_turn : (q : StepResult) (before : List Label) (made : MadeStep) (after : List Label) → IsInTrace q before made after → made.turn ≡ turn_of q
 stands_turn q before made after h = h.1
 
 -- ---- A thread that runs on

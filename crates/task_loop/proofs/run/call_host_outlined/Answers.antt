@@ -10,7 +10,7 @@ use Rattle.task_loop.proofs.run.call_host_outlined.Goals as goal
 use Rattle.task_loop.specs.Threads.{StepsUntold}
 use Rattle.task_store.specs.Hosts.{held_after_call, held_by}
 use Rattle.core_primitives.specs.StateView.{work_of}
-use Rattle.ops_turns.specs.StepResult.{MayTakeTurn}
+use Rattle.ops_turns.specs.StepResult.{IsInTrace}
 use Rattle.ops_turns.specs.declared.made.StepResult.{StepResult}
 
 -- what is left of the host that was polled
@@ -45,7 +45,7 @@ returns-clause-steps g c =
     let works = rw c.first_called-called.ensures.rest at c.in_ok-stepped.ensures.works in
     let held_then = rw c.first_called-called.ensures.rest at c.in_ok-hold_called.ensures.held in
     rw (c.in_ok-hold_called.ensures.rest, c.first_called-called.ensures.rest)
-    (ok_then (λ (q : StepResult). MayTakeTurn q before c.in_ok-stepped.stepped.0 after) (λ (q : StepResult). StepsUntold course comp n store q (record store { value = polled.value; state = t; works = c.hold_called.new.self.works }) before after) c.put.result
+    (ok_then (λ (q : StepResult). IsInTrace q before c.in_ok-stepped.stepped.0 after) (λ (q : StepResult). StepsUntold course comp n store q (record store { value = polled.value; state = t; works = c.hold_called.new.self.works }) before after) c.put.result
     (λ q h. record {
       makes = (c.in_ok-stepped.stepped.0, (h, ran.0));
       works = works;
