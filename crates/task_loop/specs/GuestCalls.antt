@@ -28,7 +28,7 @@ use Rattle.task_store.specs.Hosts.{HoldsHosts}
 use Rattle.task_store.specs.declared.store.Store.{Store}
 use Rattle.ops_turns.specs.Turn.{CoreInOrder}
 use Rattle.core_primitives.specs.StateView.{StateView}
-use Rattle.laws_order.specs.MayTakeTurn.{MayLeave, NoWakeLost}
+use Rattle.laws_order.specs.WakesKept.{MayLeave, NoWakeLost}
 use Rattle.core_primitives.specs.Groups.{IsAsked}
 
 -- ---- Another thread runs

@@ -17,7 +17,7 @@ use Rattle.machine_data.specs.Core.{Core}
 use Rattle.machine_data.specs.Read.{end_of}
 use Rattle.task_store.specs.Hosts.{HoldsWorks, held_by}
 use Rattle.core_primitives.specs.StateView.{thread_of}
-use Rattle.laws_order.specs.MayTakeTurn.{NoWakeLost}
+use Rattle.laws_order.specs.WakesKept.{NoWakeLost}
 
 -- ---- No thread would be left
 
