@@ -40,7 +40,7 @@ use Rattle.ops_turns.proofs.IdleLemmas.{after_free, free_at}
 use Rattle.ops_turns.proofs.RunLemmas.{host_over, host_picks, label_same, picked_at, push_picks, ran_at, took, took_host, took_picks, took_push}
 use Rattle.ops_turns.specs.Drive.{Drove, IsOn}
 use Rattle.ops_turns.specs.Ran.{OpMade, WorkMade, host_polled, scripted_rule_of}
-use Rattle.ops_turns.specs.StepResult.{Added, AddedOrNone, CallStepped, IsFull, OpPolls, OpShown, OpStep, RuleRan, RuleShown, RunMade, RunStepped, Shown, StepPolls, is_made, made_by, turn_of}
+use Rattle.ops_turns.specs.StepResult.{Added, AddedOrNone, CallStepped, IsFull, MatchStep, OpPolls, OpShown, OpStep, RuleRan, RuleShown, RunMade, RunStepped, Shown, is_made, made_by, turn_of}
 use Rattle.ops_turns.specs.Turn.{IsFree, MakesStep, Turned, Turns, is_open, running_of, runs_in, state_at}
 use Rattle.ops_turns.specs.declared.made.MadeStep.{MadeStep}
 use Rattle.ops_turns.specs.declared.made.StepResult.{StepResult}
@@ -114,39 +114,43 @@ made_open stepped.HookFailed made more = absurd (cc)
 made_open stepped.Over made more = absurd (more refl)
 made_open _ made more = refl
 
-module _ (P : Option MadeStep → Type 0) (before after : List Label) where
-  pub added_of : (q : StepResult) → is_made q ≡ true → AddedOrNone P q before after → Added (λ made. P (Some made)) q before after
-  added_of stepped.Nothing made h = absurd (cc)
-  added_of stepped.Full made h = absurd (cc)
-  added_of stepped.HookFailed made h = absurd (cc)
-  added_of _ made h = h
+module _ {M N F H : Type 0} where
+  pub match_made : (q : StepResult) → is_made q ≡ true → MatchStep M N F H q → M
+  match_made stepped.Nothing made h = absurd (cc)
+  match_made stepped.Full made h = absurd (cc)
+  match_made stepped.HookFailed made h = absurd (cc)
+  match_made _ made h = h
 
-  pub of_added : (q : StepResult) → (is_made q ≡ true → Added (λ made. P (Some made)) q before after) → (is_made q ≡ false → IsFull q before after) → AddedOrNone P q before after
-  of_added stepped.Nothing added full = absurd (let none = (full refl).0 in cc)
-  of_added stepped.Full added full = (full refl).1
-  of_added stepped.HookFailed added full = absurd (let none = (full refl).0 in cc)
-  of_added _ added full = added refl
+  pub of_made : (q : StepResult) → is_made q ≡ true → M → MatchStep M N F H q
+  of_made stepped.Nothing made h = absurd (cc)
+  of_made stepped.Full made h = absurd (cc)
+  of_made stepped.HookFailed made h = absurd (cc)
+  of_made _ made h = h
+
+  pub match_then : {M' N' F' H' : Type 0} (q : StepResult) → (is_made q ≡ true → M → M') → (q ≡ stepped.Nothing → N → N') → (F → F') → (H → H') → MatchStep M N F H q → MatchStep M' N' F' H' q
+  match_then stepped.Nothing made none full failed h = none refl h
+  match_then stepped.Full made none full failed h = full h
+  match_then stepped.HookFailed made none full failed h = failed h
+  match_then _ made none full failed h = made refl h
+
+  -- one was made, or it is out of memory
+  pub of_full : {before after : List Label} (q : StepResult) → (is_made q ≡ true → M) → (is_made q ≡ false → IsFull q before after) → (after ≡ before → F) → MatchStep M N F H q
+  of_full stepped.Nothing made full lost = absurd (let is = (full refl).0 in cc)
+  of_full stepped.Full made full lost = lost (full refl).1
+  of_full stepped.HookFailed made full lost = absurd (let is = (full refl).0 in cc)
+  of_full _ made full lost = made refl
+
+-- one was made, where no hook was told
+pub made_told : {M N F : Type 0} (q : StepResult) → (q ≡ stepped.Nothing → ⊥) → (q ≡ stepped.Full → ⊥) → MatchStep M N F ⊥ q → is_made q ≡ true
+made_told stepped.Nothing some room h = absurd (some refl)
+made_told stepped.Full some room h = absurd (room refl)
+made_told stepped.HookFailed some room h = absurd h
+made_told _ some room h = refl
 
 pub none_as : (P Q : Option MadeStep → Type 0) (q : StepResult) (before after : List Label) → ((made : Option MadeStep) → P made → Q made) → AddedOrNone P q before after → AddedOrNone Q q before after
-none_as P Q stepped.Nothing before after f h = (f None h.0, h.1)
-none_as P Q stepped.Full before after f h = h
-none_as P Q stepped.HookFailed before after f h = h
-none_as P Q q before after f h = added_as (λ made. P (Some made)) (λ made. Q (Some made)) q before after (λ made. f (Some made)) h
+none_as P Q q before after f h = match_then q (λ is added. added_as (λ made. P (Some made)) (λ made. Q (Some made)) q before after (λ made. f (Some made)) added) (λ is none. (f None none.0, none.1)) (λ same. same) (λ no. no) h
 
 -- ---- A step of the running thread
-
--- an op that was done polled no host
-pub unpolled : {before after : List Label} (host : Option HostDef) (o : Op) (q : StepResult) → host ≡ None → (is_made q ≡ false → IsFull q before after) → StepPolls host o q
-unpolled host o stepped.Nothing none full = absurd (let not_full = (full refl).0 in cc)
-unpolled host o stepped.Full none full = tt
-unpolled host o stepped.HookFailed none full = none
-unpolled host o _ none full = none
-
-pub op_stepped : (c : Component) (o : Op) (id : TableId ThreadKey) (s t : StateView) (before after : List Label) (q : StepResult) → (is_made q ≡ true → OpShown c o id s before q t after) → (is_made q ≡ false → IsFull q before after) → OpStep c o id s before q t after
-op_stepped c o id s t before after stepped.Nothing shown full = absurd (let not_full = (full refl).0 in cc)
-op_stepped c o id s t before after stepped.Full shown full = (full refl).1
-op_stepped c o id s t before after stepped.HookFailed shown full = absurd (let not_full = (full refl).0 in cc)
-op_stepped c o id s t before after _ shown full = shown refl
 
 module _ (id : TableId ThreadKey) (s t : StateView) (stepped : StepResult) (before after : List Label) where
   pub rule_as : (P Q : OpResult → Progress) → ((r : OpResult) → P r ≡ Q r) → RuleShown P id s before stepped t after → RuleShown Q id s before stepped t after
@@ -204,10 +208,10 @@ module _ (id : TableId ThreadKey) (s t : StateView) where
   }
 
 -- what an op by its rule resulted in is a step of the running thread
-module _ (c : Component) (id : TableId ThreadKey) (n : ℕ) (s t : StateView) (number : thread_of s id ≡ n) (o : Op) (is : op_of c (thread_of s id) s.core ≡ o)
+module _ (c : Component) (id : TableId ThreadKey) (n : ℕ) (s t : StateView) (number : thread_of s id ≡ n) (o : Op) (is_op : op_of c (thread_of s id) s.core ≡ o)
     (same : (op_result : OpResult) → scripted_op_rule c (thread_of s id) s.core (choice_of (label_of (thread_of s id) op_result)) o ≡ did c (thread_of s id) s.core (choice_of (label_of (thread_of s id) op_result))) where
   polled_at : (host : Option HostDef) → host ≡ polled_host c (op_progress_of (thread_of s id) s.core) o → host ≡ polled_host c (op_progress_of n s.core) (op_of c n s.core)
-  polled_at host e = subst (λ k. host ≡ polled_host c (op_progress_of k s.core) (op_of c k s.core)) number (e ∙ sym (ap (polled_host c (op_progress_of (thread_of s id) s.core)) is))
+  polled_at host e = subst (λ k. host ≡ polled_host c (op_progress_of k s.core) (op_of c k s.core)) number (e ∙ sym (ap (polled_host c (op_progress_of (thread_of s id) s.core)) is_op))
 
   -- one that is done polls no host
   pub step_made : (before after : List Label) (q : StepResult) → OpShown c o id s before q t after → polled_host c (op_progress_of (thread_of s id) s.core) o ≡ None → Added (λ made. RunMade c n s (Some made) t) q before after
@@ -216,11 +220,9 @@ module _ (c : Component) (id : TableId ThreadKey) (n : ℕ) (s t : StateView) (n
       (added.0, (added.1.0, (added.1.1, sym (polled_at None (sym polls)))))
 
   pub run_steps : (before after : List Label) (q : StepResult) → OpStep c o id s before q t after → OpPolls c o id s q → RunStepped c n s q t before after
-  run_steps before after stepped.Nothing step polls =
-      ((step.0, subst (λ k. calls_host (op_of c k s.core) ≡ true) number (ap calls_host is ∙ polls)), step.1)
-  run_steps before after stepped.Full step polls = step
-  run_steps before after stepped.HookFailed step polls = step
-  run_steps before after q step polls = step_made before after q step polls
+  run_steps before after q step polls =
+      match_then q (λ made shown. step_made before after q shown (match_made q made polls))
+      (λ is same. ((same.0, subst (λ k. calls_host (op_of c k s.core) ≡ true) number (ap calls_host is_op ∙ subst (λ (r : StepResult). OpPolls c o id s r) is polls)), same.1)) (λ same. same) (λ no. no) step
 
   -- so is what one came to that calls a host
   pub call_steps : (answer : HostPoll) (r : Result (MadeStep × Option (TableId HostTaskKey)) NoMemory) → IfOk r (λ q. RuleRan (scripted_rule_of c o id s) id s q.0 t) → IfOk r (λ q. OpMade answer c o id s q.1 t)

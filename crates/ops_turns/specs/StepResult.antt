@@ -50,6 +50,14 @@ is_made stepped.Full = false
 is_made stepped.HookFailed = false
 is_made _ = true
 
+-- What a step results in, by its cases: it was made, as the first says, or none was to be made, as the second; or it is out of memory, as
+-- the third, or the hook failed, as the fourth.
+abbrev pub MatchStep : (made none full failed : Type 0) → StepResult → Type 0
+MatchStep made none full failed stepped.Nothing = none
+MatchStep made none full failed stepped.Full = full
+MatchStep made none full failed stepped.HookFailed = failed
+MatchStep made none full failed _ = made
+
 -- it is out of memory, and no label was added
 abbrev pub IsFull : StepResult → (before after : List Label) → Type 0
 IsFull q before after = (q ≡ stepped.Full) × (after ≡ before)
@@ -64,10 +72,8 @@ Added P stepped before after = (made : MadeStep) × (IsInTrace stepped before ma
 
 -- A step was made and its label added; or none was to be made; or it is out of memory. Then no label was added.
 abbrev pub AddedOrNone : (Option MadeStep → Type 0) → StepResult → List Label → List Label → Type 0
-AddedOrNone P stepped.Nothing before after = P None × (after ≡ before)
-AddedOrNone P stepped.Full before after = after ≡ before
-AddedOrNone P stepped.HookFailed before after = ⊥
-AddedOrNone P stepped before after = Added (λ made. P (Some made)) stepped before after
+AddedOrNone P stepped before after =
+    MatchStep (Added (λ made. P (Some made)) stepped before after) (P None × (after ≡ before)) (after ≡ before) ⊥ stepped
 
 -- what an op of the thread shows that resulted in this
 abbrev pub made_by : ℕ → OpResult → MadeStep
@@ -138,16 +144,12 @@ CallsHost c n s t = (t ≡ s) × (calls_host (op_of c n s.core) ≡ true)
 -- An op of the thread's script was done, and what it shows is in the trace. Or it calls a host, and nothing is changed; or it is out of
 -- memory. Then no label was added.
 abbrev pub OpStep : Component → Op → TableId ThreadKey → StateView → List Label → StepResult → StateView → List Label → Type 0
-OpStep c o id s before stepped.Nothing t after = (t ≡ s) × (after ≡ before)
-OpStep c o id s before stepped.Full t after = after ≡ before
-OpStep c o id s before stepped.HookFailed t after = ⊥
-OpStep c o id s before stepped t after = OpShown c o id s before stepped t after
+OpStep c o id s before stepped t after =
+    MatchStep (OpShown c o id s before stepped t after) ((t ≡ s) × (after ≡ before)) (after ≡ before) ⊥ stepped
 
 -- An op polls this host first if it calls one, and isn't done; else it polls none.
 abbrev pub StepPolls : Option HostDef → Op → StepResult → Type 0
-StepPolls host o stepped.Nothing = calls_host o ≡ true
-StepPolls host o stepped.Full = Unit {0}
-StepPolls host o stepped = host ≡ None
+StepPolls host o stepped = MatchStep (host ≡ None) (calls_host o ≡ true) (Unit {0}) ⊥ stepped
 
 -- the host that the op polls which the thread is to do
 abbrev pub OpPolls : Component → Op → TableId ThreadKey → StateView → StepResult → Type 0

@@ -39,12 +39,11 @@ use Rattle.task_store.specs.declared.store.Store.{Store}
 use Rattle.ops_turns.specs.Does.{label_of_step, step_of, step_shown}
 use Rattle.ops_turns.specs.Drive.{WasGoing}
 use Rattle.ops_turns.specs.Main.{Steps}
-use Rattle.ops_turns.specs.StepResult.{AddedOrNone, is_made}
+use Rattle.ops_turns.specs.StepResult.{AddedOrNone, MatchStep, is_made}
 use Rattle.ops_turns.specs.Turn.{IsSettled, PendsIn, CoreInOrder, given, goes_on, is_open, running_of, runs_in, setting_of, state_at}
 use Rattle.ops_turns.specs.WellFormed.{IsWellFormed}
 use Rattle.ops_turns.specs.declared.mains.MainStep.{MainStep}
 use Rattle.ops_turns.specs.declared.made.StepResult.{StepResult}
-use Rattle.ops_turns.specs.declared.made.StepResult.TheVariants as stepped
 use Rattle.core_primitives.specs.Groups.{IsAsked, asked}
 use Rattle.core_primitives.specs.StateView.{StateView, on_core}
 
@@ -178,9 +177,7 @@ module _ {M T H G : Type 0} (says : Says M) (course : H → HostDef) (c : Compon
 
   -- in each case: if it is out of memory, no label was added
   abbrev pub TurnsTo : StepResult → (running : ℕ) → (a b : At M T H G) → Type 0
-  TurnsTo stepped.Full running a b = b.trace ≡ a.trace
-  TurnsTo stepped.HookFailed running a b = FailsTurn a b
-  TurnsTo q running a b = HasTurned q running a b
+  TurnsTo q running a b = MatchStep (HasTurned q running a b) (HasTurned q running a b) (b.trace ≡ a.trace) (FailsTurn a b) q
 
   -- so it is of main's turn, whatever the idle line is
   abbrev pub MainTurned : StepResult → (m : M) (s : Store T H G) (before : List Label) (n : M) (t : Store T H G) (after : List Label) → Type 0

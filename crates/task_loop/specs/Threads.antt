@@ -12,7 +12,7 @@ use Rattle.machine_data.specs.declared.records.Turn.TheVariants as turn
 use Rattle.ops_guests.specs.Works.{KeepsWorks, NamesTold, NamesWorks}
 use Rattle.task_store.specs.Hosts.{HoldsHosts}
 use Rattle.task_store.specs.declared.store.Store.{Store}
-use Rattle.ops_turns.specs.StepResult.{Added, TakesBeside, is_made}
+use Rattle.ops_turns.specs.StepResult.{Added, MatchStep, TakesBeside, is_made}
 use Rattle.ops_turns.specs.Turn.{CoreInOrder, MakesFree, TurnsBeside, given, running_of}
 use Rattle.ops_turns.specs.WellFormed.{IsWellFormed}
 use Rattle.ops_turns.specs.declared.made.StepResult.{StepResult}
@@ -80,10 +80,8 @@ FailsThread course c n s t before after =
 -- So it took its step; or it is out of memory, and no label was added; or the hook failed.
 abbrev pub RunsTo : {T H G : Type 0} → (H → HostDef) → Component → ℕ → (s : Store T H G) → StepResult → (running : ℕ) →
     (t : Store T H G) → (before after : List Label) → Type 0
-RunsTo course c n s stepped.Nothing running t before after = ⊥
-RunsTo course c n s stepped.Full running t before after = after ≡ before
-RunsTo course c n s stepped.HookFailed running t before after = FailsThread course c n s t before after
-RunsTo course c n s q running t before after = RanThread course c n s q running t before after
+RunsTo course c n s q running t before after =
+    MatchStep (RanThread course c n s q running t before after) ⊥ (after ≡ before) (FailsThread course c n s t before after) q
 
 -- A work was polled, and that was told; or the hook answered an error as it was.
 abbrev pub PollsTold : {T H G : Type 0} → Turn → (running : ℕ) → (s : Store T H G) → StepResult → (t : Store T H G) →
@@ -109,10 +107,8 @@ TakesNothing c b ended s t before after =
 -- in each case
 abbrev pub WorkPollsTo : {T H G : Type 0} → Turn → (s : Store T H G) → StepResult → (running : ℕ) → (t : Store T H G) →
     (before after : List Label) → Type 0
-WorkPollsTo p s stepped.Nothing running t before after = ⊥
-WorkPollsTo p s stepped.Full running t before after = after ≡ before
-WorkPollsTo p s stepped.HookFailed running t before after = FailsPoll p s t before after
-WorkPollsTo p s q running t before after = PollsTold p running s q t before after
+WorkPollsTo p s q running t before after =
+    MatchStep (PollsTold p running s q t before after) ⊥ (after ≡ before) (FailsPoll p s t before after) q
 
 -- It answered one as the taking of an entry was told.
 abbrev pub FailsTake : {T H G : Type 0} → Component → (trap_on_idle ended : Bool) → (s t : Store T H G) →
@@ -124,7 +120,6 @@ FailsTake c b ended s t before after =
 -- in each case
 abbrev pub TakesTo : {T H G : Type 0} → Component → (trap_on_idle ended : Bool) → (s : Store T H G) → StepResult → (running : ℕ) →
     (t : Store T H G) → (before after : List Label) → Type 0
-TakesTo c b ended s stepped.Nothing running t before after = TakesNothing c b ended s t before after
-TakesTo c b ended s stepped.Full running t before after = after ≡ before
-TakesTo c b ended s stepped.HookFailed running t before after = FailsTake c b ended s t before after
-TakesTo c b ended s q running t before after = TakesTold c b ended running s q t before after
+TakesTo c b ended s q running t before after =
+    MatchStep (TakesTold c b ended running s q t before after) (TakesNothing c b ended s t before after) (after ≡ before)
+    (FailsTake c b ended s t before after) q

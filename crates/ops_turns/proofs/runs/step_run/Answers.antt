@@ -10,9 +10,8 @@ use Rattle.ops_guests.specs.Steps.{label_of}
 use Rattle.ops_turns.proofs.CoveredLemmas.{home_below}
 use Rattle.ops_turns.proofs.OrderLemmas.{number_at, runner}
 use Rattle.ops_turns.proofs.RunLemmas.{op_is, row_at, script_is}
-use Rattle.ops_turns.proofs.SteppedLemmas.{of_added, run_steps, step_made}
+use Rattle.ops_turns.proofs.SteppedLemmas.{of_full, run_steps, step_made}
 use Rattle.ops_turns.proofs.runs.step_run.Goals as goal
-use Rattle.ops_turns.specs.StepResult.{RunMade}
 use Rattle.core_primitives.specs.StateView.{thread_of}
 
 pub at-point-requires : goal.at-point-requires
@@ -78,7 +77,7 @@ returns-in-None-clause-ran g c =
     let is = op_is c.args.component.now n s.core q.thread q.here c.script_ops-script.result.now c.at-point.result.callee (task_of n s.core) c.at-point.result.position c.at-point.result.script c.at-point.ensures.callee refl (c.at-point.ensures.script q.thread q.here) c.script_ops-script.ensures c.at-point.ensures.position None e in
     let before = c.args.trace.now in
     let after = c.run_exit.new.trace in
-    of_added (λ made. RunMade comp c.args.number s made t) before after c.run_exit.result
+    of_full c.run_exit.result
     (λ made. step_made comp c.in-Some.thread c.args.number s t number (op.Task task.Exit) is
     (λ r. row_at c.args.component.now n s.core q.thread q.here c.script_ops-script.result.now c.at-point.result.callee (task_of n s.core) c.at-point.result.position c.at-point.result.script c.at-point.ensures.callee refl (c.at-point.ensures.script q.thread q.here) c.script_ops-script.ensures c.at-point.ensures.position None e (choice_of (label_of n r)))
-    before after c.run_exit.result (c.run_exit.ensures.shown made comp) refl) c.run_exit.ensures.full
+    before after c.run_exit.result (c.run_exit.ensures.shown made comp) refl) c.run_exit.ensures.full (λ same. same)

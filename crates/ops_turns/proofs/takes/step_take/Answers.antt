@@ -7,7 +7,7 @@ use Rattle.ops_moves.specs.Idle.{IsJoinThere}
 use Rattle.machine_rules.specs.Places.{Placed}
 use Rattle.ops_turns.proofs.WorkedLemmas.{worked_is}
 use Rattle.ops_turns.specs.Worked.{tracked_entry_group}
-use Rattle.ops_turns.proofs.SteppedLemmas.{host_makes, left_is, next_is, of_added, push_makes, take_added}
+use Rattle.ops_turns.proofs.SteppedLemmas.{host_makes, left_is, next_is, of_full, push_makes, take_added}
 use Rattle.ops_turns.proofs.TakenLemmas.{finds, host_joined, host_live, host_placed, taken}
 use Rattle.ops_turns.proofs.takes.step_take.Goals as goal
 use Rattle.machine_data.specs.Labels.{choice_of}
@@ -20,7 +20,6 @@ use Rattle.core_primitives.specs.Preferences.{preference}
 use Rattle.machine_rules.specs.Picks.{Preference}
 use Rattle.ops_guests.specs.OpResult.{PicksFirst}
 use Rattle.ops_turns.specs.Taken.{FindsSet, Taken}
-use Rattle.ops_turns.specs.Turn.{Took}
 use Rattle.core_primitives.specs.Names.{entry_in}
 use Rattle.core_primitives.specs.StateView.{StateView, thread_of, with_current, work_of}
 use Rattle.core_primitives.specs.declared.names.EntryId.{EntryId}
@@ -62,9 +61,9 @@ returns-in-Some-default-Thread-clause-took g c =
     let before = c.args.trace.now in
     let after = c.step_thread.new.trace in
     let row : OpResult → Progress = λ r. thread_taken q.mark (thread_of u q.thread) (choice_of (label_of (thread_of u q.thread) r)) u.core (place_of (thread_of u q.thread) u.core) in
-    of_added (λ step. Took c.args.component.now c.args.ended s step t) before after c.step_thread.result (λ made. let h = c.step_thread.ensures.shown made in
+    of_full c.step_thread.result (λ made. let h = c.step_thread.ensures.shown made in
         take_added c.args.component.now c.args.ended q.mark q.thread (thread_of s q.thread) s (with_current (Some q.thread) u) h.left t h.op_result c.step_thread.result before after
-        (ap (λ (x : StateView). thread_of x q.thread) left) (ap (λ (x : StateView). x.core) left) next h.implements (subst (λ (f : Preference). PicksFirst f (row h.op_result) (label_of (thread_of u q.thread) h.op_result) u.core h.op_result h.left.core) (ap preference left) h.picks) h.stays h.shown) c.step_thread.ensures.full
+        (ap (λ (x : StateView). thread_of x q.thread) left) (ap (λ (x : StateView). x.core) left) next h.implements (subst (λ (f : Preference). PicksFirst f (row h.op_result) (label_of (thread_of u q.thread) h.op_result) u.core h.op_result h.left.core) (ap preference left) h.picks) h.stays h.shown) c.step_thread.ensures.full (λ same. same)
 
 -- ---- A push
 
@@ -79,7 +78,7 @@ returns-in-Some-default-Push-clause-took g c =
     (next_is s c.take_next.result q.mark (entries.Push q.work) c.take_next.ensures.next at) c.step_push-made.ensures.made c.step_push-made.ensures.new in
     let t = v c.step_push-made.new.w in
     let before = c.args.trace.now in
-    of_added (λ step. Took c.args.component.now c.args.ended s step t) before c.put.new.trace c.put.result (λ made. (c.step_push-made.result, (c.put.ensures.in_trace made, makes))) c.put.ensures.full
+    of_full c.put.result (λ made. (c.step_push-made.result, (c.put.ensures.in_trace made, makes))) c.put.ensures.full (λ same. same)
 
 -- ---- An ended host work
 
@@ -126,7 +125,7 @@ returns-in-Some-default-Host-clause-took g c =
     (next_is s c.take_next.result q.mark (entries.Host q.work) c.take_next.ensures.next at) c.step_host-made.ensures.picks c.step_host-made.ensures.current c.step_host-made.ensures.turn in
     let t = v c.step_host-made.new.w in
     let before = c.args.trace.now in
-    of_added (λ step. Took c.args.component.now c.args.ended s step t) before c.put-2.new.trace c.put-2.result (λ made. (c.step_host-made.result, (c.put-2.ensures.in_trace made, makes))) c.put-2.ensures.full
+    of_full c.put-2.result (λ made. (c.step_host-made.result, (c.put-2.ensures.in_trace made, makes))) c.put-2.ensures.full (λ same. same)
 
 -- ---- The group that is worked on
 

@@ -1,13 +1,13 @@
-use Rattle.std.proofs.Common.{subst, sym}
+use Rattle.std.proofs.Common.{subst, sym, ◌∙◌}
 use Rattle.std.specs.Prelude.{Bool, List, None, Option, Some, false}
 use Rattle.laws_states.specs.Order.{WorksQueued}
 use Rattle.machine_data.specs.Core.{Unscripted}
 use Rattle.machine_data.specs.declared.label.Label.{Label}
 use Rattle.machine_data.specs.declared.records.Turn.TheVariants as turn
-use Rattle.ops_turns.proofs.SteppedLemmas.{of_added}
+use Rattle.ops_turns.proofs.SteppedLemmas.{made_told, of_full}
 use Rattle.ops_turns.proofs.ThereLemmas.{idle_there, took_beside, took_there}
 use Rattle.ops_turns.proofs.turns.take.Goals as goal
-use Rattle.ops_turns.specs.StepResult.{AddedOrNone, TookShown}
+use Rattle.ops_turns.specs.StepResult.{IsInTrace, TookShown}
 use Rattle.ops_turns.specs.Turn.{CoreInOrder, TurnedBeside}
 use Rattle.ops_turns.specs.declared.made.MadeStep.{MadeStep}
 use Rattle.ops_turns.specs.declared.made.StepResult.{StepResult}
@@ -37,7 +37,8 @@ returns-in_default-clause-there g c room =
     let comp = c.args.component.now in
     let s = g.W.View.view c.args.w.now in
     let t = g.W.View.view c.step_take-taken.new.w in
-    took_there comp c.args.ended s t c.requires.at.order c.step_take-taken.result c.args.trace.now c.step_take-taken.new.trace c.in_default.not-Nothing room c.step_take-taken.ensures.took
+    let q = c.step_take-taken.result in
+    took_there comp c.args.ended s t c.requires.at.order q c.args.trace.now c.step_take-taken.new.trace (made_told q c.in_default.not-Nothing room c.step_take-taken.ensures.took) c.step_take-taken.ensures.took
 
 -- ---- Nothing is there
 
@@ -53,8 +54,7 @@ returns-in-Some-clause-turned g c =
     let in_turn = subst (λ (w : StateView). CoreInOrder comp (turn.Take false) w.core) (sym took.0.1) (subst (λ (e : Bool). CoreInOrder comp (turn.Take e) s.core) c.if-ended.false c.requires.at.order) in
     let turned = subst (λ (o : Option MadeStep). TurnedBeside comp b (turn.Take false) u o t) c.in-Some.is (c.rest.ensures.turned comp in_turn) in
     let beside = subst (λ (e : Bool). TurnedBeside comp b (turn.Take e) s (Some c.in-Some.made) t) (sym c.if-ended.false) (subst (λ (w : StateView). TurnedBeside comp b (turn.Take false) w (Some c.in-Some.made) t) took.0.1 turned) in
-    subst (λ (l : List Label). AddedOrNone (λ made. TurnedBeside comp b (turn.Take c.args.ended) s made t) c.put.result l c.put.new.trace) took.1
-    (of_added (λ made. TurnedBeside comp b (turn.Take c.args.ended) s made t) c.step_take-taken.new.trace c.put.new.trace c.put.result (λ is. (c.in-Some.made, (c.put.ensures.in_trace is, beside))) c.put.ensures.full)
+    of_full c.put.result (λ is. (c.in-Some.made, (subst (λ (l : List Label). IsInTrace c.put.result l c.in-Some.made c.put.new.trace) took.1 (c.put.ensures.in_trace is), beside))) c.put.ensures.full (λ same. same ∙ took.1)
 
 pub returns-in-None-clause-turned : goal.returns-in-None-clause-turned
 returns-in-None-clause-turned g c =
