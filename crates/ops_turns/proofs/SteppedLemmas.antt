@@ -147,6 +147,13 @@ made_told stepped.Full some room h = absurd (room refl)
 made_told stepped.HookFailed some room h = absurd h
 made_told _ some room h = refl
 
+-- it is out of memory, where none was made
+pub full_told : {M N : Type 0} {before after : List Label} (q : StepResult) → (q ≡ stepped.Nothing → ⊥) → is_made q ≡ false → MatchStep M N (after ≡ before) ⊥ q → IsFull q before after
+full_told stepped.Nothing some unmade h = absurd (some refl)
+full_told stepped.Full some unmade h = (refl, h)
+full_told stepped.HookFailed some unmade h = absurd h
+full_told _ some unmade h = absurd (cc)
+
 pub none_as : (P Q : Option MadeStep → Type 0) (q : StepResult) (before after : List Label) → ((made : Option MadeStep) → P made → Q made) → AddedOrNone P q before after → AddedOrNone Q q before after
 none_as P Q q before after f h = match_then q (λ is added. added_as (λ made. P (Some made)) (λ made. Q (Some made)) q before after (λ made. f (Some made)) added) (λ is none. (f None none.0, none.1)) (λ same. same) (λ no. no) h
 

@@ -327,7 +327,7 @@ module _ (c : Component) (s : StateView) (mid : List Label) (added : ℕ) (t : S
 
 -- a turn in which nothing was made tells nothing
 pub none_told : (x : Setting) (p : Turn) (m : Main) (s : StateView) (old : Listeners) (n : Main) (t : StateView) (new : Listeners) (before after : List Label) → new ≡ old →
-    AddedOrNone (λ made. Turned x p m s made n t) None before after → AddedOrNone (λ made. TurnTold x p m s old made n t new) None before after
+    Turned x p m s None n t × (after ≡ before) → TurnTold x p m s old None n t new × (after ≡ before)
 none_told x p m s old n t new before after same h = (
   record {
     turned = h.0;
