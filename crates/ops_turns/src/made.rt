@@ -119,25 +119,17 @@ pub fn put(trace: &mut PackedLabels, made: MadeStep) -> StepResult
     result_of(made.turn)
 }
 
-// The outcome that the last label gives. It is a function of its own, as few steps end a run.
+/// Returns the outcome of a run that is over, which the last label gives. It is a function of its own, as few steps end a run.
 #[cold]
 #[inline(never)]
-fn last_outcome(trace: &PackedLabels) -> Option<Outcome>
-    ensures { result ≡ last_outcome trace.now }
-{
-    match trace.last() {
-        Some(label) => outcome_of(label),
-        None => None,
-    }
-}
-
-/// Returns the outcome of a run that is over.
-#[inline(always)]
 pub fn outcome_in(trace: &PackedLabels) -> Outcome
     requires { is_some (last_outcome trace.now) ≡ true }
     ensures { last_outcome trace.now ≡ Some result }
 {
-    match last_outcome(trace) {
+    let Some(label) = trace.last() else {
+        unreachable!()
+    };
+    match outcome_of(label) {
         Some(outcome) => outcome,
         None => unreachable!(),
     }

@@ -135,11 +135,7 @@ fn show_exit<W: Primitives>(
 
 // The thread exits at its script's end.
 #[inline(never)]
-fn run_exit<W: Primitives>(
-    w: &mut W,
-    thread: ThreadId,
-    trace: &mut PackedLabels,
-) -> StepResult
+fn run_exit<W: Primitives>(w: &mut W, thread: ThreadId, trace: &mut PackedLabels) -> StepResult
     requires runner { Runner thread (W.view w.old) }
     ensures shown { is_made result ≡ true → ExitShown thread (W.view w.old) trace.old result (W.view w.new) trace.new }
     ensures works { result ≢ StepResult.Full → KeepsTold (W.view w.old) (W.view w.new) }

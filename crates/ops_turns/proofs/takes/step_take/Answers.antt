@@ -62,8 +62,8 @@ returns-in-Some-default-Thread-clause-took g c =
     let after = c.step_thread.new.trace in
     let row : OpResult → Progress = λ r. thread_taken q.mark (thread_of u q.thread) (choice_of (label_of (thread_of u q.thread) r)) u.core (place_of (thread_of u q.thread) u.core) in
     of_full c.step_thread.result (λ made. let h = c.step_thread.ensures.shown made in
-        take_added c.args.component.now c.args.ended q.mark q.thread (thread_of s q.thread) s (with_current (Some q.thread) u) h.left t h.op_result c.step_thread.result before after
-        (ap (λ (x : StateView). thread_of x q.thread) left) (ap (λ (x : StateView). x.core) left) next h.implements (subst (λ (f : Preference). PicksFirst f (row h.op_result) (label_of (thread_of u q.thread) h.op_result) u.core h.op_result h.left.core) (ap preference left) h.picks) h.stays h.shown) c.step_thread.ensures.full (λ same. same)
+    take_added c.args.component.now c.args.ended q.mark q.thread (thread_of s q.thread) s (with_current (Some q.thread) u) h.left t h.op_result c.step_thread.result before after
+    (ap (λ (x : StateView). thread_of x q.thread) left) (ap (λ (x : StateView). x.core) left) next h.implements (subst (λ (f : Preference). PicksFirst f (row h.op_result) (label_of (thread_of u q.thread) h.op_result) u.core h.op_result h.left.core) (ap preference left) h.picks) h.stays h.shown) c.step_thread.ensures.full (λ same. same)
 
 -- ---- A push
 

@@ -98,29 +98,29 @@ returns-in-Run-clause-turned g c =
     let order = subst (λ (p : Turn). CoreInOrder d p s.core) c.in-Run.is may.may_turn.order in
     match_then q
     (λ is ran.
-        let made = ran.steps.makes in
-        record {
-          turn = refl;
-          told = of_made q is (subst (λ (p : Turn). Added (λ (made : MadeStep). TurnTold x p part s old (Some made) part t new) q before after) (sym c.in-Run.is) (told_turn x n part s old t new q before after ran.told));
-          did = of_made q is (added_as (λ (made : MadeStep). MakesStep d (turn.Run n) s made t × IsFree made.turn) (λ (made : MadeStep). DoesStep says.does main s.core (step_shown made.label) main t.core) q before after
-              (λ made h. still_run says.does main x part s t n made h.0) made);
-          group = λ yes. ran.group;
-          suits = may.may_turn.suits;
-          knows = by_run (says.knows main) s t (λ last. g.met.M.MainTask.stays main s t last may.may_turn.knows) x part n made.0 order made.1.1.0 ran.steps.works;
-          works = ran.steps.hosts;
-          asked = ran.asked;
-        })
+    let made = ran.steps.makes in
+    record {
+      turn = refl;
+      told = of_made q is (subst (λ (p : Turn). Added (λ (made : MadeStep). TurnTold x p part s old (Some made) part t new) q before after) (sym c.in-Run.is) (told_turn x n part s old t new q before after ran.told));
+      did = of_made q is (added_as (λ (made : MadeStep). MakesStep d (turn.Run n) s made t × IsFree made.turn) (λ (made : MadeStep). DoesStep says.does main s.core (step_shown made.label) main t.core) q before after
+          (λ made h. still_run says.does main x part s t n made h.0) made);
+      group = λ yes. ran.group;
+      suits = may.may_turn.suits;
+      knows = by_run (says.knows main) s t (λ last. g.met.M.MainTask.stays main s t last may.may_turn.knows) x part n made.0 order made.1.1.0 ran.steps.works;
+      works = ran.steps.hosts;
+      asked = ran.asked;
+    })
     (λ is no. absurd no) (λ lost. lost)
     (λ failed.
-        let fails = failed.0 in
-        let k = failed.1 in
-        let made = k.1.makes in
-        record {
-          stops = stops_after x c.args.self.now.turn (turn.Run n) c.in-Run.is (λ no. absurd (cc)) part s before after old new (fails.told.answered, fails.hook) k.0 part t fails.told (made.0, (made.1.0, run_turns d n s t k.0 before after made x refl part));
-          main = refl;
-          knows = by_run (says.knows main) s t (λ last. g.met.M.MainTask.stays main s t last may.may_turn.knows) x part n made.0 order made.1.1.0 k.1.works;
-          works = k.1.hosts;
-        }) c.run_thread.ensures.ran
+    let fails = failed.0 in
+    let k = failed.1 in
+    let made = k.1.makes in
+    record {
+      stops = stops_after x c.args.self.now.turn (turn.Run n) c.in-Run.is (λ no. absurd (cc)) part s before after old new (fails.told.answered, fails.hook) k.0 part t fails.told (made.0, (made.1.0, run_turns d n s t k.0 before after made x refl part));
+      main = refl;
+      knows = by_run (says.knows main) s t (λ last. g.met.M.MainTask.stays main s t last may.may_turn.knows) x part n made.0 order made.1.1.0 k.1.works;
+      works = k.1.hosts;
+    }) c.run_thread.ensures.ran
 
 -- ---- A work is polled
 
@@ -161,29 +161,29 @@ returns-in-Futures-clause-turned g c =
     let pends : PendsIn x s.core m p = subst (λ (w : Turn). PendsIn x s.core m w) c.in-Futures.is may.may_turn.pends in
     match_then q
     (λ is polled.
-        let made : Added (λ (made : MadeStep). Turns x p m s made m t) q before after = any_turns x p m s t q before after pends polled.0 in
-        let told = polled.1 in
-        record {
-          turn = refl;
-          told = of_made q is (subst (λ (w : Turn). Added (λ (made : MadeStep). TurnTold x w m s old (Some made) m t new) q before after) (sym c.in-Futures.is) (other_told x p refl m s may.may_turn.asked old m t new told.told q before after made told.hook_is_ok));
-          did = of_made q is (made.0, (made.1.0, still says.does main x m s t p refl made.0 made.1.1));
-          group = λ yes. told.group ∙ current_is t (turn_of q) (turns_runs x p m s m t q before after made);
-          suits = may.may_turn.suits;
-          knows = by_poll (says.knows main) s t (λ last. g.met.M.MainTask.stays main s t last may.may_turn.knows) x m c.in-Futures.polled made.0 order made.1.1 works.0;
-          works = works.1;
-          asked = told.asked;
-        })
+    let made : Added (λ (made : MadeStep). Turns x p m s made m t) q before after = any_turns x p m s t q before after pends polled.0 in
+    let told = polled.1 in
+    record {
+      turn = refl;
+      told = of_made q is (subst (λ (w : Turn). Added (λ (made : MadeStep). TurnTold x w m s old (Some made) m t new) q before after) (sym c.in-Futures.is) (other_told x p refl m s may.may_turn.asked old m t new told.told q before after made told.hook_is_ok));
+      did = of_made q is (made.0, (made.1.0, still says.does main x m s t p refl made.0 made.1.1));
+      group = λ yes. told.group ∙ current_is t (turn_of q) (turns_runs x p m s m t q before after made);
+      suits = may.may_turn.suits;
+      knows = by_poll (says.knows main) s t (λ last. g.met.M.MainTask.stays main s t last may.may_turn.knows) x m c.in-Futures.polled made.0 order made.1.1 works.0;
+      works = works.1;
+      asked = told.asked;
+    })
     (λ is no. absurd no) (λ lost. lost)
     (λ failed.
-        let fails = failed.0 in
-        let k = failed.1 in
-        let made = any_turns x p m s t k.0 before after pends k.1 in
-        record {
-          stops = stops_after x c.args.self.now.turn p c.in-Futures.is (λ no. absurd (cc)) m s before after old new (fails.told.answered, fails.hook) k.0 m t fails.told made;
-          main = refl;
-          knows = by_poll (says.knows main) s t (λ last. g.met.M.MainTask.stays main s t last may.may_turn.knows) x m c.in-Futures.polled made.0 order made.1.1 works.0;
-          works = works.1;
-        }) c.poll_work.ensures.polled
+    let fails = failed.0 in
+    let k = failed.1 in
+    let made = any_turns x p m s t k.0 before after pends k.1 in
+    record {
+      stops = stops_after x c.args.self.now.turn p c.in-Futures.is (λ no. absurd (cc)) m s before after old new (fails.told.answered, fails.hook) k.0 m t fails.told made;
+      main = refl;
+      knows = by_poll (says.knows main) s t (λ last. g.met.M.MainTask.stays main s t last may.may_turn.knows) x m c.in-Futures.polled made.0 order made.1.1 works.0;
+      works = works.1;
+    }) c.poll_work.ensures.polled
 
 -- ---- An entry is taken
 
