@@ -126,11 +126,11 @@ pub fn outcome_in(trace: &PackedLabels) -> Outcome
     requires { is_some (last_outcome trace.now) ≡ true }
     ensures { last_outcome trace.now ≡ Some result }
 {
-    let Some(label) = trace.last() else {
-        unreachable!()
-    };
-    match outcome_of(label) {
-        Some(outcome) => outcome,
+    match trace.last() {
+        Some(label) => match outcome_of(label) {
+            Some(outcome) => outcome,
+            None => unreachable!(),
+        },
         None => unreachable!(),
     }
 }

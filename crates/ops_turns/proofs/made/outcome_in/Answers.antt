@@ -7,16 +7,14 @@ use Rattle.ops_turns.proofs.made.outcome_in.Goals as goal
 pub returns : goal.returns
 returns c = last_outcome-last c.args.trace.now ∙ (ap (option_and_then outcome_of_label) (sym c.last.ensures ∙ c.in-Some.is) ∙ (sym c.outcome_of.ensures ∙ c.in-Some-outcome_of.is))
 
-pub unreachable-requires-in_default : goal.unreachable-requires-in_default
-unreachable-requires-in_default c =
-    let none = sym (last_outcome-last c.args.trace.now) in
-    let there = c.requires in
-    let last = c.last.ensures in
-    let no = c.in_default.not-Some in
-    ?
+pub unreachable-requires-in-None-outcome_of : goal.unreachable-requires-in-None-outcome_of
+unreachable-requires-in-None-outcome_of c =
+    let none = last_outcome-last c.args.trace.now ∙ (ap (option_and_then outcome_of_label) (sym c.last.ensures ∙ c.in-Some.is) ∙ (sym c.outcome_of.ensures ∙ c.in-None-outcome_of.is)) in
+    let no = sym (ap is_some none) ∙ c.requires in
+    absurd (cc)
 
 pub unreachable-requires-in-None : goal.unreachable-requires-in-None
 unreachable-requires-in-None c =
-    let none = last_outcome-last c.args.trace.now ∙ (ap (option_and_then outcome_of_label) (sym c.last.ensures ∙ c.in-Some.is) ∙ (sym c.outcome_of.ensures ∙ c.in-None.is)) in
+    let none = last_outcome-last c.args.trace.now ∙ ap (option_and_then outcome_of_label) (sym c.last.ensures ∙ c.in-None.is) in
     let no = sym (ap is_some none) ∙ c.requires in
     absurd (cc)
