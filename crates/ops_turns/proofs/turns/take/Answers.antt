@@ -7,6 +7,7 @@ use Rattle.machine_data.specs.declared.records.Turn.TheVariants as turn
 use Rattle.ops_turns.proofs.SteppedLemmas.{made_told, of_full}
 use Rattle.ops_turns.proofs.ThereLemmas.{idle_there, took_beside, took_there}
 use Rattle.ops_turns.proofs.turns.take.Goals as goal
+use Rattle.ops_guests.specs.Works.{KeepsTold}
 use Rattle.ops_turns.specs.StepResult.{IsInTrace, TookShown}
 use Rattle.ops_turns.specs.Turn.{CoreInOrder, TurnedBeside}
 use Rattle.ops_turns.specs.declared.made.MadeStep.{MadeStep}
@@ -75,3 +76,21 @@ returns-in-Some-clause-there g c room = idle_there (g.W.View.view c.rest.new.w) 
 
 pub returns-in-None-clause-there : goal.returns-in-None-clause-there
 returns-in-None-clause-there g c room = idle_there (g.W.View.view c.rest.new.w) c.rest.ensures.current
+
+pub returns-in-Some-clause-works : goal.returns-in-Some-clause-works
+returns-in-Some-clause-works g c room =
+    let v = g.W.View.view in
+    let s = v c.args.w.now in
+    let u = v c.step_take-taken.new.w in
+    let comp = c.args.component.now in
+    let took : TookShown comp c.args.ended s c.args.trace.now stepped.Nothing u c.step_take-taken.new.trace = subst (λ (q : StepResult). TookShown comp c.args.ended s c.args.trace.now q u c.step_take-taken.new.trace) c.in-Nothing.is c.step_take-taken.ensures.took in
+    subst (λ (w : StateView). KeepsTold w (v c.rest.new.w)) took.0.1 c.rest.ensures.works
+
+pub returns-in-None-clause-works : goal.returns-in-None-clause-works
+returns-in-None-clause-works g c room =
+    let v = g.W.View.view in
+    let s = v c.args.w.now in
+    let u = v c.step_take-taken.new.w in
+    let comp = c.args.component.now in
+    let took : TookShown comp c.args.ended s c.args.trace.now stepped.Nothing u c.step_take-taken.new.trace = subst (λ (q : StepResult). TookShown comp c.args.ended s c.args.trace.now q u c.step_take-taken.new.trace) c.in-Nothing.is c.step_take-taken.ensures.took in
+    subst (λ (w : StateView). KeepsTold w (v c.rest.new.w)) took.0.1 c.rest.ensures.works
