@@ -56,7 +56,7 @@ pub record At (M T H G : Type 0) : Type 0 where
   pub trace : List Label
 
 abbrev pub at : {M T H G : Type 0} → RunConcurrent → M → Store T H G → List Label → At M T H G
-at run main store trace = record { turn = run.turn; idle = run.trap_on_idle; main = main; store = store; trace = trace }
+at run main store trace = record { turn = turn_of run.last; idle = run.trap_on_idle; main = main; store = store; trace = trace }
 
 -- a run at main's turn, with this idle line
 abbrev pub at_main : {M T H G : Type 0} → (idle : Bool) → M → Store T H G → List Label → At M T H G

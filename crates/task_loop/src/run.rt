@@ -9,7 +9,7 @@ ghost use Rattle.task_loop.specs.Told.{group_running};
 ghost use Rattle.ops_guests.specs.Works.{KeepsWorks};
 ghost use Rattle.machine_rules.specs.Scripts.{op_of};
 ghost use Rattle.task_store.specs.Hosts.{HoldsHosts};
-ghost use Rattle.ops_turns.specs.StepResult.{IsFull, is_made};
+ghost use Rattle.ops_turns.specs.StepResult.{IsFull, is_made, turn_of};
 ghost use Rattle.ops_turns.specs.Turn.{IsAtTurn};
 ghost use Rattle.core_primitives.specs.Groups.{IsAsked};
 
@@ -32,7 +32,8 @@ use task_store::{Access, AccessorTask, ActiveRun, FromHost, HostWork, Store};
 /// A run of the event loop on a store.
 #[derive(Drop)]
 pub struct RunConcurrent {
-    pub(crate) turn: Turn,
+    // What the last step resulted in: whose turn it is. It is main's before the first.
+    pub(crate) last: StepResult,
     pub(crate) trap_on_idle: bool,
     active: ActiveRun,
     pub(crate) yield_budget: YieldBudget,
@@ -46,7 +47,7 @@ pub fn run_concurrent<T, H, G: TaskGroupHook>(
 ) -> Result<RunConcurrent, Trap>
     ensures refused { IfErr result (λ trap. (trap ≡ Trap.RecursiveRun) × (store.old.running ≡ true)) }
     ensures begun { OnOk result (store.old.running ≡ false) }
-    ensures turn { IfOk result (λ run. run.turn ≡ Turn.Main) }
+    ensures turn { IfOk result (λ run. turn_of run.last ≡ Turn.Main) }
     ensures idle { IfOk result (λ run. run.trap_on_idle ≡ trap_on_idle) }
     ensures since { IfOk result (λ run. run.yield_budget.since ≡ 0) }
     ensures passes { IfOk result (λ run. run.yield_budget.passes ≡ false) }
@@ -54,7 +55,7 @@ pub fn run_concurrent<T, H, G: TaskGroupHook>(
 {
     match store.begin_run() {
         Ok(active) => Ok(RunConcurrent {
-            turn: Turn::Main,
+            last: StepResult::Main,
             trap_on_idle,
             active,
             yield_budget: YieldBudget::new(),
@@ -371,7 +372,7 @@ impl RunConcurrent {
             }
             Err(Halt::HookFailed) => {
                 store.set_trapped();
-                self.turn = Turn::Over;
+                self.last = StepResult::Over;
                 return Ok(Outcome::Trap(Trap::HookFailed));
             }
         }
@@ -401,22 +402,23 @@ impl RunConcurrent {
         let mut added = 0;
         let mut running = group_now(&store.state);
         'turns: while added < steps {
-            let next = next_mark::<P, T, H, G>(store, self.turn);
+            let turn = turn_of(self.last);
+            let next = next_mark::<P, T, H, G>(store, turn);
             if yields_by::<P>(self.yield_budget, next) {
                 self.yield_budget = YieldBudget::yielded(true);
                 return Ok(Stop::Yields);
             }
-            let rests = rests_with::<P>(self.turn, next);
+            let rests = rests_with::<P>(turn, next);
             let stepped = self.turn(component, store, main, trace, &mut running);
             match stepped {
                 StepResult::Nothing => return Ok(self.ends::<P>(Outcome::Idle, false)),
                 StepResult::Full => return Err(Halt::NoMemory),
                 StepResult::HookFailed => return Err(Halt::HookFailed),
                 StepResult::Over => {
-                    self.turn = Turn::Over;
+                    self.last = StepResult::Over;
                     return Ok(self.ends::<P>(outcome_in(trace), false));
                 }
-                _ => self.turn = turn_of(stepped),
+                _ => self.last = stepped,
             }
             self.yield_budget = spent_by::<P>(self.yield_budget, next);
             if rests {
@@ -428,7 +430,7 @@ impl RunConcurrent {
             };
             added = all;
         }
-        if is_idle(&store.state, self.turn, self.trap_on_idle) {
+        if is_idle(&store.state, turn_of(self.last), self.trap_on_idle) {
             return Ok(self.ends::<P>(Outcome::Idle, false));
         }
         Ok(self.ends::<P>(Outcome::OutOfSteps, true))
@@ -463,7 +465,7 @@ impl RunConcurrent {
         ensures turned { TurnGives M.says H.course component.now result running.new
             self.now main.old store.old trace.old main.new store.new trace.new }
     {
-        match self.turn {
+        match turn_of(self.last) {
             Turn::Main => step_main(component, store, main, trace),
             Turn::Futures { polled } => poll_work(component, store, polled, trace, running),
             Turn::Take { ended } => {

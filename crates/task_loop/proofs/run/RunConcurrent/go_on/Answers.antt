@@ -31,7 +31,7 @@ turns-init g c =
       kept = λ driven. refl;
       spent = λ polled. spent_none c.args.self.now.yield_budget.passes c.args.self.now.yield_budget.since c.args.trace.now;
       few = omega arith;
-      running = c.group_now-running.ensures ∙ current_is c.args.store.now.state c.args.self.now.turn c.requires.may.may_turn.running;
+      running = c.group_now-running.ensures ∙ current_is c.args.store.now.state (turn_of c.args.self.now.last) c.requires.may.may_turn.running;
     }
 
 pub turn-requires : goal.turn-requires
@@ -112,21 +112,21 @@ turns-preserved g c =
     let ongoing = made_open q made c.in_default.not-Over in
     let goes = come_goes says course d a u n come v r q made ongoing op_result c.turn-stepped.ensures.keeps in
     let all = c.in-Ok.ensures.ok in
-    rw c.turn_of-self.ensures (record {
+    record {
       come = come_computed says course d a (record v { turn = turn_of q }) (n + 1) goes c.compute.new.w c.compute.new.trace c.in-Ok.all all.on all.computes all.still c.in-Ok.ensures.works
           (λ last knows. g.met.M.MainTask.stays c.turn-stepped.new.main c.turn-stepped.new.store.state c.compute.new.w last knows);
       kept = λ driven. c.spent_by-self.ensures.kept driven ∙ c.turns.invariant.kept driven;
       spent = λ polled.
-          let next = c.next_mark-next.ensures polled in
+          let next = rw c.turn_of-turn.ensures at (c.next_mark-next.ensures polled) in
           let stays = subst (λ (o : Option Mark). yields_before b k o ≡ false) next (and_false stops (yields_before b k c.next_mark-next.result) polled (sym c.yields_by.ensures ∙ c.if-yields_by.false)) in
-          let rests = subst (λ (o : Option Mark). rests_by c.turns.self.turn o ≡ false) next (and_false stops (rests_by c.turns.self.turn c.next_mark-next.result) polled (sym c.rests_with-rests.ensures ∙ c.if-rests.false)) in
+          let rests = subst (λ (o : Option Mark). rests_by (turn_of c.turns.self.last) o ≡ false) next (rw c.turn_of-turn.ensures at (and_false stops (rests_by c.turn_of-turn.result c.next_mark-next.result) polled (sym c.rests_with-rests.ensures ∙ c.if-rests.false))) in
           let since = c.spent_by-self.ensures.since polled ∙ ap (λ (o : Option Mark). counted k o) next in
           let more = poll_goes (setting says course d a) (state says course d a) a.trace (numbers says course d a) yield_budget c.args.steps u.turn (says.part u.main) u.store.state u.trace n b k come.on (spent polled) (says.part v.main) v.store.state v.trace (turn_of q)
           (opened says course d a u n come v r q made ongoing op_result) stays c.spent_by-self.result.passes c.spent_by-self.result.since rests since (c.spent_by-self.ensures.passes polled) in
           spent_data yield_budget.passes yield_budget.since a.trace c.turn-stepped.new.trace c.spent_by-self.result.passes c.spent_by-self.result.since more all.computes.labels c.compute.new.trace all.computes.computing all.computes.trace (c.spent_by-self.ensures.passes polled);
       few = all.few;
       running = op_result.group made ∙ sym (group_computed d c.turn-stepped.new.store.state c.turn-stepped.new.trace (n + 1) c.compute.new.w c.compute.new.trace c.in-Ok.all (setting says course d a) refl (ap (λ (ts : Tags). ts.tracked) c.in-Ok.ensures.works.tags) (turn_of q) all.computes all.still);
-    })
+    }
 
 -- ---- What it has resulted in
 
@@ -145,7 +145,7 @@ returns-then-yields_by-clause-gone g c =
     let k = c.turns.self.yield_budget.since in
     let spent = c.turns.invariant.spent in
     let both = and_parts stops (yields_before b k c.next_mark-next.result) (sym c.yields_by.ensures ∙ c.if-yields_by.true) in
-    let yields = subst (λ (o : Option Mark). yields_before b k o ≡ true) (c.next_mark-next.ensures both.0) both.1 in
+    let yields = subst (λ (o : Option Mark). yields_before b k o ≡ true) (rw c.turn_of-turn.ensures at (c.next_mark-next.ensures both.0)) both.1 in
     stops_by says course d a u c.args.steps stops stop.Yields yield_budget c.yielded-self.result both.0
     (polled_yields says course d a u n come yield_budget c.args.steps b k (spent both.0) c.yielded-self.result (omega arith) yields c.yielded-self.ensures.since c.yielded-self.ensures.passes)
 
@@ -229,14 +229,14 @@ returns-then-rests-clause-gone g c =
     let op_result = match_made q made c.turn-stepped.ensures.turned in
     let ongoing = made_open q made c.in_default.not-Over in
     let goes = come_goes says course d a u n come v r q made ongoing op_result c.turn-stepped.ensures.keeps in
-    let both = and_parts stops (rests_by c.turns.self.turn c.next_mark-next.result) (sym c.rests_with-rests.ensures ∙ c.if-rests.true) in
+    let both = and_parts stops (rests_by c.turn_of-turn.result c.next_mark-next.result) (sym c.rests_with-rests.ensures ∙ c.if-rests.true) in
     let polled = both.0 in
-    let next = c.next_mark-next.ensures polled in
+    let next = rw c.turn_of-turn.ensures at (c.next_mark-next.ensures polled) in
     let stays = subst (λ (o : Option Mark). yields_before b k o ≡ false) next (and_false stops (yields_before b k c.next_mark-next.result) polled (sym c.yields_by.ensures ∙ c.if-yields_by.false)) in
-    let rests = subst (λ (o : Option Mark). rests_by c.turns.self.turn o ≡ true) next both.1 in
+    let rests = subst (λ (o : Option Mark). rests_by (turn_of c.turns.self.last) o ≡ true) next (rw c.turn_of-turn.ensures at both.1) in
     let since = c.spent_by-self.ensures.since polled ∙ ap (λ (o : Option Mark). counted k o) next in
-    rw c.turn_of-self.ensures (stops_by says course d a (record v { turn = turn_of q }) c.args.steps stops stop.Rests yield_budget c.spent_by-self.result polled
-    (polled_rests says course d a u n come yield_budget c.args.steps b k (spent polled) c.spent_by-self.result v r q made ongoing (omega arith) op_result c.turn-stepped.ensures.keeps stays rests since (c.spent_by-self.ensures.passes polled)))
+    stops_by says course d a (record v { turn = turn_of q }) c.args.steps stops stop.Rests yield_budget c.spent_by-self.result polled
+    (polled_rests says course d a u n come yield_budget c.args.steps b k (spent polled) c.spent_by-self.result v r q made ongoing (omega arith) op_result c.turn-stepped.ensures.keeps stays rests since (c.spent_by-self.ensures.passes polled))
 
 pub returns-then-is_idle-clause-gone : goal.returns-then-is_idle-clause-gone
 returns-then-is_idle-clause-gone g c =
@@ -252,7 +252,7 @@ returns-then-is_idle-clause-gone g c =
     let b = c.turns.self.yield_budget.passes in
     let k = c.turns.self.yield_budget.since in
     let spent = c.turns.invariant.spent in
-    let rests = c.is_idle.ensures (setting says course d a) come.on.at.order (ap idle_line_of (sym come.keeps.idle)) (says.part c.turns.main) come.on.pends ∙ c.if-is_idle.true in
+    let rests = (rw c.turn_of.ensures at c.is_idle.ensures) (setting says course d a) come.on.at.order (ap idle_line_of (sym come.keeps.idle)) (says.part c.turns.main) come.on.pends ∙ c.if-is_idle.true in
     let ends = c.ends-then-is_idle in
     let yield_budget' = ends.new.self.yield_budget in
     rw ends.ensures.stop
@@ -274,7 +274,7 @@ returns-clause-gone g c =
     let b = c.turns.self.yield_budget.passes in
     let k = c.turns.self.yield_budget.since in
     let spent = c.turns.invariant.spent in
-    let moves = c.is_idle.ensures (setting says course d a) come.on.at.order (ap idle_line_of (sym come.keeps.idle)) (says.part c.turns.main) come.on.pends ∙ c.if-is_idle.false in
+    let moves = (rw c.turn_of.ensures at c.is_idle.ensures) (setting says course d a) come.on.at.order (ap idle_line_of (sym come.keeps.idle)) (says.part c.turns.main) come.on.pends ∙ c.if-is_idle.false in
     let ends = c.ends-2 in
     let yield_budget' = ends.new.self.yield_budget in
     rw ends.ensures.stop

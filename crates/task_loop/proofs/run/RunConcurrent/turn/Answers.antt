@@ -31,8 +31,8 @@ step_main-requires g c =
     record {
       may = record {
         covered = may.covered;
-        order = subst (λ (p : Turn). CoreInOrder d p c.args.store.now.state.core) c.in-Main.is may.may_turn.order;
-        idle = may.may_turn.running ∙ ap (λ (p : Turn). runs_in p) c.in-Main.is;
+        order = subst (λ (p : Turn). CoreInOrder d p c.args.store.now.state.core) (sym c.turn_of.ensures ∙ c.in-Main.is) may.may_turn.order;
+        idle = may.may_turn.running ∙ ap (λ (p : Turn). runs_in p) (sym c.turn_of.ensures ∙ c.in-Main.is);
         suits = may.may_turn.suits;
         knows = may.may_turn.knows;
         works = may.may_turn.works;
@@ -51,9 +51,9 @@ returns-in-Main-clause-turned g c =
     let u = at c.args.self.now main c.args.store.now c.args.trace.now in
     let v = at c.args.self.now c.step_main.new.main c.step_main.new.store c.step_main.new.trace in
     let q = c.step_main.result in
-    let none : c.args.running.now ≡ 0 = may.group ∙ ap (λ (p : Turn). group_running c.args.store.now.state p) c.in-Main.is in
+    let none : c.args.running.now ≡ 0 = may.group ∙ ap (λ (p : Turn). group_running c.args.store.now.state p) (sym c.turn_of.ensures ∙ c.in-Main.is) in
     subst (λ (r : ℕ). TurnsTo says course d q r u v) (sym none)
-    (subst (λ (p : Turn). TurnsTo says course d q 0 (record u { turn = p }) (record v { turn = p })) (sym c.in-Main.is) (c.step_main.ensures.turned c.args.self.now.trap_on_idle))
+    (subst (λ (p : Turn). TurnsTo says course d q 0 (record u { turn = p }) (record v { turn = p })) (sym (sym c.turn_of.ensures ∙ c.in-Main.is)) (c.step_main.ensures.turned c.args.self.now.trap_on_idle))
 
 -- ---- A thread takes a step
 
@@ -67,14 +67,14 @@ run_thread-requires-clause-runs g c =
     let u = at c.args.self.now main c.args.store.now c.args.trace.now in
     record {
       covered = may.covered;
-      order = subst (λ (p : Turn). CoreInOrder d p c.args.store.now.state.core) c.in-Run.is may.may_turn.order;
-      current = may.may_turn.running ∙ ap (λ (p : Turn). runs_in p) c.in-Run.is;
+      order = subst (λ (p : Turn). CoreInOrder d p c.args.store.now.state.core) (sym c.turn_of.ensures ∙ c.in-Run.is) may.may_turn.order;
+      current = may.may_turn.running ∙ ap (λ (p : Turn). runs_in p) (sym c.turn_of.ensures ∙ c.in-Run.is);
       few = may.few;
       hosts = may.may_turn.works;
     }
 
 pub run_thread-requires-clause-running : goal.run_thread-requires-clause-running
-run_thread-requires-clause-running g c = subst (λ (p : Turn). c.args.running.now ≡ group_running c.args.store.now.state p) c.in-Run.is c.requires.may.group
+run_thread-requires-clause-running g c = subst (λ (p : Turn). c.args.running.now ≡ group_running c.args.store.now.state p) (sym c.turn_of.ensures ∙ c.in-Run.is) c.requires.may.group
 
 pub run_thread-requires-clause-asked : goal.run_thread-requires-clause-asked
 run_thread-requires-clause-asked g c = c.requires.may.may_turn.asked
@@ -95,13 +95,13 @@ returns-in-Run-clause-turned g c =
     let before = c.args.trace.now in
     let after = c.run_thread.new.trace in
     let q = c.run_thread.result in
-    let order = subst (λ (p : Turn). CoreInOrder d p s.core) c.in-Run.is may.may_turn.order in
+    let order = subst (λ (p : Turn). CoreInOrder d p s.core) (sym c.turn_of.ensures ∙ c.in-Run.is) may.may_turn.order in
     match_then q
     (λ is ran.
     let made = ran.steps.makes in
     record {
       turn = refl;
-      told = of_made q is (subst (λ (p : Turn). Added (λ (made : MadeStep). TurnTold x p part s old (Some made) part t new) q before after) (sym c.in-Run.is) (told_turn x n part s old t new q before after ran.told));
+      told = of_made q is (subst (λ (p : Turn). Added (λ (made : MadeStep). TurnTold x p part s old (Some made) part t new) q before after) (sym (sym c.turn_of.ensures ∙ c.in-Run.is)) (told_turn x n part s old t new q before after ran.told));
       did = of_made q is (added_as (λ (made : MadeStep). MakesStep d (turn.Run n) s made t × IsFree made.turn) (λ (made : MadeStep). DoesStep says.does main s.core (step_shown made.label) main t.core) q before after
           (λ made h. still_run says.does main x part s t n made h.0) made);
       group = λ yes. ran.group;
@@ -116,7 +116,7 @@ returns-in-Run-clause-turned g c =
     let k = failed.1 in
     let made = k.1.makes in
     record {
-      stops = stops_after x c.args.self.now.turn (turn.Run n) c.in-Run.is (λ no. absurd (cc)) part s before after old new (fails.told.answered, fails.hook) k.0 part t fails.told (made.0, (made.1.0, run_turns d n s t k.0 before after made x refl part));
+      stops = stops_after x (turn_of c.args.self.now.last) (turn.Run n) (sym c.turn_of.ensures ∙ c.in-Run.is) (λ no. absurd (cc)) part s before after old new (fails.told.answered, fails.hook) k.0 part t fails.told (made.0, (made.1.0, run_turns d n s t k.0 before after made x refl part));
       main = refl;
       knows = by_run (says.knows main) s t (λ last. g.met.M.MainTask.stays main s t last may.may_turn.knows) x part n made.0 order made.1.1.0 k.1.works;
       works = k.1.hosts;
@@ -132,7 +132,7 @@ poll_work-requires-clause-at g c =
     let main = c.args.main.now in
     let may = c.requires.may in
     let u = at c.args.self.now main c.args.store.now c.args.trace.now in
-    subst (λ (p : Turn). IsAtTurn d p c.args.store.now.state) c.in-Futures.is (at_turn says course d c.args.running.now u may)
+    subst (λ (p : Turn). IsAtTurn d p c.args.store.now.state) (sym c.turn_of.ensures ∙ c.in-Futures.is) (at_turn says course d c.args.running.now u may)
 
 pub poll_work-requires-clause-asked : goal.poll_work-requires-clause-asked
 poll_work-requires-clause-asked g c = c.requires.may.may_turn.asked
@@ -157,15 +157,15 @@ returns-in-Futures-clause-turned g c =
     let new = c.poll_work.new.store.listeners in
     let q = c.poll_work.result in
     let works = c.poll_work.ensures.works in
-    let order = subst (λ (w : Turn). CoreInOrder d w s.core) c.in-Futures.is may.may_turn.order in
-    let pends : PendsIn x s.core m p = subst (λ (w : Turn). PendsIn x s.core m w) c.in-Futures.is may.may_turn.pends in
+    let order = subst (λ (w : Turn). CoreInOrder d w s.core) (sym c.turn_of.ensures ∙ c.in-Futures.is) may.may_turn.order in
+    let pends : PendsIn x s.core m p = subst (λ (w : Turn). PendsIn x s.core m w) (sym c.turn_of.ensures ∙ c.in-Futures.is) may.may_turn.pends in
     match_then q
     (λ is polled.
     let made : Added (λ (made : MadeStep). Turns x p m s made m t) q before after = any_turns x p m s t q before after pends polled.0 in
     let told = polled.1 in
     record {
       turn = refl;
-      told = of_made q is (subst (λ (w : Turn). Added (λ (made : MadeStep). TurnTold x w m s old (Some made) m t new) q before after) (sym c.in-Futures.is) (other_told x p refl m s may.may_turn.asked old m t new told.told q before after made told.hook_is_ok));
+      told = of_made q is (subst (λ (w : Turn). Added (λ (made : MadeStep). TurnTold x w m s old (Some made) m t new) q before after) (sym (sym c.turn_of.ensures ∙ c.in-Futures.is)) (other_told x p refl m s may.may_turn.asked old m t new told.told q before after made told.hook_is_ok));
       did = of_made q is (made.0, (made.1.0, still says.does main x m s t p refl made.0 made.1.1));
       group = λ yes. told.group ∙ current_is t (turn_of q) (turns_runs x p m s m t q before after made);
       suits = may.may_turn.suits;
@@ -179,7 +179,7 @@ returns-in-Futures-clause-turned g c =
     let k = failed.1 in
     let made = any_turns x p m s t k.0 before after pends k.1 in
     record {
-      stops = stops_after x c.args.self.now.turn p c.in-Futures.is (λ no. absurd (cc)) m s before after old new (fails.told.answered, fails.hook) k.0 m t fails.told made;
+      stops = stops_after x (turn_of c.args.self.now.last) p (sym c.turn_of.ensures ∙ c.in-Futures.is) (λ no. absurd (cc)) m s before after old new (fails.told.answered, fails.hook) k.0 m t fails.told made;
       main = refl;
       knows = by_poll (says.knows main) s t (λ last. g.met.M.MainTask.stays main s t last may.may_turn.knows) x m c.in-Futures.polled made.0 order made.1.1 works.0;
       works = works.1;
@@ -195,7 +195,7 @@ take_entry-requires-clause-at g c =
     let main = c.args.main.now in
     let may = c.requires.may in
     let u = at c.args.self.now main c.args.store.now c.args.trace.now in
-    subst (λ (p : Turn). IsAtTurn d p c.args.store.now.state) c.in-Take.is (at_turn says course d c.args.running.now u may)
+    subst (λ (p : Turn). IsAtTurn d p c.args.store.now.state) (sym c.turn_of.ensures ∙ c.in-Take.is) (at_turn says course d c.args.running.now u may)
 
 pub take_entry-requires-clause-asked : goal.take_entry-requires-clause-asked
 take_entry-requires-clause-asked g c = c.requires.may.may_turn.asked
@@ -209,7 +209,7 @@ returns-in-Take-clause-turned g c =
     let may = c.requires.may in
     let u = at c.args.self.now main c.args.store.now c.args.trace.now in
     let e = c.take_entry.ensures in
-    took says course d main c.args.self.now.trap_on_idle c.in-Take.ended c.args.self.now.turn c.in-Take.is c.args.store.now c.take_entry.new.store c.args.trace.now c.take_entry.new.trace c.take_entry.new.running c.args.running.now may
+    took says course d main c.args.self.now.trap_on_idle c.in-Take.ended (turn_of c.args.self.now.last) (sym c.turn_of.ensures ∙ c.in-Take.is) c.args.store.now c.take_entry.new.store c.args.trace.now c.take_entry.new.trace c.take_entry.new.running c.args.running.now may
     (λ u last. g.met.M.MainTask.stays main c.args.store.now.state u last) e.rest c.take_entry.result e.taken
 
 -- ---- What stays
@@ -229,5 +229,5 @@ returns-in-Take-clause-keeps g c = record { script = refl; idle = refl; constant
 -- the run isn't over
 pub unreachable-requires : goal.unreachable-requires
 unreachable-requires g c =
-    let no = subst (λ (p : Turn). is_open p ≡ true) c.in-Over.is c.requires.may.unfinished in
+    let no = subst (λ (p : Turn). is_open p ≡ true) (sym c.turn_of.ensures ∙ c.in-Over.is) c.requires.may.unfinished in
     absurd (cc)
