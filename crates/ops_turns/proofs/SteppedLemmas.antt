@@ -40,7 +40,7 @@ use Rattle.ops_turns.proofs.IdleLemmas.{after_free, free_at}
 use Rattle.ops_turns.proofs.RunLemmas.{host_over, host_picks, label_same, picked_at, push_picks, ran_at, took, took_host, took_picks, took_push}
 use Rattle.ops_turns.specs.Drive.{Drove, IsOn}
 use Rattle.ops_turns.specs.Ran.{OpMade, WorkMade, host_polled, scripted_rule_of}
-use Rattle.ops_turns.specs.StepResult.{Added, AddedOrNone, CallStepped, IsFull, MatchStep, OpPolls, OpShown, OpStep, RuleRan, RuleShown, RunMade, RunStepped, Shown, is_made, made_by, turn_of}
+use Rattle.ops_turns.specs.StepResult.{Added, AddedOrNone, CallStepped, CallsHost, IsFull, MatchStep, OpPolls, OpShown, OpStep, RuleRan, RuleShown, RunMade, RunStepped, Shown, is_made, made_by, turn_of}
 use Rattle.ops_turns.specs.Turn.{IsFree, MakesStep, Turned, Turns, is_open, running_of, runs_in, state_at}
 use Rattle.ops_turns.specs.declared.made.MadeStep.{MadeStep}
 use Rattle.ops_turns.specs.declared.made.StepResult.{StepResult}
@@ -155,7 +155,7 @@ full_told stepped.HookFailed some unmade h = absurd h
 full_told _ some unmade h = absurd (cc)
 
 pub none_as : (P Q : Option MadeStep → Type 0) (q : StepResult) (before after : List Label) → ((made : Option MadeStep) → P made → Q made) → AddedOrNone P q before after → AddedOrNone Q q before after
-none_as P Q q before after f h = match_then q (λ is added. added_as (λ made. P (Some made)) (λ made. Q (Some made)) q before after (λ made. f (Some made)) added) (λ is none. (f None none.0, none.1)) (λ same. same) (λ no. no) h
+none_as P Q q before after f h = match_then {M' = Added (λ made. Q (Some made)) q before after} {N' = Q None × (after ≡ before)} q (λ is added. added_as (λ made. P (Some made)) (λ made. Q (Some made)) q before after (λ made. f (Some made)) added) (λ is none. (f None none.0, none.1)) (λ same. same) (λ no. no) h
 
 -- ---- A step of the running thread
 
@@ -228,7 +228,7 @@ module _ (c : Component) (id : TableId ThreadKey) (n : ℕ) (s t : StateView) (n
 
   pub run_steps : (before after : List Label) (q : StepResult) → OpStep c o id s before q t after → OpPolls c o id s q → RunStepped c n s q t before after
   run_steps before after q step polls =
-      match_then q (λ made shown. step_made before after q shown (match_made q made polls))
+      match_then {M' = Added (λ made. RunMade c n s (Some made) t) q before after} {N' = CallsHost c n s t × (after ≡ before)} q (λ made shown. step_made before after q shown (match_made q made polls))
       (λ is same. ((same.0, subst (λ k. calls_host (op_of c k s.core) ≡ true) number (ap calls_host is_op ∙ subst (λ (r : StepResult). OpPolls c o id s r) is polls)), same.1)) (λ same. same) (λ no. no) step
 
   -- so is what one came to that calls a host

@@ -13,8 +13,8 @@ use Rattle.ops_turns.proofs.KeptLemmas.{made_in_order}
 use Rattle.ops_turns.proofs.SteppedLemmas.{match_made, match_then}
 use Rattle.ops_turns.proofs.OrderLemmas.{none_some, some_from}
 use Rattle.ops_turns.proofs.IdleLemmas.{makes_turns}
-use Rattle.ops_turns.specs.StepResult.{TakesBeside, TookShown, is_made}
-use Rattle.ops_turns.specs.Turn.{CoreInOrder, MakesStep, RunnerThere, running_of, runs_in}
+use Rattle.ops_turns.specs.StepResult.{Added, TakesBeside, TookShown, is_made}
+use Rattle.ops_turns.specs.Turn.{CoreInOrder, MakesStep, RunnerThere, TurnedBeside, running_of, runs_in}
 use Rattle.ops_turns.specs.declared.made.StepResult.{StepResult}
 use Rattle.ops_turns.specs.declared.made.StepResult.TheVariants as stepped
 use Rattle.core_primitives.specs.StateView.{StateView, thread_of}
@@ -49,5 +49,5 @@ took_there c ended s t in_turn q before after made took =
 pub took_beside : (c : Component) (b ended : Bool) (s : StateView) (before : List Label) (q : StepResult) (t : StateView) (after : List Label) → (q ≡ stepped.Nothing → ⊥)
     → TookShown c ended s before q t after → TakesBeside c b ended s q t before after
 took_beside c b ended s before q t after some took =
-    match_then q (λ is h. (h.0, (h.1.0, λ x component idle m pends. makes_turns x (turn.Take ended) s h.0 t (subst (λ (d : Component). MakesStep d (turn.Take ended) s h.0 t) (sym component) h.1.1.0) m (h.1.1.1 x t.core m))))
+    match_then {M' = Added (λ made. TurnedBeside c b (turn.Take ended) s (Some made) t) q before after} q (λ is h. (h.0, (h.1.0, λ x component idle m pends. makes_turns x (turn.Take ended) s h.0 t (subst (λ (d : Component). MakesStep d (turn.Take ended) s h.0 t) (sym component) h.1.1.0) m (h.1.1.1 x t.core m))))
     (λ is none. absurd (some is)) (λ same. same) (λ no. no) took

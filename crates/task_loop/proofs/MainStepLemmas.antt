@@ -30,7 +30,7 @@ use Rattle.ops_turns.specs.Does.{label_of_step}
 use Rattle.ops_turns.specs.Later.{WorksLast}
 use Rattle.ops_turns.specs.Main.{Steps}
 use Rattle.ops_turns.proofs.SteppedLemmas.{of_made}
-use Rattle.ops_turns.specs.StepResult.{IsInTrace, is_made}
+use Rattle.ops_turns.specs.StepResult.{Added, IsInTrace, is_made}
 use Rattle.ops_turns.specs.Turn.{Turns, running_of, setting_of}
 use Rattle.ops_turns.specs.declared.made.MadeStep.{MadeStep}
 use Rattle.ops_turns.specs.declared.made.StepResult.{StepResult}
@@ -74,7 +74,7 @@ module _ {M T H G : Type 0} (says : Says M) (course : H → HostDef) (c : Compon
       let none_then = idle_at made.turn t.state.core (running_of t.state) turned.running (did.idle ∙ none) in
       record {
         turn = refl;
-        told = of_made q shown (
+        told = of_made {M = Added (λ step. TurnTold z turn.Main (says.part m) s.state s.listeners (Some step) (says.part n) t.state t.listeners) q before after} q shown (
           made,
           (
             in_trace,
@@ -87,7 +87,7 @@ module _ {M T H G : Type 0} (says : Says M) (course : H → HostDef) (c : Compon
             },
           ),
         );
-        did = of_made q shown (made, (in_trace, step_in says.does m n s.state.core t.state.core x made.label label (steps_shown c (says.script m) (says.part m) s.state.core x (says.part n) t.state.core did.steps) did.does));
+        did = of_made {M = Added (λ step. DoesStep says.does m s.state.core (step_shown step.label) n t.state.core) q before after} q shown (made, (in_trace, step_in says.does m n s.state.core t.state.core x made.label label (steps_shown c (says.script m) (says.part m) s.state.core x (says.part n) t.state.core did.steps) did.does));
         group = λ yes. sym (ap (group_running t.state) (sym (stands_turn q before made after in_trace)) ∙ idle_running t.state made.turn turned.running (did.idle ∙ none));
         suits = did.suits;
         knows = did.knows;

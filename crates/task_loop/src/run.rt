@@ -143,13 +143,13 @@ fn call_host_outlined<T, H: AccessorTask<T> + FromHost, G: TaskGroupHook>(
     // The host's work is polled before its call is done: what the call results in is what it answers.
     let host = host_called(component, &store.state, thread);
     let (called, answer) = store.first_called(host);
-    let Ok((made, work)) = step_call(component, &mut store.state, thread, answer) else {
+    let Ok(stepped) = step_call(component, &mut store.state, thread, answer) else {
         return StepResult::Full;
     };
-    let Ok(()) = store.hold_called(called, work) else {
+    let Ok(()) = store.hold_called(called, stepped.1) else {
         return StepResult::Full;
     };
-    put(trace, made)
+    put(trace, stepped.0)
 }
 
 // Does the step in line: room for its answer is made only if a host is called.

@@ -19,7 +19,9 @@ use Rattle.machine_rules.specs.Takes.{thread_taken}
 use Rattle.core_primitives.specs.Preferences.{preference}
 use Rattle.machine_rules.specs.Picks.{Preference}
 use Rattle.ops_guests.specs.OpResult.{PicksFirst}
+use Rattle.ops_turns.specs.StepResult.{Added}
 use Rattle.ops_turns.specs.Taken.{FindsSet, Taken}
+use Rattle.ops_turns.specs.Turn.{Took}
 use Rattle.core_primitives.specs.Names.{entry_in}
 use Rattle.core_primitives.specs.StateView.{StateView, thread_of, with_current, work_of}
 use Rattle.core_primitives.specs.declared.names.EntryId.{EntryId}
@@ -78,7 +80,7 @@ returns-in-Some-default-Push-clause-took g c =
     (next_is s c.take_next.result q.mark (entries.Push q.work) c.take_next.ensures.next at) c.step_push-made.ensures.made c.step_push-made.ensures.new in
     let t = v c.step_push-made.new.w in
     let before = c.args.trace.now in
-    of_full c.put.result (λ made. (c.step_push-made.result, (c.put.ensures.in_trace made, makes))) c.put.ensures.full (λ same. same)
+    of_full {M = Added (λ step. Took c.args.component.now c.args.ended s (Some step) t) c.put.result before c.put.new.trace} c.put.result (λ made. (c.step_push-made.result, (c.put.ensures.in_trace made, makes))) c.put.ensures.full (λ same. same)
 
 -- ---- An ended host work
 
@@ -125,7 +127,7 @@ returns-in-Some-default-Host-clause-took g c =
     (next_is s c.take_next.result q.mark (entries.Host q.work) c.take_next.ensures.next at) c.step_host-made.ensures.picks c.step_host-made.ensures.current c.step_host-made.ensures.turn in
     let t = v c.step_host-made.new.w in
     let before = c.args.trace.now in
-    of_full c.put-2.result (λ made. (c.step_host-made.result, (c.put-2.ensures.in_trace made, makes))) c.put-2.ensures.full (λ same. same)
+    of_full {M = Added (λ step. Took c.args.component.now c.args.ended s (Some step) t) c.put-2.result before c.put-2.new.trace} c.put-2.result (λ made. (c.step_host-made.result, (c.put-2.ensures.in_trace made, makes))) c.put-2.ensures.full (λ same. same)
 
 -- ---- The group that is worked on
 

@@ -8,7 +8,7 @@ use Rattle.ops_turns.proofs.SteppedLemmas.{made_told, of_full}
 use Rattle.ops_turns.proofs.ThereLemmas.{idle_there, took_beside, took_there}
 use Rattle.ops_turns.proofs.turns.take.Goals as goal
 use Rattle.ops_guests.specs.Works.{KeepsTold}
-use Rattle.ops_turns.specs.StepResult.{IsInTrace, TookShown}
+use Rattle.ops_turns.specs.StepResult.{Added, IsInTrace, TookShown}
 use Rattle.ops_turns.specs.Turn.{CoreInOrder, TurnedBeside}
 use Rattle.ops_turns.specs.declared.made.MadeStep.{MadeStep}
 use Rattle.ops_turns.specs.declared.made.StepResult.{StepResult}
@@ -55,7 +55,7 @@ returns-in-Some-clause-turned g c =
     let in_turn = subst (λ (w : StateView). CoreInOrder comp (turn.Take false) w.core) (sym took.0.1) (subst (λ (e : Bool). CoreInOrder comp (turn.Take e) s.core) c.if-ended.false c.requires.at.order) in
     let turned = subst (λ (o : Option MadeStep). TurnedBeside comp b (turn.Take false) u o t) c.in-Some.is (c.rest.ensures.turned comp in_turn) in
     let beside = subst (λ (e : Bool). TurnedBeside comp b (turn.Take e) s (Some c.in-Some.made) t) (sym c.if-ended.false) (subst (λ (w : StateView). TurnedBeside comp b (turn.Take false) w (Some c.in-Some.made) t) took.0.1 turned) in
-    of_full c.put.result (λ is. (c.in-Some.made, (subst (λ (l : List Label). IsInTrace c.put.result l c.in-Some.made c.put.new.trace) took.1 (c.put.ensures.in_trace is), beside))) c.put.ensures.full (λ same. same ∙ took.1)
+    of_full {M = Added (λ step. TurnedBeside comp b (turn.Take c.args.ended) s (Some step) t) c.put.result c.args.trace.now c.put.new.trace} c.put.result (λ is. (c.in-Some.made, (subst (λ (l : List Label). IsInTrace c.put.result l c.in-Some.made c.put.new.trace) took.1 (c.put.ensures.in_trace is), beside))) c.put.ensures.full (λ same. same ∙ took.1)
 
 pub returns-in-None-clause-turned : goal.returns-in-None-clause-turned
 returns-in-None-clause-turned g c =

@@ -38,14 +38,14 @@ returns-clause-steps g c made =
     let n = c.args.thread in
     let before = c.args.trace.now in
     let after = c.put.new.trace in
-    let did = c.in-Ok.made in
+    let did = c.in-Ok.stepped.0 in
     let ran = rw c.first_called-called.ensures.rest at c.in-Ok.ensures.ran in
     let works = rw c.first_called-called.ensures.rest at c.in-Ok.ensures.works in
     let held_then = rw c.first_called-called.ensures.rest at c.in-Ok-hold_called.ensures.held in
     let steps : StepsUntold course comp n store c.put.result (record store { value = polled.value; state = t; works = c.hold_called.new.self.works }) before after = record {
       makes = (did, (c.put.ensures.in_trace made, ran.0));
       works = works;
-      hosts = held_run c.first_called-called.result.1 comp n store.state t did c.in-Ok.work c.requires.runs.order ran.0.0 ran.1 (held_by course store) c.requires.runs.hosts (held course c.hold_called.new.self.works)
-          (λ i. held_then i ∙ ap (λ (o : Option HostDef). held_after_call (option_map (λ id. work_of t id) c.in-Ok.work) o (held_by course store) i) (c.first_called-called.ensures.left ∙ (fewer_of c.host_called-host.result ∙ ap (option_map one_fewer) c.host_called-host.ensures)));
+      hosts = held_run c.first_called-called.result.1 comp n store.state t did c.in-Ok.stepped.1 c.requires.runs.order ran.0.0 ran.1 (held_by course store) c.requires.runs.hosts (held course c.hold_called.new.self.works)
+          (λ i. held_then i ∙ ap (λ (o : Option HostDef). held_after_call (option_map (λ id. work_of t id) c.in-Ok.stepped.1) o (held_by course store) i) (c.first_called-called.ensures.left ∙ (fewer_of c.host_called-host.result ∙ ap (option_map one_fewer) c.host_called-host.ensures)));
     } in
     rw (c.in-Ok-hold_called.ensures.rest, c.first_called-called.ensures.rest) steps

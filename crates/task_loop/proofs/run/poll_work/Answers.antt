@@ -6,6 +6,7 @@ use Rattle.task_loop.proofs.IdleLemmas.{none_current, poll_leaves_none}
 use Rattle.task_loop.proofs.ToldLemmas.{turns_asked}
 use Rattle.task_loop.proofs.TurnTellLemmas.{asked_after, part_core, tells_in_part, tells_turn, turns_part, works_asked, works_part}
 use Rattle.task_loop.proofs.run.poll_work.Goals as goal
+use Rattle.task_loop.specs.Threads.{PollsTold}
 use Rattle.task_loop.specs.Told.{TellsPart, TellsWhole, groups_before_work}
 use Rattle.machine_data.specs.Core.{Core, Unscripted}
 use Rattle.machine_data.specs.declared.records.Turn.TheVariants as turn
@@ -41,7 +42,7 @@ returns-clause-polled g c =
     let told = c.in-Ok.ensures.told in
     let same = ap (λ k. k.listeners) c.poll_next-made.ensures.rest in
     let is = sym c.is_made.ensures ∙ c.if-not-is_made.false in
-    of_made c.put-stepped.result is (
+    of_made {M = PollsTold (turn.Futures c.args.polled) c.in-Ok.next s c.put-stepped.result (record t { state = u; listeners = c.tell_poll.new.listeners }) c.args.trace.now c.put-stepped.new.trace} c.put-stepped.result is (
       (
         c.poll_next-made.result,
         (

@@ -5,6 +5,7 @@ use Rattle.task_group.specs.Listeners.{AnsweredErr, Listeners, errors_of}
 use Rattle.task_loop.proofs.ToldLemmas.{current_is, makes_asked, run_runs, run_stays, run_told, running_asked}
 use Rattle.task_loop.proofs.TurnTellLemmas.{asked_after, makes_part, names_asked, names_part, part_core, tells_in_part, tells_turn}
 use Rattle.task_loop.proofs.run.run_thread.Goals as goal
+use Rattle.task_loop.specs.Threads.{RanThread}
 use Rattle.task_loop.specs.Told.{TellsPart, TellsWhole, groups_before_run, turn_of}
 use Rattle.machine_data.specs.Core.{Core}
 use Rattle.machine_data.specs.declared.records.Turn.TheVariants as turn
@@ -51,7 +52,7 @@ returns-clause-ran g c =
     let asked = told.whole.asked in
     let same = c.step_thread-stepped.ensures.listeners is in
     let makes : Added (λ (k : MadeStep). MakesStep d (turn.Run n) s.state k u × IsFree k.turn) q before after = (made.0, (made.1.0, (makes_asked d (turn.Run n) s.state made.0 t.state u asked (made.1.1).0, (made.1.1).1))) in
-    of_made q is (record {
+    of_made {M = RanThread g.H.HostWork.course d n s q c.in-Ok.next (record t { state = u; listeners = new }) before after} q is (record {
       steps = record {
         makes = makes;
         works = names_asked s.state t.state u asked steps.works.0;

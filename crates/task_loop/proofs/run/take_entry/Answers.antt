@@ -4,6 +4,7 @@ use Rattle.std.specs.Prelude.{None, Some, false, true, ◌≡◌}
 use Rattle.task_loop.proofs.TakenLemmas.{none_kept, turned_asked, turned_part}
 use Rattle.task_loop.proofs.TurnTellLemmas.{asked_after, tells_in_part, tells_turn, works_asked, works_part}
 use Rattle.task_loop.proofs.run.take_entry.Goals as goal
+use Rattle.task_loop.specs.Threads.{TakesNothing, TakesTold}
 use Rattle.task_loop.specs.Told.{groups_before_work}
 use Rattle.machine_data.specs.declared.records.Turn.TheVariants as turn
 use Rattle.ops_turns.proofs.SteppedLemmas.{made_room, match_made, match_then, of_made}
@@ -27,7 +28,7 @@ returns-clause-taken g c =
     let u = c.tell_work.new.core in
     let before = c.args.trace.now in
     let after = c.take-taken.new.trace in
-    of_made q is (
+    of_made {M = TakesTold d b c.args.ended c.in-Ok.next s q (record s { state = u; listeners = c.tell_work.new.listeners }) before after} q is (
       (of_made q is (turned_asked d b p s.state t u asked q before after (match_made q is c.take-taken.ensures.turned)), works_asked s.state t u asked works.0),
       record {
         told = tells_turn s.state p c.requires.asked c.none_is_zero.ensures.groups (groups_before_work c.take-taken.new.worked) refl c.take-taken.ensures.worked t u works.1 s.listeners c.tell_work.new.listeners c.count_ended.ensures told.whole;
@@ -44,7 +45,7 @@ returns-then-not-is_made-clause-taken g c =
     let s = c.args.store.now.state in
     let q = c.take-taken.result in
     let unmade = sym c.is_made.ensures ∙ c.if-not-is_made.true in
-    match_then q (λ made h. let no = sym unmade ∙ made in absurd (cc))
+    match_then {N' = TakesNothing d c.args.trap_on_idle c.args.ended c.args.store.now (record c.args.store.now { state = c.take-taken.new.w }) c.args.trace.now c.take-taken.new.trace} q (λ made h. let no = sym unmade ∙ made in absurd (cc))
     (λ is nothing. ((nothing, (c.take-taken.ensures.works (λ full. let no = sym is ∙ full in cc)).0), (refl, subst (λ (v : StateView). IsAsked v) (sym (none_kept d c.args.trap_on_idle c.args.ended s c.take-taken.new.w nothing.0)) c.requires.asked)))
     (λ lost. lost) (λ no. absurd no) c.take-taken.ensures.turned
 

@@ -9,7 +9,7 @@ use Rattle.task_loop.proofs.TakenLemmas.{any_turns}
 use Rattle.task_loop.proofs.ToldLemmas.{current_is, other_told, run_turns, told_turn, turns_runs}
 use Rattle.task_loop.proofs.TurnLemmas.{took}
 use Rattle.task_loop.proofs.run.RunConcurrent.turn.Goals as goal
-use Rattle.task_loop.specs.HasRun.{TurnsTo, at}
+use Rattle.task_loop.specs.HasRun.{FailsTurn, HasTurned, TurnsTo, at}
 use Rattle.task_loop.specs.Ran.{DoesStep}
 use Rattle.task_loop.specs.Constants.{constants}
 use Rattle.task_loop.specs.Told.{TurnTold, group_running, turn_of}
@@ -96,7 +96,9 @@ returns-in-Run-clause-turned g c =
     let after = c.run_thread.new.trace in
     let q = c.run_thread.result in
     let order = subst (λ (p : Turn). CoreInOrder d p s.core) (sym c.turn_of.ensures ∙ c.in-Run.is) may.may_turn.order in
-    match_then q
+    let u = at c.args.self.now main c.args.store.now before in
+    let v = at c.args.self.now main c.run_thread.new.store after in
+    match_then {M' = HasTurned says g.H.HostWork.course d q c.run_thread.new.running u v} {N' = HasTurned says g.H.HostWork.course d q c.run_thread.new.running u v} {H' = FailsTurn says g.H.HostWork.course d u v} q
     (λ is ran.
     let made = ran.steps.makes in
     record {
@@ -159,14 +161,16 @@ returns-in-Futures-clause-turned g c =
     let works = c.poll_work.ensures.works in
     let order = subst (λ (w : Turn). CoreInOrder d w s.core) (sym c.turn_of.ensures ∙ c.in-Futures.is) may.may_turn.order in
     let pends : PendsIn x s.core m p = subst (λ (w : Turn). PendsIn x s.core m w) (sym c.turn_of.ensures ∙ c.in-Futures.is) may.may_turn.pends in
-    match_then q
+    let u = at c.args.self.now main c.args.store.now before in
+    let v = at c.args.self.now main c.poll_work.new.store after in
+    match_then {M' = HasTurned says g.H.HostWork.course d q c.poll_work.new.running u v} {N' = HasTurned says g.H.HostWork.course d q c.poll_work.new.running u v} {H' = FailsTurn says g.H.HostWork.course d u v} q
     (λ is polled.
     let made : Added (λ (made : MadeStep). Turns x p m s made m t) q before after = any_turns x p m s t q before after pends polled.0 in
     let told = polled.1 in
     record {
       turn = refl;
       told = of_made q is (subst (λ (w : Turn). Added (λ (made : MadeStep). TurnTold x w m s old (Some made) m t new) q before after) (sym (sym c.turn_of.ensures ∙ c.in-Futures.is)) (other_told x p refl m s may.may_turn.asked old m t new told.told q before after made told.hook_is_ok));
-      did = of_made q is (made.0, (made.1.0, still says.does main x m s t p refl made.0 made.1.1));
+      did = of_made {M = Added (λ (step : MadeStep). DoesStep says.does main s.core (step_shown step.label) main t.core) q before after} q is (made.0, (made.1.0, still says.does main x m s t p refl made.0 made.1.1));
       group = λ yes. told.group ∙ current_is t (turn_of q) (turns_runs x p m s m t q before after made);
       suits = may.may_turn.suits;
       knows = by_poll (says.knows main) s t (λ last. g.met.M.MainTask.stays main s t last may.may_turn.knows) x m c.in-Futures.polled made.0 order made.1.1 works.0;
