@@ -3,7 +3,7 @@ use Rattle.ops_dispatch.specs.Fits.{calls_host}
 use Rattle.ops_dispatch.specs.Polls.{polled_host}
 use Rattle.std.proofs.Common.{ap, refl, subst, sym, ◌∙◌}
 use Rattle.std.specs.Prelude.{Bool, Err, IfOk, IfSome, List, None, Ok, Option, Result, Some, [], false, is_none, is_some, not, option_map, true, ℕ, ◌+◌, ◌++◌, ◌<◌, ◌≡◌, ◌≤◌, ◌∷◌}
-use Rattle.machine_data.specs.Core.{Core, Main, State}
+use Rattle.machine_data.specs.Core.{Main, State}
 use Rattle.machine_data.specs.Labels.{choice_of}
 use Rattle.machine_data.specs.Read.{op_progress_of, next_entry, place_of}
 use Rattle.machine_data.specs.declared.component.Component.{Component}
@@ -39,7 +39,7 @@ use Rattle.ops_turns.proofs.DriveLemmas.{last_outcome-push, on_ends, on_more, on
 use Rattle.ops_turns.proofs.IdleLemmas.{after_free, free_at}
 use Rattle.ops_turns.proofs.RunLemmas.{host_over, host_picks, label_same, picked_at, push_picks, ran_at, took, took_host, took_picks, took_push}
 use Rattle.ops_turns.specs.Drive.{Drove, IsOn}
-use Rattle.ops_turns.specs.Ran.{OpMade, WorkMade, host_polled, scripted_rule_of}
+use Rattle.ops_turns.specs.Ran.{OpMade, WorkMade, scripted_rule_of}
 use Rattle.ops_turns.specs.StepResult.{Added, AddedOrNone, CallStepped, CallsHost, IsFull, MatchStep, OpPolls, OpShown, OpStep, RuleRan, RuleShown, RunMade, RunStepped, Shown, is_made, made_by, turn_of}
 use Rattle.ops_turns.specs.Turn.{IsFree, MakesStep, Turned, Turns, is_open, running_of, runs_in, state_at}
 use Rattle.ops_turns.specs.declared.made.MadeStep.{MadeStep}

@@ -2,7 +2,7 @@
 use Rattle.laws_labels.proofs.TurnLemmas.{main_at_its_turns}
 use Rattle.laws_labels.specs.Own.{is_main_turn, is_of_main}
 use Rattle.std.proofs.Common.{ap, refl, subst, sym, ◌∙◌}
-use Rattle.std.specs.Prelude.{Bool, Err, IfOk, List, None, Ok, OnErr, OnOk, Option, Result, Some, false, ℕ, ◌≡◌}
+use Rattle.std.specs.Prelude.{Bool, Err, List, None, Ok, OnErr, OnOk, Option, Result, Some, false, ℕ, ◌≡◌}
 use Rattle.task_loop.specs.Ran.{DoesStep}
 use Rattle.machine_data.specs.Core.{Core, Main}
 use Rattle.machine_data.specs.declared.label.Label.{Label}

@@ -25,7 +25,6 @@ use Rattle.task_loop.specs.Says.{Says}
 use Rattle.task_loop.specs.Constants.{constants}
 use Rattle.task_loop.specs.Told.{TurnTold, group_running}
 use Rattle.task_loop.specs.declared.poll_methods.RunPoll.{RunPoll}
-use Rattle.task_loop.specs.declared.run.RunConcurrent.{RunConcurrent}
 use Rattle.task_loop.specs.declared.run.Stop.{Stop}
 use Rattle.task_loop.specs.declared.run.Stop.TheVariants as stop
 use Rattle.machine_data.specs.Core.{State}

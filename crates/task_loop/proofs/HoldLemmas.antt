@@ -5,13 +5,12 @@ use Rattle.store_works.specs.Course.{one_fewer}
 use Rattle.store_works.specs.KeptWorks.{HeldWork}
 use Rattle.ops_dispatch.specs.Polls.{polled_host}
 use Rattle.std.specs.Option.{option_map}
-use Rattle.std.specs.Prelude.{[], Bool, Err, IfOk, List, None, Ok, OnOk, Option, Result, Some, cond, suc, true, zero, ℕ, ◌+◌, ◌==◌, ◌≡◌, ◌-◌}
+use Rattle.std.specs.Prelude.{[], Bool, None, Option, Some, cond, suc, true, zero, ℕ, ◌+◌, ◌==◌, ◌≡◌}
 use Rattle.machine_data.specs.Core.{Main, State, Unscripted}
 use Rattle.machine_data.specs.Maps.{get}
 use Rattle.machine_data.specs.Read.{course_of, op_progress_of}
 use Rattle.machine_data.specs.declared.component.Component.{Component}
 use Rattle.machine_data.specs.declared.component.HostDef.{HostDef}
-use Rattle.machine_data.specs.declared.label.Label.{Label}
 use Rattle.machine_data.specs.declared.op.CallOp.TheVariants as call_op
 use Rattle.machine_data.specs.declared.op.Op.{Op}
 use Rattle.machine_data.specs.declared.op.Op.TheVariants as op
@@ -37,9 +36,7 @@ use Rattle.task_store.specs.Hosts.{HoldsWorks, held_after_call, running}
 use Rattle.task_table.specs.declared.id.TableId.{TableId}
 use Rattle.ops_turns.specs.Ran.{WorkMade, host_polled}
 use Rattle.ops_turns.specs.declared.made.MadeStep.{MadeStep}
-use Rattle.ops_turns.specs.StepResult.{AddedOrNone}
 use Rattle.ops_turns.specs.Turn.{MakesStep, PendsIn, CoreInOrder, Turned, TurnedBeside, idle_line_of, state_at}
-use Rattle.ops_turns.specs.declared.made.StepResult.{StepResult}
 use Rattle.task_wait.specs.declared.keys.HostTaskKey.{HostTaskKey}
 use Rattle.core_primitives.specs.StateView.{StateView, work_of}
 

@@ -1,17 +1,13 @@
 -- What main knows stays over turns in which it has no part.
 use Rattle.std.proofs.Common.{◌≡◌, ℕ, Bool, Option, refl}
-use Rattle.std.specs.Prelude.{Err, IfOk, List, None, Ok, OnOk, Result, Some}
 use Rattle.machine_data.specs.Core.{Main}
-use Rattle.machine_data.specs.declared.label.Label.{Label}
 use Rattle.machine_data.specs.declared.records.Turn.TheVariants as turn
 use Rattle.ops_guests.specs.Works.{KeepsWorks, NamesWorks}
 use Rattle.machine_rules.specs.Stalled.{Setting}
 use Rattle.ops_turns.proofs.LaterLemmas.{last_by_names, last_by_step, last_by_turned}
 use Rattle.ops_turns.specs.Later.{WorksLast}
-use Rattle.ops_turns.specs.StepResult.{AddedOrNone}
 use Rattle.ops_turns.specs.Turn.{MakesStep, PendsIn, CoreInOrder, TurnedBeside, Turns, idle_line_of}
 use Rattle.ops_turns.specs.declared.made.MadeStep.{MadeStep}
-use Rattle.ops_turns.specs.declared.made.StepResult.{StepResult}
 use Rattle.core_primitives.specs.StateView.{StateView}
 
 module _ (K : StateView → Type 0) (s t : StateView) (stays : WorksLast s t → K t) where

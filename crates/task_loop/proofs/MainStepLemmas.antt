@@ -13,7 +13,8 @@ use Rattle.task_loop.specs.HasRun.{FailsTurn, HasStepResult, HasTurned, MayStep,
 use Rattle.task_loop.specs.AnswersOk.{is_refused}
 use Rattle.task_loop.specs.Hooked.{FailsMain, MainFails}
 use Rattle.task_loop.specs.Says.{Says}
-use Rattle.task_loop.specs.Told.{group_running}
+use Rattle.task_loop.specs.Ran.{DoesStep}
+use Rattle.task_loop.specs.Told.{TurnTold, group_running}
 use Rattle.machine_data.specs.Core.{Main}
 use Rattle.machine_data.specs.declared.component.Component.{Component}
 use Rattle.machine_data.specs.declared.component.HostDef.{HostDef}
@@ -26,7 +27,7 @@ use Rattle.core_primitives.specs.Groups.{IsAsked}
 use Rattle.task_store.specs.Hosts.{HoldsHosts}
 use Rattle.task_store.specs.declared.store.Store.{Store}
 use Rattle.ops_turns.proofs.DoesLemmas.{steps_shown}
-use Rattle.ops_turns.specs.Does.{label_of_step}
+use Rattle.ops_turns.specs.Does.{step_shown, label_of_step}
 use Rattle.ops_turns.specs.Later.{WorksLast}
 use Rattle.ops_turns.specs.Main.{Steps}
 use Rattle.ops_turns.proofs.SteppedLemmas.{of_made}

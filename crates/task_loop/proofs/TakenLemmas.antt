@@ -15,7 +15,7 @@ use Rattle.machine_data.specs.declared.component.Component.{Component}
 use Rattle.core_primitives.specs.Groups.{IsAsked, asked}
 use Rattle.ops_turns.proofs.SteppedLemmas.{match_made, match_then}
 use Rattle.ops_turns.specs.StepResult.{Added, AddedOrNone, IsInTrace, is_made}
-use Rattle.ops_turns.specs.Turn.{PendsIn, Turned, TurnedBeside, Turns, idle_line_of, setting_of}
+use Rattle.ops_turns.specs.Turn.{PendsIn, Turned, TurnedBeside, Turns, setting_of}
 use Rattle.ops_turns.specs.declared.made.MadeStep.{MadeStep}
 use Rattle.ops_turns.specs.declared.made.StepResult.{StepResult}
 use Rattle.ops_turns.specs.declared.made.StepResult.TheVariants as stepped

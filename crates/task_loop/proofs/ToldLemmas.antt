@@ -36,7 +36,7 @@ use Rattle.machine_data.specs.declared.records.Turn.TheVariants as turn
 use Rattle.machine_data.specs.declared.scenario.MainOpDef.{MainOpDef}
 use Rattle.machine_rules.proofs.LawLemmas.{steady}
 use Rattle.machine_rules.specs.Laws.{Steady}
-use Rattle.machine_rules.specs.Notices.{finish_notices, is_in, moment_notices, notices, running_group, start_notices, told_of, work_notices}
+use Rattle.machine_rules.specs.Notices.{finish_notices, is_in, moment_notices, running_group, start_notices, told_of, work_notices}
 use Rattle.machine_rules.specs.Picks.{Picks}
 use Rattle.machine_rules.specs.Run.{Run}
 use Rattle.machine_rules.specs.Stalled.{Setting}
@@ -46,7 +46,7 @@ use Rattle.ops_turns.proofs.KeptLemmas.{core_in_order_after}
 use Rattle.ops_turns.specs.Does.{label_of_step}
 use Rattle.ops_turns.specs.Drive.{Computes}
 use Rattle.ops_turns.specs.Main.{IsOpOfMain, Steps, main_setting}
-use Rattle.ops_turns.specs.StepResult.{Added, AddedOrNone, IsInTrace}
+use Rattle.ops_turns.specs.StepResult.{Added, IsInTrace}
 use Rattle.ops_turns.specs.Turn.{IsFree, MakesStep, PendsIn, CoreInOrder, Turned, Turns, running_of, runs_in, setting_of, state_at}
 use Rattle.ops_turns.specs.declared.made.MadeStep.{MadeStep}
 use Rattle.ops_turns.specs.declared.made.StepResult.{StepResult}

@@ -9,9 +9,6 @@ use Rattle.ops_dispatch.proofs.StayLemmas.{same_stays}
 use Rattle.machine_data.specs.declared.op.Op.TheVariants as op
 use Rattle.ops_turns.proofs.OrderLemmas.{unwinds}
 use Rattle.ops_turns.proofs.runs.run_data.Goals as goal
-use Rattle.ops_turns.specs.Ran.{scripted_rule_of}
-use Rattle.ops_turns.specs.StepResult.{RuleShown}
-use Rattle.ops_turns.specs.declared.made.StepResult.{StepResult}
 
 pub show-requires-clause-unwinds : goal.show-requires-clause-unwinds
 show-requires-clause-unwinds g c =

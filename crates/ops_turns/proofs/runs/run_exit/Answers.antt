@@ -1,12 +1,6 @@
-use Rattle.machine_data.specs.declared.component.Component.{Component}
-use Rattle.machine_data.specs.declared.op.Op.TheVariants as op
-use Rattle.machine_data.specs.declared.op.TaskOp.TheVariants as task
 use Rattle.ops_dispatch.proofs.EndLemmas.{exit_implements, exit_picks}
 use Rattle.ops_turns.proofs.OrderLemmas.{unwinds}
 use Rattle.ops_turns.proofs.runs.run_exit.Goals as goal
-use Rattle.ops_turns.specs.Ran.{scripted_rule_of}
-use Rattle.ops_turns.specs.StepResult.{RuleShown}
-use Rattle.ops_turns.specs.declared.made.StepResult.{StepResult}
 
 pub show_exit-requires-clause-unwinds : goal.show_exit-requires-clause-unwinds
 show_exit-requires-clause-unwinds g c =

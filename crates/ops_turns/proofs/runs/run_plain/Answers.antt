@@ -8,9 +8,6 @@ use Rattle.ops_dispatch.proofs.EndLemmas.{end_goes, end_implements, end_picks, e
 use Rattle.ops_turns.proofs.OrderLemmas.{unwinds}
 use Rattle.ops_turns.proofs.RanLemmas.{works_told}
 use Rattle.ops_turns.proofs.runs.run_plain.Goals as goal
-use Rattle.ops_turns.specs.Ran.{scripted_rule_of}
-use Rattle.ops_turns.specs.StepResult.{RuleShown}
-use Rattle.ops_turns.specs.declared.made.StepResult.{StepResult}
 use Rattle.core_primitives.specs.StateView.{thread_of}
 
 pub finish-requires-clause-position : goal.finish-requires-clause-position

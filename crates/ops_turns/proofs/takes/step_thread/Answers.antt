@@ -1,18 +1,10 @@
 use Rattle.std.proofs.Common.{subst, sym}
-use Rattle.std.specs.Prelude.{Some}
-use Rattle.machine_data.specs.Labels.{choice_of}
-use Rattle.machine_data.specs.Read.{place_of}
 use Rattle.ops_guests.proofs.CalmLemmas.{picks_implements}
 use Rattle.ops_guests.specs.Stays.{StaysAfter}
-use Rattle.ops_guests.specs.Steps.{label_of}
-use Rattle.ops_guests.specs.declared.op_result.OpResult.{OpResult}
-use Rattle.machine_rules.specs.Takes.{thread_taken}
 use Rattle.ops_turns.proofs.ShowLemmas.{taken_unwinds}
 use Rattle.ops_turns.proofs.takes.step_thread.Goals as goal
-use Rattle.ops_turns.specs.StepResult.{RuleShown}
 use Rattle.ops_turns.specs.Taken.{TakesThread, Taken}
-use Rattle.ops_turns.specs.declared.made.StepResult.{StepResult}
-use Rattle.core_primitives.specs.StateView.{StateView, thread_of, with_current}
+use Rattle.core_primitives.specs.StateView.{StateView, thread_of}
 
 pub take_thread-requires-clause-taken : goal.take_thread-requires-clause-taken
 take_thread-requires-clause-taken g c = subst (λ (u : StateView). Taken c.args.mark (thread_of u c.args.thread) u.core) (sym c.set_current.ensures) c.requires.taken

@@ -1,6 +1,6 @@
 -- What the poll of a work gave is told.
 use Rattle.std.proofs.Common.{ap, refl, subst, sym, ◌∙◌}
-use Rattle.std.specs.Prelude.{[], is_some, true, ◌≡◌}
+use Rattle.std.specs.Prelude.{[], is_some, true}
 use Rattle.task_group.specs.Listeners.{AnsweredErr, Listeners, errors_of}
 use Rattle.task_loop.proofs.IdleLemmas.{none_current, poll_leaves_none}
 use Rattle.task_loop.proofs.ToldLemmas.{turns_asked}

@@ -1,6 +1,6 @@
 -- What the taking of an entry gave is told.
-use Rattle.std.proofs.Common.{ap, refl, subst, sym, ◌∙◌}
-use Rattle.std.specs.Prelude.{None, Some, false, true, ◌≡◌}
+use Rattle.std.proofs.Common.{refl, subst, sym, ◌∙◌}
+use Rattle.std.specs.Prelude.{false, true}
 use Rattle.task_loop.proofs.TakenLemmas.{none_kept, turned_asked, turned_part}
 use Rattle.task_loop.proofs.TurnTellLemmas.{asked_after, tells_in_part, tells_turn, works_asked, works_part}
 use Rattle.task_loop.proofs.run.take_entry.Goals as goal
@@ -9,7 +9,6 @@ use Rattle.task_loop.specs.Told.{groups_before_work}
 use Rattle.machine_data.specs.declared.records.Turn.TheVariants as turn
 use Rattle.ops_turns.proofs.SteppedLemmas.{made_room, match_made, match_then, of_made}
 use Rattle.ops_turns.specs.StepResult.{is_made}
-use Rattle.ops_turns.specs.declared.made.StepResult.TheVariants as stepped
 use Rattle.core_primitives.specs.Groups.{IsAsked}
 use Rattle.core_primitives.specs.StateView.{StateView}
 

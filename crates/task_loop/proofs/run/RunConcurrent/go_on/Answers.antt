@@ -17,7 +17,6 @@ use Rattle.machine_data.specs.declared.records.Turn.TheVariants as turn
 use Rattle.machine_data.specs.declared.statuses.Mark.{Mark}
 use Rattle.machine_rules.proofs.Machine.{and_parts}
 use Rattle.ops_turns.specs.Turn.{given, idle_line_of}
-use Rattle.machine_data.specs.declared.records.Turn.{Turn}
 use Rattle.ops_turns.proofs.SteppedLemmas.{made_else, made_open, match_made}
 use Rattle.ops_turns.specs.StepResult.{turn_of}
 use Rattle.ops_turns.specs.declared.made.StepResult.{StepResult}
