@@ -23,7 +23,6 @@ pub struct MadeStep {
 
 /// What a step of the run results in: whose turn it is then, or why none was made. The label of one that was made is the last one in
 /// the trace, which gives the outcome where the run is over. It is a tag and a number, so that a function answers it in two registers.
-/// The first cases are those of `Turn` in its order, so that one becomes the other without a jump.
 #[derive(Clone, Copy)]
 pub enum StepResult {
     /// It is main's turn.
@@ -32,14 +31,14 @@ pub enum StepResult {
     Polls(u64),
     /// An entry is taken, after no work ended in this turn.
     Takes,
-    /// The thread runs.
-    Runs(u64),
-    /// The run is over.
-    Over,
     /// An entry is taken, after a work ended.
     TakesEnded,
+    /// The thread runs.
+    Runs(u64),
     /// The thread runs, after an op on registers and memory cells, which another seems to follow.
     Computes(u64),
+    /// The run is over.
+    Over,
     /// None was made: the op calls a host, or nothing can go on. No label was added.
     Nothing,
     /// It is out of memory, and no label was added.
@@ -113,10 +112,12 @@ pub fn put(trace: &mut PackedLabels, made: MadeStep) -> StepResult
     ensures in_trace { is_made result ≡ true → IsInTrace result trace.old made trace.new }
     ensures full { is_made result ≡ false → IsFull result trace.old trace.new }
 {
+    // The result is found first, where the turn was, so that no jump is needed.
+    let stepped = result_of(made.turn);
     let Ok(()) = trace.push(made.label) else {
         return StepResult::Full;
     };
-    result_of(made.turn)
+    stepped
 }
 
 /// Returns the outcome of a run that is over, which the last label gives. It is a function of its own, as few steps end a run.
