@@ -40,7 +40,7 @@ use Rattle.ops_turns.proofs.IdleLemmas.{after_free, free_at}
 use Rattle.ops_turns.proofs.RunLemmas.{host_over, host_picks, label_same, picked_at, push_picks, ran_at, took, took_host, took_picks, took_push}
 use Rattle.ops_turns.specs.Drive.{Drove, IsOn}
 use Rattle.ops_turns.specs.Ran.{OpMade, WorkMade, scripted_rule_of}
-use Rattle.ops_turns.specs.StepResult.{Added, AddedOrNone, CallStepped, CallsHost, IsFull, MatchStep, OpPolls, OpShown, OpStep, RuleRan, RuleShown, RunMade, RunStepped, Shown, is_made, made_by, turn_of}
+use Rattle.ops_turns.specs.StepResult.{Added, AddedOrNone, CallStepped, IsFull, MatchStep, OpPolls, OpShown, OpStep, RuleRan, RuleShown, RunMade, RunStepped, Shown, is_made, made_by, turn_of}
 use Rattle.ops_turns.specs.Turn.{IsFree, MakesStep, Turned, Turns, is_open, running_of, runs_in, state_at}
 use Rattle.ops_turns.specs.declared.made.MadeStep.{MadeStep}
 use Rattle.ops_turns.specs.declared.made.StepResult.{StepResult}
@@ -101,10 +101,15 @@ made_if q full room = by (is_made q) refl
     by true e = e
     by false e = absurd (room (full e).0)
 
--- then it isn't out of memory
+-- then it is none of the others
+pub made_some : (q : StepResult) → is_made q ≡ true → q ≡ stepped.Nothing → ⊥
+made_some q made is = let no = sym made ∙ ap is_made is in cc
+
 pub made_room : (q : StepResult) → is_made q ≡ true → q ≡ stepped.Full → ⊥
-made_room stepped.Full made full = absurd (cc)
-made_room _ made full = absurd (cc)
+made_room q made is = let no = sym made ∙ ap is_made is in cc
+
+pub made_hook : (q : StepResult) → is_made q ≡ true → q ≡ stepped.HookFailed → ⊥
+made_hook q made is = let no = sym made ∙ ap is_made is in cc
 
 -- the run goes on after it, if it isn't over
 pub made_open : (q : StepResult) → is_made q ≡ true → (q ≡ stepped.Over → ⊥) → is_open (turn_of q) ≡ true
@@ -114,48 +119,48 @@ made_open stepped.HookFailed made more = absurd (cc)
 made_open stepped.Over made more = absurd (more refl)
 made_open _ made more = refl
 
-module _ {M N F H : Type 0} where
-  pub match_made : (q : StepResult) → is_made q ≡ true → MatchStep M N F H q → M
-  match_made stepped.Nothing made h = absurd (cc)
-  match_made stepped.Full made h = absurd (cc)
-  match_made stepped.HookFailed made h = absurd (cc)
-  match_made _ made h = h
+pub match_then : {M N F H M' N' F' H' : Type 0} (q : StepResult) → (is_made q ≡ true → M → M') → (q ≡ stepped.Nothing → N → N') → (F → F') → (H → H') → MatchStep M N F H q → MatchStep M' N' F' H' q
+match_then q made nothing full failed h = record { made = λ e. made e (h.made e); nothing = λ e. nothing e (h.nothing e); full = λ e. full (h.full e); failed = λ e. failed (h.failed e) }
 
-  pub of_made : (q : StepResult) → is_made q ≡ true → M → MatchStep M N F H q
-  of_made stepped.Nothing made h = absurd (cc)
-  of_made stepped.Full made h = absurd (cc)
-  of_made stepped.HookFailed made h = absurd (cc)
-  of_made _ made h = h
+pub of_made : {M N F H : Type 0} (q : StepResult) → is_made q ≡ true → M → MatchStep M N F H q
+of_made q made h = record { made = λ e. h; nothing = λ e. absurd (made_some q made e); full = λ e. absurd (made_room q made e); failed = λ e. absurd (made_hook q made e) }
 
-  pub match_then : {M' N' F' H' : Type 0} (q : StepResult) → (is_made q ≡ true → M → M') → (q ≡ stepped.Nothing → N → N') → (F → F') → (H → H') → MatchStep M N F H q → MatchStep M' N' F' H' q
-  match_then stepped.Nothing made none full failed h = none refl h
-  match_then stepped.Full made none full failed h = full h
-  match_then stepped.HookFailed made none full failed h = failed h
-  match_then _ made none full failed h = made refl h
+pub of_nothing : {M N F H : Type 0} → N → MatchStep M N F H stepped.Nothing
+of_nothing h = record { made = λ e. absurd (cc); nothing = λ e. h; full = λ e. absurd (cc); failed = λ e. absurd (cc) }
 
-  -- one was made, or it is out of memory
-  pub of_full : {before after : List Label} (q : StepResult) → (is_made q ≡ true → M) → (is_made q ≡ false → IsFull q before after) → (after ≡ before → F) → MatchStep M N F H q
-  of_full stepped.Nothing made full lost = absurd (let is = (full refl).0 in cc)
-  of_full stepped.Full made full lost = lost (full refl).1
-  of_full stepped.HookFailed made full lost = absurd (let is = (full refl).0 in cc)
-  of_full _ made full lost = made refl
+pub of_lost : {M N F H : Type 0} → F → MatchStep M N F H stepped.Full
+of_lost h = record { made = λ e. absurd (cc); nothing = λ e. absurd (cc); full = λ e. h; failed = λ e. absurd (cc) }
+
+pub of_failed : {M N F H : Type 0} → H → MatchStep M N F H stepped.HookFailed
+of_failed h = record { made = λ e. absurd (cc); nothing = λ e. absurd (cc); full = λ e. absurd (cc); failed = λ e. h }
+
+-- one was made, or it is out of memory
+pub of_full : {M N F H : Type 0} {before after : List Label} (q : StepResult) → (is_made q ≡ true → M) → (is_made q ≡ false → IsFull q before after) → (after ≡ before → F) → MatchStep M N F H q
+of_full q made full lost = record {
+  made = made;
+  nothing = λ e. absurd (let no = sym e ∙ (full (ap is_made e)).0 in cc);
+  full = λ e. lost (full (ap is_made e)).1;
+  failed = λ e. absurd (let no = sym e ∙ (full (ap is_made e)).0 in cc);
+}
 
 -- one was made, where no hook was told
 pub made_told : {M N F : Type 0} (q : StepResult) → (q ≡ stepped.Nothing → ⊥) → (q ≡ stepped.Full → ⊥) → MatchStep M N F ⊥ q → is_made q ≡ true
-made_told stepped.Nothing some room h = absurd (some refl)
-made_told stepped.Full some room h = absurd (room refl)
-made_told stepped.HookFailed some room h = absurd h
-made_told _ some room h = refl
+made_told q some room h = made_else q some room h.failed
 
 -- it is out of memory, where none was made
 pub full_told : {M N : Type 0} {before after : List Label} (q : StepResult) → (q ≡ stepped.Nothing → ⊥) → is_made q ≡ false → MatchStep M N (after ≡ before) ⊥ q → IsFull q before after
 full_told stepped.Nothing some unmade h = absurd (some refl)
-full_told stepped.Full some unmade h = (refl, h)
-full_told stepped.HookFailed some unmade h = absurd h
+full_told stepped.Full some unmade h = (refl, h.full refl)
+full_told stepped.HookFailed some unmade h = absurd (h.failed refl)
 full_told _ some unmade h = absurd (cc)
 
 pub none_as : (P Q : Option MadeStep → Type 0) (q : StepResult) (before after : List Label) → ((made : Option MadeStep) → P made → Q made) → AddedOrNone P q before after → AddedOrNone Q q before after
-none_as P Q q before after f h = match_then {M' = Added (λ made. Q (Some made)) q before after} {N' = Q None × (after ≡ before)} q (λ is added. added_as (λ made. P (Some made)) (λ made. Q (Some made)) q before after (λ made. f (Some made)) added) (λ is none. (f None none.0, none.1)) (λ same. same) (λ no. no) h
+none_as P Q q before after f h = record {
+  made = λ e. added_as (λ made. P (Some made)) (λ made. Q (Some made)) q before after (λ made. f (Some made)) (h.made e);
+  nothing = λ e. (f None (h.nothing e).0, (h.nothing e).1);
+  full = h.full;
+  failed = h.failed;
+}
 
 -- ---- A step of the running thread
 
@@ -227,9 +232,12 @@ module _ (c : Component) (id : TableId ThreadKey) (n : ℕ) (s t : StateView) (n
       (added.0, (added.1.0, (added.1.1, sym (polled_at None (sym polls)))))
 
   pub run_steps : (before after : List Label) (q : StepResult) → OpStep c o id s before q t after → OpPolls c o id s q → RunStepped c n s q t before after
-  run_steps before after q step polls =
-      match_then {M' = Added (λ made. RunMade c n s (Some made) t) q before after} {N' = CallsHost c n s t × (after ≡ before)} q (λ made shown. step_made before after q shown (match_made q made polls))
-      (λ is same. ((same.0, subst (λ k. calls_host (op_of c k s.core) ≡ true) number (ap calls_host is_op ∙ subst (λ (r : StepResult). OpPolls c o id s r) is polls)), same.1)) (λ same. same) (λ no. no) step
+  run_steps before after q step polls = record {
+    made = λ e. step_made before after q (step.made e) (polls.made e);
+    nothing = λ e. (((step.nothing e).0, subst (λ k. calls_host (op_of c k s.core) ≡ true) number (ap calls_host is_op ∙ polls.nothing e)), (step.nothing e).1);
+    full = step.full;
+    failed = step.failed;
+  }
 
   -- so is what one came to that calls a host
   pub call_steps : (answer : HostPoll) (r : Result (MadeStep × Option (TableId HostTaskKey)) NoMemory) → IfOk r (λ q. RuleRan (scripted_rule_of c o id s) id s q.0 t) → IfOk r (λ q. OpMade answer c o id s q.1 t)

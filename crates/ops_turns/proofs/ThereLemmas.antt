@@ -10,11 +10,10 @@ use Rattle.machine_data.specs.declared.records.Thread.{Thread}
 use Rattle.machine_data.specs.declared.records.Turn.{Turn}
 use Rattle.machine_data.specs.declared.records.Turn.TheVariants as turn
 use Rattle.ops_turns.proofs.KeptLemmas.{made_in_order}
-use Rattle.ops_turns.proofs.SteppedLemmas.{match_made, match_then}
 use Rattle.ops_turns.proofs.OrderLemmas.{none_some, some_from}
 use Rattle.ops_turns.proofs.IdleLemmas.{makes_turns}
-use Rattle.ops_turns.specs.StepResult.{Added, TakesBeside, TookShown, is_made}
-use Rattle.ops_turns.specs.Turn.{CoreInOrder, MakesStep, RunnerThere, TurnedBeside, running_of, runs_in}
+use Rattle.ops_turns.specs.StepResult.{TakesBeside, TookShown, is_made}
+use Rattle.ops_turns.specs.Turn.{CoreInOrder, MakesStep, RunnerThere, running_of, runs_in}
 use Rattle.ops_turns.specs.declared.made.StepResult.{StepResult}
 use Rattle.ops_turns.specs.declared.made.StepResult.TheVariants as stepped
 use Rattle.core_primitives.specs.StateView.{StateView, thread_of}
@@ -41,13 +40,16 @@ idle_there t idle n e = none_some (ap (option_map (λ i. thread_of t i)) idle) e
 pub took_there : (c : Component) (ended : Bool) (s t : StateView) → CoreInOrder c (turn.Take ended) s.core → (q : StepResult) (before after : List Label) → is_made q ≡ true
     → TookShown c ended s before q t after → RunnerThere t
 took_there c ended s t in_turn q before after made took =
-    let h = match_made q made took in
+    let h = took.made made in
     let makes = h.1.1.0 in
     core_in_order_there c h.0.turn t (made_in_order c (turn.Take ended) s h.0 t in_turn makes) makes.running
 
 -- A taking is no matter of main.
 pub took_beside : (c : Component) (b ended : Bool) (s : StateView) (before : List Label) (q : StepResult) (t : StateView) (after : List Label) → (q ≡ stepped.Nothing → ⊥)
     → TookShown c ended s before q t after → TakesBeside c b ended s q t before after
-took_beside c b ended s before q t after some took =
-    match_then {M' = Added (λ made. TurnedBeside c b (turn.Take ended) s (Some made) t) q before after} q (λ is h. (h.0, (h.1.0, λ x component idle m pends. makes_turns x (turn.Take ended) s h.0 t (subst (λ (d : Component). MakesStep d (turn.Take ended) s h.0 t) (sym component) h.1.1.0) m (h.1.1.1 x t.core m))))
-    (λ is none. absurd (some is)) (λ same. same) (λ no. no) took
+took_beside c b ended s before q t after some took = record {
+  made = λ e. let h = took.made e in (h.0, (h.1.0, λ x component idle m pends. makes_turns x (turn.Take ended) s h.0 t (subst (λ (d : Component). MakesStep d (turn.Take ended) s h.0 t) (sym component) h.1.1.0) m (h.1.1.1 x t.core m)));
+  nothing = λ e. absurd (some e);
+  full = took.full;
+  failed = took.failed;
+}

@@ -50,13 +50,12 @@ is_made stepped.Full = false
 is_made stepped.HookFailed = false
 is_made _ = true
 
--- What a step results in, by its cases: it was made, as the first says, or none was to be made, as the second; or it is out of memory, as
--- the third, or the hook failed, as the fourth.
-abbrev pub MatchStep : (made none full failed : Type 0) → StepResult → Type 0
-MatchStep made none full failed stepped.Nothing = none
-MatchStep made none full failed stepped.Full = full
-MatchStep made none full failed stepped.HookFailed = failed
-MatchStep made none full failed _ = made
+-- What is so by what a step results in: it was made, none was to be made, it is out of memory, or the hook failed.
+pub record MatchStep (Made Nothing Full Failed : Type 0) (q : StepResult) : Type 0 where
+  pub made : is_made q ≡ true → Made
+  pub nothing : q ≡ stepped.Nothing → Nothing
+  pub full : q ≡ stepped.Full → Full
+  pub failed : q ≡ stepped.HookFailed → Failed
 
 -- it is out of memory, and no label was added
 abbrev pub IsFull : StepResult → (before after : List Label) → Type 0

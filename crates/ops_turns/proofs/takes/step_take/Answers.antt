@@ -1,5 +1,5 @@
-use Rattle.std.proofs.Common.{ap, subst, sym, ◌∙◌}
-use Rattle.std.specs.Prelude.{Option, Some, option_map, ◌<◌}
+use Rattle.std.proofs.Common.{ap, refl, subst, sym, ◌∙◌}
+use Rattle.std.specs.Prelude.{None, Option, Some, is_none, option_map, ◌<◌, ◌≡◌}
 use Rattle.machine_data.specs.declared.records.Entry.{Entry}
 use Rattle.machine_data.specs.declared.records.Subtask.TheVariants as subtask
 use Rattle.machine_data.specs.declared.statuses.Mark.{Mark}
@@ -11,7 +11,7 @@ use Rattle.ops_turns.proofs.SteppedLemmas.{host_makes, left_is, next_is, of_full
 use Rattle.ops_turns.proofs.TakenLemmas.{finds, host_joined, host_live, host_placed, taken}
 use Rattle.ops_turns.proofs.takes.step_take.Goals as goal
 use Rattle.machine_data.specs.Labels.{choice_of}
-use Rattle.machine_data.specs.Read.{place_of}
+use Rattle.machine_data.specs.Read.{next_entry, place_of}
 use Rattle.ops_guests.specs.Steps.{label_of}
 use Rattle.ops_guests.specs.declared.op_result.OpResult.{OpResult}
 use Rattle.machine_rules.specs.Progress.{Progress}
@@ -128,6 +128,16 @@ returns-in-Some-default-Host-clause-took g c =
     let t = v c.step_host-made.new.w in
     let before = c.args.trace.now in
     of_full {M = Added (λ step. Took c.args.component.now c.args.ended s (Some step) t) c.put-2.result before c.put-2.new.trace} c.put-2.result (λ made. (c.step_host-made.result, (c.put-2.ensures.in_trace made, makes))) c.put-2.ensures.full (λ same. same)
+
+-- ---- Nothing is there
+
+pub returns-in-None-clause-took : goal.returns-in-None-clause-took
+returns-in-None-clause-took g c =
+    let v = g.W.View.view in
+    let s = v c.args.w.now in
+    let none : next_entry s.core ≡ None = sym c.take_next.ensures.next ∙ ap (option_map (λ (x : Mark × EntryId). (x.0, entry_in s.tags x.1))) c.in-None.is in
+    let kept : v c.take_next.new.self ≡ s = c.take_next.ensures.none (ap is_none c.in-None.is) in
+    record { made = λ e. absurd (cc); nothing = λ e. ((none, kept), refl); full = λ e. absurd (cc); failed = λ e. absurd (cc) }
 
 -- ---- The group that is worked on
 

@@ -8,11 +8,9 @@ use Rattle.ops_turns.proofs.SteppedLemmas.{made_told, of_full}
 use Rattle.ops_turns.proofs.ThereLemmas.{idle_there, took_beside, took_there}
 use Rattle.ops_turns.proofs.turns.take.Goals as goal
 use Rattle.ops_guests.specs.Works.{KeepsTold}
-use Rattle.ops_turns.specs.StepResult.{Added, IsInTrace, TookShown}
+use Rattle.ops_turns.specs.StepResult.{Added, IsInTrace}
 use Rattle.ops_turns.specs.Turn.{CoreInOrder, TurnedBeside}
 use Rattle.ops_turns.specs.declared.made.MadeStep.{MadeStep}
-use Rattle.ops_turns.specs.declared.made.StepResult.{StepResult}
-use Rattle.ops_turns.specs.declared.made.StepResult.TheVariants as stepped
 use Rattle.core_primitives.specs.StateView.{StateView}
 
 pub rest-requires-clause-works : goal.rest-requires-clause-works
@@ -21,7 +19,7 @@ rest-requires-clause-works g c =
     let s = v c.args.w.now in
     let u = v c.step_take-taken.new.w in
     let comp = c.args.component.now in
-    let took : TookShown comp c.args.ended s c.args.trace.now stepped.Nothing u c.step_take-taken.new.trace = subst (λ (q : StepResult). TookShown comp c.args.ended s c.args.trace.now q u c.step_take-taken.new.trace) c.in-Nothing.is c.step_take-taken.ensures.took in
+    let took = c.step_take-taken.ensures.took.nothing c.in-Nothing.is in
     subst (λ (s : StateView). WorksQueued s.core) (sym took.0.1) (c.requires.at.order.order Unscripted).works
 
 -- ---- An entry was taken, or it is out of memory
@@ -51,7 +49,7 @@ returns-in-Some-clause-turned g c =
     let t = v c.rest.new.w in
     let comp = c.args.component.now in
     let b = c.args.trap_on_idle in
-    let took : TookShown comp c.args.ended s c.args.trace.now stepped.Nothing u c.step_take-taken.new.trace = subst (λ (q : StepResult). TookShown comp c.args.ended s c.args.trace.now q u c.step_take-taken.new.trace) c.in-Nothing.is c.step_take-taken.ensures.took in
+    let took = c.step_take-taken.ensures.took.nothing c.in-Nothing.is in
     let in_turn = subst (λ (w : StateView). CoreInOrder comp (turn.Take false) w.core) (sym took.0.1) (subst (λ (e : Bool). CoreInOrder comp (turn.Take e) s.core) c.if-ended.false c.requires.at.order) in
     let turned = subst (λ (o : Option MadeStep). TurnedBeside comp b (turn.Take false) u o t) c.in-Some.is (c.rest.ensures.turned comp in_turn) in
     let beside = subst (λ (e : Bool). TurnedBeside comp b (turn.Take e) s (Some c.in-Some.made) t) (sym c.if-ended.false) (subst (λ (w : StateView). TurnedBeside comp b (turn.Take false) w (Some c.in-Some.made) t) took.0.1 turned) in
@@ -65,11 +63,11 @@ returns-in-None-clause-turned g c =
     let t = v c.rest.new.w in
     let comp = c.args.component.now in
     let b = c.args.trap_on_idle in
-    let took : TookShown comp c.args.ended s c.args.trace.now stepped.Nothing u c.step_take-taken.new.trace = subst (λ (q : StepResult). TookShown comp c.args.ended s c.args.trace.now q u c.step_take-taken.new.trace) c.in-Nothing.is c.step_take-taken.ensures.took in
+    let took = c.step_take-taken.ensures.took.nothing c.in-Nothing.is in
     let in_turn = subst (λ (w : StateView). CoreInOrder comp (turn.Take false) w.core) (sym took.0.1) (subst (λ (e : Bool). CoreInOrder comp (turn.Take e) s.core) c.if-ended.false c.requires.at.order) in
     let turned = subst (λ (o : Option MadeStep). TurnedBeside comp b (turn.Take false) u o t) c.in-None.is (c.rest.ensures.turned comp in_turn) in
     let beside = subst (λ (e : Bool). TurnedBeside comp b (turn.Take e) s None t) (sym c.if-ended.false) (subst (λ (w : StateView). TurnedBeside comp b (turn.Take false) w None t) took.0.1 turned) in
-    (beside, took.1)
+    record { made = λ e. absurd (cc); nothing = λ e. (beside, took.1); full = λ e. absurd (cc); failed = λ e. absurd (cc) }
 
 pub returns-in-Some-clause-there : goal.returns-in-Some-clause-there
 returns-in-Some-clause-there g c room = idle_there (g.W.View.view c.rest.new.w) c.rest.ensures.current
@@ -83,7 +81,7 @@ returns-in-Some-clause-works g c room =
     let s = v c.args.w.now in
     let u = v c.step_take-taken.new.w in
     let comp = c.args.component.now in
-    let took : TookShown comp c.args.ended s c.args.trace.now stepped.Nothing u c.step_take-taken.new.trace = subst (λ (q : StepResult). TookShown comp c.args.ended s c.args.trace.now q u c.step_take-taken.new.trace) c.in-Nothing.is c.step_take-taken.ensures.took in
+    let took = c.step_take-taken.ensures.took.nothing c.in-Nothing.is in
     subst (λ (w : StateView). KeepsTold w (v c.rest.new.w)) took.0.1 c.rest.ensures.works
 
 pub returns-in-None-clause-works : goal.returns-in-None-clause-works
@@ -92,5 +90,5 @@ returns-in-None-clause-works g c room =
     let s = v c.args.w.now in
     let u = v c.step_take-taken.new.w in
     let comp = c.args.component.now in
-    let took : TookShown comp c.args.ended s c.args.trace.now stepped.Nothing u c.step_take-taken.new.trace = subst (λ (q : StepResult). TookShown comp c.args.ended s c.args.trace.now q u c.step_take-taken.new.trace) c.in-Nothing.is c.step_take-taken.ensures.took in
+    let took = c.step_take-taken.ensures.took.nothing c.in-Nothing.is in
     subst (λ (w : StateView). KeepsTold w (v c.rest.new.w)) took.0.1 c.rest.ensures.works
