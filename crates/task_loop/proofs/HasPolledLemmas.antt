@@ -95,7 +95,7 @@ module _ {M T H G : Type 0} (says : Says M) (course : H → HostDef) (c : Compon
     -- the turn saw that
     pub polled_none : n ≤ steps → HasTurned says course c stepped.Nothing r u v → yield_budget'.since ≡ k' → yield_budget'.passes ≡ false → HasPolled says course c steps (Ok poll.Idle) yield_budget a v yield_budget'
     polled_none room op_result since passes =
-        let t = told says course c a u n come v r stepped.Nothing op_result in
+        let t = (told says course c a u n come v r stepped.Nothing op_result).nothing refl in
         has_polled says course c a v steps (Ok poll.Idle) yield_budget yield_budget'
         (subst (λ (q : Turn). Paused x s a.trace given yield_budget steps (Ok poll.Idle) q (says.part v.main) v.store.state v.trace yield_budget') (sym op_result.turn)
         (idle_turned x s a.trace given yield_budget steps u.turn (says.part u.main) u.store.state u.trace n b' k' come.on so_far (says.part v.main) v.store.state v.trace yield_budget' room (t.0.turned, t.1) since passes))

@@ -2,7 +2,7 @@
 use Rattle.std.proofs.Common.{refl, ◌∙◌}
 use Rattle.task_loop.proofs.MainStepLemmas.{step_failed, step_turned}
 use Rattle.task_loop.proofs.run.step_main.Goals as goal
-use Rattle.ops_turns.proofs.SteppedLemmas.{of_full}
+use Rattle.ops_turns.proofs.SteppedLemmas.{of_failed, of_full, of_lost}
 use Rattle.ops_turns.specs.declared.mains.MainStep.TheVariants as step
 
 pub ask_main-requires : goal.ask_main-requires
@@ -33,11 +33,11 @@ returns g c = record {
 -- ---- It isn't made
 
 pub returns-in-Err-Trap-clause-turned : goal.returns-in-Err-Trap-clause-turned
-returns-in-Err-Trap-clause-turned g c =
+returns-in-Err-Trap-clause-turned g c idle =
     let main = c.args.main.now in
     let s = c.args.store.now in
-    step_failed g.M.MainTask.says g.H.HostWork.course c.args.component.now _ _ c.in-Err-Trap.field-0-is main s c.ask_main.new.main c.ask_main.new.store c.in-Err-Trap.ensures.steps
-    (λ u last. g.met.M.MainTask.stays main s.state u last) c.requires.may.knows c.args.trace.now c.args.trace.now refl
+    of_failed (step_failed g.M.MainTask.says g.H.HostWork.course c.args.component.now _ _ c.in-Err-Trap.field-0-is main s c.ask_main.new.main c.ask_main.new.store c.in-Err-Trap.ensures.steps
+    (λ u last. g.met.M.MainTask.stays main s.state u last) c.requires.may.knows c.args.trace.now c.args.trace.now refl idle)
 
 pub returns-in-Err : goal.returns-in-Err
-returns-in-Err g c = record { constants_stay = c.in-Err.ensures.constants_stay; script = c.in-Err.ensures.script; turned = λ b. refl }
+returns-in-Err g c = record { constants_stay = c.in-Err.ensures.constants_stay; script = c.in-Err.ensures.script; turned = λ idle. of_lost refl }
