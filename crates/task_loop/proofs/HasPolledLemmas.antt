@@ -3,7 +3,7 @@ use Rattle.laws_labels.specs.Own.{next_mark, rests_by}
 use Rattle.run_trace.specs.YieldBudget.{counted, is_unyielded, since_after, yields_before}
 use Rattle.run_trace.specs.declared.yield_budget.YieldBudget.{YieldBudget}
 use Rattle.ops_state.specs.declared.error.TaskError.{TaskError}
-use Rattle.std.proofs.Common.{subst, sym, ◌∙◌}
+use Rattle.std.proofs.Common.{refl, subst, sym, ◌∙◌}
 use Rattle.std.proofs.lemmas.List.{append_cancel_left}
 use Rattle.std.specs.Prelude.{Bool, List, Ok, Result, Some, false, length, not, true, ℕ, ◌&&◌, ◌<◌, ◌==◌, ◌≡◌, ◌≤◌}
 use Rattle.task_loop.proofs.HasRunLemmas.{HasCome, come_goes, opened, over_added, ran_kept, ran_over, told}

@@ -1,6 +1,6 @@
 -- Turns in which main has no part, as the loop tells of them.
 use Rattle.store_notices.specs.declared.tells.GroupsBefore.{GroupsBefore}
-use Rattle.std.proofs.Common.{refl, ◌∙◌, ◌≡◌}
+use Rattle.std.proofs.Common.{refl, ◌∙◌, ◌≡◌, sym}
 use Rattle.std.specs.Prelude.{[], ◌++◌, ◌∷◌, Bool, List, None, Option, Some, false, true, ℕ}
 use Rattle.task_group.specs.Listeners.{Listeners, errors_of}
 use Rattle.task_loop.proofs.ToldLemmas.{current_is, none_told, other_told, turns_asked, turns_runs}
@@ -13,7 +13,8 @@ use Rattle.machine_data.specs.declared.records.Turn.TheVariants as turn
 use Rattle.machine_rules.specs.Stalled.{Setting}
 use Rattle.machine_data.specs.declared.component.Component.{Component}
 use Rattle.core_primitives.specs.Groups.{IsAsked, asked}
-use Rattle.ops_turns.specs.StepResult.{Added, AddedOrNone, IsInTrace, is_made}
+use Rattle.ops_turns.proofs.SteppedLemmas.{of_full}
+use Rattle.ops_turns.specs.StepResult.{Added, AddedOrNone, IsFull, IsInTrace, MatchStep, is_made}
 use Rattle.ops_turns.specs.Turn.{PendsIn, Turned, TurnedBeside, Turns, setting_of}
 use Rattle.ops_turns.specs.declared.made.MadeStep.{MadeStep}
 use Rattle.ops_turns.specs.declared.made.StepResult.{StepResult}
@@ -36,6 +37,12 @@ pends_take x s false = refl
 -- where nothing was made nothing is changed
 pub none_kept : (c : Component) (b ended : Bool) (s t : StateView) → TurnedBeside c b (turn.Take ended) s None t → t ≡ s
 none_kept c b ended s t turned = let x = setting_of c [] b in (turned x refl refl Unscripted (pends_take x s.core ended)).1.1
+
+-- ---- No step was made
+
+-- it is out of memory
+pub of_unmade : {M N F H : Type 0} {before after : List Label} (q : StepResult) → is_made q ≡ false → IsFull q before after → (after ≡ before → F) → MatchStep M N F H q
+of_unmade q unmade is lost = of_full q (λ made. absurd (let no = sym unmade ∙ made in cc)) (λ none. is) lost
 
 -- ---- An entry is taken
 

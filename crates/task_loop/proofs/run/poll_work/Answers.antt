@@ -11,7 +11,8 @@ use Rattle.task_loop.specs.Told.{TellsPart, TellsWhole, groups_before_work}
 use Rattle.machine_data.specs.Core.{Core, Unscripted}
 use Rattle.machine_data.specs.declared.records.Turn.TheVariants as turn
 use Rattle.task_store.specs.Hosts.{HoldsWorks, held_by}
-use Rattle.ops_turns.proofs.SteppedLemmas.{of_made, of_unmade}
+use Rattle.ops_turns.proofs.SteppedLemmas.{of_made}
+use Rattle.task_loop.proofs.TakenLemmas.{of_unmade}
 use Rattle.ops_turns.specs.Turn.{setting_of}
 
 pub poll_next-made-requires-clause-may : goal.poll_next-made-requires-clause-may

@@ -12,7 +12,8 @@ use Rattle.machine_data.specs.declared.records.Turn.TheVariants as turn
 use Rattle.task_store.specs.Hosts.{HoldsWorks, held_by}
 use Rattle.ops_turns.proofs.KeptLemmas.{made_in_order}
 use Rattle.ops_turns.proofs.ThereLemmas.{core_in_order_there}
-use Rattle.ops_turns.proofs.SteppedLemmas.{of_made, of_unmade}
+use Rattle.ops_turns.proofs.SteppedLemmas.{of_made}
+use Rattle.task_loop.proofs.TakenLemmas.{of_unmade}
 use Rattle.ops_turns.specs.StepResult.{Added}
 use Rattle.ops_turns.specs.Turn.{IsFree, MakesStep, running_of}
 use Rattle.ops_turns.specs.declared.made.MadeStep.{MadeStep}
