@@ -153,7 +153,7 @@ module _ (s : ScenarioText) (formed : IsWellFormed s) where
       let t = export_text s.instances f d (sym (at_lowered s f) ∙ at) in
       let i = placed_at (InstanceIsPlaced s.hosts) s.instances f.instance t.i formed.instances t.at in
       let x = export_placed s.hosts (take f.instance s.instances) t.i.parts f.export t.e i.parts t.within in
-      record { before = x.before; e = t.e; is_def = t.is_def; stands = x.stands }
+      record { before = x.before; e = t.e; is_def = t.is_def; stands = x.placed }
 
   -- a script is after some instances, in a callback or not
   pub record Known (ops : List Op) : Type 0 where
