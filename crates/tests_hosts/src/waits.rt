@@ -16,6 +16,7 @@ ghost use Rattle.machine_rules.specs.Places.{Placed};
 ghost use Rattle.task_run.specs.Runnable.{IsRunnable};
 ghost use Rattle.core_primitives.specs.Groups.{IsAsked};
 ghost use Rattle.task_store.specs.Hosts.{HoldsHosts};
+ghost use Rattle.ops_turns.specs.StepResult.{turn_of};
 ghost use Rattle.ops_turns.specs.Turn.{CoreInOrder, given, is_open, running_of};
 ghost use Rattle.core_primitives.specs.StateView.{call_of, on_core, with_core};
 
@@ -89,7 +90,7 @@ fn idles(
     requires fresh { store.old.state ≡ with_core (fresh 2 100000 1000000) nothing }
     requires works { HoldsNone store.old.works }
     requires groups { IsAsked store.old.state }
-    ensures turn { result.turn ≡ turns.Take false }
+    ensures turn { turn_of result.last ≡ turns.Take false }
     ensures order { CoreInOrder scenario.now.component (turns.Take false) store.new.state.core }
     ensures current { running_of store.new.state ≡ None }
     ensures hosts { HoldsHosts ⟦<ScriptedHost as HostWork>⟧.course store.new }

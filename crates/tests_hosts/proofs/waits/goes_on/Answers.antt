@@ -5,6 +5,7 @@ use Rattle.tests_hosts.proofs.WaitLemmas.{given_few, pends_outside, settled_take
 use Rattle.tests_hosts.proofs.waits.goes_on.Goals as goal
 use Rattle.machine_data.specs.declared.records.Turn.{Turn}
 use Rattle.machine_data.specs.declared.records.Turn.TheVariants as turn
+use Rattle.ops_turns.specs.StepResult.{turn_of}
 use Rattle.ops_turns.specs.Turn.{CoreInOrder, is_open, runs_in, setting_of}
 
 pub wakes-woken-requires-clause-unended : goal.wakes-woken-requires-clause-unended
@@ -28,7 +29,7 @@ drive-outcome-requires g c =
           order = subst (λ (p : Turn). CoreInOrder d p c.wakes-woken.new.store.state.core) (sym e.turn) (woken.order d (turn.Take false) refl e.order);
           settled = settled_take_of _ _ e.turn;
           running = woken.current ∙ (e.current ∙ sym (ap runs_in e.turn));
-          pends = pends_outside (setting_of d [] c.idles-run.result.trap_on_idle) c.wakes-woken.new.store.state.core c.idles-run.result.turn e.turn;
+          pends = pends_outside (setting_of d [] c.idles-run.result.trap_on_idle) c.wakes-woken.new.store.state.core (turn_of c.idles-run.result.last) e.turn;
           suits = tt;
           knows = tt;
           works = woken.hosts e.hosts;
