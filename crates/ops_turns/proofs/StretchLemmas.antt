@@ -90,8 +90,9 @@ pub computed_run : (c : Component) (n : ℕ) (s : StateView) (before : List Labe
 computed_run c n s before added t after steps (Err e) few on computes = tt
 computed_run c n s before added t after steps (Ok k) few on computes = record { more = few.0; few = few.1; on = on; computes = computes; still = λ none. absurd (cc) }
 
-pub stops_at : (c : Component) (p : Turn) (s : StateView) (before : List Label) (added : ℕ) (t : StateView) (after : List Label) (k steps : ℕ) → k ≤ steps → KeepsOn c p s before added t after k → StopsShort c p s before added after steps
-stops_at c p s before added t after k steps few on = record { last = t; labels = k; few = few; on = on }
+pub stops_at : (c : Component) (n : ℕ) (s : StateView) (before : List Label) (added : ℕ) (t : StateView) (after : List Label) (k steps : ℕ) → k ≤ steps → KeepsOn c (turn.Run n) s before added t after k
+    → Computes c (turn.Run n) s before added t after k → StopsShort c (turn.Run n) s before added after steps
+stops_at c n s before added t after k steps few on computes = record { last = t; labels = k; few = few; on = on; computes = computes; still = λ none. absurd (cc) }
 
 module _ (c : Component) (n : ℕ) (t : StateView) (th : Thread) (found : get t.core.threads n ≡ Some th) (runs : running_of t ≡ Some n) (ops : List Op) (script : script_of c n t.core ≡ ops) (x : ThreadContext) where
   abbrev there : Core

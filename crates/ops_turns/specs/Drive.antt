@@ -74,13 +74,15 @@ pub record Computed (c : Component) (p : Turn) (s : StateView) (before : List La
   pub computes : Computes c p s before added t after k
   pub still : runs_in p ≡ None → k ≡ added
 
--- It is out of memory: the run has gone on in this turn to a state that is lost, and its labels are in the trace.
+-- It is out of memory: the run has gone on in this turn, by such ops alone, to a state that is lost, and its labels are in the trace.
 pub record StopsShort (c : Component) (p : Turn) (s : StateView) (before : List Label) (added : ℕ) (after : List Label) (steps : ℕ) :
     Type 0 where
   pub last : StateView
   pub labels : ℕ
   pub few : labels ≤ steps
   pub on : KeepsOn c p s before added last after labels
+  pub computes : Computes c p s before added last after labels
+  pub still : runs_in p ≡ None → labels ≡ added
 
 -- The labels that were added are those of a run of at most so many, to a state that is lost.
 pub record WasGoing (x : Setting) (s : State) (before after : List Label) (steps : ℕ) : Type 0 where

@@ -101,5 +101,5 @@ module _ {M T H G : Type 0} (says : Says M) (course : H → HostDef) (c : Compon
   pub took : (r : Result (Option StepResult) Halt) → TakesTo c b ended s r running t before after → TurnsTo says course c r running (u q) (v q)
   took (Ok None) taken = subst (λ (w : Turn). HasTurned says course c None running (u w) (v w)) (sym is) (took_ok None taken.0.0 taken.0.1 tt (λ same. taken.1.0) taken.1.1)
   took (Ok (Some k)) taken = subst (λ (w : Turn). HasTurned says course c (Some k) running (u w) (v w)) (sym is) (took_ok (Some k) taken.0.0 taken.0.1 taken.1 (λ none. absurd (cc)) taken.1.asked)
-  took (Err halt.NoMemory) lost = lost
+  took (Err halt.NoMemory) lost = record { trace = lost.0; main = λ other. refl; untold = λ other. lost.1 }
   took (Err halt.HookFailed) fails = subst (λ (w : Turn). FailsTurn says course c (u w) (v w)) (sym is) (took_failed fails.1.0 fails.1.1.0 fails.1.1.1 fails.0)

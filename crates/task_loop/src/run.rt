@@ -142,7 +142,7 @@ fn call_host_outlined<T, H: AccessorTask<T> + FromHost, G: TaskGroupHook>(
     requires calls { calls_host (op_of component.now thread store.old.state.core) ≡ true }
     ensures constants_stay { constants store.new ≡ constants store.old }
     ensures steps { IfOk result (λ stepped. StepsUntold H.course component.now thread store.old stepped store.new trace.old trace.new) }
-    ensures listeners { OnOk result (store.new.listeners ≡ store.old.listeners) }
+    ensures listeners { store.new.listeners ≡ store.old.listeners }
     ensures err { OnErr result (trace.new ≡ trace.old) }
 {
     // The host's work is polled before its call is done: what the call results in is what it answers.
@@ -165,7 +165,7 @@ fn call_host<T, H: AccessorTask<T> + FromHost, G: TaskGroupHook>(
     requires calls { calls_host (op_of component.now thread store.old.state.core) ≡ true }
     ensures constants_stay { constants store.new ≡ constants store.old }
     ensures steps { IfOk result (λ stepped. StepsUntold H.course component.now thread store.old stepped store.new trace.old trace.new) }
-    ensures listeners { OnOk result (store.new.listeners ≡ store.old.listeners) }
+    ensures listeners { store.new.listeners ≡ store.old.listeners }
     ensures err { OnErr result (trace.new ≡ trace.old) }
 {
     call_host_outlined(component, store, thread, trace)
@@ -183,7 +183,7 @@ fn step_thread<T, H: AccessorTask<T> + FromHost, G: TaskGroupHook>(
     requires runs { RunsThread H.course component.now thread store.old }
     ensures constants_stay { constants store.new ≡ constants store.old }
     ensures steps { IfOk result (λ stepped. StepsUntold H.course component.now thread store.old stepped store.new trace.old trace.new) }
-    ensures listeners { OnOk result (store.new.listeners ≡ store.old.listeners) }
+    ensures listeners { store.new.listeners ≡ store.old.listeners }
     ensures err { OnErr result (trace.new ≡ trace.old) }
 {
     let Ok(step) = step_run(component, &mut store.state, thread, trace) else {

@@ -104,7 +104,8 @@ pub returns-in_default-push-clause-err : goal.returns-in_default-push-clause-err
 returns-in_default-push-clause-err g c =
     let s = g.W.View.view c.args.w.now in
     subst (λ (ls : List Label). StopsShort c.args.component.now (turn.Run c.args.number) s c.args.trace.now c.args.added ls c.args.steps) (sym c.in_default-push.ensures.err)
-    (stops_at c.args.component.now (turn.Run c.args.number) s c.args.trace.now c.args.added (state_in c.args.number c.ops.context (g.W.View.view c.ops.w)) c.ops.trace c.ops.count c.args.steps (omega (arith, c.ops-test.true)) c.ops.invariant.on)
+    (stops_at c.args.component.now c.args.number s c.args.trace.now c.args.added (state_in c.args.number c.ops.context (g.W.View.view c.ops.w)) c.ops.trace c.ops.count c.args.steps (omega (arith, c.ops-test.true)) c.ops.invariant.on
+    c.ops.invariant.computes)
 
 pub returns-clause-computes : goal.returns-clause-computes
 returns-clause-computes g c =

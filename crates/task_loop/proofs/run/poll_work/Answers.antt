@@ -95,4 +95,4 @@ returns-in_default-tell_poll-clause-polled g c =
     )
 
 pub returns-in_default-clause-polled : goal.returns-in_default-clause-polled
-returns-in_default-clause-polled g c = c.in_default.ensures.err
+returns-in_default-clause-polled g c = (c.in_default.ensures.err, ap (λ k. k.listeners) c.poll_next-made.ensures.rest)

@@ -46,7 +46,7 @@ returns-clause-ran g c =
     let made = steps.makes in
     let told = c.in-Ok-told.ensures.told in
     let asked = told.whole.asked in
-    let same = c.in-Ok.ensures.listeners in
+    let same = c.step_thread.ensures.listeners in
     let makes : Added (λ (k : MadeStep). MakesStep d (turn.Run n) s.state k u × IsFree k.turn) q before after = (made.0, (made.1.0, (makes_asked d (turn.Run n) s.state made.0 t.state u asked (made.1.1).0, (made.1.1).1))) in
     record {
       steps = record {
@@ -76,7 +76,7 @@ returns-in_default-told-clause-ran g c =
     let steps = c.in-Ok.ensures.steps in
     let made = steps.makes in
     let told = c.in_default-told.ensures.told in
-    let same = c.in-Ok.ensures.listeners in (
+    let same = c.step_thread.ensures.listeners in (
       record {
         told = tells_in_part s.state (turn.Run n) c.requires.asked c.none_is_zero.ensures.groups a c.requires.running refl t.state u steps.works.1 s.listeners new
             (subst (λ (l : Listeners). TellsPart a t.state u l new) same told.part) (subst (λ (l : Listeners). AnsweredErr l new) same told.hook.failed);
@@ -93,4 +93,4 @@ returns-in_default-told-clause-ran g c =
     )
 
 pub returns-in_default-clause-ran : goal.returns-in_default-clause-ran
-returns-in_default-clause-ran g c = c.in_default.ensures.err
+returns-in_default-clause-ran g c = (c.in_default.ensures.err, c.step_thread.ensures.listeners)

@@ -1,6 +1,6 @@
 -- A step that pends is made apart.
 use Rattle.std.proofs.Common.{refl, ◌∙◌}
-use Rattle.task_loop.proofs.MainStepLemmas.{step_failed, step_turned}
+use Rattle.task_loop.proofs.MainStepLemmas.{lacks_main, step_failed, step_turned}
 use Rattle.task_loop.proofs.run.step_main.Goals as goal
 use Rattle.ops_turns.specs.declared.mains.MainStep.TheVariants as step
 
@@ -37,10 +37,10 @@ returns-in-Err-Trap-clause-turned g c =
     (λ u last. g.met.M.MainTask.stays main s.state u last) c.requires.may.knows c.args.trace.now c.args.trace.now refl
 
 pub returns-in-Err : goal.returns-in-Err
-returns-in-Err g c = record { constants_stay = c.in-Err.ensures.constants_stay; script = c.in-Err.ensures.script; turned = λ b. refl }
+returns-in-Err g c = record { constants_stay = c.in-Err.ensures.constants_stay; script = c.in-Err.ensures.script; turned = lacks_main g.M.MainTask.says g.H.HostWork.course c.args.component.now c.args.main.now c.args.store.now c.ask_main.new.main c.ask_main.new.store c.args.trace.now c.args.trace.now refl }
 
 pub returns-in_default-put-clause-turned : goal.returns-in_default-put-clause-turned
-returns-in_default-put-clause-turned g c = λ b. c.in_default-put.ensures.err
+returns-in_default-put-clause-turned g c = lacks_main g.M.MainTask.says g.H.HostWork.course c.args.component.now c.args.main.now c.args.store.now c.ask_main.new.main c.ask_main.new.store c.args.trace.now c.put.new.trace c.in_default-put.ensures.err
 
 pub returns-in_default-put-2 : goal.returns-in_default-put-2
-returns-in_default-put-2 g c = record { constants_stay = c.in-Ok.ensures.constants_stay; script = c.in-Ok.ensures.script; turned = λ b. c.in_default-put-2.ensures.err }
+returns-in_default-put-2 g c = record { constants_stay = c.in-Ok.ensures.constants_stay; script = c.in-Ok.ensures.script; turned = lacks_main g.M.MainTask.says g.H.HostWork.course c.args.component.now c.args.main.now c.args.store.now c.ask_main.new.main c.ask_main.new.store c.args.trace.now c.put-2.new.trace c.in_default-put-2.ensures.err }

@@ -60,4 +60,4 @@ returns-in_default-tell_work-clause-taken g c =
     )
 
 pub returns-in_default-clause-taken : goal.returns-in_default-clause-taken
-returns-in_default-clause-taken g c = c.in_default.ensures.err
+returns-in_default-clause-taken g c = (c.in_default.ensures.err, refl)

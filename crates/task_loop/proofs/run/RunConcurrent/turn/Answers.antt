@@ -140,7 +140,7 @@ returns-in-Err-run_thread-clause-turned g c =
     let x = setting_of d (says.script main) c.args.self.now.trap_on_idle in
     let before = c.args.trace.now in
     let after = c.run_thread.new.trace in
-    halts_by says course d c.in-Err-run_thread.why u v (λ k. RunsTo course d n c.args.store.now (Err k) c.run_thread.new.running c.run_thread.new.store before after) (λ lost. lost) (λ failed.
+    halts_by says course d c.in-Err-run_thread.why u v (λ k. RunsTo course d n c.args.store.now (Err k) c.run_thread.new.running c.run_thread.new.store before after) (λ lost. record { trace = lost.0; main = λ other. refl; untold = λ other. lost.1 }) (λ failed.
     let fails = failed.0 in
     let q = failed.1 in
     let made = q.1.makes in
@@ -220,7 +220,7 @@ returns-in-Err-poll_work-clause-turned g c =
     let before = c.args.trace.now in
     let after = c.poll_work.new.trace in
     let pends : PendsIn x s.core m p = subst (λ (w : Turn). PendsIn x s.core m w) c.in-Futures.is may.may_turn.pends in
-    halts_by says course d c.in-Err-poll_work.why u v (λ k. WorkPollsTo p c.args.store.now (Err k) c.poll_work.new.running c.poll_work.new.store before after) (λ lost. lost) (λ failed.
+    halts_by says course d c.in-Err-poll_work.why u v (λ k. WorkPollsTo p c.args.store.now (Err k) c.poll_work.new.running c.poll_work.new.store before after) (λ lost. record { trace = lost.0; main = λ other. refl; untold = λ other. lost.1 }) (λ failed.
     let fails = failed.0 in
     let q = failed.1 in
     let made = any_turns x p m s t q.0 before after pends q.1 in
