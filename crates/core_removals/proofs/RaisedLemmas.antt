@@ -1,5 +1,5 @@
 -- A release of what is wanted and then of the others: those that are admitted, in the order of the preference.
-use Rattle.core_records.proofs.Core.{[], admitted_held, ap, ap₂, Bool, cases_eq, cond, Core, eq-eqb, eqb-true, false, filter, get, has, held_why, held_why_of, inl, inr, is_held_admitted, IsMembers-filter, IsMembers-numbers, is_some, List, list_any, ne_eqb, None, not, option_and_then, option_map, Option, or_left, put_high, refl, released, released_one, Some, subst, sym, Thread, true, Why, ℕ, ◌&&◌, ◌++◌, ◌==◌, ◌||◌, ◌∙◌, ◌≡◌, ◌∷◌}
+use Rattle.core_records.proofs.Core.{[], admitted_held, ap, ap₂, arith, Bool, cases_eq, cond, Core, eq-eqb, eqb-true, false, filter, get, has, held_why, held_why_of, inl, inr, is_held_admitted, IsMembers-filter, IsMembers-numbers, is_some, List, list_any, ne_eqb, None, not, on_thread, option_and_then, option_map, Option, or_left, push_high, put_high, refl, released, released_one, set_place, Some, subst, sym, Thread, true, Why, ℕ, ◌&&◌, ◌++◌, ◌==◌, ◌||◌, ◌∙◌, ◌≡◌, ◌∷◌}
 use Rattle.core_counts.proofs.EndedLemmas.{permuted_has, permuted_once}
 use Rattle.core_removals.proofs.ReleaseLemmas.{put_calls, put_instances, put_others, same_admitted, same_held, same_instance, admitted_held as held_of}
 use Rattle.core_removals.specs.Held.{AreHeldUnqueued, is_admitted, raised, raised_of, raised_one}
@@ -87,16 +87,16 @@ raised_admits i (n ∷ ns) s m =
 pub raised_is : (i : ℕ) (ns : List ℕ) (s : Core) → raised i ns s ≡ released (raised_of i ns s) s
 unfolding released
 raised_is i [] s = refl
-raised_is i (n ∷ ns) s = by (is_admitted i s n) refl
+raised_is i (n ∷ ns) s = by (is_admitted i s n) (λ c. raised_is i ns c)
   where
-    by : (b : Bool) → is_admitted i s n ≡ b → raised i ns (cond b (released (n ∷ []) s) s) ≡ released (cond b (n ∷ raised_of i ns (cond b (released (n ∷ []) s) s)) (raised_of i ns s)) s
-    by true is = raised_is i ns (released (n ∷ []) s)
-    by false is = raised_is i ns s
+    by : (b : Bool) → ((c : Core) → raised i ns c ≡ released (raised_of i ns c) c) → raised i ns (cond b (released (n ∷ []) s) s) ≡ released (cond b (n ∷ raised_of i ns (cond b (released (n ∷ []) s) s)) (raised_of i ns s)) s
+    by true rest = rest (released (n ∷ []) s)
+    by false rest = rest s
 
 -- who is raised is admitted and is in the list
 has_raised : (i : ℕ) (ns : List ℕ) (s : Core) (m : ℕ) → has m (raised_of i ns s) ≡ (is_admitted i s m && has m ns)
 has_raised i [] s m = sym (and_false (is_admitted i s m))
-has_raised i (n ∷ ns) s m = by (is_admitted i s n) refl
+has_raised i (n ∷ ns) s m = by (is_admitted i s n) refl (λ c. has_raised i ns c m)
   where
     first : (a b c d : Bool) → (b ≡ true → a ≡ true) → (b || ((a && not b) && c)) ≡ (a && (b || c))
     first true true c d e = refl
@@ -109,24 +109,25 @@ has_raised i (n ∷ ns) s m = by (is_admitted i s n) refl
     later true false c e = refl
     later false b c e = refl
 
-    by : (b : Bool) → is_admitted i s n ≡ b → has m (cond b (n ∷ raised_of i ns (cond b (released (n ∷ []) s) s)) (raised_of i ns s)) ≡ (is_admitted i s m && ((m == n) || has m ns))
-    by true is =
+    by : (b : Bool) → is_admitted i s n ≡ b → ((c : Core) → has m (raised_of i ns c) ≡ (is_admitted i c m && has m ns))
+        → has m (cond b (n ∷ raised_of i ns (cond b (released (n ∷ []) s) s)) (raised_of i ns s)) ≡ (is_admitted i s m && ((m == n) || has m ns))
+    by true is rest =
         let one = held_of i n s is in
-        ap (λ b. (m == n) || b) (has_raised i ns (released (n ∷ []) s) m ∙ ap (λ b. b && has m ns) (one_raised i n m s one.0 one.1))
+        ap (λ b. (m == n) || b) (rest (released (n ∷ []) s) ∙ ap (λ b. b && has m ns) (one_raised i n m s one.0 one.1))
         ∙ first (is_admitted i s m) (m == n) (has m ns) true (λ same. ap (is_admitted i s) (eqb-true m n same) ∙ is)
-    by false is = has_raised i ns s m ∙ later (is_admitted i s m) (m == n) (has m ns) (λ same. ap (is_admitted i s) (eqb-true m n same) ∙ is)
+    by false is rest = rest s ∙ later (is_admitted i s m) (m == n) (has m ns) (λ same. ap (is_admitted i s) (eqb-true m n same) ∙ is)
 
 once_raised : (i : ℕ) (ns : List ℕ) (s : Core) → Once (raised_of i ns s)
 once_raised i [] s = tt
-once_raised i (n ∷ ns) s = by (is_admitted i s n) refl
+once_raised i (n ∷ ns) s = by (is_admitted i s n) refl (λ c. once_raised i ns c)
   where
-    by : (b : Bool) → is_admitted i s n ≡ b → Once (cond b (n ∷ raised_of i ns (cond b (released (n ∷ []) s) s)) (raised_of i ns s))
-    by true is =
+    by : (b : Bool) → is_admitted i s n ≡ b → ((c : Core) → Once (raised_of i ns c)) → Once (cond b (n ∷ raised_of i ns (cond b (released (n ∷ []) s) s)) (raised_of i ns s))
+    by true is rest =
         let one = held_of i n s is in (
           has_raised i ns (released (n ∷ []) s) n ∙ ap (λ b. b && has n ns) (one_raised i n n s one.0 one.1 ∙ (ap (λ b. is_admitted i s n && not b) (eq-eqb n n refl) ∙ and_false (is_admitted i s n))),
-          once_raised i ns (released (n ∷ []) s),
+          rest (released (n ∷ []) s),
         )
-    by false is = once_raised i ns s
+    by false is rest = rest s
 
 has_both : (n : ℕ) (xs ys : List ℕ) → has n (xs ++ ys) ≡ (has n xs || has n ys)
 has_both n [] ys = refl
@@ -217,7 +218,7 @@ append_one (x ∷ xs) n ns = ap (λ l. x ∷ l) (append_one xs n ns)
 pub raised_in_order : (p : Preference) (i : ℕ) (ns pre rest : List ℕ) (s : Core) → p.held ≡ pre ++ ns → ((m : ℕ) → is_admitted i s m ≡ true → has m pre ≡ false)
     → ((m : ℕ) → has m rest ≡ true → is_admitted i (raised i ns s) m ≡ true) → goes_in_order p rest ≡ true → goes_in_order p (raised_of i ns s ++ rest) ≡ true
 raised_in_order p i [] pre rest s is past left order = order
-raised_in_order p i (n ∷ ns) pre rest s is past left order = by (is_admitted i s n) refl left
+raised_in_order p i (n ∷ ns) pre rest s is past left order = by (is_admitted i s n) refl left (λ c later all. raised_in_order p i ns (pre ++ n ∷ []) rest c (is ∙ append_one pre n ns) later all order)
   where
     both : (a b : Bool) → (a && not b) ≡ true → a ≡ true
     both true b is = refl
@@ -237,8 +238,9 @@ raised_in_order p i (n ∷ ns) pre rest s is past left order = by (is_admitted i
     apart a m off same = let never : true ≡ false = sym (eq-eqb a m same) ∙ off in absurd (cc)
 
     by : (b : Bool) → is_admitted i s n ≡ b → ((m : ℕ) → has m rest ≡ true → is_admitted i (raised i ns (cond b (released (n ∷ []) s) s)) m ≡ true)
+        → ((c : Core) → ((m : ℕ) → is_admitted i c m ≡ true → has m (pre ++ n ∷ []) ≡ false) → ((m : ℕ) → has m rest ≡ true → is_admitted i (raised i ns c) m ≡ true) → goes_in_order p (raised_of i ns c ++ rest) ≡ true)
         → goes_in_order p (cond b (n ∷ raised_of i ns (cond b (released (n ∷ []) s) s)) (raised_of i ns s) ++ rest) ≡ true
-    by true on left =
+    by true on left again =
         let one = held_of i n s on in
         let t = released (n ∷ []) s in
         let step : (m : ℕ) → is_admitted i t m ≡ (is_admitted i s m && not (m == n)) = λ m. one_raised i n m s one.0 one.1 in
@@ -251,17 +253,26 @@ raised_in_order p i (n ∷ ns) pre rest s is past left order = by (is_admitted i
         ap (λ l. listed_before l m n (thread_before p.seats m n)) is
         ∙ (listed_past pre (n ∷ ns) m n (thread_before p.seats m n) (past m (both (is_admitted i s m) (m == n) admitted)) (past n on)
         ∙ ap (λ b. cond b false (cond (n == m) true (listed_before ns m n (thread_before p.seats m n)))) (eq-eqb n n refl))))
-        (raised_in_order p i ns (pre ++ n ∷ []) rest t (is ∙ append_one pre n ns)
+        (again t
         (λ m admitted. let was = sym (step m) ∙ admitted in one_more m n pre (past m (both (is_admitted i s m) (m == n) was)) (apart m n (second (is_admitted i s m) (m == n) was)))
-        left order)
-    by false off left =
-        raised_in_order p i ns (pre ++ n ∷ []) rest s (is ∙ append_one pre n ns)
+        left)
+    by false off left again =
+        again s
         (λ m admitted. one_more m n pre (past m admitted) (λ same. let never : false ≡ true = sym off ∙ (ap (is_admitted i s) (sym same) ∙ admitted) in absurd (cc)))
-        left order
+        left
 
 pub no_items : {X : Type 0} (items : List X) → (length items == 0) ≡ true → items ≡ []
 no_items [] none = refl
-no_items (x ∷ xs) none = absurd (cc)
+no_items (x ∷ xs) none = absurd (let zero = eqb-true (length (x ∷ xs)) 0 none in omega (arith, zero))
+
+-- what holds of each of a list holds of who is in it
+each_has : (P : ℕ → Type 0) (ns : List ℕ) → Each P ns → (m : ℕ) → has m ns ≡ true → P m
+each_has P [] each m there = absurd (cc)
+each_has P (k ∷ ks) each m there = by (m == k) refl (λ later. each_has P ks each.1 m later) there
+  where
+    by : (b : Bool) → (m == k) ≡ b → (has m ks ≡ true → P m) → (b || has m ks) ≡ true → P m
+    by true same rest there = subst P (sym (eqb-true m k same)) each.0
+    by false same rest there = rest there
 
 -- ---- Places
 
@@ -299,14 +310,6 @@ module _ (a : CoreParts) (sound : IsSoundCore a) where
           by : (b : Bool) → (b || has m ns) ≡ true
           by true = refl
           by false = there
-
-      each_has : (P : ℕ → Type 0) (ns : List ℕ) → Each P ns → (m : ℕ) → has m ns ≡ true → P m
-      each_has P [] each m there = absurd (cc)
-      each_has P (k ∷ ks) each m there = by (m == k) refl there
-        where
-          by : (b : Bool) → (m == k) ≡ b → (b || has m ks) ≡ true → P m
-          by true same there = subst P (sym (eqb-true m k same)) each.0
-          by false same there = each_has P ks each.1 m there
 
       unlisted : (held : List ℕ) (m n : ℕ) (o : Bool) → has m held ≡ false → has n held ≡ false → listed_before held m n o ≡ o
       unlisted held m n o no_m no_n = ap (λ l. listed_before l m n o) (append_nil held) ∙ listed_past held [] m n o no_m no_n
@@ -383,12 +386,12 @@ put_unqueued i n w s free m held = by (cases_eq m n)
     was : (m ≡ n → ⊥) → is_held_in i s m ≡ true
     was other = sym (ap₂ (λ k b. (k == i) && is_some b) (same_instance i m s (put_high n w s) (threads other) (put_calls n w s) (put_instances n w s)) (same_held i m s (put_high n w s) (threads other) (put_calls n w s) (put_instances n w s))) ∙ held
 
-    here : m ≡ n → held_why_of m (put_high n w s) ≡ None
-    here same = ap (λ k. held_why_of k (put_high n w s)) same ∙ (ap (λ o. option_and_then held_why (option_map (λ (x : Thread). x.place) o)) (get-change_same s.threads n (λ (x : Thread). record x { place = Place.Ready Mark.High w })) ∙ none (get s.threads n))
-
     none : (o : Option Thread) → option_and_then held_why (option_map (λ (x : Thread). x.place) (option_map (λ (x : Thread). record x { place = Place.Ready Mark.High w }) o)) ≡ None
     none None = refl
     none (Some x) = refl
+
+    here : m ≡ n → held_why_of m (put_high n w s) ≡ None
+    here same = ap (λ k. held_why_of k (put_high n w s)) same ∙ (ap (λ o. option_and_then held_why (option_map (λ (x : Thread). x.place) o)) (get-change_same s.threads n (λ (x : Thread). record x { place = Place.Ready Mark.High w })) ∙ none (get s.threads n))
 
     by : (m ≡ n) ⊎ (m ≡ n → ⊥) → IsUnqueued m (put_high n w s)
     by (inl same) = let never : false ≡ true = sym (and_false (instance_of m (put_high n w s) == i)) ∙ (ap (λ o. (instance_of m (put_high n w s) == i) && is_some o) (sym (here same)) ∙ held) in absurd (cc)
