@@ -330,9 +330,11 @@ impl RunConcurrent {
     /// Goes on with the run until it is over, until it has added `steps` labels to the trace, or until nothing can go on and that
     /// is no deadlock. The labels that it adds are those of a run of the component machine from the store before to the store
     /// after, and the outcome is what that run has resulted in. The labels of main among them are those of the steps that main did,
-    /// in their order. If it is out of memory, the store is trapped, and the labels that were added are those of such a run to a
-    /// state that is lost. Whether a run is active on the store, whether it is concurrent and its number stay. The notices of that
-    /// run are told, in their order.
+    /// in their order. The notices of that run are told, in their order.
+    ///
+    /// If it is out of memory, the labels that were added are those of such a run to a state that is lost. The notices of these labels
+    /// were told, and main did the steps that they show; at main's turn it may have done and told more. Then the store is trapped,
+    /// and its groups are finished. Whether a run is active on the store, whether it is concurrent and its number stay.
     ///
     /// Where the hook that is told of the groups answers an error, the outcome is trap 22, which adds no label of its own and
     /// comes by nothing else: the store is trapped, its groups are finished, and the run is over. The labels that were added are

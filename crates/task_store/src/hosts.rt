@@ -171,6 +171,7 @@ impl<T, H: AccessorTask<T> + FromHost, G: TaskGroupHook> Store<T, H, G> {
     /// memory, it isn't.
     pub fn hold_called(&mut self, called: Option<H>, work: Option<WorkId>) -> Result<(), NoMemory>
         ensures held { OnOk result (HoldsCalled H.course (option_map (λ id. work_of self.old.state id) work) called self.old self.new) }
+        ensures err { OnErr result ((i : ℕ) → held_by H.course self.new i ≡ held_by H.course self.old i) }
         ensures rest { self.new ≡ record self.old { works = self.new.works } }
     {
         let Some(work) = work else {
