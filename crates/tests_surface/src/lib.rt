@@ -16,4 +16,6 @@ mod polls;
 #[cfg(test)]
 mod store;
 #[cfg(test)]
+mod trapped;
+#[cfg(test)]
 mod typed;
