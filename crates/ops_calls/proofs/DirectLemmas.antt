@@ -8,6 +8,15 @@ use Rattle.machine_data.specs.declared.component.ExportKind.{ExportKind}
 use Rattle.machine_data.specs.declared.label.CallLabel.TheVariants as call_label
 use Rattle.machine_data.specs.declared.label.Label.TheVariants as label
 use Rattle.machine_data.specs.declared.trap.Trap.TheVariants as trap
+use Rattle.core_primitives.specs.Preferences.{preference}
+use Rattle.machine_data.specs.Labels.{choice_of}
+use Rattle.machine_data.specs.Moves.{passes_check}
+use Rattle.machine_data.specs.declared.component.ExportKind.TheVariants as kind
+use Rattle.machine_rules.proofs.CalmLemmas.{enter_calm, trap_if_calm}
+use Rattle.machine_rules.specs.Picks.{LeavesNoChoice}
+use Rattle.ops_guests.proofs.CalmLemmas.{calm_picks, picks_implements}
+use Rattle.ops_guests.specs.Rules.{exits_direct}
+use Rattle.ops_guests.specs.Works.{KeepsTold}
 use Rattle.machine_rules.specs.Calls.{enter_rule, enter_runs, next_thread}
 use Rattle.machine_rules.specs.Finish.{Doer, SomeHost}
 use Rattle.machine_rules.specs.Scripts.{export_kind}
@@ -17,17 +26,17 @@ use Rattle.ops_calls.specs.HostOps.{Did}
 use Rattle.ops_calls.specs.OpAnswers.{answered, has_stopped}
 use Rattle.ops_calls.specs.declared.answer_calls.Step.TheVariants as step
 use Rattle.ops_dispatch.proofs.OpLemmas.{tags_told, told_names}
-use Rattle.ops_guests.specs.Does.{DoesRule, KeepsTags}
+use Rattle.ops_guests.specs.Does.{DoesRule, KeepsTags, PicksRule}
 use Rattle.ops_guests.specs.Ended.{ended}
 use Rattle.ops_guests.specs.Shown.{goes_as}
 use Rattle.ops_guests.specs.declared.op_result.OpResult.{OpResult}
 use Rattle.ops_subtasks.specs.Rules.{enters_call}
 use Rattle.ops_turns.proofs.OrderLemmas.{number_at}
-use Rattle.ops_calls.specs.Directs.{IsDirect, enters_rule, thread_entered}
+use Rattle.ops_calls.specs.Directs.{IsDirect, enters_rule, exits_rule, thread_entered}
 use Rattle.machine_data.proofs.CommuteLemmas.{change-change_same, insert-present}
 use Rattle.machine_data.specs.Core.{Core, Unscripted}
 use Rattle.machine_data.specs.Maps.{change, changed, get, insert}
-use Rattle.machine_data.specs.Read.{at_handle_limit, fits, is_under, place_of, register_of, under_of}
+use Rattle.machine_data.specs.Read.{at_handle_limit, fits, instance_of, is_under, kind_of, place_of, register_of, task_of, under_of}
 use Rattle.machine_data.specs.Write.{on_thread, set_register}
 use Rattle.machine_data.specs.declared.component.Component.{Component}
 use Rattle.machine_data.specs.declared.label.Label.{Label}
@@ -42,7 +51,7 @@ use Rattle.ops_guests.proofs.RunLemmas.{stands_on}
 use Rattle.ops_guests.specs.OpResult.{Implements, IsCurrent}
 use Rattle.ops_guests.specs.Running.{IsRunning}
 use Rattle.ops_guests.specs.declared.op_result.OpResult.TheVariants as op_result
-use Rattle.machine_rules.specs.Ends.{direct_exit_rule}
+use Rattle.machine_rules.specs.Ends.{direct_exit_rule, direct_exit_to}
 use Rattle.machine_rules.specs.Progress.{Asks, Continues, Fails, Never, Ordered, Progress, Stops, Traps, trap_if}
 use Rattle.task_table.specs.declared.id.TableId.{TableId}
 use Rattle.ops_turns.specs.Turn.{CoreInOrder, running_of}
@@ -140,8 +149,9 @@ module _ (c : Component) (e : Callee) (words : List ℕ) (x : ExportKind) (kind 
   enters_did =
       subst (Did (enters_rule c e words s.core) s r) (not_stopped r t enters_on)
       (did_rule c n r s t runs (current_runs r t current) does.stays (enters_rule c e words s.core) (told_names s t (tags_told s t does.kept))
+      (calm_picks (preference s) n (enter_rule n e (export_kind c e) words s.core) s.core r t.core (enter_calm SomeHost n s.core e (export_kind c e) words)
       (subst (λ (y : ExportKind). Implements (enter_rule n e y words s.core) s.core r t.core) kind
-      (subst (λ (k : ℕ). Implements (enter_rule k e x words s.core) s.core r t.core) number enters_met)))
+      (subst (λ (k : ℕ). Implements (enter_rule k e x words s.core) s.core r t.core) number enters_met))))
 
   module _ (said : OpAnswer) (ok : Ok (step.Done said) ≡ answered (λ a. a) r) (to : TableId ThreadKey) (here : t.current ≡ Some to) where
     entered_as : r ≡ goes_as (label.Call (call_label.Enters (thread_of s id) (next_thread s.core))) (next_thread s.core)
@@ -192,6 +202,25 @@ module _ (id : TableId ThreadKey) (v : ℕ) (s u : StateView) (is : u ≡ on_cor
       let n = thread_of s id in
       traps_base (direct_exit_rule n (set_register n 0 v s.core)) s.core (set_register n 0 v s.core) t why
       (subst (λ (w : StateView). Implements (direct_exit_rule (thread_of w id) w.core) w.core (op_result.Traps why) t) is h)
+
+-- the exit of a direct call leaves no choice
+exits_calm : (n : ℕ) (x : ExportKind) (s : Core) (m : Option ℕ) → LeavesNoChoice (direct_exit_to n x s m)
+exits_calm n x s None = tt
+exits_calm n kind.Sync s (Some m) = (refl, refl)
+exits_calm n kind.Blocking s (Some m) = trap_if_calm (not (passes_check (instance_of n s) s)) _ _ (refl, refl)
+exits_calm n kind.Stackful s (Some m) = trap_if_calm (not (passes_check (instance_of n s) s)) _ _ (refl, refl)
+exits_calm n kind.Callback s (Some m) = trap_if_calm (not (passes_check (instance_of n s) s)) _ _ (refl, refl)
+
+-- the half that exits did its rule
+module _ (c : Component) (id : TableId ThreadKey) (v n : ℕ) (s u t : StateView) (is : u ≡ on_core (set_register (thread_of s id) 0 v) s) (runs : running_of s ≡ Some n) (number : thread_of s id ≡ n) where
+  pub exits_did : (l : Label) (m : ℕ) (said : OpAnswer) → PicksRule exits_direct id u (op_result.Continues l m said) t → IsCurrent (op_result.Continues l m said) t → KeepsTold u t
+      → Did (exits_rule v s.core) s (op_result.Continues l m said) t
+  exits_did l m said picks current works =
+      let r = op_result.Continues l m said in
+      let x = set_register n 0 v s.core in
+      did_rule c n r s t runs (current_runs r t current) tt (exits_rule v s.core) (told_names s t (subst (λ (w : StateView). KeepsTold w t) is works))
+      (calm_picks (preference s) n (exits_rule v s.core n (choice_of l)) s.core r t.core (exits_calm n (kind_of (task_of n x) x) x (under_of n x))
+      (subst (λ (k : ℕ). Implements (direct_exit_rule k (set_register k 0 v s.core)) s.core r t.core) number (exits_met id v s u is t.core l m said (picks_implements picks))))
 
 -- the register is put back
 pub all_back : (id : TableId ThreadKey) (v before : ℕ) (s u t w : StateView) → u ≡ on_core (set_register (thread_of s id) 0 v) s → before ≡ register_of (thread_of s id) 0 s.core → t ≡ u → w ≡ on_core (set_register (thread_of t id) 0 before) t → w ≡ s

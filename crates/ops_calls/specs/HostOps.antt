@@ -1,5 +1,5 @@
 -- What comes of an op that a host has the running thread do in place of the one at its place.
-use Rattle.std.specs.Prelude.{Bool, Err, IfSome, None, Option, Result, Some, false, length, true, ℕ, ◌<◌, ◌≡◌, ◌≢◌}
+use Rattle.std.specs.Prelude.{Bool, Err, IfOk, IfSome, None, Option, Result, Some, false, length, true, ℕ, ◌<◌, ◌≡◌, ◌≢◌}
 use Rattle.std.specs.Option.{option_map_or}
 use Rattle.ops_dispatch.specs.Continues.{running_of}
 use Rattle.ops_dispatch.specs.Makes.{takes_memory}
@@ -97,12 +97,21 @@ polled_here c n s = polled_host c (op_progress_of n s) (op_of c n s)
 abbrev pub Did : (ℕ → Choice → Progress) → StateView → OpResult → StateView → Type 0
 Did row s r t = IfSome (running_of s) (λ n. Does (row n) n s r t)
 
+-- unless it is out of memory
+abbrev pub MayDo : {E : Type 0} → (ℕ → Choice → Progress) → StateView → Result OpResult E → StateView → Type 0
+MayDo row s r t = IfOk r (λ done. Did row s done t)
+
 -- It did its rule, and what that resulted in is answered. Only one that takes memory answers that it is out of memory, and then nothing
 -- is changed.
 abbrev pub Answers : {A : Type 0} → (takes : Bool) → (ℕ → Choice → Progress) → (OpAnswer → A) → StateView → Result (Step A) TaskError →
     StateView → Type 0
 Answers takes row f s (Err task_error.NoMemory) t = (takes ≡ true) × (t ≡ s)
 Answers takes row f s a t = (r : OpResult) × (Did row s r t × (a ≡ answered f r))
+
+-- so it is of a rule from the core on that it begins with, which takes memory
+abbrev pub AnswersMade : {A : Type 0} → (Core → ℕ → Choice → Progress) → (OpAnswer → A) → StateView → Result (Step A) TaskError →
+    StateView → Type 0
+AnswersMade row f s a t = Answers true (row s.core) f s a t
 
 -- the op was done in place of the one at the thread's place
 abbrev pub AnswersOp : {A : Type 0} → Component → Op → (OpAnswer → A) → StateView → Result (Step A) TaskError → StateView → Type 0

@@ -22,7 +22,8 @@ use Rattle.core_primitives.specs.StateView.{StateView}
 -- Where the running thread did such an op, but a return, it is in its place then, with its registers, whatever the op resulted in. If
 -- it was out of memory nothing is changed.
 unfoldable pub HostOpsLeaveInPlace : Type 0
-HostOpsLeaveInPlace = (c : Component) (o : Op) (n : ℕ) (r : OpResult) (s t : StateView) → running_of s ≡ Some n → CoreInOrder c (turn.Run n) s.core →
+HostOpsLeaveInPlace =
+    (c : Component) (o : Op) (n : ℕ) (r : OpResult) (s t : StateView) → running_of s ≡ Some n → CoreInOrder c (turn.Run n) s.core →
     is_finished o ≡ true → calls_host o ≡ false → is_return o ≡ false → Did (scripted_rule_of c o s.core) s r t →
     in_script n t.core ≡ in_script n s.core
 
@@ -33,5 +34,6 @@ ReturnsLeaveInPlace = (c : Component) (n v : ℕ) (own_type : Bool) (s t : State
 
 -- Where the op at its place had paused and was taken on, it is in its place, with its registers, whatever that resulted in.
 unfoldable pub PausedLeaveInPlace : Type 0
-PausedLeaveInPlace = (c : Component) (i : ℕ) (r : OpResult) (s t : StateView) (q : IsRunningIn c s) → HasPaused i s → Did (op_rule_at c s.core) s r t →
+PausedLeaveInPlace =
+    (c : Component) (i : ℕ) (r : OpResult) (s t : StateView) (q : IsRunningIn c s) → HasPaused i s → Did (op_rule_at c s.core) s r t →
     in_script q.number t.core ≡ in_script q.number s.core

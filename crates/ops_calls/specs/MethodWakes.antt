@@ -19,7 +19,8 @@ use Rattle.laws_order.specs.WakesKept.{NoWakeLost}
 
 -- where n did any op but one on registers and memory cells or one that ends an activation, as far as it came, no wake is lost
 unfoldable pub OpsLoseNone : Type 0
-OpsLoseNone = (c : Component) (o : Op) (n : ℕ) (r : OpResult) (s t : StateView) → Rests c n s → ends_activation o ≡ false → is_data_op o ≡ false →
+OpsLoseNone =
+    (c : Component) (o : Op) (n : ℕ) (r : OpResult) (s t : StateView) → Rests c n s → ends_activation o ≡ false → is_data_op o ≡ false →
     Did (scripted_rule_of c o s.core) s r t → NoWakeLost t.core
 
 -- ---- Calls

@@ -88,7 +88,8 @@ KeepsEntered c o n (Err why) t = InTurn c t
 -- where the export is called directly, with any words, or that is refused: order in which the thread has a sync call of that export, wherever it
 -- is in its script
 unfoldable pub EntersKeep : Type 0
-EntersKeep = (c : Component) (o : Op) (n : ℕ) (e : Callee) (words : List ℕ) (s t : StateView) (r : Result (Step ℕ) TaskError) → Rests c n s →
+EntersKeep =
+    (c : Component) (o : Op) (n : ℕ) (e : Callee) (words : List ℕ) (s t : StateView) (r : Result (Step ℕ) TaskError) → Rests c n s →
     callee_of_op o ≡ Some e → is_sync_call o ≡ true → is_async_lifted (export_kind c e) ≡ false →
     Answers true (enters_rule c e words s.core) thread_entered s r t → KeepsEntered c o n r t
 
@@ -97,7 +98,8 @@ EntersKeep = (c : Component) (o : Op) (n : ℕ) (e : Callee) (words : List ℕ) 
 -- where a call is prepared, or that is refused, whosever turn it is
 unfoldable pub PreparesKeep : Type 0
 PreparesKeep = (c : Component) (p : Turn) (n q : ℕ) (async_caller room : Bool) (e : Callee) (words : List ℕ) (s t : StateView)
-    (r : Result QualifiedThreadId TaskError) → CoreInOrder c p s.core → Prepares c n e words (goal_for async_caller q) s room r t → CoreInOrder c p t.core
+    (r : Result QualifiedThreadId TaskError) → CoreInOrder c p s.core → Prepares c n e words (goal_for async_caller q) s room r t →
+    CoreInOrder c p t.core
 
 -- nothing has become of a call as it is prepared
 unfoldable pub PreparesMake : Type 0
@@ -115,7 +117,8 @@ StartsKeep = (c : Component) (o : Op) (n : ℕ) (s t : StateView) (id : Qualifie
 -- where n did any op as a host has it done, but one on registers and memory cells or one that ends an activation, wherever n is in
 -- its script
 unfoldable pub OpsKeep : Type 0
-OpsKeep = (c : Component) (o : Op) (n : ℕ) (r : OpResult) (s t : StateView) → Rests c n s → ends_activation o ≡ false → is_data_op o ≡ false →
+OpsKeep =
+    (c : Component) (o : Op) (n : ℕ) (r : OpResult) (s t : StateView) → Rests c n s → ends_activation o ≡ false → is_data_op o ≡ false →
     Did (scripted_rule_of c o s.core) s r t → KeepsFor c o n r t
 
 -- where it called a host so

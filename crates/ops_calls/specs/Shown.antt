@@ -38,7 +38,8 @@ is_entered _ = false
 -- the thread goes on, and a and b are one core, finished for the one and for the other with what the label shows
 abbrev pub FinishedAs : Bool → Doer → Doer → (n m : ℕ) → Label → (a b : Core) → Type 0
 FinishedAs true d e n m l a b = a ≡ b
-FinishedAs false d e n m l a b = (m ≡ n) × ((core : Core) × ((a ≡ finish d n (finished_with (shown l)) core) × (b ≡ finish e n (finished_with (shown l)) core)))
+FinishedAs false d e n m l a b =
+    (m ≡ n) × ((core : Core) × ((a ≡ finish d n (finished_with (shown l)) core) × (b ≡ finish e n (finished_with (shown l)) core)))
 
 -- Two results are one but for how the op is finished.
 abbrev pub IsAlike : Doer → Doer → ℕ → Progress → Progress → Type 0

@@ -2,9 +2,9 @@
 ghost use Rattle.ops_dispatch.specs.Fits.{calls_host, is_data_op, op_fits};
 ghost use Rattle.ops_dispatch.specs.Continues.{given};
 ghost use Rattle.ops_dispatch.specs.Makes.{takes_memory};
-ghost use Rattle.std.specs.Prelude.{◌≡◌, ◌<◌, ◌^◌, ℕ, IfErr, IfOk, OnErr, false, true};
+ghost use Rattle.std.specs.Prelude.{◌≡◌, ◌<◌, ◌^◌, ℕ, IfErr, OnErr, false, true};
 ghost use Rattle.ops_calls.specs.OpAnswers.{at_once, event_answered, nothing_answered, number_answered, whole_answer};
-ghost use Rattle.ops_calls.specs.HostOps.{AnswersHere, AnswersOp, Did, HasPaused, IsRunningIn, is_at_once, left_by, op_rule_at, scripted_rule_of, takes_here, turn_in};
+ghost use Rattle.ops_calls.specs.HostOps.{AnswersHere, AnswersOp, HasPaused, IsRunningIn, MayDo, is_at_once, left_by, op_rule_at, scripted_rule_of, takes_here, turn_in};
 ghost use Rattle.ops_turns.specs.Turn.{CoreInOrder};
 ghost use Rattle.core_primitives.specs.StateView.{thread_of};
 
@@ -43,7 +43,7 @@ fn do_host_op<W: Primitives>(
     requires plain { calls_host op ≡ false }
     requires fits { op_fits component.now op ≡ true }
     requires few { takes_memory op ≡ true → given (W.view w.old).core < 2 ^ 61 }
-    ensures did { IfOk result (λ op_result. Did (scripted_rule_of component.now op (W.view w.old).core) (W.view w.old) op_result (W.view w.new)) }
+    ensures did { MayDo (scripted_rule_of component.now op (W.view w.old).core) (W.view w.old) result (W.view w.new) }
     ensures err { OnErr result ((takes_memory op ≡ true) × (W.view w.new ≡ W.view w.old)) }
     ensures why { IfErr result (λ e. e ≡ TaskError.NoMemory) }
 {
@@ -177,7 +177,7 @@ pub fn begin_event<W: Primitives>(
 fn take_on<W: Primitives>(component: &Component, w: &mut W) -> Result<OpResult, TaskError>
     requires running { IsRunningIn component.now (W.view w.old) }
     requires paused { (i : ℕ) × HasPaused i (W.view w.old) }
-    ensures did { IfOk result (λ op_result. Did (op_rule_at component.now (W.view w.old).core) (W.view w.old) op_result (W.view w.new)) }
+    ensures did { MayDo (op_rule_at component.now (W.view w.old).core) (W.view w.old) result (W.view w.new) }
     ensures order { CoreInOrder component.now (turn_in (W.view w.new)) (W.view w.new).core }
     ensures err { OnErr result ((takes_here component.now (W.view w.old) ≡ true) × (W.view w.new ≡ W.view w.old)) }
     ensures why { IfErr result (λ e. e ≡ TaskError.NoMemory) }

@@ -2,7 +2,7 @@
 ghost use Rattle.ops_dispatch.specs.Continues.{given};
 ghost use Rattle.std.specs.Prelude.{◌≡◌, ◌<◌, ◌^◌, IfErr, IfOk, OnErr, false, true};
 ghost use Rattle.ops_calls.specs.OpAnswers.{at_once, has_stopped, number_answered, value_answered};
-ghost use Rattle.ops_calls.specs.HostOps.{Answers, Did, IsRunningIn};
+ghost use Rattle.ops_calls.specs.HostOps.{AnswersMade, IsRunningIn, MayDo};
 ghost use Rattle.ops_subtasks.specs.First.{first_heard};
 ghost use Rattle.ops_calls.specs.PolledCalls.{blocks_rule, polls_host_rule};
 
@@ -24,7 +24,7 @@ fn call_polled<W: Primitives>(
 ) -> Result<OpResult, TaskError>
     requires running { IsRunningIn component.now (W.view w.old) }
     requires few { given (W.view w.old).core < 2 ^ 61 }
-    ensures did { IfOk result (λ op_result. Did (polls_host_rule register host answer (W.view w.old).core) (W.view w.old) op_result (W.view w.new)) }
+    ensures did { MayDo (polls_host_rule register host answer (W.view w.old).core) (W.view w.old) result (W.view w.new) }
     ensures goes { IfOk result (λ op_result. has_stopped op_result ≡ false) }
     ensures err { OnErr result (W.view w.new ≡ W.view w.old) }
     ensures why { IfErr result (λ e. e ≡ TaskError.NoMemory) }
@@ -55,7 +55,7 @@ pub fn poll_host<W: Primitives>(
 ) -> Result<u32, TaskError>
     requires running { IsRunningIn component.now (W.view w.old) }
     requires few { given (W.view w.old).core < 2 ^ 61 }
-    ensures answers { Answers true (polls_host_rule register host answer (W.view w.old).core) number_answered (W.view w.old) (at_once result) (W.view w.new) }
+    ensures answers { AnswersMade (polls_host_rule register host answer) number_answered (W.view w.old) (at_once result) (W.view w.new) }
 {
     let op_result = call_polled(component, w, host, answer, register)?;
     let answer = at_once(op_result)?;
@@ -71,7 +71,7 @@ fn call_blocked<W: Primitives>(
 ) -> Result<OpResult, TaskError>
     requires running { IsRunningIn component.now (W.view w.old) }
     requires few { given (W.view w.old).core < 2 ^ 61 }
-    ensures did { IfOk result (λ op_result. Did (blocks_rule (first_heard host answer) (W.view w.old).core) (W.view w.old) op_result (W.view w.new)) }
+    ensures did { MayDo (blocks_rule (first_heard host answer) (W.view w.old).core) (W.view w.old) result (W.view w.new) }
     ensures err { OnErr result (W.view w.new ≡ W.view w.old) }
     ensures why { IfErr result (λ e. e ≡ TaskError.NoMemory) }
 {
@@ -100,7 +100,7 @@ pub fn block_on_host<W: Primitives>(
 ) -> Result<Step<u64>, TaskError>
     requires running { IsRunningIn component.now (W.view w.old) }
     requires few { given (W.view w.old).core < 2 ^ 61 }
-    ensures answers { Answers true (blocks_rule (first_heard host answer) (W.view w.old).core) value_answered (W.view w.old) result (W.view w.new) }
+    ensures answers { AnswersMade (blocks_rule (first_heard host answer)) value_answered (W.view w.old) result (W.view w.new) }
 {
     let op_result = call_blocked(component, w, host, answer)?;
     match stepped(op_result)? {

@@ -200,7 +200,7 @@ exit_implements id s t r did =
     let met = did.implements SomeHost in
     subst (λ (x : Core). Implements p s.core r x) (unended p s.core r (ended SomeHost n r t.core) (exit_unanswered n w s.core (is_explicit n s.core)) met SomeHost n t.core) met
 
-exit_picks : (id : TableId ThreadKey) (s t : StateView) (r : OpResult) → DoesOp KeepsTold exits id s r t → PicksFirst (preference s) (exit_rule (thread_of s id) (choice_of (label_of (thread_of s id) r)).woken s.core) (label_of (thread_of s id) r) s.core r t.core
+pub exit_picks : (id : TableId ThreadKey) (s t : StateView) (r : OpResult) → DoesOp KeepsTold exits id s r t → PicksFirst (preference s) (exit_rule (thread_of s id) (choice_of (label_of (thread_of s id) r)).woken s.core) (label_of (thread_of s id) r) s.core r t.core
 exit_picks id s t r did =
     let n = thread_of s id in
     let w = (choice_of (label_of n r)).woken in

@@ -18,7 +18,6 @@ use Rattle.task_wait.specs.declared.keys.ThreadKey.{ThreadKey}
 use Rattle.core_primitives.specs.Preferences.{preference}
 use Rattle.core_primitives.specs.StateView.{StateView, thread_of}
 use Rattle.machine_data.specs.declared.memory.NoMemory.{NoMemory}
-use Rattle.ops_guests.specs.Works.{KeepsTold}
 
 -- the number of the thread that runs
 abbrev pub running_of : StateView → Option ℕ
@@ -58,6 +57,7 @@ cancels_here mode h d n ch s = cancel_rule d mode n h s (op_progress_of n s)
 abbrev pub given : Core → ℕ
 given s = s.made.threads + s.made.works + s.made.sets + s.made.groups
 
--- unless it is out of memory the running thread did an op as its rule says, and each id of a work names what it named
-abbrev pub DoesIfOk : Rule → TableId ThreadKey → StateView → Result OpResult NoMemory → StateView → Type 0
-DoesIfOk rule id s result t = IfOk result (λ op_result. DoesOp KeepsTold rule id s op_result t)
+-- unless it is out of memory the running thread did an op as its rule says
+abbrev pub MayDoOp :
+    (StateView → StateView → Type 0) → Rule → TableId ThreadKey → StateView → Result OpResult NoMemory → StateView → Type 0
+MayDoOp AreKept rule id s r t = IfOk r (λ done. DoesOp AreKept rule id s done t)

@@ -31,7 +31,8 @@ abbrev pub IsBeforeEnd : (end : ℕ) → Component → ℕ → Core → Type 0
 IsBeforeEnd end c n s = (position_of n s < end) × (length (script_of c n s) ≡ end)
 
 -- The op was done and ended: t is what its rule says, a thread that goes on runs, and what polled is so.
-pub record DidOp (answer : HostPoll) (c : Component) (o : Op) (id : TableId ThreadKey) (s : StateView) (done : Done) (t : StateView) : Type 0 where
+pub record DidOp (answer : HostPoll) (c : Component) (o : Op) (id : TableId ThreadKey) (s : StateView) (done : Done)
+    (t : StateView) : Type 0 where
   pub implements : Implements (scripted_rule_of c o id s done.op_result) s.core done.op_result t.core
   pub picks : PicksFirst (preference s) (scripted_rule_of c o id s done.op_result) (label_of (thread_of s id) done.op_result) s.core
       done.op_result t.core

@@ -9,9 +9,12 @@ use Rattle.machine_data.specs.declared.records.OpProgress.{OpProgress}
 use Rattle.machine_data.specs.declared.records.OpProgress.TheVariants as op_progress
 use Rattle.machine_data.specs.declared.records.Subtask.TheVariants as subtask
 use Rattle.machine_data.specs.Core.{Core}
+use Rattle.core_primitives.specs.StateView.{StateView}
+use Rattle.task_table.specs.declared.id.TableId.{TableId}
+use Rattle.task_wait.specs.declared.keys.ThreadKey.{ThreadKey}
 use Rattle.machine_data.specs.Read.{op_progress_of}
 use Rattle.ops_dispatch.specs.Continues.{given}
-use Rattle.ops_dispatch.specs.Runner.{called_call, given_answer}
+use Rattle.ops_dispatch.specs.Runner.{called_call, given_answer, progress_of}
 
 -- The calls, `set_new` and `thread_new` may take memory. No other op does, and so none answers that it is out of memory.
 abbrev pub takes_memory : Op → Bool
@@ -30,6 +33,10 @@ makes (op_progress.Calls (subtask.Guest k)) (op.Call (call_op.CallSync r e xs)) 
 makes (op_progress.Calls (subtask.Host i)) (op.Call (call_op.CallSyncHost r h)) = false
 makes (op_progress.Answered v) (op.Call (call_op.CallSync r e xs)) = false
 makes h o = takes_memory o
+
+-- The thread can do the op: if it makes something, a new number fits.
+abbrev pub HasNumbersFor : Op → TableId ThreadKey → StateView → Type 0
+HasNumbersFor o id s = makes (progress_of id s) o ≡ true → given s.core < 2 ^ 61
 
 -- The thread, where its call of an export isn't made and it was given no answer, can make the call: new numbers fit.
 abbrev pub HasNumbersForCall : ℕ → Core → Type 0

@@ -1,4 +1,5 @@
 -- The host that an op polls first, and the work that it makes.
+use Rattle.std.specs.Option.{option_map_or}
 use Rattle.std.specs.Prelude.{None, Option, Some, option_map, ℕ, ◌≡◌, ◌⊎◌, IfOk, Result}
 use Rattle.ops_dispatch.specs.Continues.{DoesOp}
 use Rattle.ops_dispatch.specs.Rules.{rule_of}
@@ -37,6 +38,10 @@ polled_host c h o = None
 abbrev pub polled_by : Component → TableId ThreadKey → StateView → Op → Option HostDef
 polled_by c id s o = polled_host c (op_progress_of (thread_of s id) s.core) o
 
+-- the same, where there is an op
+abbrev pub polled_if_any : Component → TableId ThreadKey → StateView → Option Op → Option HostDef
+polled_if_any c id s o = option_map_or (λ x. polled_by c id s x) o None
+
 abbrev pub made_work : HostPoll → Option HostDef → OpResult → Core → Option ℕ
 made_work answer None r s = None
 made_work answer (Some host) r s = queued_work (first_heard host answer) r s
@@ -53,11 +58,12 @@ pub record Polls (answer : HostPoll) (c : Component) (h : OpProgress) (o : Op) (
   pub none : done.work ≡ None → (done.polled ≡ None) ⊎ (t.core.works ≡ s.core.works)
 
 -- The op was done as its rule says, and what polled is so.
-pub record DoesPolled (answer : HostPoll) (c : Component) (o : Op) (id : TableId ThreadKey) (s : StateView) (done : Done) (t : StateView) : Type 0
-  where
-    pub does : DoesOp NamesTold (rule_of c o) id s done.op_result t
-    pub polls : Polls answer c (op_progress_of (thread_of s id) s.core) o s done t
+pub record DoesPolled (answer : HostPoll) (c : Component) (o : Op) (id : TableId ThreadKey) (s : StateView) (done : Done)
+    (t : StateView) : Type 0 where
+  pub does : DoesOp NamesTold (rule_of c o) id s done.op_result t
+  pub polls : Polls answer c (op_progress_of (thread_of s id) s.core) o s done t
 
 -- unless it is out of memory the call of a host was done so, whichever register it has for its answer
-abbrev pub DoesHostCall : HostPoll → Component → (call : ℕ → CallOp) → TableId ThreadKey → StateView → Result Done NoMemory → StateView → Type 0
+abbrev pub DoesHostCall :
+    HostPoll → Component → (call : ℕ → CallOp) → TableId ThreadKey → StateView → Result Done NoMemory → StateView → Type 0
 DoesHostCall answer c call id s result t = IfOk result (λ done. (r : ℕ) → DoesPolled answer c (op.Call (call r)) id s done t)

@@ -23,6 +23,14 @@ use Rattle.core_primitives.specs.Apart.{work_entries}
 use Rattle.core_primitives.specs.Live.{live_op_progress}
 use Rattle.core_primitives.specs.StateView.{StateView, thread_of}
 
+-- how far the thread has come in its op
+abbrev pub progress_of : TableId ThreadKey → StateView → OpProgress
+progress_of id s = op_progress_of (thread_of s id) s.core
+
+-- The thread's instance has a table of handles.
+abbrev pub HasHandleTable : TableId ThreadKey → StateView → Type 0
+HasHandleTable id s = is_some (get s.core.handles (instance_of (thread_of s id) s.core)) ≡ true
+
 -- the thread was resumed inside an op that suspends or yields
 abbrev pub is_resumed : OpProgress → Bool
 is_resumed op_progress.Suspends = true

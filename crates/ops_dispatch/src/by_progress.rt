@@ -1,9 +1,8 @@
 //! What a cancel of a subtask does, whether it begins or was resumed inside.
 ghost use Rattle.ops_dispatch.specs.Continues.{DoesOp, cancels_here};
-ghost use Rattle.ops_dispatch.specs.Runner.{Runner, UnderWay, awaits_end, waits_behind};
+ghost use Rattle.ops_dispatch.specs.Runner.{Runner, UnderWay, awaits_end, waits_behind, progress_of};
 ghost use Rattle.std.specs.Prelude.{◌≡◌, option_map};
 ghost use Rattle.ops_subtasks.specs.Refused.{mode_of};
-ghost use Rattle.machine_data.specs.Read.{op_progress_of};
 ghost use Rattle.ops_guests.specs.Works.{KeepsTold};
 ghost use Rattle.core_primitives.specs.Names.{subtask_in};
 ghost use Rattle.core_primitives.specs.StateView.{thread_of};
@@ -15,7 +14,7 @@ use ops_subtasks::{cancel, go_on_awaiting, go_on_cancelling};
 // The subtask behind whose callee the cancel waits.
 fn cancelling<W: Primitives>(w: &W, thread: ThreadId) -> Option<SubtaskId>
     requires { UnderWay (thread_of (W.view w.now) thread) (W.view w.now).core }
-    ensures { option_map (subtask_in (W.view w.now).tags) result ≡ waits_behind (op_progress_of (thread_of (W.view w.now) thread) (W.view w.now).core) }
+    ensures { option_map (subtask_in (W.view w.now).tags) result ≡ waits_behind (progress_of thread (W.view w.now)) }
 {
     match w.op_progress(thread) {
         OpProgressId::Cancels(subtask) => Some(subtask),
@@ -26,7 +25,7 @@ fn cancelling<W: Primitives>(w: &W, thread: ThreadId) -> Option<SubtaskId>
 // The subtask whose end the cancel awaits.
 fn awaiting<W: Primitives>(w: &W, thread: ThreadId) -> Option<SubtaskId>
     requires { UnderWay (thread_of (W.view w.now) thread) (W.view w.now).core }
-    ensures { option_map (subtask_in (W.view w.now).tags) result ≡ awaits_end (op_progress_of (thread_of (W.view w.now) thread) (W.view w.now).core) }
+    ensures { option_map (subtask_in (W.view w.now).tags) result ≡ awaits_end (progress_of thread (W.view w.now)) }
 {
     match w.op_progress(thread) {
         OpProgressId::AwaitsEnd(subtask) => Some(subtask),

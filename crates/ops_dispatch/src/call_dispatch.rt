@@ -1,15 +1,13 @@
 //! The ops on subtasks, as they begin or resumed inside them.
 ghost use Rattle.ops_dispatch.specs.Fits.{HasInstances, call_op_fits, is_host_call};
-ghost use Rattle.ops_dispatch.specs.Continues.{DoesIfOk, DoesOp, cancels_here, given};
-ghost use Rattle.ops_dispatch.specs.Makes.{makes, takes_memory, HasNumbersForCall};
-ghost use Rattle.ops_dispatch.specs.Polls.{DoesPolled, DoesHostCall, polled_by};
+ghost use Rattle.ops_dispatch.specs.Continues.{cancels_here, given, MayDoOp};
+ghost use Rattle.ops_dispatch.specs.Makes.{takes_memory, HasNumbersForCall, HasNumbersFor};
+ghost use Rattle.ops_dispatch.specs.Polls.{DoesPolled, DoesHostCall, polled_by, polled_if_any};
 ghost use Rattle.ops_dispatch.specs.Rules.{calls_here, calls_in_sync, rule_of};
-ghost use Rattle.ops_dispatch.specs.Runner.{Runner, UnderWay, called_call, called_work, given_answer};
-ghost use Rattle.std.specs.Option.{option_map_or};
-ghost use Rattle.std.specs.Prelude.{◌≡◌, ◌<◌, ◌≤◌, ◌^◌, IfOk, IfSome, IsOk, IsSome, None, OnErr, false, is_some, length, option_copied, option_map, true, ℕ};
+ghost use Rattle.ops_dispatch.specs.Runner.{HasHandleTable, Runner, UnderWay, called_call, called_work, given_answer, progress_of};
+ghost use Rattle.std.specs.Prelude.{◌≡◌, ◌<◌, ◌≤◌, ◌^◌, IfOk, IfSome, IsOk, IsSome, None, OnErr, false, length, option_copied, option_map, true, ℕ};
 ghost use Rattle.ops_subtasks.specs.Refused.{mode_of};
 ghost use Rattle.machine_data.specs.Maps.{get};
-ghost use Rattle.machine_data.specs.Read.{op_progress_of, instance_of};
 ghost use Rattle.machine_data.specs.declared.op.CallOp.{CallOp};
 ghost use Rattle.machine_data.specs.declared.op.Op.TheVariants as ops;
 ghost use Rattle.ops_guests.specs.Works.{KeepsTold, NamesTold};
@@ -29,7 +27,7 @@ use ops_subtasks::{
 // The call that the op is inside of.
 fn called<W: Primitives>(w: &W, thread: ThreadId) -> Option<CallId>
     requires { UnderWay (thread_of (W.view w.now) thread) (W.view w.now).core }
-    ensures is { option_map (λ id. call_of (W.view w.now) id) result ≡ called_call (op_progress_of (thread_of (W.view w.now) thread) (W.view w.now).core) }
+    ensures is { option_map (λ id. call_of (W.view w.now) id) result ≡ called_call (progress_of thread (W.view w.now)) }
     ensures live { IfSome result (λ id. 0 < call_of (W.view w.now) id) }
 {
     w.none_is_zero();
@@ -42,7 +40,7 @@ fn called<W: Primitives>(w: &W, thread: ThreadId) -> Option<CallId>
 // The host work that the op is inside of.
 fn served<W: Primitives>(w: &W, thread: ThreadId) -> Option<WorkId>
     requires { UnderWay (thread_of (W.view w.now) thread) (W.view w.now).core }
-    ensures is { option_map (λ id. work_of (W.view w.now) id) result ≡ called_work (op_progress_of (thread_of (W.view w.now) thread) (W.view w.now).core) }
+    ensures is { option_map (λ id. work_of (W.view w.now) id) result ≡ called_work (progress_of thread (W.view w.now)) }
     ensures live { IfSome result (λ id. 0 < work_of (W.view w.now) id) }
 {
     w.none_is_zero();
@@ -54,7 +52,7 @@ fn served<W: Primitives>(w: &W, thread: ThreadId) -> Option<WorkId>
 
 // The answer that the op was given.
 fn answered<W: Primitives>(w: &W, thread: ThreadId) -> Option<u64>
-    ensures { result ≡ given_answer (op_progress_of (thread_of (W.view w.now) thread) (W.view w.now).core) }
+    ensures { result ≡ given_answer (progress_of thread (W.view w.now)) }
 {
     match w.op_progress(thread) {
         OpProgressId::Answered(value) => Some(value),
@@ -74,9 +72,9 @@ fn call<W: Primitives>(
     requires runner { Runner thread (W.view w.old) }
     requires words { length params.now ≤ 16 }
     requires there { IsSome (get (W.view w.old).core.instances callee.instance) }
-    requires handles { is_some (get (W.view w.old).core.handles (instance_of (thread_of (W.view w.old) thread) (W.view w.old).core)) ≡ true }
-    requires few { called_call (op_progress_of (thread_of (W.view w.old) thread) (W.view w.old).core) ≡ None → given (W.view w.old).core < 2 ^ 61 }
-    ensures does { DoesIfOk (calls_here component.now register callee params.now) thread (W.view w.old) result (W.view w.new) }
+    requires handles { HasHandleTable thread (W.view w.old) }
+    requires few { called_call (progress_of thread (W.view w.old)) ≡ None → given (W.view w.old).core < 2 ^ 61 }
+    ensures does { MayDoOp KeepsTold (calls_here component.now register callee params.now) thread (W.view w.old) result (W.view w.new) }
     ensures err { OnErr result (W.view w.new ≡ W.view w.old) }
 {
     if let Some(call) = called(w, thread) {
@@ -102,9 +100,9 @@ fn begins_sync<W: Primitives>(
     requires words { length params.now ≤ 16 }
     requires there { IsSome (get (W.view w.old).core.instances callee.instance) }
     requires few { given (W.view w.old).core < 2 ^ 61 }
-    requires unanswered { given_answer (op_progress_of (thread_of (W.view w.old) thread) (W.view w.old).core) ≡ None }
-    requires uncalled { called_call (op_progress_of (thread_of (W.view w.old) thread) (W.view w.old).core) ≡ None }
-    ensures does { DoesIfOk (calls_in_sync component.now callee params.now) thread (W.view w.old) result (W.view w.new) }
+    requires unanswered { given_answer (progress_of thread (W.view w.old)) ≡ None }
+    requires uncalled { called_call (progress_of thread (W.view w.old)) ≡ None }
+    ensures does { MayDoOp KeepsTold (calls_in_sync component.now callee params.now) thread (W.view w.old) result (W.view w.new) }
     ensures err { OnErr result (W.view w.new ≡ W.view w.old) }
 {
     let mut words = [0; 16];
@@ -125,7 +123,7 @@ fn call_sync<W: Primitives>(
     requires words { length params.now ≤ 16 }
     requires there { IsSome (get (W.view w.old).core.instances callee.instance) }
     requires few { HasNumbersForCall (thread_of (W.view w.old) thread) (W.view w.old).core }
-    ensures does { DoesIfOk (calls_in_sync component.now callee params.now) thread (W.view w.old) result (W.view w.new) }
+    ensures does { MayDoOp KeepsTold (calls_in_sync component.now callee params.now) thread (W.view w.old) result (W.view w.new) }
     ensures err { OnErr result (W.view w.new ≡ W.view w.old) }
 {
     if let Some(value) = answered(w, thread) {
@@ -170,7 +168,7 @@ fn call_sync_of_host<W: Primitives>(
     answer: HostPoll,
 ) -> Result<Done, NoMemory>
     requires runner { Runner thread (W.view w.old) }
-    requires few { called_work (op_progress_of (thread_of (W.view w.old) thread) (W.view w.old).core) ≡ None → given (W.view w.old).core < 2 ^ 61 }
+    requires few { called_work (progress_of thread (W.view w.old)) ≡ None → given (W.view w.old).core < 2 ^ 61 }
     ensures does { DoesHostCall answer component.now (λ r. CallOp.CallSyncHost r host) thread (W.view w.old) result (W.view w.new) }
     ensures err { OnErr result (W.view w.new ≡ W.view w.old) }
 {
@@ -220,7 +218,7 @@ pub fn called_host<W: Primitives>(
     op: Option<&Op>,
 ) -> Option<(u32, HostDef)>
     requires { UnderWay (thread_of (W.view w.now) thread) (W.view w.now).core }
-    ensures { option_map (λ h. h.1) result ≡ option_map_or (λ o. polled_by component.now thread (W.view w.now) o) (option_copied op.entry) None }
+    ensures { option_map (λ h. h.1) result ≡ polled_if_any component.now thread (W.view w.now) (option_copied op.entry) }
 {
     match op {
         Some(Op::Call(CallOp::CallHost { host, .. })) => {
@@ -244,7 +242,7 @@ pub fn do_host_call<W: Primitives>(
 ) -> Result<Done, NoMemory>
     requires runner { Runner thread (W.view w.old) }
     requires host { is_host_call op.now ≡ true }
-    requires few { makes (op_progress_of (thread_of (W.view w.old) thread) (W.view w.old).core) (ops.Call op.now) ≡ true → given (W.view w.old).core < 2 ^ 61 }
+    requires few { HasNumbersFor (ops.Call op.now) thread (W.view w.old) }
     ensures does { IfOk result (λ done. DoesPolled answer component.now (ops.Call op.now) thread (W.view w.old) done (W.view w.new)) }
     ensures err { OnErr result ((takes_memory (ops.Call op.now) ≡ true) × (W.view w.new ≡ W.view w.old)) }
 {
@@ -270,7 +268,7 @@ fn cancel<W: Primitives>(
     sync: bool,
 ) -> Result<OpResult, NoMemory>
     requires runner { Runner thread (W.view w.old) }
-    ensures does { IfOk result (λ op_result. DoesOp KeepsTold (cancels_here (mode_of sync) handle) thread (W.view w.old) op_result (W.view w.new)) }
+    ensures does { MayDoOp KeepsTold (cancels_here (mode_of sync) handle) thread (W.view w.old) result (W.view w.new) }
     ensures ok { IsOk result }
 {
     Ok(cancels(w, thread, handle, sync))
@@ -287,10 +285,10 @@ pub(crate) fn do_plain_call<W: Primitives>(
     requires runner { Runner thread (W.view w.old) }
     requires plain { is_host_call op.now ≡ false }
     requires fits { call_op_fits component.now op.now ≡ true }
-    requires handles { is_some (get (W.view w.old).core.handles (instance_of (thread_of (W.view w.old) thread) (W.view w.old).core)) ≡ true }
+    requires handles { HasHandleTable thread (W.view w.old) }
     requires instances { HasInstances component.now (W.view w.old).core }
-    requires few { makes (op_progress_of (thread_of (W.view w.old) thread) (W.view w.old).core) (ops.Call op.now) ≡ true → given (W.view w.old).core < 2 ^ 61 }
-    ensures does { IfOk result (λ op_result. DoesOp NamesTold (rule_of component.now (ops.Call op.now)) thread (W.view w.old) op_result (W.view w.new)) }
+    requires few { HasNumbersFor (ops.Call op.now) thread (W.view w.old) }
+    ensures does { MayDoOp NamesTold (rule_of component.now (ops.Call op.now)) thread (W.view w.old) result (W.view w.new) }
     ensures err { OnErr result ((takes_memory (ops.Call op.now) ≡ true) × (W.view w.new ≡ W.view w.old)) }
 {
     match op {

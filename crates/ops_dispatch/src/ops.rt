@@ -1,14 +1,12 @@
 //! An op of the running thread, by its group.
 ghost use Rattle.ops_dispatch.specs.Did.{DidOp, IsBeforeEnd};
 ghost use Rattle.ops_dispatch.specs.Fits.{HasInstances, is_data_op, is_plain, op_fits};
-ghost use Rattle.ops_dispatch.specs.Continues.{DoesOp, given};
-ghost use Rattle.ops_dispatch.specs.Makes.{makes, takes_memory};
+ghost use Rattle.ops_dispatch.specs.Continues.{MayDoOp};
+ghost use Rattle.ops_dispatch.specs.Makes.{takes_memory, HasNumbersFor};
 ghost use Rattle.ops_dispatch.specs.Polls.{DoesPolled};
 ghost use Rattle.ops_dispatch.specs.Rules.{rule_of};
-ghost use Rattle.ops_dispatch.specs.Runner.{Runner};
-ghost use Rattle.std.specs.Prelude.{◌≡◌, ◌<◌, ◌^◌, IfOk, OnErr, false, is_some, true};
-ghost use Rattle.machine_data.specs.Maps.{get};
-ghost use Rattle.machine_data.specs.Read.{op_progress_of, instance_of};
+ghost use Rattle.ops_dispatch.specs.Runner.{HasHandleTable, Runner};
+ghost use Rattle.std.specs.Prelude.{◌≡◌, ◌<◌, ◌^◌, IfOk, OnErr, false, true};
 ghost use Rattle.ops_guests.specs.Works.{NamesTold};
 ghost use Rattle.core_primitives.specs.StateView.{thread_of};
 
@@ -35,9 +33,9 @@ pub fn do_plain_op<W: Primitives>(
     requires plain { is_plain op.now ≡ true }
     requires fits { op_fits component.now op.now ≡ true }
     requires instances { HasInstances component.now (W.view w.old).core }
-    requires handles { is_some (get (W.view w.old).core.handles (instance_of (thread_of (W.view w.old) thread) (W.view w.old).core)) ≡ true }
-    requires few { makes (op_progress_of (thread_of (W.view w.old) thread) (W.view w.old).core) op.now ≡ true → given (W.view w.old).core < 2 ^ 61 }
-    ensures does { IfOk result (λ op_result. DoesOp NamesTold (rule_of component.now op.now) thread (W.view w.old) op_result (W.view w.new)) }
+    requires handles { HasHandleTable thread (W.view w.old) }
+    requires few { HasNumbersFor op.now thread (W.view w.old) }
+    ensures does { MayDoOp NamesTold (rule_of component.now op.now) thread (W.view w.old) result (W.view w.new) }
     ensures err { OnErr result ((takes_memory op.now ≡ true) × (W.view w.new ≡ W.view w.old)) }
 {
     match op {
@@ -63,8 +61,8 @@ pub fn do_other_op<W: Primitives>(
     requires other { is_data_op op.now ≡ false }
     requires fits { op_fits component.now op.now ≡ true }
     requires instances { HasInstances component.now (W.view w.old).core }
-    requires handles { is_some (get (W.view w.old).core.handles (instance_of (thread_of (W.view w.old) thread) (W.view w.old).core)) ≡ true }
-    requires few { makes (op_progress_of (thread_of (W.view w.old) thread) (W.view w.old).core) op.now ≡ true → given (W.view w.old).core < 2 ^ 61 }
+    requires handles { HasHandleTable thread (W.view w.old) }
+    requires few { HasNumbersFor op.now thread (W.view w.old) }
     ensures does { IfOk result (λ done. DoesPolled answer component.now op.now thread (W.view w.old) done (W.view w.new)) }
     ensures err { OnErr result ((takes_memory op.now ≡ true) × (W.view w.new ≡ W.view w.old)) }
 {
@@ -91,8 +89,8 @@ pub fn do_op<W: Primitives>(
     requires fits { op_fits component.now op.now ≡ true }
     requires instances { HasInstances component.now (W.view w.old).core }
     requires within { IsBeforeEnd end component.now (thread_of (W.view w.old) thread) (W.view w.old).core }
-    requires handles { is_some (get (W.view w.old).core.handles (instance_of (thread_of (W.view w.old) thread) (W.view w.old).core)) ≡ true }
-    requires few { makes (op_progress_of (thread_of (W.view w.old) thread) (W.view w.old).core) op.now ≡ true → given (W.view w.old).core < 2 ^ 61 }
+    requires handles { HasHandleTable thread (W.view w.old) }
+    requires few { HasNumbersFor op.now thread (W.view w.old) }
     ensures did { IfOk result (λ done. DidOp answer component.now op.now thread (W.view w.old) done (W.view w.new)) }
     ensures err { OnErr result ((takes_memory op.now ≡ true) × (W.view w.new ≡ W.view w.old)) }
 {

@@ -1,16 +1,13 @@
 //! The ops on waitable sets.
-ghost use Rattle.ops_dispatch.specs.Continues.{DoesOp, given};
+ghost use Rattle.ops_dispatch.specs.Continues.{given, MayDoOp};
 ghost use Rattle.ops_dispatch.specs.Makes.{takes_memory};
 ghost use Rattle.ops_dispatch.specs.Rules.{waits_here};
-ghost use Rattle.ops_dispatch.specs.Runner.{Runner};
-ghost use Rattle.std.specs.Prelude.{◌≡◌, ◌<◌, ◌^◌, IfOk, OnErr, is_some, true};
-ghost use Rattle.machine_data.specs.Maps.{get};
-ghost use Rattle.machine_data.specs.Read.{instance_of};
+ghost use Rattle.ops_dispatch.specs.Runner.{HasHandleTable, Runner};
+ghost use Rattle.std.specs.Prelude.{◌≡◌, ◌<◌, ◌^◌, OnErr, true};
 ghost use Rattle.machine_data.specs.declared.op.Op.TheVariants as ops;
 ghost use Rattle.ops_guests.specs.Does.{DoesRule, SameNames};
 ghost use Rattle.ops_guests.specs.Works.{KeepsTold};
 ghost use Rattle.machine_rules.specs.Sets.{set_rule};
-ghost use Rattle.core_primitives.specs.StateView.{thread_of};
 
 use core_primitives::{OpProgressId, Primitives, ThreadId};
 use machine_data::{NoMemory, SetOp};
@@ -36,9 +33,9 @@ pub(crate) fn do_set_op<W: Primitives>(
     op: SetOp,
 ) -> Result<OpResult, NoMemory>
     requires runner { Runner thread (W.view w.old) }
-    requires handles { is_some (get (W.view w.old).core.handles (instance_of (thread_of (W.view w.old) thread) (W.view w.old).core)) ≡ true }
+    requires handles { HasHandleTable thread (W.view w.old) }
     requires few { takes_memory (ops.Set op) ≡ true → given (W.view w.old).core < 2 ^ 61 }
-    ensures does { IfOk result (λ op_result. DoesOp KeepsTold (λ d n ch s. set_rule d n s ch op) thread (W.view w.old) op_result (W.view w.new)) }
+    ensures does { MayDoOp KeepsTold (λ d n ch s. set_rule d n s ch op) thread (W.view w.old) result (W.view w.new) }
     ensures err { OnErr result ((takes_memory (ops.Set op) ≡ true) × (W.view w.new ≡ W.view w.old)) }
 {
     match op {

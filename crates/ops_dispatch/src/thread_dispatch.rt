@@ -1,11 +1,10 @@
 //! The ops on the task's own threads.
-ghost use Rattle.ops_dispatch.specs.Continues.{DoesOp, given};
+ghost use Rattle.ops_dispatch.specs.Continues.{given, MayDoOp};
 ghost use Rattle.ops_dispatch.specs.Makes.{takes_memory};
 ghost use Rattle.ops_dispatch.specs.Rules.{halts_here, promotes_here, resumes_here};
-ghost use Rattle.ops_dispatch.specs.Runner.{Runner, is_halting, is_resumed};
-ghost use Rattle.std.specs.Prelude.{◌≡◌, ◌<◌, ◌^◌, IfOk, OnErr, is_some, true};
-ghost use Rattle.machine_data.specs.Maps.{get};
-ghost use Rattle.machine_data.specs.Read.{op_progress_of, instance_of};
+ghost use Rattle.ops_dispatch.specs.Runner.{HasHandleTable, Runner, is_halting, is_resumed, progress_of};
+ghost use Rattle.std.specs.Prelude.{◌≡◌, ◌<◌, ◌^◌, OnErr, true};
+ghost use Rattle.machine_data.specs.Read.{instance_of};
 ghost use Rattle.machine_data.specs.declared.component.Component.{Component};
 ghost use Rattle.machine_data.specs.declared.op.Op.TheVariants as ops;
 ghost use Rattle.ops_guests.specs.Does.{DoesRule, SameNames};
@@ -24,7 +23,7 @@ use ops_guests::{
 
 // The thread was resumed inside an op that suspends or yields.
 fn is_resumed<W: Primitives>(w: &W, thread: ThreadId) -> bool
-    ensures { result ≡ is_resumed (op_progress_of (thread_of (W.view w.now) thread) (W.view w.now).core) }
+    ensures { result ≡ is_resumed (progress_of thread (W.view w.now)) }
 {
     matches!(
         w.op_progress(thread),
@@ -144,9 +143,9 @@ pub(crate) fn do_thread_op<W: Primitives>(
     op: ThreadOp,
 ) -> Result<OpResult, NoMemory>
     requires runner { Runner thread (W.view w.old) }
-    requires handles { is_some (get (W.view w.old).core.handles (instance_of (thread_of (W.view w.old) thread) (W.view w.old).core)) ≡ true }
+    requires handles { HasHandleTable thread (W.view w.old) }
     requires few { takes_memory (ops.Thread op) ≡ true → given (W.view w.old).core < 2 ^ 61 }
-    ensures does { IfOk result (λ op_result. DoesOp KeepsTold (λ d n ch s. thread_rule d component.now n s op) thread (W.view w.old) op_result (W.view w.new)) }
+    ensures does { MayDoOp KeepsTold (λ d n ch s. thread_rule d component.now n s op) thread (W.view w.old) result (W.view w.new) }
     ensures err { OnErr result ((takes_memory (ops.Thread op) ≡ true) × (W.view w.new ≡ W.view w.old)) }
 {
     match op {

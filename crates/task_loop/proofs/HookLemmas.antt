@@ -1,5 +1,5 @@
 -- Where a hook answers an error, and where it can't.
-use Rattle.std.proofs.Common.{ap, arith, inl, inr, refl, subst, sym, ◌∙◌, ◌≡◌}
+use Rattle.std.proofs.Common.{ap, arith, inl, inr, le_refl, refl, subst, sym, ◌∙◌, ◌≡◌}
 use Rattle.ops_state.specs.declared.error.TaskError.{TaskError}
 use Rattle.ops_state.specs.declared.error.TaskError.TheVariants as task_error
 use Rattle.std.specs.Option.{option_map_or}
@@ -112,7 +112,7 @@ silent listens false x y hears is same quiet = unanswered x y (sym is) (same ∙
 
 pub works_trapped : (t : StateView) → WorksLast t (asked (on_core set_trapped t))
 unfolding set_trapped work_number
-works_trapped t = record { names = λ id live. inl refl; spawns = λ i spawn. spawn }
+works_trapped t = record { names = λ id live. inl refl; made = le_refl _; gone = λ i below none. none; spawns = λ i spawn. spawn }
 
 -- what main knew, it knows where its op was refused
 pub knows_trapped : {M : Type 0} (K : M → StateView → Type 0) (m n : M) (s t : StateView) → n ≡ m → t ≡ asked (on_core set_trapped s) → ((u : StateView) → WorksLast s u → K m s → K m u) → K m s → K n t

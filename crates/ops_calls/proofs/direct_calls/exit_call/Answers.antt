@@ -6,7 +6,7 @@ use Rattle.ops_guests.specs.Steps.{label_of}
 use Rattle.std.proofs.Common.{inl, refl, subst, sym, ◌∙◌}
 use Rattle.std.specs.Prelude.{◌<◌}
 use Rattle.ops_calls.proofs.HostOpLemmas.{did_rule}
-use Rattle.ops_calls.proofs.DirectLemmas.{all_back, direct_under, exits_trapped, written_runs}
+use Rattle.ops_calls.proofs.DirectLemmas.{all_back, direct_under, exits_did, exits_trapped, written_runs}
 use Rattle.ops_calls.proofs.direct_calls.exit_call.Goals as goal
 use Rattle.ops_calls.specs.HostOps.{Did}
 use Rattle.ops_calls.specs.Directs.{exits_rule}
@@ -40,6 +40,23 @@ exit_direct-requires-clause-under g c =
     let s = v c.args.w.now in
     direct_under c.in-Some.thread c.args.value s (v c.set_register.new.self) c.set_register.ensures c.args.component.now q.number q.order q.runs
     (number_at q.number s q.runs c.in-Some.thread (sym c.current.ensures ∙ c.in-Some.is)) c.requires.direct
+
+pub returns-in-Continues : goal.returns-in-Continues
+returns-in-Continues g c =
+    let v = g.W.View.view in
+    let q = c.requires.running in
+    let s = v c.args.w.now in
+    let e = c.in-Continues.ensures in
+    let number = number_at q.number s q.runs c.in-Some.thread (sym c.current.ensures ∙ c.in-Some.is) in
+    record {
+      answers = (
+        _,
+        (
+          exits_did c.args.component.now c.in-Some.thread c.args.value q.number s (v c.set_register.new.self) (v c.exit_direct.new.w) c.set_register.ensures q.runs number _ _ _ e.picks e.current e.works,
+          refl,
+        ),
+      );
+    }
 
 pub returns-in-Traps : goal.returns-in-Traps
 returns-in-Traps g c =
