@@ -1,10 +1,11 @@
 #!/usr/bin/env python3
 """Runs a text once for each growth of memory that the run asks for, and refuses that one.
 
-    tools/refuse.py PROGRAM TEXT.. [--steps N] [--at K]
+    tools/refuse.py PROGRAM TEXT.. [--steps N] [--words WORDS] [--at K]
 
-PROGRAM is the built program (`crates/vatbramble/out/vatbramble` after `./vatbramble build`), and each TEXT a scenario. A growth is a call
-that takes memory from the C library. A small library, which a C compiler builds first, comes before it and refuses the K-th: of each
+PROGRAM is the built program (`crates/vatbramble/out/vatbramble` after `./vatbramble build`), and each TEXT what it reads. Its words are
+`run N`, with 1000 steps if no other number is given, or those that are given as one, as in --words 'serve 2 1000'. A growth is a call that
+takes memory from the C library. A small library, which a C compiler builds first, comes before it and refuses the K-th: of each
 run in its turn, or the one that --at names. A run of which a growth was refused has to end with status 1 and write nothing; or, if it
 did without, it has to do and write what it does where nothing is refused. A line for each text says how often each came.
 
@@ -86,8 +87,8 @@ def build(folder):
 class Runs:
     """Runs of one program over one text."""
 
-    def __init__(self, folder, library, program, steps, text):
-        self.words = [program, 'run', str(steps)]
+    def __init__(self, folder, library, program, words, text):
+        self.words = [program, *words]
         self.library, self.count, self.text = str(library), folder / 'count', text
 
     def run(self, at):
@@ -125,8 +126,10 @@ def main(words):
     reader.add_argument('program')
     reader.add_argument('texts', nargs='+', metavar='TEXT')
     reader.add_argument('--steps', type=int, default=1000)
+    reader.add_argument('--words')
     reader.add_argument('--at', type=int, default=0, metavar='K')
     given = reader.parse_args(words)
+    asked = given.words.split() if given.words else ['run', str(given.steps)]
     wrong = []
     try:
         with tempfile.TemporaryDirectory() as folder:
@@ -134,7 +137,7 @@ def main(words):
             library = build(folder)
             for name in given.texts:
                 text = pathlib.Path(name).read_bytes()
-                wrong += tried(name, Runs(folder, library, os.path.abspath(given.program), given.steps, text), given.at)
+                wrong += tried(name, Runs(folder, library, os.path.abspath(given.program), asked, text), given.at)
     except (Failed, OSError) as error:
         print(f'refuse.py: {error}', file=sys.stderr)
         return 4

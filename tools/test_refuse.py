@@ -11,11 +11,12 @@ import unittest
 import refuse
 
 COMPILER = shutil.which('cc') or shutil.which('gcc') or shutil.which('clang')
-# Takes memory three times, of which it does without the last, and writes what it read. WRONG says what it does else.
+# Takes memory three times, of which it does without the last, and writes what it read. Its word `make` has it take memory once more.
 SOURCE = r'''
 #include <stdlib.h>
+#include <string.h>
 #include <unistd.h>
-int main(void) {
+int main(int many_words, char **word) {
     char *volatile first = malloc(16);
 #ifdef FORGETS
     if (!first) return 0;
@@ -27,6 +28,7 @@ int main(void) {
     char *volatile second = realloc(first, 4096);
     if (!second) return 1;
     free(malloc(16));
+    if (!strcmp(word[1], "make")) free(malloc(8));
     ssize_t many = read(0, second, 4096);
     return write(1, second, many) == many ? 0 : 5;
 }
@@ -63,6 +65,11 @@ class Refuse(unittest.TestCase):
 
     def test_one_growth_alone(self):
         self.assertIn('1 times status 1 and nothing written, 0 times', self.call(self.program(), str(self.text), '--at', '2')[1])
+
+    def test_other_words(self):
+        status, said, _ = self.call(self.program(), str(self.text), '--words', 'make 12')
+        self.assertEqual(status, 0)
+        self.assertIn('4 growths; one refused: 2 times status 1 and nothing written, 2 times as without', said)
 
     def test_a_status_that_hides_the_lack_of_memory(self):
         status, said, _ = self.call(self.program('-DFORGETS'), str(self.text))
