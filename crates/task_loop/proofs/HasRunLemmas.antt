@@ -255,12 +255,13 @@ module _ {M T H G : Type 0} (says : Says M) (course : H → HostDef) (c : Compon
         (is_main_turn last.turn ≡ false → k ≡ main) → (is_main_turn last.turn ≡ false → l ≡ between) → IsLost says course c steps a k after l
     lost_by steps last main between k after l ran was kept untold =
         let same : was.going.added ≡ ran.added = append_cancel_left a.trace was.going.added ran.added (sym was.going.trace ∙ ran.trace) in
+        let short : length was.going.added ≤ steps = let e = was.going.count in let f = was.few in omega (arith, e, f) in
         record {
           last = last;
           main = main;
           between = between;
           ran = ran;
-          few = subst (λ (ls : List Label). length ls ≤ steps) same (let e = was.going.count in let f = was.few in omega (arith, e, f));
+          few = subst (λ (ls : List Label). length ls ≤ steps) same short;
           going_on = subst (λ (ls : List Label). last_outcome ls ≡ None) same was.going.going_on;
           same = kept;
           untold = untold;
