@@ -4,7 +4,7 @@ ghost use Rattle.std.specs.Prelude.{◌≡◌, ◌<◌, IfNone, IfSome, false, t
 ghost use Rattle.machine_data.specs.Read.{has_ready_member, has_waiter, is_in_set, is_ready_member, is_waiter};
 ghost use Rattle.core_records.specs.Seen.{IsSoundCore, seen};
 ghost use Rattle.core_primitives.specs.Names.{subtask_in};
-ghost use Rattle.core_primitives.specs.Changes.{ComesFirst, MemberComesFirst};
+ghost use Rattle.core_primitives.specs.Changes.{ComesFirst, IsReadyMember, MemberComesFirst};
 ghost use Rattle.core_primitives.specs.Preferences.{wanted_of};
 ghost use Rattle.core_primitives.specs.StateView.{set_of, thread_of, with_wanted};
 
@@ -132,7 +132,7 @@ fn least_ready(parts: &CoreParts, set: SetId) -> Option<SubtaskId>
     requires sound { IsSoundCore parts.now }
     requires live { 0 < set_of (seen parts.now) set }
     ensures none { IfNone result (has_ready_member (set_of (seen parts.now) set) (seen parts.now).core ≡ false) }
-    ensures some { IfSome result (λ member. is_ready_member (set_of (seen parts.now) set) (subtask_in (seen parts.now).tags member) (seen parts.now).core ≡ true) }
+    ensures some { IfSome result (λ member. IsReadyMember set member (seen parts.now)) }
     ensures least { IfSome result (λ member. IsLeastMember parts.now (set_of (seen parts.now) set) member) }
 {
     let found = core_records::set_there(parts, set);
@@ -151,7 +151,7 @@ pub fn first_ready(parts: &CoreParts, set: SetId) -> Option<SubtaskId>
     requires sound { IsSoundCore parts.now }
     requires live { 0 < set_of (seen parts.now) set }
     ensures none { IfNone result (has_ready_member (set_of (seen parts.now) set) (seen parts.now).core ≡ false) }
-    ensures some { IfSome result (λ member. is_ready_member (set_of (seen parts.now) set) (subtask_in (seen parts.now).tags member) (seen parts.now).core ≡ true) }
+    ensures some { IfSome result (λ member. IsReadyMember set member (seen parts.now)) }
     ensures first { IfSome result (λ member. MemberComesFirst set member (seen parts.now)) }
 {
     match wanted_member(parts, set) {

@@ -2,7 +2,15 @@
 use Rattle.ops_dispatch.specs.Runner.{is_resumed}
 use Rattle.std.proofs.Common.{ap, refl, ◌∙◌}
 use Rattle.std.specs.Prelude.{false, true, ℕ, ◌≡◌}
+use Rattle.core_primitives.specs.Names.{op_progress_in}
+use Rattle.core_primitives.specs.StateView.{Tags}
+use Rattle.core_primitives.specs.declared.names.OpProgressId.TheVariants as op_progresses
+use Rattle.core_primitives.specs.declared.names.OpProgressId.{OpProgressId}
 use Rattle.machine_data.specs.Core.{Core}
+use Rattle.machine_data.specs.Labels.{Choice}
+use Rattle.machine_rules.specs.Sets.{wait_rule}
+use Rattle.task_table.specs.declared.id.TableId.{TableId}
+use Rattle.task_wait.specs.declared.keys.SetKey.{SetKey}
 use Rattle.machine_data.specs.declared.label.Label.TheVariants as label
 use Rattle.machine_data.specs.declared.label.ThreadLabel.{ThreadLabel}
 use Rattle.machine_data.specs.declared.records.OpProgress.{OpProgress}
@@ -43,3 +51,14 @@ module _ (n : ℕ) (l : ThreadLabel) (s : Core) where
   begins_rule d (op_progress.Answered v) p e = refl
   begins_rule d (op_progress.Cancels sub) p e = refl
   begins_rule d (op_progress.AwaitsEnd sub) p e = refl
+
+-- a wait inside which its thread wasn't resumed begins
+pub wait_begun : (d : Doer) (n h : ℕ) (ch : Choice) (s : Core) (tags : Tags) (p : OpProgressId) → ((set : TableId SetKey) → p ≡ op_progresses.Waits set → ⊥) → wait_rule d n h ch s (op_progress_in tags p) ≡ wait_rule d n h ch s op_progress.Fresh
+wait_begun d n h ch s tags (op_progresses.Waits set) other = absurd (other set refl)
+wait_begun d n h ch s tags op_progresses.Fresh other = refl
+wait_begun d n h ch s tags (op_progresses.Calls sub) other = refl
+wait_begun d n h ch s tags (op_progresses.Answered v) other = refl
+wait_begun d n h ch s tags (op_progresses.Cancels sub) other = refl
+wait_begun d n h ch s tags (op_progresses.AwaitsEnd sub) other = refl
+wait_begun d n h ch s tags op_progresses.Suspends other = refl
+wait_begun d n h ch s tags op_progresses.Yields other = refl

@@ -15,8 +15,11 @@ use Rattle.machine_data.specs.declared.trap.Trap.{Trap}
 use Rattle.machine_data.specs.declared.trap.Trap.TheVariants as trap
 use Rattle.core_primitives.specs.Preferences.{preference}
 use Rattle.machine_rules.proofs.CalmLemmas.{trap_if_calm}
-use Rattle.machine_rules.specs.Ends.{thread_exit_rule}
-use Rattle.machine_rules.specs.Picks.{LeavesNoChoice}
+use Rattle.machine_data.specs.Labels.{exit_label}
+use Rattle.machine_data.specs.Moves.{passes_check}
+use Rattle.machine_data.specs.Read.{instance_of}
+use Rattle.machine_rules.specs.Ends.{leaves_no_result, thread_exit_rule}
+use Rattle.machine_rules.specs.Picks.{LeavesNoChoice, Silent}
 use Rattle.ops_guests.proofs.CalmLemmas.{picks_implements}
 use Rattle.ops_guests.proofs.DoesLemmas.{IsCalm, calm_as, does_rule, same_rest}
 use Rattle.ops_guests.proofs.EndedLemmas.{IsUnanswered, implements_ended, undue, unended}
@@ -148,7 +151,10 @@ module _ (p : Progress) (id : TableId ThreadKey) (s t : StateView) (r : OpResult
 
 -- the exit of a thread leaves no choice
 pub thread_exit_calm : (n : ℕ) (s : Core) → LeavesNoChoice (thread_exit_rule n s)
-thread_exit_calm n s = trap_if_calm _ _ _ (trap_if_calm _ _ _ (refl, refl))
+thread_exit_calm n s = trap_if_calm (not (passes_check (instance_of n s) s)) _ _ (trap_if_calm (leaves_no_result n s) _ _ silent)
+  where
+    silent : Silent (exit_label n None)
+    silent = (refl, refl)
 
 -- ---- The end of a direct call
 

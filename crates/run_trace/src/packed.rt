@@ -39,14 +39,6 @@ impl PackedLabels {
         }
     }
 
-    /// Takes all labels away, and keeps the room that they had.
-    pub fn clear(&mut self)
-        ensures { self.new ≡ [] }
-    {
-        self.heads.clear();
-        self.numbers.clear();
-    }
-
     /// Returns how many labels there are.
     pub fn len(&self) -> usize
         ensures { result ≡ length self.now }

@@ -11,7 +11,6 @@ use Rattle.machine_rules.specs.Notices.{notices}
 use Rattle.machine_rules.specs.Once.{EndsOnce, OneHolder}
 use Rattle.machine_rules.specs.Outcome.{IsOutcome}
 use Rattle.machine_rules.specs.Run.{Run, opens}
-use Rattle.machine_rules.specs.TablePlaces.{PicksAll, no_places}
 use Rattle.machine_rules.specs.Stalled.{setting_of}
 use Rattle.task_run.specs.declared.report.Report.{Report}
 use Rattle.task_run.specs.declared.scenario.InstanceNames.{InstanceNames}
@@ -35,8 +34,7 @@ machine_scenario x = record {
 }
 
 -- Some run of the scenario with at most so many steps shows these labels, has ended so, and its last state has this core. It hands
--- out each end once, and one holding entry of an instance runs at a time. The groups are its notices, and where the machine leaves a
--- choice each step picks by the places of the resource table.
+-- out each end once, and one holding entry of an instance runs at a time. The groups are its notices.
 pub record IsRunOf (x : ScenarioDef) (steps : ℕ) (trace : List Label) (outcome : Outcome) (core : Core) (groups : List Notice) :
     Type 0 where
   pub last : State
@@ -47,7 +45,6 @@ pub record IsRunOf (x : ScenarioDef) (steps : ℕ) (trace : List Label) (outcome
   pub once : EndsOnce x.component (history (setting_of x) (opens x) trace last run)
   pub alone : OneHolder (history (setting_of x) (opens x) trace last run)
   pub told : groups ≡ notices (history (setting_of x) (opens x) trace last run)
-  pub picks : PicksAll (setting_of x) no_places (history (setting_of x) (opens x) trace last run)
 
 -- The report is of a run of the scenario that the text represents. Its store is concurrent, and no run rests on it.
 pub record IsReportOf (text : List ℕ) (steps : ℕ) (r : Report) : Type 0 where

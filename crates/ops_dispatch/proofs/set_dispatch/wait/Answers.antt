@@ -1,4 +1,5 @@
 use Rattle.ops_dispatch.proofs.set_dispatch.wait.Goals as goal
+use Rattle.ops_dispatch.proofs.HaltLemmas.{wait_begun}
 use Rattle.ops_dispatch.specs.Rules.{waits_here}
 use Rattle.std.proofs.Common.{ap, sym, ◌∙◌}
 use Rattle.machine_data.specs.declared.records.OpProgress.{OpProgress}
@@ -19,4 +20,15 @@ returns-in-Waits g c =
     record {
       does = does_rule SameNames (waits_from (op_progress.Waits (set_of s c.in-Waits.set)) 0) (waits_here c.args.handle) c.args.thread s t c.go_on_waiting.result c.go_on_waiting.ensures.does
           (λ d ch. ap (λ (f : OpProgress). wait_rule d n c.args.handle ch s.core f) (sym inside));
+    }
+
+pub returns-in_default : goal.returns-in_default
+returns-in_default g c =
+    let s = g.W.View.view c.args.w.now in
+    let t = g.W.View.view c.begin_wait.new.w in
+    let n = thread_of s c.args.thread in
+    let inside = c.op_progress.ensures ∙ c.requires.runner.under_way.names in
+    record {
+      does = does_rule SameNames (waits_from op_progress.Fresh c.args.handle) (waits_here c.args.handle) c.args.thread s t c.begin_wait.result c.begin_wait.ensures.does
+          (λ d ch. ap (λ (f : OpProgress). wait_rule d n c.args.handle ch s.core f) (sym inside) ∙ wait_begun d n c.args.handle ch s.core s.tags c.op_progress.result c.in_default.not-Waits);
     }

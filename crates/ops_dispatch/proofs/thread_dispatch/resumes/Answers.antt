@@ -5,6 +5,7 @@ use Rattle.ops_dispatch.specs.Rules.{resumes_here}
 use Rattle.std.proofs.Common.{ap, refl, sym, ◌∙◌}
 use Rattle.std.specs.Prelude.{ℕ}
 use Rattle.machine_data.specs.Read.{op_progress_of}
+use Rattle.machine_rules.specs.Scripts.{value_of}
 use Rattle.machine_data.specs.declared.label.Label.TheVariants as label
 use Rattle.ops_guests.proofs.DoesLemmas.{calm_same, does_rule}
 use Rattle.ops_guests.specs.Does.{SameNames}
