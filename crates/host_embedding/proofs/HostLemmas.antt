@@ -13,7 +13,7 @@ use Rattle.machine_rules.specs.MainOps.{takes_words}
 use Rattle.machine_rules.specs.Stalled.{Setting}
 use Rattle.task_loop.specs.LoopCalls.{callee_of}
 use Rattle.ops_turns.specs.Drive.{Drives}
-use Rattle.vatbramble_host.proofs.OpenMainLemmas.{takes_these}
+use Rattle.task_loop.proofs.OpenMainLemmas.{takes_these}
 
 -- an export that takes one word may be started with one
 pub takes_one : (c : Component) (f : Func) → TakesOne c f → takes_words c (callee_of f) 1 ≡ true

@@ -1,5 +1,5 @@
 -- What a step of main shows of what it has made, and what a main and a work are that are watched.
-use Rattle.std.specs.Prelude.{None, Option, Some, ℕ, ◌+◌, ◌≡◌}
+use Rattle.std.specs.Prelude.{Bool, None, Option, Some, not, true, ℕ, ◌+◌, ◌≡◌}
 use Rattle.machine_data.specs.declared.component.HostDef.{HostDef}
 use Rattle.machine_data.specs.declared.label.Label.{Label}
 use Rattle.machine_data.specs.declared.label.Label.TheVariants as label
@@ -31,6 +31,26 @@ work_shown _ = None
 abbrev pub IsShown : Option ℕ → ℕ → ℕ → Type 0
 IsShown None before after = after ≡ before
 IsShown (Some n) before after = (n ≡ after) × (after ≡ before + 1)
+
+-- a label may be shown, by whether something was returned to main, and whether a task was interesting, before the step
+abbrev pub label_may : Label → Bool → Bool → Bool
+label_may (label.Main (main_label.Finish k v)) returned interesting = returned
+label_may (label.Main main_label.Quiet) returned interesting = not interesting
+label_may _ returned interesting = true
+
+-- whether the store is trapped after a step with this label, by whether it was before
+abbrev pub label_traps : Label → Bool → Bool
+label_traps (label.Main (main_label.StartRefused why k)) before = true
+label_traps _ before = before
+
+-- the same of a step
+abbrev pub may_show : MainStep → Bool → Bool → Bool
+may_show (step.Did l) returned interesting = label_may l returned interesting
+may_show _ returned interesting = true
+
+abbrev pub trapped_by : MainStep → Bool → Bool
+trapped_by (step.Did l) before = label_traps l before
+trapped_by _ before = before
 
 -- a watched main says what the main says that it holds
 abbrev pub watched_says : {M : Type 0} → Says M → Says (WatchedMain M)

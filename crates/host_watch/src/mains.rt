@@ -1,6 +1,6 @@
 //! Tests of the steps of a main.
 ghost use Rattle.std.specs.Prelude.{◌≡◌, ◌↔◌, true};
-ghost use Rattle.host_watch.specs.Watched.{IsShown, thread_shown, watched_says, work_shown};
+ghost use Rattle.host_watch.specs.Watched.{IsShown, may_show, thread_shown, trapped_by, watched_says, work_shown};
 
 use core_primitives::ResultPrimitives;
 use machine_data::{Label, MadeCounts, MainLabel};
@@ -60,7 +60,7 @@ fn is_shown(shown: Option<u64>, before: u64, after: u64) -> bool
     }
 }
 
-// Tests the step's label by what was made before the step and after it.
+// Tests the label of a start or a spawn by what was made before the step and after it.
 fn test_step(step: &MainStep, before: MadeCounts, after: MadeCounts)
     requires thread { IsShown (thread_shown step.now) before.threads after.threads }
     requires work { IsShown (work_shown step.now) before.works after.works }
@@ -69,6 +69,43 @@ fn test_step(step: &MainStep, before: MadeCounts, after: MadeCounts)
     prove!(thread_is_right); // else the label of a start names another thread, or a step started a call and doesn't say so
     let work_is_right = is_shown(work_shown(step), before.works, after.works);
     prove!(work_is_right); // else the label of a spawn names another work, or a step spawned a work and doesn't say so
+}
+
+// Whether main may say so, by whether something was returned to it and whether some task was interesting.
+fn may_show(step: &MainStep, returned: bool, interesting: bool) -> bool
+    ensures { result ≡ may_show step.now returned interesting }
+{
+    match step {
+        MainStep::Did(Label::Main(MainLabel::Finish(..))) => returned,
+        MainStep::Did(Label::Main(MainLabel::Quiet)) => !interesting,
+        _ => true,
+    }
+}
+
+// Whether the store is trapped after the step, by whether it was before.
+fn trapped_by(step: &MainStep, before: bool) -> bool
+    ensures { result ≡ trapped_by step.now before }
+{
+    match step {
+        MainStep::Did(Label::Main(MainLabel::StartRefused(..))) => true,
+        _ => before,
+    }
+}
+
+// Tests what the step's label says of the store before it.
+fn test_label(step: &MainStep, returned: bool, interesting: bool)
+    requires { may_show step.now returned interesting ≡ true }
+{
+    let label_is_right = may_show(step, returned, interesting);
+    prove!(label_is_right); // else a finish is shown and no call had returned, or that all is quiet and a task was interesting
+}
+
+// Tests whether the step has trapped the store as its label says.
+fn test_trap(step: &MainStep, before: bool, after: bool)
+    requires { after ≡ trapped_by step.now before }
+{
+    let trap_is_right = after == trapped_by(step, before);
+    prove!(trap_is_right); // else a start was refused and isn't shown as that, or another step has trapped the store
 }
 
 impl<T, H: HostWork, G: TaskGroupHook, M: MainTask<T, H, G> + Drop> MainTask<T, H, G>
@@ -83,10 +120,15 @@ impl<T, H: HostWork, G: TaskGroupHook, M: MainTask<T, H, G> + Drop> MainTask<T, 
         component: &Component,
     ) -> Result<MainStep, TaskError> {
         let before = access.store.state.made();
+        let was_trapped = access.store.state.trapped();
+        let returned = access.store.state.has_results();
+        let interesting = access.store.state.has_interesting();
         match self.main.step(access, component) {
             Ok(step) => {
                 let after = access.store.state.made();
                 test_step(&step, before, after);
+                test_label(&step, returned, interesting);
+                test_trap(&step, was_trapped, access.store.state.trapped());
                 Ok(step)
             }
             Err(error) => Err(error),

@@ -1,6 +1,6 @@
 -- A step of a server is one of main, and serves its requests.
 use Rattle.store_notices.specs.Moves.{finishes}
-use Rattle.vatbramble_host.proofs.OpenMainLemmas.{answers_now, did_finish, did_refuse, did_start, takes_these}
+use Rattle.task_loop.proofs.OpenMainLemmas.{answers_now, did_finish, did_refuse, did_start, takes_these}
 use Rattle.futures.specs.declared.task.Poll.TheVariants.{Ready}
 use Rattle.serve_requests.proofs.CallLemmas.{call_made_of}
 use Rattle.serve_requests.proofs.PairLemmas.{open_at, open_stage, pair_at, as_many_open}

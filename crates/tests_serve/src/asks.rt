@@ -1,8 +1,8 @@
 use std::alloc::Global;
 use std::process::Abort;
 use vatbramble_host::{
-    Answer, Ask, CallId, CallWords, Func, HostError, HostMain, HostRun, Hosted, Instance, Outcome,
-    Refusal, Trap,
+    Answer, Ask, AskingMain, CallId, CallWords, Func, HostError, HostMain, HostRun, Hosted,
+    Instance, Outcome, Refusal, Trap,
 };
 
 const TEXT: &[u8] =
@@ -212,6 +212,12 @@ fn others_go_on_after_refusals(rt: HostRuntime) {
     let run = run(&rt, rt.alloc(), Stubborn { refused: 0 });
     assert!(rt; run.host.refused == 63);
     assert!(rt; matches!(run.outcome, Outcome::Deadlock(_)));
+}
+
+#[test]
+fn a_main_gives_its_host_back(rt: HostRuntime) {
+    let main = AskingMain::new(rt.alloc(), Stubborn { refused: 3 });
+    assert!(rt; main.into_host().refused == 3);
 }
 
 #[test]

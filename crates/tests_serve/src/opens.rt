@@ -62,25 +62,44 @@ fn open_works_pend_and_end(rt: HostRuntime) {
     assert!(rt; matches!(run.outcome, Outcome::Done(108)));
 }
 
-// Lets each call fail at once.
+// Lets each call fail at once, or pends at the first poll and answers 7 at the next one.
 #[derive(Drop)]
-struct Failing;
+struct Late {
+    fails: bool,
+    asked: bool,
+}
 
-impl HostFunctions for Failing {
+impl HostFunctions for Late {
     fn call(&mut self, _place: u32) -> HostPoll {
-        HostPoll::Failed
+        if self.fails {
+            return HostPoll::Failed;
+        }
+        if self.asked {
+            return HostPoll::Value(7);
+        }
+        self.asked = true;
+        HostPoll::Pending
+    }
+}
+
+// What one call results in with such a value.
+fn outcome(rt: &impl Abort, alloc: Global, fails: bool) -> Outcome {
+    let hosted = hosted(rt, alloc);
+    let main = CallOnce::of(func(rt, &hosted), &[]);
+    let late = Late {
+        fails,
+        asked: false,
+    };
+    match hosted.run_with(alloc, late, main, 100) {
+        Ok(run) => run.outcome,
+        Err(_) => panic!(rt; "no memory"),
     }
 }
 
 #[test]
-fn a_failing_call_ends_the_run(rt: HostRuntime) {
-    let hosted = hosted(&rt, rt.alloc());
-    let func = func(&rt, &hosted);
-    let run = hosted.run_with(rt.alloc(), Failing, CallOnce::of(func, &[]), 100);
-    let Ok(run) = run else {
-        panic!(rt; "no memory");
-    };
-    assert!(rt; matches!(run.outcome, Outcome::HostFailed(2)));
+fn the_host_answers_a_call_or_fails(rt: HostRuntime) {
+    assert!(rt; matches!(outcome(&rt, rt.alloc(), false), Outcome::Done(12)));
+    assert!(rt; matches!(outcome(&rt, rt.alloc(), true), Outcome::HostFailed(2)));
 }
 
 #[test]

@@ -1,4 +1,3 @@
-pub mod OpenMainLemmas
 pub mod AskLemmas
 pub mod SpawnLemmas
 mod OpenLemmas

@@ -10,7 +10,7 @@ use Rattle.vatbramble_host.specs.declared.ask.Refusal.TheVariants as refusal
 use Rattle.vatbramble_host.specs.declared.asking.AskingMain.{AskingMain}
 use Rattle.vatbramble_host.specs.declared.asking.Begun.{Begun}
 use Rattle.std.specs.Prelude.{IfSome, IsSome, List, None, Some, false, length, slice_get, true, ℕ, ◌-◌, ◌<◌, ◌≡◌, ◌≤◌}
-use Rattle.task_loop.specs.LoopCalls.{callee_of}
+use Rattle.task_loop.specs.LoopCalls.{TakesWords, callee_of}
 use Rattle.task_loop.specs.Says.{Says, unscripted}
 use Rattle.task_loop.specs.declared.call.Func.{Func}
 use Rattle.machine_data.specs.declared.component.Component.{Component}
@@ -24,11 +24,6 @@ use Rattle.task_store.specs.declared.spawn.SpawnHandle.{SpawnHandle}
 use Rattle.ops_turns.specs.declared.mains.MainStep.{MainStep}
 use Rattle.core_primitives.specs.StateView.{StateView}
 use Rattle.ops_turns.specs.declared.mains.MainStep.TheVariants as step
-
--- the export is there, and takes as many words
-pub record TakesWords (c : Component) (f : Func) (count : ℕ) : Type 0 where
-  pub there : IsSome (export_at c (callee_of f))
-  pub takes : IfSome (export_at c (callee_of f)) (λ e. count ≡ e.params)
 
 -- a call of the export with so many words may be started: there is a number for it, too
 pub record MayStart (c : Component) (begun : List Begun) (f : Func) (count : ℕ) : Type 0 where

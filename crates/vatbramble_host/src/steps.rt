@@ -1,5 +1,6 @@
 //! The steps of a main that asks.
-ghost use Rattle.vatbramble_host.specs.Asks.{MayFinish, TakesWords, asking_says, spawns_later};
+ghost use Rattle.task_loop.specs.LoopCalls.{TakesWords};
+ghost use Rattle.vatbramble_host.specs.Asks.{MayFinish, asking_says, spawns_later};
 ghost use Rattle.ops_state.specs.declared.error.TaskError.TheVariants as task_error;
 ghost use Rattle.std.specs.Prelude.{◌≡◌, ◌+◌, ◌<◌, IfErr, IfOk, IsSome, length, slice_get};
 ghost use Rattle.task_loop.specs.HasRun.{HasStepResult, MayStep};

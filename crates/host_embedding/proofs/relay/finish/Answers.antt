@@ -1,5 +1,5 @@
 -- What came of the turn is a step of main: it finishes the call, or waits.
-use Rattle.vatbramble_host.proofs.OpenMainLemmas.{did_finish}
+use Rattle.task_loop.proofs.OpenMainLemmas.{did_finish}
 use Rattle.host_embedding.proofs.ScopeLemmas.{as_many, takes_none}
 use Rattle.host_embedding.proofs.relay.finish.Goals as goal
 use Rattle.host_embedding.specs.Says.{relay_says}

@@ -1,6 +1,6 @@
 -- What came of the start is a step of main.
 use Rattle.host_embedding.proofs.HostLemmas.{takes_one}
-use Rattle.vatbramble_host.proofs.OpenMainLemmas.{did_refuse, did_start}
+use Rattle.task_loop.proofs.OpenMainLemmas.{did_refuse, did_start}
 use Rattle.host_embedding.proofs.ScopeLemmas.{child_started, one_more}
 use Rattle.host_embedding.proofs.relay.start.Goals as goal
 use Rattle.host_embedding.specs.Says.{relay_says}

@@ -114,8 +114,8 @@ step_host-made-requires-clause-there g c =
     subst (λ (x : StateView). IsJoinThere (subtask.Host (work_of x q.work)) x.core) (sym (left_is s u c.take_next.result q.mark (entries.Host q.work) c.take_next.ensures.taken at))
     (host_joined c.args.component.now c.args.ended s.core c.requires.order c.none_is_zero.ensures.works q.mark (work_of s q.work))
 
-pub returns-in-Ok-put-in-Some-default-Host-clause-took : goal.returns-in-Ok-put-in-Some-default-Host-clause-took
-returns-in-Ok-put-in-Some-default-Host-clause-took g c =
+pub returns-in-Ok-put-2-clause-took : goal.returns-in-Ok-put-2-clause-took
+returns-in-Ok-put-2-clause-took g c =
     let v = g.W.View.view in
     let s = v c.args.w.now in
     let u = v c.take_next.new.self in
@@ -125,7 +125,7 @@ returns-in-Ok-put-in-Some-default-Host-clause-took g c =
     (next_is s c.take_next.result q.mark (entries.Host q.work) c.take_next.ensures.next at) c.step_host-made.ensures.picks c.step_host-made.ensures.current c.step_host-made.ensures.turn in
     let t = v c.step_host-made.new.w in
     let before = c.args.trace.now in
-    (c.step_host-made.result, (c.in-Ok-put-in-Some-default-Host.ensures.in_trace, makes))
+    (c.step_host-made.result, (c.in-Ok-put-2.ensures.in_trace, makes))
 
 -- ---- The group that is worked on
 
@@ -162,8 +162,8 @@ returns-in_default-put-clause-worked g c =
     let at = q.is ∙ ap (λ (e : EntryId). Some (q.mark, e)) q.field-0-1-is in
     c.requires.unworked ∙ ap (λ (o : Option (Mark × Entry)). tracked_entry_group o s) (sym (next_is s c.take_next.result q.mark (entries.Push q.work) c.take_next.ensures.next at))
 
-pub returns-in-Ok-put-in-Some-default-Host-clause-worked : goal.returns-in-Ok-put-in-Some-default-Host-clause-worked
-returns-in-Ok-put-in-Some-default-Host-clause-worked g c =
+pub returns-in-Ok-put-2-clause-worked : goal.returns-in-Ok-put-2-clause-worked
+returns-in-Ok-put-2-clause-worked g c =
     let v = g.W.View.view in
     let s = v c.args.w.now in
     let u = v c.take_next.new.self in
@@ -171,8 +171,8 @@ returns-in-Ok-put-in-Some-default-Host-clause-worked g c =
     let at = q.is ∙ ap (λ (e : EntryId). Some (q.mark, e)) q.field-0-1-is in
     c.work_group.ensures ∙ worked_is s u q.mark q.work (left_is s u c.take_next.result q.mark (entries.Host q.work) c.take_next.ensures.taken at) (next_is s c.take_next.result q.mark (entries.Host q.work) c.take_next.ensures.next at)
 
-pub returns-in_default-put-in-Some-default-Host-clause-worked : goal.returns-in_default-put-in-Some-default-Host-clause-worked
-returns-in_default-put-in-Some-default-Host-clause-worked g c =
+pub returns-in_default-put-2-clause-worked : goal.returns-in_default-put-2-clause-worked
+returns-in_default-put-2-clause-worked g c =
     let v = g.W.View.view in
     let s = v c.args.w.now in
     let u = v c.take_next.new.self in

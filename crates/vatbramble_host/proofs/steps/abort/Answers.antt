@@ -1,5 +1,5 @@
 -- The work was asked to end.
-use Rattle.vatbramble_host.proofs.OpenMainLemmas.{did_abort}
+use Rattle.task_loop.proofs.OpenMainLemmas.{did_abort}
 use Rattle.vatbramble_host.proofs.SpawnLemmas.{spawned_at}
 use Rattle.vatbramble_host.proofs.steps.abort.Goals as goal
 use Rattle.vatbramble_host.specs.Asks.{KnowsSpawns, asking_says, spawns_later}

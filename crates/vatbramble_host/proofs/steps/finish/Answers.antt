@@ -1,6 +1,6 @@
 -- What came of a finish is an op of main.
 use Rattle.vatbramble_host.proofs.AskLemmas.{pends_now}
-use Rattle.vatbramble_host.proofs.OpenMainLemmas.{did_finish, finish_keeps}
+use Rattle.task_loop.proofs.OpenMainLemmas.{did_finish, finish_keeps}
 use Rattle.vatbramble_host.proofs.steps.finish.Goals as goal
 use Rattle.vatbramble_host.specs.Asks.{KnowsSpawns, asking_says, spawns_later}
 use Rattle.std.proofs.Common.{ap, refl, subst, sym}

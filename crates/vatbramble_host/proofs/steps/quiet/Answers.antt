@@ -1,6 +1,6 @@
 -- Main waited until nothing was left that a host waits for.
 use Rattle.vatbramble_host.proofs.AskLemmas.{pends_now}
-use Rattle.vatbramble_host.proofs.OpenMainLemmas.{did_quiet, is_quiet}
+use Rattle.task_loop.proofs.OpenMainLemmas.{did_quiet, is_quiet}
 use Rattle.vatbramble_host.proofs.steps.quiet.Goals as goal
 use Rattle.vatbramble_host.specs.Asks.{asking_says}
 use Rattle.std.proofs.Common.{refl}

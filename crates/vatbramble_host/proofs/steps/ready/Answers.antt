@@ -1,6 +1,6 @@
 -- Main waited until the instance took calls.
 use Rattle.vatbramble_host.proofs.AskLemmas.{pends_now}
-use Rattle.vatbramble_host.proofs.OpenMainLemmas.{did_ready, is_ready}
+use Rattle.task_loop.proofs.OpenMainLemmas.{did_ready, is_ready}
 use Rattle.vatbramble_host.proofs.steps.ready.Goals as goal
 use Rattle.vatbramble_host.specs.Asks.{asking_says}
 use Rattle.std.proofs.Common.{refl}

@@ -1,5 +1,5 @@
 -- A work of the host's own was spawned.
-use Rattle.vatbramble_host.proofs.OpenMainLemmas.{did_spawn_own}
+use Rattle.task_loop.proofs.OpenMainLemmas.{did_spawn_own}
 use Rattle.vatbramble_host.proofs.SpawnLemmas.{spawns_more}
 use Rattle.vatbramble_host.proofs.steps.spawn.Goals as goal
 use Rattle.vatbramble_host.specs.Asks.{KnowsSpawns, asking_says}

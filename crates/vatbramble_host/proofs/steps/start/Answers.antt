@@ -1,5 +1,5 @@
 -- What came of the start is an op of main.
-use Rattle.vatbramble_host.proofs.OpenMainLemmas.{did_refuse, did_start, takes_these}
+use Rattle.task_loop.proofs.OpenMainLemmas.{did_refuse, did_start, takes_these}
 use Rattle.vatbramble_host.proofs.steps.start.Goals as goal
 use Rattle.vatbramble_host.specs.Asks.{KnowsSpawns, asking_says, spawns_later}
 use Rattle.vatbramble_host.specs.declared.ask.Answer.TheVariants as answer

@@ -1,6 +1,6 @@
 -- Main waited until the work had ended.
 use Rattle.vatbramble_host.proofs.AskLemmas.{pends_now}
-use Rattle.vatbramble_host.proofs.OpenMainLemmas.{did_await, has_ended}
+use Rattle.task_loop.proofs.OpenMainLemmas.{did_await, has_ended}
 use Rattle.vatbramble_host.proofs.SpawnLemmas.{spawned_at}
 use Rattle.vatbramble_host.proofs.steps.wait.Goals as goal
 use Rattle.vatbramble_host.specs.Asks.{KnowsSpawns, asking_says}

@@ -1,5 +1,5 @@
 -- What was finished or started is a step of main, and main may answer.
-use Rattle.vatbramble_host.proofs.OpenMainLemmas.{answers_now}
+use Rattle.task_loop.proofs.OpenMainLemmas.{answers_now}
 use Rattle.host_embedding.proofs.relay.RelayMainTaskUnitScriptedHostNoHook.step.Goals as goal
 use Rattle.host_embedding.specs.Says.{relay_says}
 use Rattle.store_works.specs.declared.scripted.ScriptedHost.{ScriptedHost}

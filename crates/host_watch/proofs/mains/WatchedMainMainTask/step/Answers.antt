@@ -1,6 +1,6 @@
 -- What the main that is watched does is what its watcher does.
 use Rattle.std.proofs.Common.{ap, subst, sym}
-use Rattle.host_watch.proofs.WatchLemmas.{failed_outside, may_inside, step_thread, step_work, stepped_outside}
+use Rattle.host_watch.proofs.WatchLemmas.{failed_outside, may_inside, step_backed, step_thread, step_traps, step_work, stepped_outside}
 use Rattle.host_watch.proofs.mains.WatchedMainMainTask.step.Goals as goal
 
 pub step-requires : goal.step-requires
@@ -19,6 +19,19 @@ test_step-requires-clause-work g c =
     let main = c.args.self.now.main in
     rw (c.made-before.ensures, c.made-after.ensures)
     (step_work c.args.component.now (says.script main) c.in-Ok.step (says.part main) (says.part c.step.new.self) c.args.access.now.store.now.state.core c.step.new.access.store.now.state.core c.in-Ok.ensures.steps.steps)
+
+pub test_label-requires : goal.test_label-requires
+test_label-requires g c =
+    let says = g.M.MainTask.says in
+    let main = c.args.self.now.main in
+    step_backed c.args.component.now (says.script main) c.in-Ok.step c.has_results-returned.result c.has_interesting-interesting.result (says.part main) (says.part c.step.new.self) c.args.access.now.store.now.state.core c.step.new.access.store.now.state.core c.has_results-returned.ensures.none c.has_interesting-interesting.ensures c.in-Ok.ensures.steps.steps
+
+pub test_trap-requires : goal.test_trap-requires
+test_trap-requires g c =
+    let says = g.M.MainTask.says in
+    let main = c.args.self.now.main in
+    rw (c.trapped-was_trapped.ensures, c.trapped.ensures)
+    (step_traps c.args.component.now (says.script main) c.in-Ok.step (says.part main) (says.part c.step.new.self) c.args.access.now.store.now.state.core c.step.new.access.store.now.state.core c.in-Ok.ensures.steps.steps)
 
 pub returns-in-Ok-clause-steps : goal.returns-in-Ok-clause-steps
 returns-in-Ok-clause-steps g c =

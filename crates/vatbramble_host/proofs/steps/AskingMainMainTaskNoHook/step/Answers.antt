@@ -1,6 +1,6 @@
 -- What was asked is done, or main waits.
 use Rattle.vatbramble_host.proofs.AskLemmas.{may_after, pends_now, stepped_before, steps_before}
-use Rattle.vatbramble_host.proofs.OpenMainLemmas.{answers_now}
+use Rattle.task_loop.proofs.OpenMainLemmas.{answers_now}
 use Rattle.vatbramble_host.proofs.SpawnLemmas.{spawns_same}
 use Rattle.vatbramble_host.proofs.steps.AskingMainMainTaskNoHook.step.Goals as goal
 use Rattle.vatbramble_host.specs.Asks.{asking_says}

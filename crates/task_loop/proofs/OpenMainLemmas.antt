@@ -1,5 +1,4 @@
 -- The steps of a main that is no script, a lemma for each label that it may show: for the proof of a `MainTask` of one's own, too.
-use Rattle.vatbramble_host.specs.Asks.{TakesWords}
 use Rattle.futures.specs.declared.task.Poll.{Poll}
 use Rattle.futures.specs.declared.task.Poll.TheVariants.{Ready}
 use Rattle.ops_state.specs.declared.error.TaskError.TheVariants as task_error
@@ -8,7 +7,7 @@ use Rattle.std.proofs.lemmas.Bool.Decides.{nat_tests}
 use Rattle.std.specs.Option.{option_map_or}
 use Rattle.std.specs.Prelude.{Bool, Err, IfSome, IsSome, List, None, Ok, Option, Some, [], false, is_some, length, not, slice_get, true, ℕ, ◌==◌, ◌≡◌}
 use Rattle.ops_calls.specs.MainCalls.{Finishes, Starts}
-use Rattle.task_loop.specs.LoopCalls.{callee_of}
+use Rattle.task_loop.specs.LoopCalls.{TakesWords, callee_of}
 use Rattle.task_loop.specs.declared.call.Func.{Func}
 use Rattle.machine_data.specs.Core.{Began, Core, Unscripted}
 use Rattle.machine_data.specs.Maps.{get}
