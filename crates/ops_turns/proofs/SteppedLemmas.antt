@@ -3,7 +3,7 @@ use Rattle.ops_dispatch.specs.Fits.{calls_host}
 use Rattle.ops_dispatch.specs.Polls.{polled_host}
 use Rattle.std.proofs.Common.{ap, refl, subst, sym, ◌∙◌}
 use Rattle.std.specs.Prelude.{Bool, Err, IfOk, IfSome, List, None, Ok, Option, Result, Some, [], false, is_none, is_some, not, option_map, true, ℕ, ◌+◌, ◌++◌, ◌<◌, ◌≡◌, ◌≤◌, ◌∷◌}
-use Rattle.machine_data.specs.Core.{Core, Main, State}
+use Rattle.machine_data.specs.Core.{Main, State}
 use Rattle.machine_data.specs.Labels.{choice_of}
 use Rattle.machine_data.specs.Read.{op_progress_of, next_entry, place_of}
 use Rattle.machine_data.specs.declared.component.Component.{Component}
@@ -39,11 +39,12 @@ use Rattle.ops_turns.proofs.DriveLemmas.{last_outcome-push, on_ends, on_more, on
 use Rattle.ops_turns.proofs.IdleLemmas.{after_free, free_at}
 use Rattle.ops_turns.proofs.RunLemmas.{host_over, host_picks, label_same, picked_at, push_picks, ran_at, took, took_host, took_picks, took_push}
 use Rattle.ops_turns.specs.Drive.{Drove, IsOn}
-use Rattle.ops_turns.specs.Ran.{OpMade, WorkMade, host_polled, scripted_rule_of}
-use Rattle.ops_turns.specs.StepResult.{Added, AddedOrNone, CallStepped, OpPolls, OpStep, RuleRan, RuleShown, RunStepped, Shown, made_by, turn_of}
+use Rattle.ops_turns.specs.Ran.{OpMade, WorkMade, scripted_rule_of}
+use Rattle.ops_turns.specs.StepResult.{Added, AddedOrNone, CallStepped, IsFull, MatchStep, OpPolls, OpShown, OpStep, RuleRan, RuleShown, RunMade, RunStepped, Shown, is_made, made_by, turn_of}
 use Rattle.ops_turns.specs.Turn.{IsFree, MakesStep, Turned, Turns, is_open, running_of, runs_in, state_at}
 use Rattle.ops_turns.specs.declared.made.MadeStep.{MadeStep}
 use Rattle.ops_turns.specs.declared.made.StepResult.{StepResult}
+use Rattle.ops_turns.specs.declared.made.StepResult.TheVariants as stepped
 use Rattle.task_wait.specs.declared.keys.HostTaskKey.{HostTaskKey}
 use Rattle.task_wait.specs.declared.keys.ThreadKey.{ThreadKey}
 use Rattle.core_primitives.specs.Names.{entry_in}
@@ -73,13 +74,93 @@ closes p e = closed p (off (is_open p) e)
 pub added_as : (P Q : MadeStep → Type 0) (stepped : StepResult) (before after : List Label) → ((made : MadeStep) → P made → Q made) → Added P stepped before after → Added Q stepped before after
 added_as P Q stepped before after f h = (h.0, (h.1.0, f h.0 h.1.1))
 
-pub none_as : (P Q : Option MadeStep → Type 0) (o : Option StepResult) (before after : List Label) → ((made : Option MadeStep) → P made → Q made) → AddedOrNone P o before after → AddedOrNone Q o before after
-none_as P Q None before after f h = (f None h.0, h.1)
-none_as P Q (Some q) before after f h = added_as (λ made. P (Some made)) (λ made. Q (Some made)) q before after (λ made. f (Some made)) h
+-- ---- Whether a step was made
 
-pub IfOk_then : {X E : Type 0} (r : Result X E) {P Q : X → Type 0} → IfOk r P → ((x : X) → P x → Q x) → IfOk r Q
-IfOk_then (Ok x) h f = f x h
-IfOk_then (Err e) h f = tt
+-- one was, where nothing says why not
+pub made_else : (q : StepResult) → (q ≡ stepped.Nothing → ⊥) → (q ≡ stepped.Full → ⊥) → (q ≡ stepped.HookFailed → ⊥) → is_made q ≡ true
+made_else stepped.Nothing some room hook = absurd (some refl)
+made_else stepped.Full some room hook = absurd (room refl)
+made_else stepped.HookFailed some room hook = absurd (hook refl)
+made_else _ some room hook = refl
+
+-- it is no more main's turn than another's
+pub over_else : (q : StepResult) → (q ≡ stepped.Main → ⊥) → ((n : ℕ) → q ≡ stepped.Polls n → ⊥) → (q ≡ stepped.Takes → ⊥) → (q ≡ stepped.TakesEnded → ⊥) → ((n : ℕ) → q ≡ stepped.Runs n → ⊥) → ((n : ℕ) → q ≡ stepped.Computes n → ⊥) → turn.Over ≡ turn_of q
+over_else stepped.Main main polls takes ended runs computes = absurd (main refl)
+over_else (stepped.Polls n) main polls takes ended runs computes = absurd (polls n refl)
+over_else stepped.Takes main polls takes ended runs computes = absurd (takes refl)
+over_else stepped.TakesEnded main polls takes ended runs computes = absurd (ended refl)
+over_else (stepped.Runs n) main polls takes ended runs computes = absurd (runs n refl)
+over_else (stepped.Computes n) main polls takes ended runs computes = absurd (computes n refl)
+over_else _ main polls takes ended runs computes = refl
+
+-- one was, where it isn't out of memory
+pub made_if : {before after : List Label} (q : StepResult) → (is_made q ≡ false → IsFull q before after) → (q ≡ stepped.Full → ⊥) → is_made q ≡ true
+made_if q full room = by (is_made q) refl
+  where
+    by : (b : Bool) → is_made q ≡ b → is_made q ≡ true
+    by true e = e
+    by false e = absurd (room (full e).0)
+
+-- then it is none of the others
+pub made_some : (q : StepResult) → is_made q ≡ true → q ≡ stepped.Nothing → ⊥
+made_some q made is = let no = sym made ∙ ap is_made is in cc
+
+pub made_room : (q : StepResult) → is_made q ≡ true → q ≡ stepped.Full → ⊥
+made_room q made is = let no = sym made ∙ ap is_made is in cc
+
+pub made_hook : (q : StepResult) → is_made q ≡ true → q ≡ stepped.HookFailed → ⊥
+made_hook q made is = let no = sym made ∙ ap is_made is in cc
+
+-- the run goes on after it, if it isn't over
+pub made_open : (q : StepResult) → is_made q ≡ true → (q ≡ stepped.Over → ⊥) → is_open (turn_of q) ≡ true
+made_open stepped.Nothing made more = absurd (cc)
+made_open stepped.Full made more = absurd (cc)
+made_open stepped.HookFailed made more = absurd (cc)
+made_open stepped.Over made more = absurd (more refl)
+made_open _ made more = refl
+
+pub match_then : {M N F H M' N' F' H' : Type 0} (q : StepResult) → (is_made q ≡ true → M → M') → (q ≡ stepped.Nothing → N → N') → (F → F') → (H → H') → MatchStep M N F H q → MatchStep M' N' F' H' q
+match_then q made nothing full failed h = record { made = λ e. made e (h.made e); nothing = λ e. nothing e (h.nothing e); full = λ e. full (h.full e); failed = λ e. failed (h.failed e) }
+
+pub of_made : {M N F H : Type 0} (q : StepResult) → is_made q ≡ true → M → MatchStep M N F H q
+of_made q made h = record { made = λ e. h; nothing = λ e. absurd (made_some q made e); full = λ e. absurd (made_room q made e); failed = λ e. absurd (made_hook q made e) }
+
+pub of_nothing : {M N F H : Type 0} → N → MatchStep M N F H stepped.Nothing
+of_nothing h = record { made = λ e. absurd (cc); nothing = λ e. h; full = λ e. absurd (cc); failed = λ e. absurd (cc) }
+
+pub of_lost : {M N F H : Type 0} → F → MatchStep M N F H stepped.Full
+of_lost h = record { made = λ e. absurd (cc); nothing = λ e. absurd (cc); full = λ e. h; failed = λ e. absurd (cc) }
+
+pub of_failed : {M N F H : Type 0} → H → MatchStep M N F H stepped.HookFailed
+of_failed h = record { made = λ e. absurd (cc); nothing = λ e. absurd (cc); full = λ e. absurd (cc); failed = λ e. h }
+
+-- one was made, or it is out of memory
+pub of_full : {M N F H : Type 0} {before after : List Label} (q : StepResult) → (is_made q ≡ true → M) → (is_made q ≡ false → IsFull q before after) → (after ≡ before → F) → MatchStep M N F H q
+of_full q made full lost = record {
+  made = made;
+  nothing = λ e. absurd (let no = sym e ∙ (full (ap is_made e)).0 in cc);
+  full = λ e. lost (full (ap is_made e)).1;
+  failed = λ e. absurd (let no = sym e ∙ (full (ap is_made e)).0 in cc);
+}
+
+-- one was made, where no hook was told
+pub made_told : {M N F : Type 0} (q : StepResult) → (q ≡ stepped.Nothing → ⊥) → (q ≡ stepped.Full → ⊥) → MatchStep M N F ⊥ q → is_made q ≡ true
+made_told q some room h = made_else q some room h.failed
+
+-- it is out of memory, where none was made
+pub full_told : {M N : Type 0} {before after : List Label} (q : StepResult) → (q ≡ stepped.Nothing → ⊥) → is_made q ≡ false → MatchStep M N (after ≡ before) ⊥ q → IsFull q before after
+full_told stepped.Nothing some unmade h = absurd (some refl)
+full_told stepped.Full some unmade h = (refl, h.full refl)
+full_told stepped.HookFailed some unmade h = absurd (h.failed refl)
+full_told _ some unmade h = absurd (cc)
+
+pub none_as : (P Q : Option MadeStep → Type 0) (q : StepResult) (before after : List Label) → ((made : Option MadeStep) → P made → Q made) → AddedOrNone P q before after → AddedOrNone Q q before after
+none_as P Q q before after f h = record {
+  made = λ e. added_as (λ made. P (Some made)) (λ made. Q (Some made)) q before after (λ made. f (Some made)) (h.made e);
+  nothing = λ e. (f None (h.nothing e).0, (h.nothing e).1);
+  full = h.full;
+  failed = h.failed;
+}
 
 -- ---- A step of the running thread
 
@@ -139,19 +220,24 @@ module _ (id : TableId ThreadKey) (s t : StateView) where
   }
 
 -- what an op by its rule resulted in is a step of the running thread
-module _ (c : Component) (id : TableId ThreadKey) (n : ℕ) (s t : StateView) (number : thread_of s id ≡ n) (o : Op) (is : op_of c (thread_of s id) s.core ≡ o)
+module _ (c : Component) (id : TableId ThreadKey) (n : ℕ) (s t : StateView) (number : thread_of s id ≡ n) (o : Op) (is_op : op_of c (thread_of s id) s.core ≡ o)
     (same : (op_result : OpResult) → scripted_op_rule c (thread_of s id) s.core (choice_of (label_of (thread_of s id) op_result)) o ≡ did c (thread_of s id) s.core (choice_of (label_of (thread_of s id) op_result))) where
   polled_at : (host : Option HostDef) → host ≡ polled_host c (op_progress_of (thread_of s id) s.core) o → host ≡ polled_host c (op_progress_of n s.core) (op_of c n s.core)
-  polled_at host e = subst (λ k. host ≡ polled_host c (op_progress_of k s.core) (op_of c k s.core)) number (e ∙ sym (ap (polled_host c (op_progress_of (thread_of s id) s.core)) is))
+  polled_at host e = subst (λ k. host ≡ polled_host c (op_progress_of k s.core) (op_of c k s.core)) number (e ∙ sym (ap (polled_host c (op_progress_of (thread_of s id) s.core)) is_op))
 
-  pub run_steps : (before after : List Label) (r : Result (Option StepResult) NoMemory) → IfOk r (λ q. OpStep c o id s before q t after) → IfOk r (λ q. OpPolls c o id s q) → IfOk r (λ q. RunStepped c n s q t before after)
-  run_steps before after (Err e) step polls = tt
-  run_steps before after (Ok (Some q)) step polls = (
-    run_added id s t q before after c n number (rule_as id s t q before after (λ op_result. scripted_op_rule c (thread_of s id) s.core (choice_of (label_of (thread_of s id) op_result)) o) (λ op_result. did c (thread_of s id) s.core (choice_of (label_of (thread_of s id) op_result))) same step),
-    sym (polled_at None (sym polls)),
-  )
-  run_steps before after (Ok None) step polls =
-      ((step.0, subst (λ k. calls_host (op_of c k s.core) ≡ true) number (ap calls_host is ∙ polls)), step.1)
+  -- one that is done polls no host
+  pub step_made : (before after : List Label) (q : StepResult) → OpShown c o id s before q t after → polled_host c (op_progress_of (thread_of s id) s.core) o ≡ None → Added (λ made. RunMade c n s (Some made) t) q before after
+  step_made before after q step polls =
+      let added = run_added id s t q before after c n number (rule_as id s t q before after (λ op_result. scripted_op_rule c (thread_of s id) s.core (choice_of (label_of (thread_of s id) op_result)) o) (λ op_result. did c (thread_of s id) s.core (choice_of (label_of (thread_of s id) op_result))) same step) in
+      (added.0, (added.1.0, (added.1.1, sym (polled_at None (sym polls)))))
+
+  pub run_steps : (before after : List Label) (q : StepResult) → OpStep c o id s before q t after → OpPolls c o id s q → RunStepped c n s q t before after
+  run_steps before after q step polls = record {
+    made = λ e. step_made before after q (step.made e) (polls.made e);
+    nothing = λ e. (((step.nothing e).0, subst (λ k. calls_host (op_of c k s.core) ≡ true) number (ap calls_host is_op ∙ polls.nothing e)), (step.nothing e).1);
+    full = step.full;
+    failed = step.failed;
+  }
 
   -- so is what one came to that calls a host
   pub call_steps : (answer : HostPoll) (r : Result (MadeStep × Option (TableId HostTaskKey)) NoMemory) → IfOk r (λ q. RuleRan (scripted_rule_of c o id s) id s q.0 t) → IfOk r (λ q. OpMade answer c o id s q.1 t)

@@ -12,9 +12,10 @@ use Rattle.machine_data.specs.declared.records.Turn.TheVariants as turn
 use Rattle.ops_turns.proofs.KeptLemmas.{made_in_order}
 use Rattle.ops_turns.proofs.OrderLemmas.{none_some, some_from}
 use Rattle.ops_turns.proofs.IdleLemmas.{makes_turns}
-use Rattle.ops_turns.specs.StepResult.{TakesBeside, TookShown}
+use Rattle.ops_turns.specs.StepResult.{TakesBeside, TookShown, is_made}
 use Rattle.ops_turns.specs.Turn.{CoreInOrder, MakesStep, RunnerThere, running_of, runs_in}
 use Rattle.ops_turns.specs.declared.made.StepResult.{StepResult}
+use Rattle.ops_turns.specs.declared.made.StepResult.TheVariants as stepped
 use Rattle.core_primitives.specs.StateView.{StateView, thread_of}
 
 some_eq : (a b : ℕ) → Some a ≡ Some b → a ≡ b
@@ -36,14 +37,19 @@ pub idle_there : (t : StateView) → t.current ≡ None → RunnerThere t
 idle_there t idle n e = none_some (ap (option_map (λ i. thread_of t i)) idle) e
 
 -- after an entry was taken
-pub took_there : (c : Component) (ended : Bool) (s t : StateView) → CoreInOrder c (turn.Take ended) s.core → (q : StepResult) (before after : List Label)
-    → TookShown c ended s before (Some q) t after → RunnerThere t
-took_there c ended s t in_turn q before after h =
+pub took_there : (c : Component) (ended : Bool) (s t : StateView) → CoreInOrder c (turn.Take ended) s.core → (q : StepResult) (before after : List Label) → is_made q ≡ true
+    → TookShown c ended s before q t after → RunnerThere t
+took_there c ended s t in_turn q before after made took =
+    let h = took.made made in
     let makes = h.1.1.0 in
     core_in_order_there c h.0.turn t (made_in_order c (turn.Take ended) s h.0 t in_turn makes) makes.running
 
--- which is no matter of main
-pub took_beside : (c : Component) (b ended : Bool) (s : StateView) (before : List Label) (q : StepResult) (t : StateView) (after : List Label)
-    → TookShown c ended s before (Some q) t after → TakesBeside c b ended s (Some q) t before after
-took_beside c b ended s before q t after h =
-    (h.0, (h.1.0, λ x component idle m pends. makes_turns x (turn.Take ended) s h.0 t (subst (λ (d : Component). MakesStep d (turn.Take ended) s h.0 t) (sym component) h.1.1.0) m (h.1.1.1 x t.core m)))
+-- A taking is no matter of main.
+pub took_beside : (c : Component) (b ended : Bool) (s : StateView) (before : List Label) (q : StepResult) (t : StateView) (after : List Label) → (q ≡ stepped.Nothing → ⊥)
+    → TookShown c ended s before q t after → TakesBeside c b ended s q t before after
+took_beside c b ended s before q t after some took = record {
+  made = λ e. let h = took.made e in (h.0, (h.1.0, λ x component idle m pends. makes_turns x (turn.Take ended) s h.0 t (subst (λ (d : Component). MakesStep d (turn.Take ended) s h.0 t) (sym component) h.1.1.0) m (h.1.1.1 x t.core m)));
+  nothing = λ e. absurd (some e);
+  full = took.full;
+  failed = took.failed;
+}

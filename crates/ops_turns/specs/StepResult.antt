@@ -41,7 +41,25 @@ turn_of stepped.Takes = turn.Take false
 turn_of stepped.TakesEnded = turn.Take true
 turn_of (stepped.Runs n) = turn.Run n
 turn_of (stepped.Computes n) = turn.Run n
-turn_of stepped.Over = turn.Over
+turn_of _ = turn.Over
+
+-- a step was made, and told
+abbrev pub is_made : StepResult → Bool
+is_made stepped.Nothing = false
+is_made stepped.Full = false
+is_made stepped.HookFailed = false
+is_made _ = true
+
+-- What is so by what a step results in: it was made, none was to be made, it is out of memory, or the hook failed.
+pub record MatchStep (Made Nothing Full Failed : Type 0) (q : StepResult) : Type 0 where
+  pub made : is_made q ≡ true → Made
+  pub nothing : q ≡ stepped.Nothing → Nothing
+  pub full : q ≡ stepped.Full → Full
+  pub failed : q ≡ stepped.HookFailed → Failed
+
+-- it is out of memory, and no label was added
+abbrev pub IsFull : StepResult → (before after : List Label) → Type 0
+IsFull q before after = (q ≡ stepped.Full) × (after ≡ before)
 
 -- The label of the step was added, and it is told whose turn it is then.
 abbrev pub IsInTrace : StepResult → List Label → MadeStep → List Label → Type 0
@@ -51,10 +69,10 @@ IsInTrace stepped before made after = (after ≡ before ++ made.label ∷ []) ×
 abbrev pub Added : (MadeStep → Type 0) → StepResult → List Label → List Label → Type 0
 Added P stepped before after = (made : MadeStep) × (IsInTrace stepped before made after × P made)
 
--- A step was made and its label added, or none was made and nothing was added.
-abbrev pub AddedOrNone : (Option MadeStep → Type 0) → Option StepResult → List Label → List Label → Type 0
-AddedOrNone P None before after = P None × (after ≡ before)
-AddedOrNone P (Some stepped) before after = Added (λ made. P (Some made)) stepped before after
+-- A step was made and its label added; or none was to be made; or it is out of memory. Then no label was added.
+abbrev pub AddedOrNone : (Option MadeStep → Type 0) → StepResult → List Label → List Label → Type 0
+AddedOrNone P stepped before after =
+    MatchStep (Added (λ made. P (Some made)) stepped before after) (P None × (after ≡ before)) (after ≡ before) ⊥ stepped
 
 -- what an op of the thread shows that resulted in this
 abbrev pub made_by : ℕ → OpResult → MadeStep
@@ -97,11 +115,11 @@ TakingShown mark id s before stepped t after =
     RuleShown (taking_rule mark (thread_of s id) s.core) id (with_current (Some id) s) before stepped t after
 
 -- An entry was taken, and what that shows is in the trace; or nothing is there.
-abbrev pub TookShown : Component → (ended : Bool) → StateView → List Label → Option StepResult → StateView → List Label → Type 0
+abbrev pub TookShown : Component → (ended : Bool) → StateView → List Label → StepResult → StateView → List Label → Type 0
 TookShown c ended s before q t after = AddedOrNone (λ made. Took c ended s made t) q before after
 
 -- The next entry was taken in this turn, or it was seen that nothing is there.
-abbrev pub TakesBeside : Component → (trap_on_idle ended : Bool) → StateView → Option StepResult → StateView → (before after : List Label) →
+abbrev pub TakesBeside : Component → (trap_on_idle ended : Bool) → StateView → StepResult → StateView → (before after : List Label) →
     Type 0
 TakesBeside c b ended s q t before after = AddedOrNone (λ made. TurnedBeside c b (turn.Take ended) s made t) q before after
 
@@ -122,25 +140,27 @@ pub record RuleRan (row : OpResult → Progress) (id : TableId ThreadKey) (s : S
 abbrev pub CallsHost : Component → ℕ → StateView → StateView → Type 0
 CallsHost c n s t = (t ≡ s) × (calls_host (op_of c n s.core) ≡ true)
 
--- An op of the thread's script was done, and what it shows is in the trace; or it calls a host, and nothing is changed.
-abbrev pub OpStep : Component → Op → TableId ThreadKey → StateView → List Label → Option StepResult → StateView → List Label → Type 0
-OpStep c o id s before None t after = (t ≡ s) × (after ≡ before)
-OpStep c o id s before (Some stepped) t after = OpShown c o id s before stepped t after
+-- An op of the thread's script was done, and what it shows is in the trace. Or it calls a host, and nothing is changed; or it is out of
+-- memory. Then no label was added.
+abbrev pub OpStep : Component → Op → TableId ThreadKey → StateView → List Label → StepResult → StateView → List Label → Type 0
+OpStep c o id s before stepped t after =
+    MatchStep (OpShown c o id s before stepped t after) ((t ≡ s) × (after ≡ before)) (after ≡ before) ⊥ stepped
 
 -- An op polls this host first if it calls one, and isn't done; else it polls none.
-abbrev pub StepPolls : Option HostDef → Op → Option StepResult → Type 0
-StepPolls host o None = calls_host o ≡ true
-StepPolls host o (Some stepped) = host ≡ None
+abbrev pub StepPolls : Option HostDef → Op → StepResult → Type 0
+StepPolls host o stepped = MatchStep (host ≡ None) (calls_host o ≡ true) (Unit {0}) ⊥ stepped
 
 -- the host that the op polls which the thread is to do
-abbrev pub OpPolls : Component → Op → TableId ThreadKey → StateView → Option StepResult → Type 0
+abbrev pub OpPolls : Component → Op → TableId ThreadKey → StateView → StepResult → Type 0
 OpPolls c o id s q = StepPolls (polled_host c (op_progress_of (thread_of s id) s.core) o) o q
 
 -- The running thread made a step, and polled no host; or its op calls one, and nothing was made.
-abbrev pub RunStepped : Component → ℕ → StateView → Option StepResult → StateView → (before after : List Label) → Type 0
-RunStepped c n s None t before after = CallsHost c n s t × (after ≡ before)
-RunStepped c n s (Some stepped) t before after =
-    Added (λ made. MakesFree c (turn.Run n) s made t) stepped before after × (host_polled c n s.core ≡ None)
+abbrev pub RunMade : Component → ℕ → StateView → Option MadeStep → StateView → Type 0
+RunMade c n s None t = CallsHost c n s t
+RunMade c n s (Some made) t = MakesFree c (turn.Run n) s made t × (host_polled c n s.core ≡ None)
+
+abbrev pub RunStepped : Component → ℕ → StateView → StepResult → StateView → (before after : List Label) → Type 0
+RunStepped c n s q t before after = AddedOrNone (λ made. RunMade c n s made t) q before after
 
 -- Its op called a host, which has answered so: the step was made, whose label is still to be added, and this work.
 abbrev pub CallStepped : HostPoll → Component → ℕ → StateView → MadeStep × Option (TableId HostTaskKey) → StateView → Type 0

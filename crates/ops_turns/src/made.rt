@@ -1,16 +1,16 @@
 //! What a step made.
-ghost use Rattle.std.specs.Prelude.{◌≡◌, ◌<◌, IfOk, None, OnErr, Some, is_none, is_some, true};
+ghost use Rattle.std.specs.Prelude.{◌≡◌, ◌<◌, None, Some, false, is_none, is_some, true};
 ghost use Rattle.ops_guests.specs.Steps.{core_after, label_of, turn_after};
 ghost use Rattle.ops_guests.specs.Running.{IsTopmost};
 ghost use Rattle.ops_guests.specs.Works.{KeepsTold};
 ghost use Rattle.machine_rules.specs.Outcome.{last_outcome, outcome_of_label};
 ghost use Rattle.machine_rules.specs.Step.{unwound};
-ghost use Rattle.ops_turns.specs.StepResult.{Shown, IsInTrace, turn_of};
+ghost use Rattle.ops_turns.specs.StepResult.{IsFull, IsInTrace, Shown, is_made, turn_of};
 ghost use Rattle.ops_turns.specs.Turn.{CanUnwind, OpGoesOn, is_going, is_open, running_of, runs_in};
 ghost use Rattle.core_primitives.specs.StateView.{thread_of};
 
 use core_primitives::{Primitives, ThreadId};
-use machine_data::{CallLabel, Label, LoopLabel, MainLabel, NoMemory, Outcome, Trap, Turn};
+use machine_data::{CallLabel, Label, LoopLabel, MainLabel, Outcome, Trap, Turn};
 use ops_guests::{OpResult, unwind_thread};
 use run_trace::PackedLabels;
 
@@ -21,8 +21,8 @@ pub struct MadeStep {
     pub turn: Turn,
 }
 
-/// What a step of the run results in: whose turn it is then. The label of one that was made is the last one in the trace, which gives
-/// the outcome where the run is over. It is a tag and a number, so that a function answers it in two registers.
+/// What a step of the run results in: whose turn it is then, or why none was made. The label of one that was made is the last one in
+/// the trace, which gives the outcome where the run is over. It is a tag and a number, so that a function answers it in two registers.
 #[derive(Clone, Copy)]
 pub enum StepResult {
     /// It is main's turn.
@@ -39,6 +39,25 @@ pub enum StepResult {
     Computes(u64),
     /// The run is over.
     Over,
+    /// None was made: the op calls a host, or nothing can go on. No label was added.
+    Nothing,
+    /// It is out of memory, and no label was added.
+    Full,
+    /// The hook that is told of groups answered an error.
+    HookFailed,
+}
+
+/// Returns whether a step was made, and told.
+#[inline(always)]
+pub fn is_made(stepped: StepResult) -> bool
+    ensures { result ≡ is_made stepped }
+{
+    match stepped {
+        StepResult::Nothing => false,
+        StepResult::Full => false,
+        StepResult::HookFailed => false,
+        _ => true,
+    }
 }
 
 /// Returns whose turn it is after a step that was made.
@@ -53,14 +72,15 @@ pub fn turn_of(stepped: StepResult) -> Turn
         StepResult::TakesEnded => Turn::Take { ended: true },
         StepResult::Runs(thread) => Turn::Run { thread },
         StepResult::Computes(thread) => Turn::Run { thread },
-        StepResult::Over => Turn::Over,
+        _ => Turn::Over,
     }
 }
 
 // What a step results in after which it is this one's turn.
 #[inline(always)]
 fn result_of(turn: Turn) -> StepResult
-    ensures { turn_of result ≡ turn }
+    ensures made { is_made result ≡ true }
+    ensures turn { turn_of result ≡ turn }
 {
     match turn {
         Turn::Main => StepResult::Main,
@@ -88,36 +108,30 @@ fn outcome_of(label: Label) -> Option<Outcome>
 
 /// Adds the label of a step that was made to the trace. If it is out of memory, nothing is added.
 #[inline(always)]
-pub fn put(trace: &mut PackedLabels, made: MadeStep) -> Result<StepResult, NoMemory>
-    ensures in_trace { IfOk result (λ stepped. IsInTrace stepped trace.old made trace.new) }
-    ensures err { OnErr result (trace.new ≡ trace.old) }
+pub fn put(trace: &mut PackedLabels, made: MadeStep) -> StepResult
+    ensures in_trace { is_made result ≡ true → IsInTrace result trace.old made trace.new }
+    ensures full { is_made result ≡ false → IsFull result trace.old trace.new }
 {
+    // The result is found first, where the turn was, so that no jump is needed.
+    let stepped = result_of(made.turn);
     let Ok(()) = trace.push(made.label) else {
-        return Err(NoMemory);
+        return StepResult::Full;
     };
-    Ok(result_of(made.turn))
+    stepped
 }
 
-// The outcome that the last label gives. It is a function of its own, as few steps end a run.
+/// Returns the outcome of a run that is over, which the last label gives. It is a function of its own, as few steps end a run.
 #[cold]
 #[inline(never)]
-fn last_outcome(trace: &PackedLabels) -> Option<Outcome>
-    ensures { result ≡ last_outcome trace.now }
-{
-    match trace.last() {
-        Some(label) => outcome_of(label),
-        None => None,
-    }
-}
-
-/// Returns the outcome of a run that is over.
-#[inline(always)]
 pub fn outcome_in(trace: &PackedLabels) -> Outcome
     requires { is_some (last_outcome trace.now) ≡ true }
     ensures { last_outcome trace.now ≡ Some result }
 {
-    match last_outcome(trace) {
-        Some(outcome) => outcome,
+    match trace.last() {
+        Some(label) => match outcome_of(label) {
+            Some(outcome) => outcome,
+            None => unreachable!(),
+        },
         None => unreachable!(),
     }
 }
@@ -184,19 +198,19 @@ fn show_unwind<W: Primitives>(
     thread: ThreadId,
     trace: &mut PackedLabels,
     op_result: OpResult,
-) -> Result<StepResult, NoMemory>
+) -> StepResult
     requires unwinds { CanUnwind op_result (thread_of (W.view w.old) thread) (W.view w.old).core }
     requires goes { OpGoesOn op_result (W.view w.old) }
     requires falls { turn_after op_result ≡ Turn.Over }
-    ensures shown { IfOk result (λ stepped. Shown thread op_result (W.view w.old) trace.old stepped (W.view w.new) trace.new) }
+    ensures shown { is_made result ≡ true → Shown thread op_result (W.view w.old) trace.old result (W.view w.new) trace.new }
     ensures works { KeepsTold (W.view w.old) (W.view w.new) }
-    ensures err { OnErr result (trace.new ≡ trace.old) }
+    ensures full { is_made result ≡ false → IsFull result trace.old trace.new }
 {
     let made = made_of(w, thread, op_result);
     let Ok(()) = trace.push(made.label) else {
-        return Err(NoMemory);
+        return StepResult::Full;
     };
-    Ok(StepResult::Over)
+    StepResult::Over
 }
 
 // Adds what a trap shows to the trace. It is inlined, so that what a trap needs in memory is made where one comes.
@@ -206,12 +220,12 @@ fn show_trap<W: Primitives>(
     thread: ThreadId,
     trace: &mut PackedLabels,
     trap: Trap,
-) -> Result<StepResult, NoMemory>
+) -> StepResult
     requires unwinds { CanUnwind (OpResult.Traps trap) (thread_of (W.view w.old) thread) (W.view w.old).core }
     requires goes { OpGoesOn (OpResult.Traps trap) (W.view w.old) }
-    ensures shown { IfOk result (λ q. Shown thread (OpResult.Traps trap) (W.view w.old) trace.old q (W.view w.new) trace.new) }
+    ensures shown { is_made result ≡ true → Shown thread (OpResult.Traps trap) (W.view w.old) trace.old result (W.view w.new) trace.new }
     ensures works { KeepsTold (W.view w.old) (W.view w.new) }
-    ensures err { OnErr result (trace.new ≡ trace.old) }
+    ensures full { is_made result ≡ false → IsFull result trace.old trace.new }
 {
     show_unwind(w, thread, trace, OpResult::Traps(trap))
 }
@@ -223,12 +237,12 @@ fn show_failure<W: Primitives>(
     thread: ThreadId,
     trace: &mut PackedLabels,
     work: u64,
-) -> Result<StepResult, NoMemory>
+) -> StepResult
     requires unwinds { CanUnwind (OpResult.Fails work) (thread_of (W.view w.old) thread) (W.view w.old).core }
     requires goes { OpGoesOn (OpResult.Fails work) (W.view w.old) }
-    ensures shown { IfOk result (λ q. Shown thread (OpResult.Fails work) (W.view w.old) trace.old q (W.view w.new) trace.new) }
+    ensures shown { is_made result ≡ true → Shown thread (OpResult.Fails work) (W.view w.old) trace.old result (W.view w.new) trace.new }
     ensures works { KeepsTold (W.view w.old) (W.view w.new) }
-    ensures err { OnErr result (trace.new ≡ trace.old) }
+    ensures full { is_made result ≡ false → IsFull result trace.old trace.new }
 {
     show_unwind(w, thread, trace, OpResult::Fails(work))
 }
@@ -242,12 +256,12 @@ pub(crate) fn show<W: Primitives>(
     trace: &mut PackedLabels,
     op_result: OpResult,
     computed: bool,
-) -> Result<StepResult, NoMemory>
+) -> StepResult
     requires unwinds { CanUnwind op_result (thread_of (W.view w.old) thread) (W.view w.old).core }
     requires goes { OpGoesOn op_result (W.view w.old) }
-    ensures shown { IfOk result (λ stepped. Shown thread op_result (W.view w.old) trace.old stepped (W.view w.new) trace.new) }
+    ensures shown { is_made result ≡ true → Shown thread op_result (W.view w.old) trace.old result (W.view w.new) trace.new }
     ensures works { KeepsTold (W.view w.old) (W.view w.new) }
-    ensures err { OnErr result (trace.new ≡ trace.old) }
+    ensures full { is_made result ≡ false → IsFull result trace.old trace.new }
 {
     let (label, answer) = match op_result {
         OpResult::Continues(label, next, _) if computed => (label, StepResult::Computes(next)),
@@ -260,7 +274,7 @@ pub(crate) fn show<W: Primitives>(
         OpResult::Fails(work) => return show_failure(w, thread, trace, work),
     };
     let Ok(()) = trace.push(label) else {
-        return Err(NoMemory);
+        return StepResult::Full;
     };
-    Ok(answer)
+    answer
 }

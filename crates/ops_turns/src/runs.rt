@@ -2,13 +2,13 @@
 ghost use Rattle.ops_dispatch.specs.Fits.{HasHandles, HasInstances, calls_host, is_plain, op_fits};
 ghost use Rattle.ops_dispatch.specs.Polls.{polled_host};
 ghost use Rattle.ops_dispatch.specs.Runner.{Runner};
-ghost use Rattle.std.specs.Prelude.{◌≡◌, ◌+◌, ◌<◌, ◌^◌, IfOk, OnErr, OnOk, Some, is_some, true};
+ghost use Rattle.std.specs.Prelude.{◌≡◌, ◌≢◌, ◌+◌, ◌<◌, ◌^◌, IfOk, OnErr, OnOk, Some, false, is_some, true};
 ghost use Rattle.machine_data.specs.Maps.{get};
 ghost use Rattle.machine_data.specs.Read.{op_progress_of, instance_of, position_of};
 ghost use Rattle.ops_guests.specs.Works.{KeepsTold, NamesTold};
 ghost use Rattle.machine_rules.specs.Scripts.{op_of};
 ghost use Rattle.ops_turns.specs.Ran.{DidHere, MakesFew, OpMade, IsBeforeEnd, WantsMemory, scripted_rule_of};
-ghost use Rattle.ops_turns.specs.StepResult.{CallStepped, DataShown, ExitShown, OpPolls, OpShown, OpStep, RuleRan, RunStepped, Shown};
+ghost use Rattle.ops_turns.specs.StepResult.{CallStepped, DataShown, ExitShown, IsFull, OpPolls, OpShown, OpStep, RuleRan, RunStepped, Shown, is_made};
 ghost use Rattle.ops_turns.specs.Turn.{CanUnwind, OpGoesOn, CoreInOrder, given, running_of};
 ghost use Rattle.ops_turns.specs.WellFormed.{IsWellFormed};
 ghost use Rattle.core_primitives.specs.StateView.{thread_of};
@@ -60,12 +60,12 @@ fn run_data<W: Primitives>(
     end: u32,
     trace: &mut PackedLabels,
     more: bool,
-) -> Result<StepResult, NoMemory>
+) -> StepResult
     requires runner { Runner thread (W.view w.old) }
     requires within { IsBeforeEnd end component.now (thread_of (W.view w.old) thread) (W.view w.old).core }
-    ensures shown { IfOk result (λ q. DataShown component.now op.now thread (W.view w.old) trace.old q (W.view w.new) trace.new) }
-    ensures works { OnOk result (KeepsTold (W.view w.old) (W.view w.new)) }
-    ensures err { OnErr result (trace.new ≡ trace.old) }
+    ensures shown { is_made result ≡ true → DataShown component.now op.now thread (W.view w.old) trace.old result (W.view w.new) trace.new }
+    ensures works { result ≢ StepResult.Full → KeepsTold (W.view w.old) (W.view w.new) }
+    ensures full { is_made result ≡ false → IsFull result trace.old trace.new }
 {
     // only the contract speaks of `component`
     let _component = component;
@@ -87,7 +87,7 @@ fn run_plain<W: Primitives>(
     thread: ThreadId,
     op: &Op,
     trace: &mut PackedLabels,
-) -> Result<StepResult, NoMemory>
+) -> StepResult
     requires runner { Runner thread (W.view w.old) }
     requires plain { is_plain op.now ≡ true }
     requires fits { op_fits component.now op.now ≡ true }
@@ -95,9 +95,9 @@ fn run_plain<W: Primitives>(
     requires position { position_of (thread_of (W.view w.old) thread) (W.view w.old).core + 1 < 2 ^ 32 }
     requires handles { is_some (get (W.view w.old).core.handles (instance_of (thread_of (W.view w.old) thread) (W.view w.old).core)) ≡ true }
     requires few { given (W.view w.old).core < 2 ^ 61 }
-    ensures shown { IfOk result (λ q. OpShown component.now op.now thread (W.view w.old) trace.old q (W.view w.new) trace.new) }
-    ensures works { OnOk result (NamesTold (W.view w.old) (W.view w.new)) }
-    ensures err { OnErr result (trace.new ≡ trace.old) }
+    ensures shown { is_made result ≡ true → OpShown component.now op.now thread (W.view w.old) trace.old result (W.view w.new) trace.new }
+    ensures works { result ≢ StepResult.Full → NamesTold (W.view w.old) (W.view w.new) }
+    ensures full { is_made result ≡ false → IsFull result trace.old trace.new }
 {
     // The thread is there, which is asked once for all that its op looks up.
     match w.number(thread) {
@@ -105,7 +105,7 @@ fn run_plain<W: Primitives>(
         _ => {}
     }
     let Ok(op_result) = do_plain_op(component, w, thread, op) else {
-        return Err(NoMemory);
+        return StepResult::Full;
     };
     finish(w, thread, op, op_result);
     show(w, thread, trace, op_result, false)
@@ -119,12 +119,12 @@ fn show_exit<W: Primitives>(
     thread: ThreadId,
     trace: &mut PackedLabels,
     op_result: OpResult,
-) -> Result<StepResult, NoMemory>
+) -> StepResult
     requires unwinds { CanUnwind op_result (thread_of (W.view w.old) thread) (W.view w.old).core }
     requires goes { OpGoesOn op_result (W.view w.old) }
-    ensures shown { IfOk result (λ stepped. Shown thread op_result (W.view w.old) trace.old stepped (W.view w.new) trace.new) }
+    ensures shown { is_made result ≡ true → Shown thread op_result (W.view w.old) trace.old result (W.view w.new) trace.new }
     ensures works { KeepsTold (W.view w.old) (W.view w.new) }
-    ensures err { OnErr result (trace.new ≡ trace.old) }
+    ensures full { is_made result ≡ false → IsFull result trace.old trace.new }
 {
     if let OpResult::Continues(Label::Task(TaskLabel::Exit(number)), next, answer) = op_result {
         let op_result = OpResult::Continues(Label::Task(TaskLabel::Exit(number)), next, answer);
@@ -135,15 +135,11 @@ fn show_exit<W: Primitives>(
 
 // The thread exits at its script's end.
 #[inline(never)]
-fn run_exit<W: Primitives>(
-    w: &mut W,
-    thread: ThreadId,
-    trace: &mut PackedLabels,
-) -> Result<StepResult, NoMemory>
+fn run_exit<W: Primitives>(w: &mut W, thread: ThreadId, trace: &mut PackedLabels) -> StepResult
     requires runner { Runner thread (W.view w.old) }
-    ensures shown { IfOk result (λ q. ExitShown thread (W.view w.old) trace.old q (W.view w.new) trace.new) }
-    ensures works { OnOk result (KeepsTold (W.view w.old) (W.view w.new)) }
-    ensures err { OnErr result (trace.new ≡ trace.old) }
+    ensures shown { is_made result ≡ true → ExitShown thread (W.view w.old) trace.old result (W.view w.new) trace.new }
+    ensures works { result ≢ StepResult.Full → KeepsTold (W.view w.old) (W.view w.new) }
+    ensures full { is_made result ≡ false → IsFull result trace.old trace.new }
 {
     let op_result = exit(w, thread);
     show_exit(w, thread, trace, op_result)
@@ -187,33 +183,24 @@ fn run_by<W: Primitives>(
     script: &[Op],
     position: u32,
     trace: &mut PackedLabels,
-) -> Result<Option<StepResult>, NoMemory>
+) -> StepResult
     requires runner { Runner thread (W.view w.old) }
     requires fits { op_fits component.now op.now ≡ true }
     requires instances { HasInstances component.now (W.view w.old).core }
     requires within { IsBeforeEnd end component.now (thread_of (W.view w.old) thread) (W.view w.old).core }
     requires handles { is_some (get (W.view w.old).core.handles (instance_of (thread_of (W.view w.old) thread) (W.view w.old).core)) ≡ true }
     requires few { given (W.view w.old).core < 2 ^ 61 }
-    ensures step { IfOk result (λ step. OpStep component.now op.now thread (W.view w.old) trace.old step (W.view w.new) trace.new) }
-    ensures polls { IfOk result (λ step. OpPolls component.now op.now thread (W.view w.old) step) }
-    ensures works { OnOk result (NamesTold (W.view w.old) (W.view w.new)) }
-    ensures err { OnErr result (trace.new ≡ trace.old) }
+    ensures step { OpStep component.now op.now thread (W.view w.old) trace.old result (W.view w.new) trace.new }
+    ensures polls { OpPolls component.now op.now thread (W.view w.old) result }
+    ensures works { result ≢ StepResult.Full → NamesTold (W.view w.old) (W.view w.new) }
 {
     match op {
-        Op::Call(call) if is_host_call(call) => Ok(None),
+        Op::Call(call) if is_host_call(call) => StepResult::Nothing,
         Op::Data(data) => {
             let more = matches!(op_at(script, position.saturating_add(1)), Some(Op::Data(_)));
-            let Ok(stepped) = run_data(component, w, thread, data, end, trace, more) else {
-                return Err(NoMemory);
-            };
-            Ok(Some(stepped))
+            run_data(component, w, thread, data, end, trace, more)
         }
-        _ => {
-            let Ok(stepped) = run_plain(component, w, thread, op, trace) else {
-                return Err(NoMemory);
-            };
-            Ok(Some(stepped))
-        }
+        _ => run_plain(component, w, thread, op, trace),
     }
 }
 
@@ -226,14 +213,13 @@ pub fn step_run<W: Primitives>(
     w: &mut W,
     number: u64,
     trace: &mut PackedLabels,
-) -> Result<Option<StepResult>, NoMemory>
+) -> StepResult
     requires covered { IsWellFormed component.now }
     requires order { CoreInOrder component.now (Turn.Run number) (W.view w.old).core }
     requires runs { running_of (W.view w.old) ≡ Some number }
     requires few { given (W.view w.old).core < 2 ^ 61 }
-    ensures ran { IfOk result (λ q. RunStepped component.now number (W.view w.old) q (W.view w.new) trace.old trace.new) }
-    ensures works { OnOk result (NamesTold (W.view w.old) (W.view w.new)) }
-    ensures err { OnErr result (trace.new ≡ trace.old) }
+    ensures ran { RunStepped component.now number (W.view w.old) result (W.view w.new) trace.old trace.new }
+    ensures works { result ≢ StepResult.Full → NamesTold (W.view w.old) (W.view w.new) }
 {
     w.none_is_zero();
     let Some(thread) = w.current() else {
@@ -252,12 +238,7 @@ pub fn step_run<W: Primitives>(
             point.position,
             trace,
         ),
-        None => {
-            let Ok(stepped) = run_exit(w, thread, trace) else {
-                return Err(NoMemory);
-            };
-            Ok(Some(stepped))
-        }
+        None => run_exit(w, thread, trace),
     }
 }
 

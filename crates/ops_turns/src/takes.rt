@@ -1,6 +1,6 @@
 //! The taking of an entry of a thread.
 ghost use Rattle.ops_turns.specs.Worked.{tracked_entry_group};
-ghost use Rattle.std.specs.Prelude.{◌≡◌, ◌<◌, IfOk, None, OnErr, OnOk, Some};
+ghost use Rattle.std.specs.Prelude.{◌≡◌, ◌≢◌, ◌<◌, IfOk, None, OnOk, Some, false, true};
 ghost use Rattle.machine_data.specs.Moves.{why_of};
 ghost use Rattle.machine_data.specs.Read.{next_entry};
 ghost use Rattle.machine_data.specs.declared.label.Label.TheVariants as labels;
@@ -12,7 +12,7 @@ ghost use Rattle.ops_guests.specs.Stays.{StaysAfter};
 ghost use Rattle.ops_guests.specs.Works.{KeepsTold};
 ghost use Rattle.machine_rules.specs.Places.{Placed};
 ghost use Rattle.machine_rules.specs.Takes.{pushed};
-ghost use Rattle.ops_turns.specs.StepResult.{Shown, TakingShown, TookShown};
+ghost use Rattle.ops_turns.specs.StepResult.{IsFull, Shown, TakingShown, TookShown, is_made};
 ghost use Rattle.ops_turns.specs.Taken.{FindsSet, Taken, TakesDelivery, TakesHost, TakesThread};
 ghost use Rattle.ops_turns.specs.Turn.{CanUnwind, OpGoesOn, Shows, CoreInOrder, Took};
 ghost use Rattle.core_primitives.specs.StateView.{on_core, thread_of, work_of};
@@ -85,12 +85,12 @@ fn show_taken<W: Primitives>(
     thread: ThreadId,
     trace: &mut PackedLabels,
     op_result: OpResult,
-) -> Result<StepResult, NoMemory>
+) -> StepResult
     requires unwinds { CanUnwind op_result (thread_of (W.view w.old) thread) (W.view w.old).core }
     requires goes { OpGoesOn op_result (W.view w.old) }
-    ensures shown { IfOk result (λ stepped. Shown thread op_result (W.view w.old) trace.old stepped (W.view w.new) trace.new) }
+    ensures shown { is_made result ≡ true → Shown thread op_result (W.view w.old) trace.old result (W.view w.new) trace.new }
     ensures works { KeepsTold (W.view w.old) (W.view w.new) }
-    ensures err { OnErr result (trace.new ≡ trace.old) }
+    ensures full { is_made result ≡ false → IsFull result trace.old trace.new }
 {
     if let OpResult::Continues(Label::Take(label), next, answer) = op_result {
         return show(
@@ -111,16 +111,16 @@ fn step_thread<W: Primitives>(
     mark: Mark,
     thread: ThreadId,
     trace: &mut PackedLabels,
-) -> Result<StepResult, NoMemory>
+) -> StepResult
     requires taken { Taken mark (thread_of (W.view w.old) thread) (W.view w.old).core }
     requires finds { FindsSet (thread_of (W.view w.old) thread) (W.view w.old).core }
-    ensures shown { IfOk result (λ q. TakingShown mark thread (W.view w.old) trace.old q (W.view w.new) trace.new) }
-    ensures works { OnOk result (KeepsTold (W.view w.old) (W.view w.new)) }
-    ensures err { OnErr result (trace.new ≡ trace.old) }
+    ensures shown { is_made result ≡ true → TakingShown mark thread (W.view w.old) trace.old result (W.view w.new) trace.new }
+    ensures works { result ≢ StepResult.Full → KeepsTold (W.view w.old) (W.view w.new) }
+    ensures full { is_made result ≡ false → IsFull result trace.old trace.new }
 {
     w.set_current(Some(thread));
     let Ok(op_result) = take_thread(w, mark, thread) else {
-        return Err(NoMemory);
+        return StepResult::Full;
     };
     show_taken(w, thread, trace, op_result)
 }
@@ -167,40 +167,28 @@ pub(crate) fn step_take<W: Primitives>(
     ended: bool,
     trace: &mut PackedLabels,
     worked: &mut Option<u64>,
-) -> Result<Option<StepResult>, NoMemory>
+) -> StepResult
     requires unworked { worked.old ≡ None }
     requires order { CoreInOrder component.now (Turn.Take ended) (W.view w.old).core }
     requires current { (W.view w.old).current ≡ None }
     ensures worked { worked.new ≡ tracked_entry_group (next_entry (W.view w.old).core) (W.view w.old) }
-    ensures took { IfOk result (λ q. TookShown component.now ended (W.view w.old) trace.old q (W.view w.new) trace.new) }
-    ensures works { OnOk result (KeepsTold (W.view w.old) (W.view w.new)) }
-    ensures err { OnErr result (trace.new ≡ trace.old) }
+    ensures took { TookShown component.now ended (W.view w.old) trace.old result (W.view w.new) trace.new }
+    ensures works { result ≢ StepResult.Full → KeepsTold (W.view w.old) (W.view w.new) }
 {
     // only the contract speaks of `component`
     let _component = component;
     w.none_is_zero();
     match w.take_next() {
-        None => Ok(None),
-        Some((mark, EntryId::Thread(thread))) => {
-            let Ok(stepped) = step_thread(w, mark, thread, trace) else {
-                return Err(NoMemory);
-            };
-            Ok(Some(stepped))
-        }
+        None => StepResult::Nothing,
+        Some((mark, EntryId::Thread(thread))) => step_thread(w, mark, thread, trace),
         Some((mark, EntryId::Push(work))) => {
             let made = step_push(w, mark, work);
-            let Ok(stepped) = put(trace, made) else {
-                return Err(NoMemory);
-            };
-            Ok(Some(stepped))
+            put(trace, made)
         }
         Some((mark, EntryId::Host(work))) => {
             *worked = w.work_group(work);
             let made = step_host(w, mark, work);
-            let Ok(stepped) = put(trace, made) else {
-                return Err(NoMemory);
-            };
-            Ok(Some(stepped))
+            put(trace, made)
         }
     }
 }

@@ -1,6 +1,6 @@
 //! The turns of a run in which main has no part.
 ghost use Rattle.ops_turns.specs.Worked.{MayPoll, PollsWork, TellsOfNext, tracked_worked_group};
-ghost use Rattle.std.specs.Prelude.{◌≡◌, ◌≤◌, IfOk, None, OnErr, OnOk};
+ghost use Rattle.std.specs.Prelude.{◌≡◌, ◌≢◌, ◌≤◌, IfOk, None, OnErr};
 ghost use Rattle.laws_states.specs.Order.{WorksQueued};
 ghost use Rattle.machine_data.specs.Read.{next_entry};
 ghost use Rattle.ops_guests.specs.Works.{KeepsTold};
@@ -76,32 +76,24 @@ pub fn take<W: Primitives>(
     trap_on_idle: bool,
     trace: &mut PackedLabels,
     worked: &mut Option<u64>,
-) -> Result<Option<StepResult>, NoMemory>
+) -> StepResult
     requires unworked { worked.old ≡ None }
     requires at { IsAtTurn component.now (Turn.Take ended) (W.view w.old) }
     ensures worked { worked.new ≡ tracked_worked_group (W.view w.old) (Turn.Take ended) }
-    ensures turned { IfOk result (λ q. TakesBeside component.now trap_on_idle ended (W.view w.old) q (W.view w.new) trace.old trace.new) }
-    ensures there { OnOk result (RunnerThere (W.view w.new)) }
-    ensures works { OnOk result (KeepsTold (W.view w.old) (W.view w.new)) }
-    ensures err { OnErr result (trace.new ≡ trace.old) }
+    ensures turned { TakesBeside component.now trap_on_idle ended (W.view w.old) result (W.view w.new) trace.old trace.new }
+    ensures there { result ≢ StepResult.Full → RunnerThere (W.view w.new) }
+    ensures works { result ≢ StepResult.Full → KeepsTold (W.view w.old) (W.view w.new) }
 {
-    let Ok(taken) = step_take(component, w, ended, trace, worked) else {
-        return Err(NoMemory);
+    let taken = step_take(component, w, ended, trace, worked);
+    let StepResult::Nothing = taken else {
+        return taken;
     };
-    match taken {
-        Some(stepped) => Ok(Some(stepped)),
-        None => {
-            if ended {
-                unreachable!()
-            }
-            match rest(w, trap_on_idle) {
-                Some(made) => {
-                    let stepped = put(trace, made)?;
-                    Ok(Some(stepped))
-                }
-                None => Ok(None),
-            }
-        }
+    if ended {
+        unreachable!()
+    }
+    match rest(w, trap_on_idle) {
+        Some(made) => put(trace, made),
+        None => StepResult::Nothing,
     }
 }
 

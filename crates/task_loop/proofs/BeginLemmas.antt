@@ -20,6 +20,7 @@ use Rattle.core_primitives.specs.Groups.{IsAsked}
 use Rattle.task_store.specs.Hosts.{HoldsHosts}
 use Rattle.task_store.specs.declared.store.Store.{Store}
 use Rattle.ops_turns.proofs.FreshLemmas.{given_fresh, core_in_order_fresh}
+use Rattle.ops_turns.specs.StepResult.{turn_of}
 use Rattle.ops_turns.specs.Turn.{IsSettled, CoreInOrder, given, is_open, running_of, runs_in, setting_of}
 use Rattle.ops_turns.specs.WellFormed.{IsWellFormed}
 use Rattle.core_primitives.specs.StateView.{StateView, with_core}
@@ -66,7 +67,7 @@ module _ {M T H G : Type 0} (says : Says M) (course : H → HostDef) (c : Compon
       by (turn.Take b) in_turn = tt
       by turn.Over in_turn = tt
 
-  module _ (run : RunConcurrent) (main : run.turn ≡ turn.Main) (m : M) (suits : says.suits m c) (covered : IsWellFormed c) (st new : Store T H G) (begun : new ≡ record st { running = true }) (trace : List Label) where
+  module _ (run : RunConcurrent) (main : turn_of run.last ≡ turn.Main) (m : M) (suits : says.suits m c) (covered : IsWellFormed c) (st new : Store T H G) (begun : new ≡ record st { running = true }) (trace : List Label) where
     -- of a store in which no thread runs
     pub may_start : CoreInOrder c turn.Main st.state.core → running_of st.state ≡ None → says.knows m st.state → HoldsHosts course st → IsAsked st.state → given st.state.core ≤ 2 ^ 60 →
         MayRun says course c (at run m new trace)

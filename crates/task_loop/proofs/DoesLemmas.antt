@@ -2,7 +2,7 @@
 use Rattle.laws_labels.proofs.TurnLemmas.{main_at_its_turns}
 use Rattle.laws_labels.specs.Own.{is_main_turn, is_of_main}
 use Rattle.std.proofs.Common.{ap, refl, subst, sym, ◌∙◌}
-use Rattle.std.specs.Prelude.{Bool, Err, IfOk, List, None, Ok, OnErr, OnOk, Option, Result, Some, false, ℕ, ◌≡◌}
+use Rattle.std.specs.Prelude.{Bool, Err, List, None, Ok, OnErr, OnOk, Option, Result, Some, false, ℕ, ◌≡◌}
 use Rattle.task_loop.specs.Ran.{DoesStep}
 use Rattle.machine_data.specs.Core.{Core, Main}
 use Rattle.machine_data.specs.declared.label.Label.{Label}
@@ -41,12 +41,11 @@ module _ {M : Type 0} (does : M → Core → MainStep → M → Core → Type 0)
   still_turned ended None h = refl
   still_turned ended (Some made) h = still (turn.Take ended) refl made h
 
-  pub still_taken : {E : Type 0} (b ended : Bool) (r : Result (Option StepResult) E) (before after : List Label) → x.idle ≡ idle_line_of b → PendsIn x s.core k (turn.Take ended)
-      → IfOk r (λ o. AddedOrNone (λ made. TurnedBeside x.component b (turn.Take ended) s made t) o before after) → IfOk r (λ o. AddedOrNone (λ made. DoesStep does m s.core (step_of made) m t.core) o before after)
-  still_taken b ended (Ok o) before after idle pends turned =
-      none_as (λ (made : Option MadeStep). TurnedBeside x.component b (turn.Take ended) s made t) (λ (made : Option MadeStep). DoesStep does m s.core (step_of made) m t.core) o before after
+  pub still_taken : (b ended : Bool) (q : StepResult) (before after : List Label) → x.idle ≡ idle_line_of b → PendsIn x s.core k (turn.Take ended)
+      → AddedOrNone (λ made. TurnedBeside x.component b (turn.Take ended) s made t) q before after → AddedOrNone (λ made. DoesStep does m s.core (step_of made) m t.core) q before after
+  still_taken b ended q before after idle pends turned =
+      none_as (λ (made : Option MadeStep). TurnedBeside x.component b (turn.Take ended) s made t) (λ (made : Option MadeStep). DoesStep does m s.core (step_of made) m t.core) q before after
       (λ made h. still_turned ended made (h x refl idle k pends)) turned
-  still_taken b ended (Err e) before after idle pends turned = tt
 
 not_main : (p : Turn) → (p ≡ turn.Main → ⊥) → is_main_turn p ≡ false
 not_main turn.Main other = absurd (other refl)

@@ -5,7 +5,7 @@ use Rattle.run_trace.specs.declared.yield_budget.YieldBudget.{YieldBudget}
 use Rattle.ops_state.specs.declared.error.TaskError.{TaskError}
 use Rattle.std.proofs.Common.{subst, sym, ◌∙◌}
 use Rattle.std.proofs.lemmas.List.{append_cancel_left}
-use Rattle.std.specs.Prelude.{Bool, List, None, Ok, Result, Some, false, length, not, true, ℕ, ◌&&◌, ◌<◌, ◌==◌, ◌≡◌, ◌≤◌}
+use Rattle.std.specs.Prelude.{Bool, List, Ok, Result, Some, false, length, not, true, ℕ, ◌&&◌, ◌<◌, ◌==◌, ◌≡◌, ◌≤◌}
 use Rattle.task_loop.proofs.HasRunLemmas.{HasCome, come_goes, opened, over_added, ran_kept, ran_over, told}
 use Rattle.task_loop.proofs.PausedLemmas.{Spent, Paused, idle_turned, idles, poll_ends, poll_rests, used_up, yields_now}
 use Rattle.task_loop.specs.HasRun.{At, HasPolled, HasTurned, Keeps, RanTo, numbers, setting, state}
@@ -24,9 +24,10 @@ use Rattle.machine_rules.specs.Outcome.{is_at_rest, last_outcome}
 use Rattle.machine_rules.specs.Stalled.{Setting}
 use Rattle.core_primitives.specs.Groups.{IsAsked}
 use Rattle.task_store.specs.Hosts.{HoldsHosts}
-use Rattle.ops_turns.specs.StepResult.{turn_of}
+use Rattle.ops_turns.specs.StepResult.{is_made, turn_of}
 use Rattle.ops_turns.specs.Turn.{is_open}
 use Rattle.ops_turns.specs.declared.made.StepResult.{StepResult}
+use Rattle.ops_turns.specs.declared.made.StepResult.TheVariants as stepped
 
 module _ {M T H G : Type 0} (says : Says M) (course : H → HostDef) (c : Component) (a b : At M T H G) (steps : ℕ) where
   has_polled : (r : Result RunPoll TaskError) (yield_budget yield_budget' : YieldBudget) → Paused (setting says course c a) (state says course c a) a.trace (numbers says course c a) yield_budget steps r b.turn (says.part b.main) b.store.state b.trace yield_budget' →
@@ -92,28 +93,28 @@ module _ {M T H G : Type 0} (says : Says M) (course : H → HostDef) (c : Compon
 
   module _ (v : At M T H G) (r : ℕ) where
     -- the turn saw that
-    pub polled_none : n ≤ steps → HasTurned says course c None r u v → yield_budget'.since ≡ k' → yield_budget'.passes ≡ false → HasPolled says course c steps (Ok poll.Idle) yield_budget a v yield_budget'
+    pub polled_none : n ≤ steps → HasTurned says course c stepped.Nothing r u v → yield_budget'.since ≡ k' → yield_budget'.passes ≡ false → HasPolled says course c steps (Ok poll.Idle) yield_budget a v yield_budget'
     polled_none room op_result since passes =
-        let t = told says course c a u n come v r None op_result in
+        let t = told says course c a u n come v r stepped.Nothing op_result in
         has_polled says course c a v steps (Ok poll.Idle) yield_budget yield_budget'
         (subst (λ (q : Turn). Paused x s a.trace given yield_budget steps (Ok poll.Idle) q (says.part v.main) v.store.state v.trace yield_budget') (sym op_result.turn)
         (idle_turned x s a.trace given yield_budget steps u.turn (says.part u.main) u.store.state u.trace n b' k' come.on so_far (says.part v.main) v.store.state v.trace yield_budget' room (t.0.turned, t.1) since passes))
         (ran_kept says course c a u n come v r op_result) op_result.suits op_result.knows op_result.works op_result.asked
 
     -- the run is over
-    pub polled_over : (q : StepResult) (o : Outcome) → n < steps → turn_of q ≡ turn.Over → last_outcome v.trace ≡ Some o → HasTurned says course c (Some q) r u v → yield_budget'.since ≡ k' → yield_budget'.passes ≡ false →
+    pub polled_over : (q : StepResult) (o : Outcome) → n < steps → is_made q ≡ true → turn_of q ≡ turn.Over → last_outcome v.trace ≡ Some o → HasTurned says course c q r u v → yield_budget'.since ≡ k' → yield_budget'.passes ≡ false →
         HasPolled says course c steps (run_answer o) yield_budget a (record v { turn = turn.Over }) yield_budget'
-    polled_over q o room is last op_result since passes =
+    polled_over q o room made is last op_result since passes =
         has_polled says course c a (record v { turn = turn.Over }) steps (run_answer o) yield_budget yield_budget'
-        (poll_ends x s a.trace given yield_budget steps u.turn (says.part u.main) u.store.state u.trace n b' k' come.on so_far (says.part v.main) v.store.state v.trace yield_budget' o room (over_added says course c a u n come v r q o is last op_result) since passes)
-        (ran_over says course c a u n come v r q is op_result) op_result.suits op_result.knows op_result.works op_result.asked
+        (poll_ends x s a.trace given yield_budget steps u.turn (says.part u.main) u.store.state u.trace n b' k' come.on so_far (says.part v.main) v.store.state v.trace yield_budget' o room (over_added says course c a u n come v r q o made is last op_result) since passes)
+        (ran_over says course c a u n come v r q made is op_result) op_result.suits op_result.knows op_result.works op_result.asked
 
     -- after a turn that rests
-    pub polled_rests : (q : StepResult) → is_open (turn_of q) ≡ true → n < steps → HasTurned says course c (Some q) r u v → Keeps says u v → yields_before b' k' (next_mark u.turn u.store.state.core) ≡ false →
+    pub polled_rests : (q : StepResult) → is_made q ≡ true → is_open (turn_of q) ≡ true → n < steps → HasTurned says course c q r u v → Keeps says u v → yields_before b' k' (next_mark u.turn u.store.state.core) ≡ false →
         rests_by u.turn (next_mark u.turn u.store.state.core) ≡ true → yield_budget'.since ≡ counted k' (next_mark u.turn u.store.state.core) → yield_budget'.passes ≡ false →
         HasPolled says course c steps (Ok poll.Rest) yield_budget a (record v { turn = turn_of q }) yield_budget'
-    polled_rests q ongoing room op_result kept stays rests since passes =
-        let goes = come_goes says course c a u n come v r q ongoing op_result kept in
+    polled_rests q made ongoing room op_result kept stays rests since passes =
+        let goes = come_goes says course c a u n come v r q made ongoing op_result kept in
         has_polled says course c a (record v { turn = turn_of q }) steps (Ok poll.Rest) yield_budget yield_budget'
-        (poll_rests x s a.trace given yield_budget steps u.turn (says.part u.main) u.store.state u.trace n b' k' come.on so_far (says.part v.main) v.store.state v.trace (turn_of q) (opened says course c a u n come v r q ongoing op_result) stays yield_budget' room rests since passes)
+        (poll_rests x s a.trace given yield_budget steps u.turn (says.part u.main) u.store.state u.trace n b' k' come.on so_far (says.part v.main) v.store.state v.trace (turn_of q) (opened says course c a u n come v r q made ongoing op_result) stays yield_budget' room rests since passes)
         goes.ran goes.suits goes.knows goes.works goes.asked

@@ -17,7 +17,7 @@ use Rattle.task_loop.proofs.RanLemmas.{nothing_ran, ran_computed, ran_more, ran_
 use Rattle.task_loop.proofs.StartLemmas.{trapped_hosts}
 use Rattle.task_loop.proofs.TakenLemmas.{stands_adds}
 use Rattle.task_loop.proofs.ToldLemmas.{asked_computed}
-use Rattle.task_loop.specs.HasRun.{At, DrivesTo, FailsTurn, GoesTo, HasDriven, HasFailed, HasGone, HasHalted, HasLost, HasPolled, HasStopped, HasTurned, IsLost, IsStopped, Keeps, LacksTurn, MayRun, MayTurn, PollsTo, RanTo, TurnsGive, at, numbers, setting, state}
+use Rattle.task_loop.specs.HasRun.{At, DrivesTo, FailsTurn, GoesTo, HasDriven, HasFailed, HasGone, HasLost, HasPolled, HasStopped, HasTurned, IsLost, IsStopped, Keeps, LacksTurn, MayRun, MayTurn, PollsTo, RanTo, at, numbers, setting, state}
 use Rattle.task_loop.specs.Hooked.{StopsTurn, hook_failed}
 use Rattle.task_loop.specs.YieldBudgets.{LeavesYieldBudget}
 use Rattle.task_loop.specs.Ran.{Ran}
@@ -26,9 +26,6 @@ use Rattle.task_loop.specs.Says.{Says}
 use Rattle.task_loop.specs.Constants.{constants}
 use Rattle.task_loop.specs.Told.{TurnTold, group_running}
 use Rattle.task_loop.specs.declared.poll_methods.RunPoll.{RunPoll}
-use Rattle.task_loop.specs.declared.run.Halt.{Halt}
-use Rattle.task_loop.specs.declared.run.Halt.TheVariants as halt
-use Rattle.task_loop.specs.declared.run.RunConcurrent.{RunConcurrent}
 use Rattle.task_loop.specs.declared.run.Stop.{Stop}
 use Rattle.task_loop.specs.declared.run.Stop.TheVariants as stop
 use Rattle.machine_data.specs.Core.{State}
@@ -52,14 +49,15 @@ use Rattle.task_store.specs.declared.store.Store.{Store}
 use Rattle.ops_turns.proofs.DriveLemmas.{on_begins, on_out_at, on_rests, was_on, was_on_short}
 use Rattle.ops_turns.proofs.KeptLemmas.{core_in_order_after}
 use Rattle.ops_turns.proofs.LaterLemmas.{last_by_works}
-use Rattle.ops_turns.proofs.SteppedLemmas.{AddedTo, added_ends, added_more, added_none, added_open, added_over, outcome_told}
+use Rattle.ops_turns.proofs.SteppedLemmas.{AddedTo, added_ends, added_more, added_none, added_open, added_over, match_made, outcome_told}
 use Rattle.ops_turns.specs.Drive.{Computes, Drives, Drove, IsOn, KeepsOn, StopsShort, WasGoing}
 use Rattle.ops_turns.specs.Later.{SameWorks, WorksLast}
-use Rattle.ops_turns.specs.StepResult.{Added, AddedOrNone, turn_of}
+use Rattle.ops_turns.specs.StepResult.{Added, AddedOrNone, is_made, turn_of}
 use Rattle.ops_turns.specs.Turn.{IsAtTurn, PendsIn, Turns, is_open, runs_in, setting_of, state_at}
 use Rattle.ops_turns.specs.WellFormed.{IsWellFormed}
 use Rattle.ops_turns.specs.declared.made.MadeStep.{MadeStep}
 use Rattle.ops_turns.specs.declared.made.StepResult.{StepResult}
+use Rattle.ops_turns.specs.declared.made.StepResult.TheVariants as stepped
 use Rattle.core_primitives.specs.StateView.{StateView, Tags, on_core}
 
 -- ---- The turns of the run
@@ -80,15 +78,6 @@ module _ {M T H G : Type 0} (says : Says M) (course : H → HostDef) (c : Compon
 
   setting_kept : (a u : At M T H G) → Keeps says a u → setting says course c u ≡ setting says course c a
   setting_kept a u k = ap₂ (λ (ops : List MainOpDef) (b : Bool). setting_of c ops b) k.script k.idle
-
-  -- the step is this one
-  pub turned_as : (u v : At M T H G) (r : ℕ) (w o : Option StepResult) → w ≡ o → HasTurned says course c w r u v → HasTurned says course c o r u v
-  turned_as u v r w o is op_result = subst (λ (q : Option StepResult). HasTurned says course c q r u v) is op_result
-
-  -- by what a part of the turn gives in each case
-  pub halts_by : (why : Halt) (u v : At M T H G) (Gives : Halt → Type 0) → (Gives halt.NoMemory → LacksTurn says course c u v) → (Gives halt.HookFailed → FailsTurn says course c u v) → Gives why → HasHalted says course c why u v
-  halts_by halt.NoMemory u v Gives lost failed h = lost h
-  halts_by halt.HookFailed u v Gives lost failed h = failed h
 
   -- how the store is at the turn
   pub at_turn : (r : ℕ) (u : At M T H G) → MayTurn says course c r u → IsAtTurn c u.turn u.store.state
@@ -166,22 +155,22 @@ module _ {M T H G : Type 0} (says : Says M) (course : H → HostDef) (c : Compon
       abbrev turned_to : Turn → At M T H G
       turned_to q = record v { turn = q }
 
-      module _ (w : Option StepResult) (op_result : HasTurned says course c w r u v) where
+      module _ (w : StepResult) (op_result : HasTurned says course c w r u v) where
         pub told : AddedOrNone (λ (made : Option MadeStep). TurnTold x u.turn (says.part u.main) u.store.state u.store.listeners made (says.part v.main) v.store.state v.store.listeners) w u.trace v.trace
         told = subst (λ (y : Setting). AddedOrNone (λ (made : Option MadeStep). TurnTold y u.turn (says.part u.main) u.store.state u.store.listeners made (says.part v.main) v.store.state v.store.listeners) w u.trace v.trace)
             (setting_kept a u come.keeps) op_result.told
 
-      pub turned : (q : StepResult) → HasTurned says course c (Some q) r u v → Added (λ (made : MadeStep). Turns x u.turn (says.part u.main) u.store.state made (says.part v.main) v.store.state) q u.trace v.trace
-      turned q op_result = let t = told (Some q) op_result in (t.0, (t.1.0, t.1.1.turned))
+      pub turned : (q : StepResult) → is_made q ≡ true → HasTurned says course c q r u v → Added (λ (made : MadeStep). Turns x u.turn (says.part u.main) u.store.state made (says.part v.main) v.store.state) q u.trace v.trace
+      turned q made op_result = let t = match_made q made (told q op_result) in (t.0, (t.1.0, t.1.1.turned))
 
-      pub opened : (q : StepResult) → is_open (turn_of q) ≡ true → HasTurned says course c (Some q) r u v → AddedTo (λ (made : MadeStep). Turns x u.turn (says.part u.main) u.store.state made (says.part v.main) v.store.state) (turn_of q) None u.trace v.trace
-      opened q ongoing op_result = added_open x u.turn (says.part u.main) u.store.state u.trace (says.part v.main) v.store.state v.trace q ongoing (turned q op_result)
+      pub opened : (q : StepResult) → is_made q ≡ true → is_open (turn_of q) ≡ true → HasTurned says course c q r u v → AddedTo (λ (made : MadeStep). Turns x u.turn (says.part u.main) u.store.state made (says.part v.main) v.store.state) (turn_of q) None u.trace v.trace
+      opened q made ongoing op_result = added_open x u.turn (says.part u.main) u.store.state u.trace (says.part v.main) v.store.state v.trace q ongoing (turned q made op_result)
 
       -- it goes on in that turn
-      pub come_goes : (q : StepResult) → is_open (turn_of q) ≡ true → HasTurned says course c (Some q) r u v → Keeps says u v → HasCome says course c a (turned_to (turn_of q)) (n + 1)
-      come_goes q ongoing op_result kept = record {
-        on = added_more x s a.trace (numbers says course c a) u.turn (says.part u.main) u.store.state u.trace n come.on (says.part v.main) v.store.state v.trace (turn_of q) (opened q ongoing op_result);
-        ran = ran_more says.does x s a.main a.trace a.store.listeners says.part u.turn u.main u.store.state u.trace u.store.listeners v.main v.store.state v.store.listeners q v.trace come.ran (told (Some q) op_result) op_result.did;
+      pub come_goes : (q : StepResult) → is_made q ≡ true → is_open (turn_of q) ≡ true → HasTurned says course c q r u v → Keeps says u v → HasCome says course c a (turned_to (turn_of q)) (n + 1)
+      come_goes q made ongoing op_result kept = record {
+        on = added_more x s a.trace (numbers says course c a) u.turn (says.part u.main) u.store.state u.trace n come.on (says.part v.main) v.store.state v.trace (turn_of q) (opened q made ongoing op_result);
+        ran = ran_more says.does x s a.main a.trace a.store.listeners says.part u.turn u.main u.store.state u.trace u.store.listeners v.main v.store.state v.store.listeners q v.trace come.ran (match_made q made (told q op_result)) (match_made q made op_result.did);
         keeps = let k = keeps_on a u v come.keeps kept in record { script = k.script; idle = k.idle; constants = k.constants };
         suits = op_result.suits;
         knows = op_result.knows;
@@ -189,35 +178,35 @@ module _ {M T H G : Type 0} (says : Says M) (course : H → HostDef) (c : Compon
         asked = op_result.asked;
       }
 
-      pub ran_over : (q : StepResult) → turn_of q ≡ turn.Over → HasTurned says course c (Some q) r u v → RanTo says course c a (turned_to turn.Over)
-      ran_over q is op_result =
+      pub ran_over : (q : StepResult) → is_made q ≡ true → turn_of q ≡ turn.Over → HasTurned says course c q r u v → RanTo says course c a (turned_to turn.Over)
+      ran_over q made is op_result =
           subst (λ (p : Turn). RanTo says course c a (turned_to p)) is
-          (ran_more says.does x s a.main a.trace a.store.listeners says.part u.turn u.main u.store.state u.trace u.store.listeners v.main v.store.state v.store.listeners q v.trace come.ran (told (Some q) op_result) op_result.did)
+          (ran_more says.does x s a.main a.trace a.store.listeners says.part u.turn u.main u.store.state u.trace u.store.listeners v.main v.store.state v.store.listeners q v.trace come.ran (match_made q made (told q op_result)) (match_made q made op_result.did))
 
       -- the last label says how the run has ended
-      pub over_told : (q : StepResult) → turn_of q ≡ turn.Over → HasTurned says course c (Some q) r u v → is_some (last_outcome v.trace) ≡ true
-      over_told q is op_result = outcome_told x u.turn (says.part u.main) u.store.state u.trace (says.part v.main) v.store.state v.trace q is (turned q op_result)
+      pub over_told : (q : StepResult) → is_made q ≡ true → turn_of q ≡ turn.Over → HasTurned says course c q r u v → is_some (last_outcome v.trace) ≡ true
+      over_told q made is op_result = outcome_told x u.turn (says.part u.main) u.store.state u.trace (says.part v.main) v.store.state v.trace q is (turned q made op_result)
 
-      pub over_added : (q : StepResult) (o : Outcome) → turn_of q ≡ turn.Over → last_outcome v.trace ≡ Some o → HasTurned says course c (Some q) r u v
+      pub over_added : (q : StepResult) (o : Outcome) → is_made q ≡ true → turn_of q ≡ turn.Over → last_outcome v.trace ≡ Some o → HasTurned says course c q r u v
           → AddedTo (λ (made : MadeStep). Turns x u.turn (says.part u.main) u.store.state made (says.part v.main) v.store.state) turn.Over (Some o) u.trace v.trace
-      over_added q o is last op_result = added_over x u.turn (says.part u.main) u.store.state u.trace (says.part v.main) v.store.state v.trace q o is last (turned q op_result)
+      over_added q o made is last op_result = added_over x u.turn (says.part u.main) u.store.state u.trace (says.part v.main) v.store.state v.trace q o is last (turned q made op_result)
 
-      pub ran_kept : HasTurned says course c None r u v → RanTo says course c a v
+      pub ran_kept : HasTurned says course c stepped.Nothing r u v → RanTo says course c a v
       ran_kept op_result =
           subst (λ (q : Turn). Ran says.does x s a.main a.trace a.store.listeners (state_at v.store.state.core (says.part v.main) q) v.main v.trace v.store.listeners) (sym op_result.turn)
-          (ran_still says.does x s a.main a.trace a.store.listeners says.part u.turn u.main u.store.state u.trace u.store.listeners v.main v.store.state v.store.listeners v.trace come.ran (told None op_result) op_result.did.0)
+          (ran_still says.does x s a.main a.trace a.store.listeners says.part u.turn u.main u.store.state u.trace u.store.listeners v.main v.store.state v.store.listeners v.trace come.ran (told stepped.Nothing op_result) op_result.did.0)
 
       -- it is over
-      pub come_over : (steps : ℕ) (q : StepResult) (o : Outcome) → n < steps → turn_of q ≡ turn.Over → last_outcome v.trace ≡ Some o → HasTurned says course c (Some q) r u v → HasGone says course c steps o a (turned_to turn.Over)
-      come_over steps q o room is last op_result =
+      pub come_over : (steps : ℕ) (q : StepResult) (o : Outcome) → n < steps → is_made q ≡ true → turn_of q ≡ turn.Over → last_outcome v.trace ≡ Some o → HasTurned says course c q r u v → HasGone says course c steps o a (turned_to turn.Over)
+      come_over steps q o room made is last op_result =
           gone steps o (turned_to turn.Over)
-          (added_ends x s a.trace (numbers says course c a) u.turn (says.part u.main) u.store.state u.trace n come.on (says.part v.main) v.store.state v.trace o steps room (over_added q o is last op_result))
-          (ran_over q is op_result) op_result.suits op_result.knows op_result.works op_result.asked
+          (added_ends x s a.trace (numbers says course c a) u.turn (says.part u.main) u.store.state u.trace n come.on (says.part v.main) v.store.state v.trace o steps room (over_added q o made is last op_result))
+          (ran_over q made is op_result) op_result.suits op_result.knows op_result.works op_result.asked
 
       -- nothing can go on, and that is no deadlock
-      pub come_none : (steps : ℕ) → n ≤ steps → HasTurned says course c None r u v → HasGone says course c steps outcome.Idle a v
+      pub come_none : (steps : ℕ) → n ≤ steps → HasTurned says course c stepped.Nothing r u v → HasGone says course c steps outcome.Idle a v
       come_none steps room op_result =
-          let t = told None op_result in
+          let t = told stepped.Nothing op_result in
           gone steps outcome.Idle v
           (subst (λ (q : Turn). Drove x s a.trace (numbers says course c a) q (says.part v.main) v.store.state v.trace steps outcome.Idle) (sym op_result.turn)
           (added_none x s a.trace (numbers says course c a) u.turn (says.part u.main) u.store.state u.trace n come.on (says.part v.main) v.store.state v.trace steps room (t.0.turned, t.1)))
@@ -326,10 +315,13 @@ module _ {M T H G : Type 0} (says : Says M) (course : H → HostDef) (c : Compon
           suits = subst (λ (m : M). says.suits m c) (sym main) come.suits;
         }
 
-    -- the turns stop before the run does, by why
-    pub come_halts : (v : At M T H G) (why : Halt) (steps : ℕ) → n < steps → HasHalted says course c why u v → (why ≡ halt.NoMemory → IsLost says course c steps a v.main v.trace v.store.listeners) × (why ≡ halt.HookFailed → IsStopped says course c steps a v)
-    come_halts v halt.NoMemory steps room lacks = (λ is. lost v steps (omega (arith, room)) lacks, λ is. absurd (cc))
-    come_halts v halt.HookFailed steps room fails = (λ is. absurd (cc), λ is. (stopped v steps room fails, (fails.knows, fails.works)))
+    -- the turns stop before the run does, as it is out of memory
+    pub come_lost : (v : At M T H G) (steps : ℕ) → n < steps → LacksTurn says course c u v → IsLost says course c steps a v.main v.trace v.store.listeners
+    come_lost v steps room lacks = lost v steps (omega (arith, room)) lacks
+
+    -- or as the hook failed
+    pub come_stopped : (v : At M T H G) (steps : ℕ) → n < steps → FailsTurn says course c u v → IsStopped says course c steps a v
+    come_stopped v steps room fails = (stopped v steps room fails, (fails.knows, fails.works))
 
 -- ---- What a call gives
 
@@ -445,11 +437,3 @@ module _ {M T H G : Type 0} (says : Says M) (course : H → HostDef) (c : Compon
       HasStopped says course c steps a b.main b.trace m.state m.listeners → HasFailed says course c steps a b → PollsTo says course c listens steps (Err (task_error.Trap trap.HookFailed)) yield_budget a b yield_budget'
   polls_failed listens hooked m yield_budget yield_budget' is so stopped failed =
       subst (λ (l : Bool). PollsTo says course c l steps (Err (task_error.Trap trap.HookFailed)) yield_budget a b yield_budget') (sym (heard listens hooked m.listeners b.main m.state is so stopped)) failed
-
--- where they stop before the run does, by why
-module _ {M T H G : Type 0} (says : Says M) (course : H → HostDef) (c : Component) (yields : Bool) (steps : ℕ) where
-  pub gives_halt : (run : RunConcurrent) (m : M) (s : Store T H G) (before : List Label) (run' : RunConcurrent) (n : M) (t : Store T H G) (after : List Label) (why : Halt) →
-      (why ≡ halt.NoMemory → IsLost says course c steps (at run m s before) n after t.listeners) × (why ≡ halt.HookFailed → IsStopped says course c steps (at run m s before) (at run' n t after)) →
-      TurnsGive says course c yields steps (Err why) run m s before run' n t after
-  gives_halt run m s before run' n t after halt.NoMemory h = h.0 refl
-  gives_halt run m s before run' n t after halt.HookFailed h = h.1 refl

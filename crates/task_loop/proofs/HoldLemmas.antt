@@ -5,13 +5,12 @@ use Rattle.store_works.specs.Course.{one_fewer}
 use Rattle.store_works.specs.KeptWorks.{HeldWork}
 use Rattle.ops_dispatch.specs.Polls.{polled_host}
 use Rattle.std.specs.Option.{option_map}
-use Rattle.std.specs.Prelude.{[], Bool, Err, IfOk, List, None, Ok, OnOk, Option, Result, Some, cond, suc, true, zero, ℕ, ◌+◌, ◌==◌, ◌≡◌, ◌-◌}
+use Rattle.std.specs.Prelude.{[], Bool, None, Option, Some, cond, suc, true, zero, ℕ, ◌+◌, ◌==◌, ◌≡◌}
 use Rattle.machine_data.specs.Core.{Main, State, Unscripted}
 use Rattle.machine_data.specs.Maps.{get}
 use Rattle.machine_data.specs.Read.{course_of, op_progress_of}
 use Rattle.machine_data.specs.declared.component.Component.{Component}
 use Rattle.machine_data.specs.declared.component.HostDef.{HostDef}
-use Rattle.machine_data.specs.declared.label.Label.{Label}
 use Rattle.machine_data.specs.declared.op.CallOp.TheVariants as call_op
 use Rattle.machine_data.specs.declared.op.Op.{Op}
 use Rattle.machine_data.specs.declared.op.Op.TheVariants as op
@@ -37,9 +36,7 @@ use Rattle.task_store.specs.Hosts.{HoldsWorks, held_after_call, running}
 use Rattle.task_table.specs.declared.id.TableId.{TableId}
 use Rattle.ops_turns.specs.Ran.{WorkMade, host_polled}
 use Rattle.ops_turns.specs.declared.made.MadeStep.{MadeStep}
-use Rattle.ops_turns.specs.StepResult.{AddedOrNone}
 use Rattle.ops_turns.specs.Turn.{MakesStep, PendsIn, CoreInOrder, Turned, TurnedBeside, idle_line_of, state_at}
-use Rattle.ops_turns.specs.declared.made.StepResult.{StepResult}
 use Rattle.task_wait.specs.declared.keys.HostTaskKey.{HostTaskKey}
 use Rattle.core_primitives.specs.StateView.{StateView, work_of}
 
@@ -49,15 +46,13 @@ taking_makes_none : (ops : ℕ → Op) (s : State) (ended : Bool) → s.turn ≡
 taking_makes_none ops s ended is (Spawns main) = cc
 taking_makes_none ops s ended is (CallsHost n runs queues) = cc
 
-pub held_taken : {E : Type 0} (x : Setting) (b ended : Bool) (m : Main) (s t : StateView) (left : ℕ → Option HeldWork) (r : Result (Option StepResult) E) (before after : List Label) → CoreInOrder x.component (turn.Take ended) s.core →
-    x.idle ≡ idle_line_of b → PendsIn x s.core m (turn.Take ended) → IfOk r (λ o. AddedOrNone (λ made. TurnedBeside x.component b (turn.Take ended) s made t) o before after) → HoldsWorks left s.core → OnOk r (HoldsWorks left t.core)
-held_taken x b ended m s t left (Err e) before after in_turn idle pends turned h = tt
-held_taken x b ended m s t left (Ok None) before after in_turn idle pends turned h =
-    let k : Turned x (turn.Take ended) m s None m t = turned.0 x refl idle m pends in
+pub held_taken : (x : Setting) (b ended : Bool) (m : Main) (s t : StateView) (left : ℕ → Option HeldWork) (made : Option MadeStep) → CoreInOrder x.component (turn.Take ended) s.core →
+    x.idle ≡ idle_line_of b → PendsIn x s.core m (turn.Take ended) → TurnedBeside x.component b (turn.Take ended) s made t → HoldsWorks left s.core → HoldsWorks left t.core
+held_taken x b ended m s t left None in_turn idle pends turned h =
+    let k : Turned x (turn.Take ended) m s None m t = turned x refl idle m pends in
     subst (λ (v : StateView). HoldsWorks left v.core) (sym k.1.1) h
-held_taken x b ended m s t left (Ok (Some q)) before after in_turn idle pends turned h =
-    let made = turned.0 in
-    let k : Turned x (turn.Take ended) m s (Some made) m t = turned.1.1 x refl idle m pends in
+held_taken x b ended m s t left (Some made) in_turn idle pends turned h =
+    let k : Turned x (turn.Take ended) m s (Some made) m t = turned x refl idle m pends in
     let a = state_at s.core m (turn.Take ended) in
     let b = state_at t.core m made.turn in
     let ops = ops_of x.component s.core in

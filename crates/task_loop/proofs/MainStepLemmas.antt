@@ -13,7 +13,8 @@ use Rattle.task_loop.specs.HasRun.{FailsTurn, HasStepResult, HasTurned, LacksTur
 use Rattle.task_loop.specs.AnswersOk.{is_refused}
 use Rattle.task_loop.specs.Hooked.{FailsMain, MainFails}
 use Rattle.task_loop.specs.Says.{Says}
-use Rattle.task_loop.specs.Told.{group_running}
+use Rattle.task_loop.specs.Ran.{DoesStep}
+use Rattle.task_loop.specs.Told.{TurnTold, group_running}
 use Rattle.machine_data.specs.Core.{Main}
 use Rattle.machine_data.specs.declared.component.Component.{Component}
 use Rattle.machine_data.specs.declared.component.HostDef.{HostDef}
@@ -26,10 +27,11 @@ use Rattle.core_primitives.specs.Groups.{IsAsked}
 use Rattle.task_store.specs.Hosts.{HoldsHosts}
 use Rattle.task_store.specs.declared.store.Store.{Store}
 use Rattle.ops_turns.proofs.DoesLemmas.{steps_shown}
-use Rattle.ops_turns.specs.Does.{label_of_step}
+use Rattle.ops_turns.specs.Does.{step_shown, label_of_step}
 use Rattle.ops_turns.specs.Later.{WorksLast}
 use Rattle.ops_turns.specs.Main.{Steps}
-use Rattle.ops_turns.specs.StepResult.{IsInTrace}
+use Rattle.ops_turns.proofs.SteppedLemmas.{of_made}
+use Rattle.ops_turns.specs.StepResult.{Added, IsInTrace, is_made}
 use Rattle.ops_turns.specs.Turn.{Turns, running_of, setting_of}
 use Rattle.ops_turns.specs.declared.made.MadeStep.{MadeStep}
 use Rattle.ops_turns.specs.declared.made.StepResult.{StepResult}
@@ -63,9 +65,9 @@ module _ {M T H G : Type 0} (says : Says M) (course : H → HostDef) (c : Compon
 
   -- what main did is a turn, which was made into the step that is shown
   pub step_turned : (x y : MainStep) → x ≡ y → (m : M) (s : Store T H G) (n : M) (t : Store T H G) → HasStepResult says course c x m s n t → running_of s.state ≡ None → (made : MadeStep) → made.label ≡ label_of_step y →
-      ((z : Setting) → (k l : Main) → (v : StateView) → Steps z.component z.script k v.core y l t.state.core → Turns z turn.Main k v made l t.state) → (q : StepResult) (before after : List Label) → IsInTrace q before made after → (idle : Bool) →
-      HasTurned says course c (Some q) 0 (at_main idle m s before) (at_main idle n t after)
-  step_turned x y is m s n t did none made label turns q before after in_trace idle =
+      ((z : Setting) → (k l : Main) → (v : StateView) → Steps z.component z.script k v.core y l t.state.core → Turns z turn.Main k v made l t.state) → (q : StepResult) (before after : List Label) → is_made q ≡ true → IsInTrace q before made after → (idle : Bool) →
+      HasTurned says course c q 0 (at_main idle m s before) (at_main idle n t after)
+  step_turned x y is m s n t did none made label turns q before after shown in_trace idle =
       let z = setting_of c (says.script m) idle in
       let label : made.label ≡ label_of_step x = label ∙ ap label_of_step (sym is) in
       let turned : Turns z turn.Main (says.part m) s.state made (says.part n) t.state = turns z (says.part m) (says.part n) s.state
@@ -73,7 +75,7 @@ module _ {M T H G : Type 0} (says : Says M) (course : H → HostDef) (c : Compon
       let none_then = idle_at made.turn t.state.core (running_of t.state) turned.running (did.idle ∙ none) in
       record {
         turn = refl;
-        told = (
+        told = of_made {M = Added (λ step. TurnTold z turn.Main (says.part m) s.state s.listeners (Some step) (says.part n) t.state t.listeners) q before after} q shown (
           made,
           (
             in_trace,
@@ -86,8 +88,8 @@ module _ {M T H G : Type 0} (says : Says M) (course : H → HostDef) (c : Compon
             },
           ),
         );
-        did = (made, (in_trace, step_in says.does m n s.state.core t.state.core x made.label label (steps_shown c (says.script m) (says.part m) s.state.core x (says.part n) t.state.core did.steps) did.does));
-        group = sym (ap (group_running t.state) (sym (stands_turn q before made after in_trace)) ∙ idle_running t.state made.turn turned.running (did.idle ∙ none));
+        did = of_made {M = Added (λ step. DoesStep says.does m s.state.core (step_shown step.label) n t.state.core) q before after} q shown (made, (in_trace, step_in says.does m n s.state.core t.state.core x made.label label (steps_shown c (says.script m) (says.part m) s.state.core x (says.part n) t.state.core did.steps) did.does));
+        group = λ yes. sym (ap (group_running t.state) (sym (stands_turn q before made after in_trace)) ∙ idle_running t.state made.turn turned.running (did.idle ∙ none));
         suits = did.suits;
         knows = did.knows;
         works = did.works;

@@ -1,7 +1,7 @@
 -- Turns in which main has no part, as the loop tells of them.
 use Rattle.store_notices.specs.declared.tells.GroupsBefore.{GroupsBefore}
 use Rattle.std.proofs.Common.{refl, ◌∙◌, ◌≡◌}
-use Rattle.std.specs.Prelude.{[], ◌++◌, ◌∷◌, Bool, Err, IfOk, IfSome, List, None, Ok, OnOk, Option, Result, Some, false, true, ℕ}
+use Rattle.std.specs.Prelude.{[], ◌++◌, ◌∷◌, Bool, List, None, Option, Some, false, true, ℕ}
 use Rattle.task_group.specs.Listeners.{Listeners, errors_of}
 use Rattle.task_loop.proofs.ToldLemmas.{current_is, none_told, other_told, turns_asked, turns_runs}
 use Rattle.task_loop.proofs.TurnTellLemmas.{turns_part}
@@ -13,11 +13,12 @@ use Rattle.machine_data.specs.declared.records.Turn.TheVariants as turn
 use Rattle.machine_rules.specs.Stalled.{Setting}
 use Rattle.machine_data.specs.declared.component.Component.{Component}
 use Rattle.core_primitives.specs.Groups.{IsAsked, asked}
-use Rattle.ops_turns.proofs.SteppedLemmas.{none_as}
-use Rattle.ops_turns.specs.StepResult.{Added, AddedOrNone, IsInTrace}
-use Rattle.ops_turns.specs.Turn.{PendsIn, Turned, TurnedBeside, Turns, idle_line_of, setting_of}
+use Rattle.ops_turns.proofs.SteppedLemmas.{match_made, match_then}
+use Rattle.ops_turns.specs.StepResult.{Added, AddedOrNone, IsInTrace, is_made}
+use Rattle.ops_turns.specs.Turn.{PendsIn, Turned, TurnedBeside, Turns, setting_of}
 use Rattle.ops_turns.specs.declared.made.MadeStep.{MadeStep}
 use Rattle.ops_turns.specs.declared.made.StepResult.{StepResult}
+use Rattle.ops_turns.specs.declared.made.StepResult.TheVariants as stepped
 use Rattle.core_primitives.specs.StateView.{StateView}
 
 -- the label of what was made was added
@@ -37,16 +38,6 @@ pends_take x s false = refl
 pub none_kept : (c : Component) (b ended : Bool) (s t : StateView) → TurnedBeside c b (turn.Take ended) s None t → t ≡ s
 none_kept c b ended s t turned = let x = setting_of c [] b in (turned x refl refl Unscripted (pends_take x s.core ended)).1.1
 
-module _ {E : Type 0} (x : Setting) (b : Bool) (p : Turn) (m : Main) (s t : StateView) (r : Result (Option StepResult) E) (before after : List Label) (idle : x.idle ≡ idle_line_of b) (pends : PendsIn x s.core m p) where
-  pub turned_beside : IfOk r (λ o. AddedOrNone (λ (made : Option MadeStep). TurnedBeside x.component b p s made t) o before after) →
-      IfOk r (λ o. AddedOrNone (λ (made : Option MadeStep). Turned x p m s made m t) o before after)
-  turned_beside = by r
-    where
-      by : (r : Result (Option StepResult) E) → IfOk r (λ o. AddedOrNone (λ (made : Option MadeStep). TurnedBeside x.component b p s made t) o before after) →
-          IfOk r (λ o. AddedOrNone (λ (made : Option MadeStep). Turned x p m s made m t) o before after)
-      by (Ok o) turned = none_as (λ (made : Option MadeStep). TurnedBeside x.component b p s made t) (λ (made : Option MadeStep). Turned x p m s made m t) o before after (λ made k. k x refl idle m pends) turned
-      by (Err e) turned = tt
-
 -- ---- An entry is taken
 
 -- what was made was made once it was told
@@ -62,17 +53,13 @@ module _ (x : Setting) (ended : Bool) (m : Main) (s t : StateView) (before after
   abbrev p : Turn
   p = turn.Take ended
 
-  abbrev IsTurned : {E : Type 0} → Result (Option StepResult) E → Type 0
-  IsTurned r = IfOk r (λ o. AddedOrNone (λ (made : Option MadeStep). Turned x p m s made m t) o before after)
+  abbrev IsTurned : StepResult → Type 0
+  IsTurned q = AddedOrNone (λ (made : Option MadeStep). Turned x p m s made m t) q before after
 
-  pub taken_running : {E : Type 0} (running : ℕ) (r : Result (Option StepResult) E) → IsTurned r → IfOk r (λ o. IfSome o (λ q. running ≡ current_group t)) →
-      IfOk r (λ o. IfSome o (λ q. running ≡ group_running t (turn_of q)))
-  taken_running running (Ok None) turned is = tt
-  taken_running running (Ok (Some q)) turned is = is ∙ current_is t (turn_of q) (turns_runs x p m s m t q before after turned)
-  taken_running running (Err e) turned is = tt
+  pub taken_running : (running : ℕ) (q : StepResult) → IsTurned q → (is_made q ≡ true → running ≡ current_group t) → is_made q ≡ true → running ≡ group_running t (turn_of q)
+  taken_running running q turned is made = is made ∙ current_is t (turn_of q) (turns_runs x p m s m t q before after (match_made q made turned))
 
-  pub taken_told : {E : Type 0} (old new : Listeners) (r : Result (Option StepResult) E) → IsAsked s → IsTurned r → (r ≡ Ok None → new ≡ old) → IfOk r (λ o. IfSome o (λ q. TellsTurn s p t old new)) →
-      OnOk r (errors_of new ≡ errors_of old) → IfOk r (λ o. AddedOrNone (λ (made : Option MadeStep). TurnTold x p m s old made m t new) o before after)
-  taken_told old new (Ok None) is turned none told hook_is_ok = none_told x p m s old m t new before after (none refl) turned
-  taken_told old new (Ok (Some q)) is turned none told hook_is_ok = other_told x p refl m s is old m t new told q before after turned hook_is_ok
-  taken_told old new (Err e) is turned none told hook_is_ok = tt
+  pub taken_told : (old new : Listeners) (q : StepResult) → IsAsked s → IsTurned q → (q ≡ stepped.Nothing → new ≡ old) → (is_made q ≡ true → TellsTurn s p t old new) →
+      (is_made q ≡ true → errors_of new ≡ errors_of old) → AddedOrNone (λ (made : Option MadeStep). TurnTold x p m s old made m t new) q before after
+  taken_told old new q is turned none told hook_is_ok =
+      match_then q (λ made added. other_told x p refl m s is old m t new (told made) q before after added (hook_is_ok made)) (λ nothing rests. none_told x p m s old m t new before after (none nothing) rests) (λ same. same) (λ no. no) turned

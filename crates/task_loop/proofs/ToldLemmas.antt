@@ -36,7 +36,7 @@ use Rattle.machine_data.specs.declared.records.Turn.TheVariants as turn
 use Rattle.machine_data.specs.declared.scenario.MainOpDef.{MainOpDef}
 use Rattle.machine_rules.proofs.LawLemmas.{steady}
 use Rattle.machine_rules.specs.Laws.{Steady}
-use Rattle.machine_rules.specs.Notices.{finish_notices, is_in, moment_notices, notices, running_group, start_notices, told_of, work_notices}
+use Rattle.machine_rules.specs.Notices.{finish_notices, is_in, moment_notices, running_group, start_notices, told_of, work_notices}
 use Rattle.machine_rules.specs.Picks.{Picks}
 use Rattle.machine_rules.specs.Run.{Run}
 use Rattle.machine_rules.specs.Stalled.{Setting}
@@ -46,7 +46,7 @@ use Rattle.ops_turns.proofs.KeptLemmas.{core_in_order_after}
 use Rattle.ops_turns.specs.Does.{label_of_step}
 use Rattle.ops_turns.specs.Drive.{Computes}
 use Rattle.ops_turns.specs.Main.{IsOpOfMain, Steps, main_setting}
-use Rattle.ops_turns.specs.StepResult.{Added, AddedOrNone, IsInTrace}
+use Rattle.ops_turns.specs.StepResult.{Added, IsInTrace}
 use Rattle.ops_turns.specs.Turn.{IsFree, MakesStep, PendsIn, CoreInOrder, Turned, Turns, running_of, runs_in, setting_of, state_at}
 use Rattle.ops_turns.specs.declared.made.MadeStep.{MadeStep}
 use Rattle.ops_turns.specs.declared.made.StepResult.{StepResult}
@@ -327,7 +327,7 @@ module _ (c : Component) (s : StateView) (mid : List Label) (added : ℕ) (t : S
 
 -- a turn in which nothing was made tells nothing
 pub none_told : (x : Setting) (p : Turn) (m : Main) (s : StateView) (old : Listeners) (n : Main) (t : StateView) (new : Listeners) (before after : List Label) → new ≡ old →
-    AddedOrNone (λ made. Turned x p m s made n t) None before after → AddedOrNone (λ made. TurnTold x p m s old made n t new) None before after
+    Turned x p m s None n t × (after ≡ before) → TurnTold x p m s old None n t new × (after ≡ before)
 none_told x p m s old n t new before after same h = (
   record {
     turned = h.0;

@@ -4,7 +4,7 @@ use Rattle.run_trace.specs.YieldBudget.{is_unyielded, since_after, since_driven}
 use Rattle.run_trace.specs.declared.yield_budget.YieldBudget.{YieldBudget}
 use Rattle.ops_state.specs.declared.error.TaskError.{TaskError}
 use Rattle.ops_state.specs.declared.error.TaskError.TheVariants as task_error
-use Rattle.std.specs.Prelude.{Bool, Err, IfSome, List, None, Ok, Option, Result, Some, [], false, is_some, length, not, true, ℕ, ◌&&◌, ◌*◌, ◌++◌, ◌+◌, ◌<◌, ◌==◌, ◌∷◌, ◌≡◌, ◌≤◌, ◌^◌, ◌⊎◌}
+use Rattle.std.specs.Prelude.{Bool, Err, List, None, Ok, Result, Some, [], false, is_some, length, not, true, ℕ, ◌&&◌, ◌*◌, ◌++◌, ◌+◌, ◌<◌, ◌==◌, ◌∷◌, ◌≡◌, ◌≤◌, ◌^◌, ◌⊎◌}
 use Rattle.task_group.specs.Listeners.{AnsweredErr, Listeners, ToldListeners, errors_of}
 use Rattle.task_loop.specs.AnswersOk.{is_refused}
 use Rattle.task_loop.specs.Hooked.{FailsMain, StopsTurn, TellsInPart}
@@ -38,7 +38,7 @@ use Rattle.task_store.specs.declared.store.Store.{Store}
 use Rattle.ops_turns.specs.Does.{label_of_step, step_of, step_shown}
 use Rattle.laws_labels.specs.Own.{is_main_turn}
 use Rattle.ops_turns.specs.Main.{Steps}
-use Rattle.ops_turns.specs.StepResult.{AddedOrNone}
+use Rattle.ops_turns.specs.StepResult.{AddedOrNone, MatchStep, is_made}
 use Rattle.ops_turns.specs.Turn.{IsSettled, PendsIn, CoreInOrder, given, goes_on, is_open, running_of, runs_in, setting_of, state_at}
 use Rattle.ops_turns.specs.WellFormed.{IsWellFormed}
 use Rattle.ops_turns.specs.declared.mains.MainStep.{MainStep}
@@ -55,7 +55,7 @@ pub record At (M T H G : Type 0) : Type 0 where
   pub trace : List Label
 
 abbrev pub at : {M T H G : Type 0} → RunConcurrent → M → Store T H G → List Label → At M T H G
-at run main store trace = record { turn = run.turn; idle = run.trap_on_idle; main = main; store = store; trace = trace }
+at run main store trace = record { turn = turn_of run.last; idle = run.trap_on_idle; main = main; store = store; trace = trace }
 
 -- a run at main's turn, with this idle line
 abbrev pub at_main : {M T H G : Type 0} → (idle : Bool) → M → Store T H G → List Label → At M T H G
@@ -148,7 +148,7 @@ module _ {M T H G : Type 0} (says : Says M) (course : H → HostDef) (c : Compon
     pub group : running ≡ group_running a.store.state a.turn
 
   -- A step was made, or none if nothing can go on. The run is where it was, but for whose turn it is.
-  pub record HasTurned (q : Option StepResult) (running : ℕ) (a b : At M T H G) : Type 0 where
+  pub record HasTurned (q : StepResult) (running : ℕ) (a b : At M T H G) : Type 0 where
     pub turn : b.turn ≡ a.turn
     -- it is a step of the machine, and its notices were told
     pub told :
@@ -159,7 +159,7 @@ module _ {M T H G : Type 0} (says : Says M) (course : H → HostDef) (c : Compon
     -- main did what it shows
     pub did : AddedOrNone (λ made. DoesStep says.does a.main a.store.state.core (step_of made) b.main b.store.state.core) q a.trace b.trace
     -- the thread that runs then is of this group
-    pub group : IfSome q (λ made. running ≡ group_running b.store.state (turn_of made))
+    pub group : is_made q ≡ true → running ≡ group_running b.store.state (turn_of q)
     pub suits : says.suits b.main c
     pub knows : says.knows b.main b.store.state
     pub works : HoldsHosts course b.store
@@ -180,20 +180,13 @@ module _ {M T H G : Type 0} (says : Says M) (course : H → HostDef) (c : Compon
     pub main : is_main_turn a.turn ≡ false → b.main ≡ a.main
     pub untold : is_main_turn a.turn ≡ false → b.store.listeners ≡ a.store.listeners
 
-  -- why it isn't made
-  abbrev pub HasHalted : Halt → (a b : At M T H G) → Type 0
-  HasHalted halt.NoMemory a b = LacksTurn a b
-  HasHalted halt.HookFailed a b = FailsTurn a b
-
-  abbrev pub TurnsTo : Result (Option StepResult) Halt → (running : ℕ) → (a b : At M T H G) → Type 0
-  TurnsTo (Ok q) running a b = HasTurned q running a b
-  TurnsTo (Err why) running a b = HasHalted why a b
+  -- in each case
+  abbrev pub TurnsTo : StepResult → (running : ℕ) → (a b : At M T H G) → Type 0
+  TurnsTo q running a b = MatchStep (HasTurned q running a b) (HasTurned q running a b) (LacksTurn a b) (FailsTurn a b) q
 
   -- so it is of main's turn, whatever the idle line is
-  abbrev pub MainTurned : Result StepResult Halt → (m : M) (s : Store T H G) (before : List Label) (n : M) (t : Store T H G) (after : List Label) →
-      Type 0
-  MainTurned (Ok q) m s before n t after = (idle : Bool) → HasTurned (Some q) 0 (at_main idle m s before) (at_main idle n t after)
-  MainTurned (Err why) m s before n t after = (idle : Bool) → HasHalted why (at_main idle m s before) (at_main idle n t after)
+  abbrev pub MainTurned : StepResult → (m : M) (s : Store T H G) (before : List Label) (n : M) (t : Store T H G) (after : List Label) → Type 0
+  MainTurned q m s before n t after = (idle : Bool) → TurnsTo q 0 (at_main idle m s before) (at_main idle n t after)
 
   -- ---- What a call gives
 
@@ -344,7 +337,7 @@ module _ {M T H G : Type 0} (says : Says M) (course : H → HostDef) (c : Compon
       PollsTo listens steps r run.yield_budget (at run m s before) (at run' n t after) run'.yield_budget
 
   -- of one turn, in which the run is before and after it
-  abbrev pub TurnGives : Result (Option StepResult) Halt → (running : ℕ) → RunConcurrent → M → Store T H G → List Label → M →
+  abbrev pub TurnGives : StepResult → (running : ℕ) → RunConcurrent → M → Store T H G → List Label → M →
       Store T H G → List Label → Type 0
   TurnGives r running run m s before n t after = TurnsTo r running (at run m s before) (at run n t after)
 

@@ -1,10 +1,8 @@
 -- What those parts of a turn result in in which main has no part: a step of the thread that runs, the poll of a work, the taking of an entry.
-use Rattle.std.specs.Prelude.{Bool, Err, List, None, Ok, Option, Result, Some, ℕ, is_some, ◌+◌, ◌<◌, ◌^◌, ◌≡◌}
+use Rattle.std.specs.Prelude.{Bool, List, Some, ℕ, is_some, true, ◌+◌, ◌<◌, ◌^◌, ◌≡◌}
 use Rattle.task_group.specs.Listeners.{Listeners, errors_of}
 use Rattle.task_loop.specs.Hooked.{TellsInPart}
 use Rattle.task_loop.specs.Told.{RunTold, TellsTurn, current_group, group_running, turn_of}
-use Rattle.task_loop.specs.declared.run.Halt.{Halt}
-use Rattle.task_loop.specs.declared.run.Halt.TheVariants as halt
 use Rattle.machine_data.specs.Core.{Core}
 use Rattle.machine_data.specs.declared.component.Component.{Component}
 use Rattle.machine_data.specs.declared.component.HostDef.{HostDef}
@@ -14,10 +12,11 @@ use Rattle.machine_data.specs.declared.records.Turn.TheVariants as turn
 use Rattle.ops_guests.specs.Works.{KeepsWorks, NamesTold, NamesWorks}
 use Rattle.task_store.specs.Hosts.{HoldsHosts}
 use Rattle.task_store.specs.declared.store.Store.{Store}
-use Rattle.ops_turns.specs.StepResult.{Added, TakesBeside}
+use Rattle.ops_turns.specs.StepResult.{Added, MatchStep, TakesBeside, is_made}
 use Rattle.ops_turns.specs.Turn.{CoreInOrder, MakesFree, TurnsBeside, given, running_of}
 use Rattle.ops_turns.specs.WellFormed.{IsWellFormed}
 use Rattle.ops_turns.specs.declared.made.StepResult.{StepResult}
+use Rattle.ops_turns.specs.declared.made.StepResult.TheVariants as stepped
 use Rattle.core_primitives.specs.Groups.{IsAsked}
 use Rattle.core_primitives.specs.StateView.{StateView}
 
@@ -58,7 +57,7 @@ abbrev pub TurnsAnyhow : Turn → (s t : StateView) → StepResult → (before a
 TurnsAnyhow p s t q before after = Added (λ made. TurnsBeside p s made t) q before after
 
 -- an entry was taken in this turn, or it was seen that nothing is there
-abbrev pub Takes : Component → (trap_on_idle ended : Bool) → StateView → Option StepResult → StateView → (before after : List Label) → Type 0
+abbrev pub Takes : Component → (trap_on_idle ended : Bool) → StateView → StepResult → StateView → (before after : List Label) → Type 0
 Takes c b ended s q t before after = TakesBeside c b ended s q t before after × KeepsWorks s t
 
 -- It was told, and the thread that runs then is of this group. Each group that has ended was told of.
@@ -83,11 +82,10 @@ abbrev pub LacksStep : {T H G : Type 0} → (s t : Store T H G) → (before afte
 LacksStep s t before after = (after ≡ before) × (t.listeners ≡ s.listeners)
 
 -- So it took its step; or it is out of memory; or the hook failed.
-abbrev pub RunsTo : {T H G : Type 0} → (H → HostDef) → Component → ℕ → (s : Store T H G) → Result StepResult Halt → (running : ℕ) →
+abbrev pub RunsTo : {T H G : Type 0} → (H → HostDef) → Component → ℕ → (s : Store T H G) → StepResult → (running : ℕ) →
     (t : Store T H G) → (before after : List Label) → Type 0
-RunsTo course c n s (Ok q) running t before after = RanThread course c n s q running t before after
-RunsTo course c n s (Err halt.NoMemory) running t before after = LacksStep s t before after
-RunsTo course c n s (Err halt.HookFailed) running t before after = FailsThread course c n s t before after
+RunsTo course c n s q running t before after =
+    MatchStep (RanThread course c n s q running t before after) ⊥ (LacksStep s t before after) (FailsThread course c n s t before after) q
 
 -- A work was polled, and that was told; or the hook answered an error as it was.
 abbrev pub PollsTold : {T H G : Type 0} → Turn → (running : ℕ) → (s : Store T H G) → StepResult → (t : Store T H G) →
@@ -99,32 +97,33 @@ abbrev pub FailsPoll : {T H G : Type 0} → Turn → (s t : Store T H G) → (be
 FailsPoll p s t before after =
     FailsTold s.state.core p t.state s.listeners t.listeners × ((q : StepResult) × TurnsAnyhow p s.state t.state q before after)
 
--- An entry was taken, and that was told; or nothing is there, and nothing was told.
-abbrev pub TakesTold : {T H G : Type 0} → Component → (trap_on_idle ended : Bool) → (running : ℕ) → (s : Store T H G) → Option StepResult →
+-- An entry was taken, and that was told.
+abbrev pub TakesTold : {T H G : Type 0} → Component → (trap_on_idle ended : Bool) → (running : ℕ) → (s : Store T H G) → StepResult →
     (t : Store T H G) → (before after : List Label) → Type 0
-TakesTold c b ended running s None t before after =
-    Takes c b ended s.state None t.state before after × ((t.listeners ≡ s.listeners) × IsAsked t.state)
-TakesTold c b ended running s (Some q) t before after =
-    Takes c b ended s.state (Some q) t.state before after
-    × ToldBeside s.state s.listeners (turn.Take ended) running t.state t.listeners
+TakesTold c b ended running s q t before after =
+    Takes c b ended s.state q t.state before after × ToldBeside s.state s.listeners (turn.Take ended) running t.state t.listeners
+
+-- Nothing is there, and nothing was told.
+abbrev pub TakesNothing : {T H G : Type 0} → Component → (trap_on_idle ended : Bool) → (s t : Store T H G) → (before after : List Label) → Type 0
+TakesNothing c b ended s t before after =
+    Takes c b ended s.state stepped.Nothing t.state before after × ((t.listeners ≡ s.listeners) × IsAsked t.state)
 
 -- in each case
-abbrev pub WorkPollsTo : {T H G : Type 0} → Turn → (s : Store T H G) → Result StepResult Halt → (running : ℕ) → (t : Store T H G) →
+abbrev pub WorkPollsTo : {T H G : Type 0} → Turn → (s : Store T H G) → StepResult → (running : ℕ) → (t : Store T H G) →
     (before after : List Label) → Type 0
-WorkPollsTo p s (Ok q) running t before after = PollsTold p running s q t before after
-WorkPollsTo p s (Err halt.NoMemory) running t before after = LacksStep s t before after
-WorkPollsTo p s (Err halt.HookFailed) running t before after = FailsPoll p s t before after
+WorkPollsTo p s q running t before after =
+    MatchStep (PollsTold p running s q t before after) ⊥ (LacksStep s t before after) (FailsPoll p s t before after) q
 
 -- It answered one as the taking of an entry was told.
 abbrev pub FailsTake : {T H G : Type 0} → Component → (trap_on_idle ended : Bool) → (s t : Store T H G) →
     (before after : List Label) → Type 0
 FailsTake c b ended s t before after =
     FailsTold s.state.core (turn.Take ended) t.state s.listeners t.listeners
-    × ((q : StepResult) × Takes c b ended s.state (Some q) t.state before after)
+    × ((q : StepResult) × ((is_made q ≡ true) × Takes c b ended s.state q t.state before after))
 
 -- in each case
-abbrev pub TakesTo : {T H G : Type 0} → Component → (trap_on_idle ended : Bool) → (s : Store T H G) → Result (Option StepResult) Halt →
-    (running : ℕ) → (t : Store T H G) → (before after : List Label) → Type 0
-TakesTo c b ended s (Ok q) running t before after = TakesTold c b ended running s q t before after
-TakesTo c b ended s (Err halt.NoMemory) running t before after = LacksStep s t before after
-TakesTo c b ended s (Err halt.HookFailed) running t before after = FailsTake c b ended s t before after
+abbrev pub TakesTo : {T H G : Type 0} → Component → (trap_on_idle ended : Bool) → (s : Store T H G) → StepResult → (running : ℕ) →
+    (t : Store T H G) → (before after : List Label) → Type 0
+TakesTo c b ended s q running t before after =
+    MatchStep (TakesTold c b ended running s q t before after) (TakesNothing c b ended s t before after) (LacksStep s t before after)
+    (FailsTake c b ended s t before after) q

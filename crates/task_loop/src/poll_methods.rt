@@ -6,8 +6,9 @@ ghost use Rattle.task_loop.specs.RunPolls.{stop_answer};
 use crate::main_task::MainTask;
 use crate::run::{Halt, RunConcurrent, Stop};
 use crate::trace::Trace;
-use machine_data::{Component, Outcome, Trap, Turn};
+use machine_data::{Component, Outcome, Trap};
 use ops_calls::TaskError;
+use ops_turns::StepResult;
 use run_trace::Polled;
 use task_group::TaskGroupHook;
 use task_store::{AccessorTask, FromHost, Store};
@@ -74,7 +75,7 @@ impl RunConcurrent {
             }
             Err(Halt::HookFailed) => {
                 store.set_trapped();
-                self.turn = Turn::Over;
+                self.last = StepResult::Over;
                 return Err(TaskError::Trap(Trap::HookFailed));
             }
         }

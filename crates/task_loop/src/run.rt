@@ -1,4 +1,4 @@
-ghost use Rattle.std.specs.Prelude.{◌≡◌, IfErr, IfOk, OnErr, OnOk, false, not, true};
+ghost use Rattle.std.specs.Prelude.{◌≡◌, IfErr, IfOk, OnOk, false, true};
 ghost use Rattle.laws_labels.specs.Own.{next_mark};
 ghost use Rattle.ops_dispatch.specs.Fits.{calls_host};
 ghost use Rattle.run_trace.specs.YieldBudget.{unless_yielded};
@@ -9,8 +9,8 @@ ghost use Rattle.task_loop.specs.Told.{group_running};
 ghost use Rattle.ops_guests.specs.Works.{KeepsWorks};
 ghost use Rattle.machine_rules.specs.Scripts.{op_of};
 ghost use Rattle.task_store.specs.Hosts.{HoldsHosts};
-ghost use Rattle.ops_turns.specs.StepResult.{turn_of};
-ghost use Rattle.ops_turns.specs.Turn.{IsAtTurn, is_open};
+ghost use Rattle.ops_turns.specs.StepResult.{IsFull, is_made, turn_of};
+ghost use Rattle.ops_turns.specs.Turn.{IsAtTurn};
 ghost use Rattle.core_primitives.specs.Groups.{IsAsked};
 
 use crate::main_task::MainTask;
@@ -20,8 +20,8 @@ use core_primitives::{QueuePrimitives, View};
 use machine_data::{Component, Mark, NoMemory, Outcome, Trap, Turn};
 use ops_calls::{TaskError, host_called};
 use ops_turns::{
-    MainStep, StepResult, compute, is_idle, made_by_main, outcome_in, put, step_call, step_run,
-    take, turn_of,
+    MainStep, StepResult, compute, is_idle, is_made, made_by_main, outcome_in, put, step_call,
+    step_run, take, turn_of,
 };
 use run_trace::{
     Driven, PackedLabels, Policy, YieldBudget, ended_by, rests_with, spent_by, yields_by,
@@ -32,7 +32,8 @@ use task_store::{Access, AccessorTask, ActiveRun, FromHost, HostWork, Store};
 /// A run of the event loop on a store.
 #[derive(Drop)]
 pub struct RunConcurrent {
-    pub(crate) turn: Turn,
+    // What the last step resulted in: whose turn it is. It is main's before the first.
+    pub(crate) last: StepResult,
     pub(crate) trap_on_idle: bool,
     active: ActiveRun,
     pub(crate) yield_budget: YieldBudget,
@@ -46,7 +47,7 @@ pub fn run_concurrent<T, H, G: TaskGroupHook>(
 ) -> Result<RunConcurrent, Trap>
     ensures refused { IfErr result (λ trap. (trap ≡ Trap.RecursiveRun) × (store.old.running ≡ true)) }
     ensures begun { OnOk result (store.old.running ≡ false) }
-    ensures turn { IfOk result (λ run. run.turn ≡ Turn.Main) }
+    ensures turn { IfOk result (λ run. turn_of run.last ≡ Turn.Main) }
     ensures idle { IfOk result (λ run. run.trap_on_idle ≡ trap_on_idle) }
     ensures since { IfOk result (λ run. run.yield_budget.since ≡ 0) }
     ensures passes { IfOk result (λ run. run.yield_budget.passes ≡ false) }
@@ -54,7 +55,7 @@ pub fn run_concurrent<T, H, G: TaskGroupHook>(
 {
     match store.begin_run() {
         Ok(active) => Ok(RunConcurrent {
-            turn: Turn::Main,
+            last: StepResult::Main,
             trap_on_idle,
             active,
             yield_budget: YieldBudget::new(),
@@ -103,7 +104,7 @@ fn step_main<T, H: HostWork, G: TaskGroupHook, M: MainTask<T, H, G>>(
     store: &mut Store<T, H, G>,
     main: &mut M,
     trace: &mut PackedLabels,
-) -> Result<StepResult, Halt>
+) -> StepResult
     requires may { MayStep M.says H.course component.now main.old store.old }
     ensures constants_stay { constants store.new ≡ constants store.old }
     ensures script { M.says.script main.new ≡ M.says.script main.old }
@@ -111,22 +112,16 @@ fn step_main<T, H: HostWork, G: TaskGroupHook, M: MainTask<T, H, G>>(
 {
     let step = match ask_main(component, store, main) {
         Ok(step) => step,
-        Err(TaskError::Trap(_)) => return Err(Halt::HookFailed),
-        Err(_) => return Err(Halt::NoMemory),
+        Err(TaskError::Trap(_)) => return StepResult::HookFailed,
+        Err(_) => return StepResult::Full,
     };
     // Most steps of a main pend: the label of this one is known here.
     if let MainStep::Pends = step {
         let pends = made_by_main(&store.state, MainStep::Pends);
-        let Ok(stepped) = put(trace, pends) else {
-            return Err(Halt::NoMemory);
-        };
-        return Ok(stepped);
+        return put(trace, pends);
     }
     let made = made_by_main(&store.state, step);
-    let Ok(stepped) = put(trace, made) else {
-        return Err(Halt::NoMemory);
-    };
-    Ok(stepped)
+    put(trace, made)
 }
 
 // Has the running thread, which has this number, do its op, which calls a host: that is polled, and its work is held. It is a
@@ -137,19 +132,23 @@ fn call_host_outlined<T, H: AccessorTask<T> + FromHost, G: TaskGroupHook>(
     store: &mut Store<T, H, G>,
     thread: u64,
     trace: &mut PackedLabels,
-) -> Result<StepResult, NoMemory>
+) -> StepResult
     requires runs { RunsThread H.course component.now thread store.old }
     requires calls { calls_host (op_of component.now thread store.old.state.core) ≡ true }
     ensures constants_stay { constants store.new ≡ constants store.old }
-    ensures steps { IfOk result (λ stepped. StepsUntold H.course component.now thread store.old stepped store.new trace.old trace.new) }
+    ensures steps { is_made result ≡ true → StepsUntold H.course component.now thread store.old result store.new trace.old trace.new }
     ensures listeners { store.new.listeners ≡ store.old.listeners }
-    ensures err { OnErr result (trace.new ≡ trace.old) }
+    ensures full { is_made result ≡ false → IsFull result trace.old trace.new }
 {
     // The host's work is polled before its call is done: what the call results in is what it answers.
     let host = host_called(component, &store.state, thread);
     let (called, answer) = store.first_called(host);
-    let stepped = step_call(component, &mut store.state, thread, answer)?;
-    store.hold_called(called, stepped.1)?;
+    let Ok(stepped) = step_call(component, &mut store.state, thread, answer) else {
+        return StepResult::Full;
+    };
+    let Ok(()) = store.hold_called(called, stepped.1) else {
+        return StepResult::Full;
+    };
     put(trace, stepped.0)
 }
 
@@ -160,13 +159,13 @@ fn call_host<T, H: AccessorTask<T> + FromHost, G: TaskGroupHook>(
     store: &mut Store<T, H, G>,
     thread: u64,
     trace: &mut PackedLabels,
-) -> Result<StepResult, NoMemory>
+) -> StepResult
     requires runs { RunsThread H.course component.now thread store.old }
     requires calls { calls_host (op_of component.now thread store.old.state.core) ≡ true }
     ensures constants_stay { constants store.new ≡ constants store.old }
-    ensures steps { IfOk result (λ stepped. StepsUntold H.course component.now thread store.old stepped store.new trace.old trace.new) }
+    ensures steps { is_made result ≡ true → StepsUntold H.course component.now thread store.old result store.new trace.old trace.new }
     ensures listeners { store.new.listeners ≡ store.old.listeners }
-    ensures err { OnErr result (trace.new ≡ trace.old) }
+    ensures full { is_made result ≡ false → IsFull result trace.old trace.new }
 {
     call_host_outlined(component, store, thread, trace)
 }
@@ -179,20 +178,18 @@ fn step_thread<T, H: AccessorTask<T> + FromHost, G: TaskGroupHook>(
     store: &mut Store<T, H, G>,
     thread: u64,
     trace: &mut PackedLabels,
-) -> Result<StepResult, NoMemory>
+) -> StepResult
     requires runs { RunsThread H.course component.now thread store.old }
     ensures constants_stay { constants store.new ≡ constants store.old }
-    ensures steps { IfOk result (λ stepped. StepsUntold H.course component.now thread store.old stepped store.new trace.old trace.new) }
+    ensures steps { is_made result ≡ true → StepsUntold H.course component.now thread store.old result store.new trace.old trace.new }
     ensures listeners { store.new.listeners ≡ store.old.listeners }
-    ensures err { OnErr result (trace.new ≡ trace.old) }
+    ensures full { is_made result ≡ false → IsFull result trace.old trace.new }
 {
-    let Ok(step) = step_run(component, &mut store.state, thread, trace) else {
-        return Err(NoMemory);
-    };
-    match step {
-        None => call_host(component, store, thread, trace),
-        Some(stepped) => Ok(stepped),
+    let stepped = step_run(component, &mut store.state, thread, trace);
+    if let StepResult::Nothing = stepped {
+        return call_host(component, store, thread, trace);
     }
+    stepped
 }
 
 // The running thread, which has this number, takes a step. A host that it calls is polled, and its work is held. It is told what
@@ -204,7 +201,7 @@ fn run_thread<T, H: AccessorTask<T> + FromHost, G: TaskGroupHook>(
     thread: u64,
     trace: &mut PackedLabels,
     running: &mut u64,
-) -> Result<StepResult, Halt>
+) -> StepResult
     requires runs { RunsThread H.course component.now thread store.old }
     requires running { running.old ≡ group_running store.old.state (Turn.Run thread) }
     requires asked { IsAsked store.old.state }
@@ -212,9 +209,10 @@ fn run_thread<T, H: AccessorTask<T> + FromHost, G: TaskGroupHook>(
     ensures ran { RunsTo H.course component.now thread store.old result running.new store.new trace.old trace.new }
 {
     store.state.none_is_zero();
-    let Ok(stepped) = step_thread(component, store, thread, trace) else {
-        return Err(Halt::NoMemory);
-    };
+    let stepped = step_thread(component, store, thread, trace);
+    if !is_made(stepped) {
+        return stepped;
+    }
     store.state.count_ended();
     let told = tell_run(
         &mut store.state,
@@ -224,10 +222,10 @@ fn run_thread<T, H: AccessorTask<T> + FromHost, G: TaskGroupHook>(
         *running,
     );
     let Ok(next) = told else {
-        return Err(Halt::HookFailed);
+        return StepResult::HookFailed;
     };
     *running = next;
-    Ok(stepped)
+    stepped
 }
 
 // The live work that is next is polled, past those with numbers up to `polled`. It is told what that gave of groups.
@@ -238,7 +236,7 @@ fn poll_work<T, H: AccessorTask<T> + FromHost, G: TaskGroupHook>(
     polled: u64,
     trace: &mut PackedLabels,
     running: &mut u64,
-) -> Result<StepResult, Halt>
+) -> StepResult
     requires at { IsAtTurn component.now (Turn.Futures polled) store.old.state }
     requires hosts { HoldsHosts H.course store.old }
     requires asked { IsAsked store.old.state }
@@ -251,15 +249,16 @@ fn poll_work<T, H: AccessorTask<T> + FromHost, G: TaskGroupHook>(
     store.state.none_is_zero();
     let mut worked = None;
     let made = store.poll_next(polled, &mut worked);
-    let Ok(stepped) = put(trace, made) else {
-        return Err(Halt::NoMemory);
-    };
+    let stepped = put(trace, made);
+    if !is_made(stepped) {
+        return stepped;
+    }
     store.state.count_ended();
     let Ok(next) = tell_poll(&mut store.state, &mut store.listeners, worked) else {
-        return Err(Halt::HookFailed);
+        return StepResult::HookFailed;
     };
     *running = next;
-    Ok(stepped)
+    stepped
 }
 
 // The next entry is taken, or it is seen that nothing is there. It is told what that gave of groups.
@@ -271,7 +270,7 @@ fn take_entry<T, H: AccessorTask<T> + FromHost, G: TaskGroupHook>(
     trap_on_idle: bool,
     trace: &mut PackedLabels,
     running: &mut u64,
-) -> Result<Option<StepResult>, Halt>
+) -> StepResult
     requires at { IsAtTurn component.now (Turn.Take ended) store.old.state }
     requires asked { IsAsked store.old.state }
     ensures taken { TakesTo component.now trap_on_idle ended store.old result running.new store.new trace.old trace.new }
@@ -279,35 +278,23 @@ fn take_entry<T, H: AccessorTask<T> + FromHost, G: TaskGroupHook>(
 {
     store.state.none_is_zero();
     let mut worked = None;
-    let Ok(taken) = take(
+    let taken = take(
         component,
         &mut store.state,
         ended,
         trap_on_idle,
         trace,
         &mut worked,
-    ) else {
-        return Err(Halt::NoMemory);
-    };
-    match taken {
-        None => Ok(None),
-        Some(stepped) => {
-            store.state.count_ended();
-            let Ok(next) = tell_work(&mut store.state, &mut store.listeners, worked) else {
-                return Err(Halt::HookFailed);
-            };
-            *running = next;
-            Ok(Some(stepped))
-        }
+    );
+    if !is_made(taken) {
+        return taken;
     }
-}
-
-// Whether the run is over after this step.
-#[inline(always)]
-fn is_over(stepped: StepResult) -> bool
-    ensures { result ≡ not (is_open (turn_of stepped)) }
-{
-    matches!(stepped, StepResult::Over)
+    store.state.count_ended();
+    let Ok(next) = tell_work(&mut store.state, &mut store.listeners, worked) else {
+        return StepResult::HookFailed;
+    };
+    *running = next;
+    taken
 }
 
 // The mark of the entry that is taken next in this turn, for a policy that looks at it.
@@ -387,7 +374,7 @@ impl RunConcurrent {
             }
             Err(Halt::HookFailed) => {
                 store.set_trapped();
-                self.turn = Turn::Over;
+                self.last = StepResult::Over;
                 return Ok(Outcome::Trap(Trap::HookFailed));
             }
         }
@@ -417,37 +404,35 @@ impl RunConcurrent {
         let mut added = 0;
         let mut running = group_now(&store.state);
         'turns: while added < steps {
-            let next = next_mark::<P, T, H, G>(store, self.turn);
+            let turn = turn_of(self.last);
+            let next = next_mark::<P, T, H, G>(store, turn);
             if yields_by::<P>(self.yield_budget, next) {
                 self.yield_budget = YieldBudget::yielded(true);
                 return Ok(Stop::Yields);
             }
-            let rests = rests_with::<P>(self.turn, next);
-            let turned = match self.turn(component, store, main, trace, &mut running) {
-                Ok(turned) => turned,
-                Err(why) => return Err(why),
-            };
-            match turned {
-                None => return Ok(self.ends::<P>(Outcome::Idle, false)),
-                Some(stepped) => {
-                    self.turn = turn_of(stepped);
-                    if is_over(stepped) {
-                        return Ok(self.ends::<P>(outcome_in(trace), false));
-                    }
-                    self.yield_budget = spent_by::<P>(self.yield_budget, next);
-                    if rests {
-                        return Ok(Stop::Rests);
-                    }
-                    let core = &mut store.state;
-                    let all = compute(component, core, stepped, trace, added + 1, steps);
-                    let Ok(all) = all else {
-                        return Err(Halt::NoMemory);
-                    };
-                    added = all;
+            let rests = rests_with::<P>(turn, next);
+            let stepped = self.turn(component, store, main, trace, &mut running);
+            match stepped {
+                StepResult::Nothing => return Ok(self.ends::<P>(Outcome::Idle, false)),
+                StepResult::Full => return Err(Halt::NoMemory),
+                StepResult::HookFailed => return Err(Halt::HookFailed),
+                StepResult::Over => {
+                    self.last = StepResult::Over;
+                    return Ok(self.ends::<P>(outcome_in(trace), false));
                 }
+                _ => self.last = stepped,
             }
+            self.yield_budget = spent_by::<P>(self.yield_budget, next);
+            if rests {
+                return Ok(Stop::Rests);
+            }
+            let core = &mut store.state;
+            let Ok(all) = compute(component, core, stepped, trace, added + 1, steps) else {
+                return Err(Halt::NoMemory);
+            };
+            added = all;
         }
-        if is_idle(&store.state, self.turn, self.trap_on_idle) {
+        if is_idle(&store.state, turn_of(self.last), self.trap_on_idle) {
             return Ok(self.ends::<P>(Outcome::Idle, false));
         }
         Ok(self.ends::<P>(Outcome::OutOfSteps, true))
@@ -466,8 +451,8 @@ impl RunConcurrent {
         Stop::Ends(outcome)
     }
 
-    // Makes a step, adds its label to the trace, and tells what it gave of groups; none where nothing can go on and that is no
-    // deadlock. `running` is the group of the thread that runs, 0 if none does.
+    // Makes a step, adds its label to the trace, and tells what it gave of groups. None is made where nothing can go on and that is
+    // no deadlock. `running` is the group of the thread that runs, 0 if none does.
     #[inline(always)]
     pub(crate) fn turn<T, H: AccessorTask<T> + FromHost, G: TaskGroupHook, M: MainTask<T, H, G>>(
         &self,
@@ -476,28 +461,19 @@ impl RunConcurrent {
         main: &mut M,
         trace: &mut PackedLabels,
         running: &mut u64,
-    ) -> Result<Option<StepResult>, Halt>
+    ) -> StepResult
         requires may { MayTurn M.says H.course component.now running.old (at self.now main.old store.old trace.old) }
         ensures keeps { Keeps M.says (at self.now main.old store.old trace.old) (at self.now main.new store.new trace.new) }
         ensures turned { TurnGives M.says H.course component.now result running.new
             self.now main.old store.old trace.old main.new store.new trace.new }
     {
-        match self.turn {
-            Turn::Main => match step_main(component, store, main, trace) {
-                Ok(stepped) => Ok(Some(stepped)),
-                Err(why) => Err(why),
-            },
-            Turn::Futures { polled } => match poll_work(component, store, polled, trace, running) {
-                Ok(stepped) => Ok(Some(stepped)),
-                Err(why) => Err(why),
-            },
+        match turn_of(self.last) {
+            Turn::Main => step_main(component, store, main, trace),
+            Turn::Futures { polled } => poll_work(component, store, polled, trace, running),
             Turn::Take { ended } => {
                 take_entry(component, store, ended, self.trap_on_idle, trace, running)
             }
-            Turn::Run { thread } => match run_thread(component, store, thread, trace, running) {
-                Ok(stepped) => Ok(Some(stepped)),
-                Err(why) => Err(why),
-            },
+            Turn::Run { thread } => run_thread(component, store, thread, trace, running),
             Turn::Over => unreachable!(),
         }
     }

@@ -6,7 +6,7 @@ use Rattle.ops_turns.proofs.made.show_unwind.Goals as goal
 use Rattle.ops_turns.specs.Turn.{is_open, runs_in}
 
 pub returns-clause-shown : goal.returns-clause-shown
-returns-clause-shown g c =
+returns-clause-shown g c over =
     let before = c.args.trace.now in
     let made = c.made_of-made.result in
     let label = c.made_of-made.ensures.label in

@@ -6,13 +6,9 @@ use Rattle.ops_dispatch.proofs.GoesLemmas.{same_goes}
 use Rattle.ops_guests.proofs.CalmLemmas.{calm_picks}
 use Rattle.ops_dispatch.proofs.RuleLemmas.{data_shows}
 use Rattle.ops_dispatch.proofs.StayLemmas.{same_stays}
-use Rattle.ops_turns.proofs.SteppedLemmas.{IfOk_then}
 use Rattle.machine_data.specs.declared.op.Op.TheVariants as op
 use Rattle.ops_turns.proofs.OrderLemmas.{unwinds}
 use Rattle.ops_turns.proofs.runs.run_data.Goals as goal
-use Rattle.ops_turns.specs.Ran.{scripted_rule_of}
-use Rattle.ops_turns.specs.StepResult.{RuleShown}
-use Rattle.ops_turns.specs.declared.made.StepResult.{StepResult}
 
 pub show-requires-clause-unwinds : goal.show-requires-clause-unwinds
 show-requires-clause-unwinds g c =
@@ -28,20 +24,17 @@ show-requires-clause-goes g c =
     same_goes c.args.thread _ (v c.args.w.now) u c.compute-op_result.result (data_shows c.args.component.now _ _ c.args.op.now) (c.compute-op_result.ensures.implements c.args.component.now c.requires.within.1) c.requires.runner.current c.compute-op_result.ensures.tags c.compute-op_result.ensures.current
 
 pub returns-clause-shown : goal.returns-clause-shown
-returns-clause-shown g c =
+returns-clause-shown g c made =
     let v = g.W.View.view in
     let s = v c.args.w.now in
     let u = v c.compute-op_result.new.w in
-    let t = v c.show.new.w in
-    let o = op.Data c.args.op.now in
     let n = thread_of s c.args.thread in
     let implements = c.compute-op_result.ensures.implements c.args.component.now c.requires.within.1 in
-    IfOk_then c.show.result {Q = λ (q : StepResult). RuleShown (scripted_rule_of c.args.component.now o c.args.thread s) c.args.thread s c.args.trace.now q t c.show.new.trace} c.show.ensures.shown
-    (λ q h. record {
+    record {
       op_result = c.compute-op_result.result;
       left = u;
       implements = implements;
       picks = calm_picks (preference s) n (data_rule c.args.component.now n s.core c.args.op.now) s.core c.compute-op_result.result u.core (data_calm c.args.component.now n s.core c.args.op.now) implements;
       stays = same_stays _ s u c.compute-op_result.result implements c.compute-op_result.ensures.tags c.compute-op_result.ensures.current;
-      shown = h;
-    })
+      shown = c.show.ensures.shown made;
+    }

@@ -1,13 +1,6 @@
-use Rattle.ops_turns.proofs.SteppedLemmas.{IfOk_then}
-use Rattle.machine_data.specs.declared.component.Component.{Component}
-use Rattle.machine_data.specs.declared.op.Op.TheVariants as op
-use Rattle.machine_data.specs.declared.op.TaskOp.TheVariants as task
 use Rattle.ops_dispatch.proofs.EndLemmas.{exit_implements, exit_picks}
 use Rattle.ops_turns.proofs.OrderLemmas.{unwinds}
 use Rattle.ops_turns.proofs.runs.run_exit.Goals as goal
-use Rattle.ops_turns.specs.Ran.{scripted_rule_of}
-use Rattle.ops_turns.specs.StepResult.{RuleShown}
-use Rattle.ops_turns.specs.declared.made.StepResult.{StepResult}
 
 pub show_exit-requires-clause-unwinds : goal.show_exit-requires-clause-unwinds
 show_exit-requires-clause-unwinds g c =
@@ -18,13 +11,18 @@ pub show_exit-requires-clause-goes : goal.show_exit-requires-clause-goes
 show_exit-requires-clause-goes g c = c.exit-op_result.ensures.does.goes
 
 pub returns-clause-shown : goal.returns-clause-shown
-returns-clause-shown g c =
+returns-clause-shown g c made d =
     let v = g.W.View.view in
     let s = v c.args.w.now in
     let u = v c.exit-op_result.new.w in
-    let t = v c.show_exit.new.w in
     let did = c.exit-op_result.ensures.does in
     let implements = exit_implements c.args.thread s u c.exit-op_result.result did in
     let picks = exit_picks c.args.thread s u c.exit-op_result.result did in
-    IfOk_then c.show_exit.result {Q = λ (q : StepResult). (d : Component) → RuleShown (scripted_rule_of d (op.Task task.Exit) c.args.thread s) c.args.thread s c.args.trace.now q t c.show_exit.new.trace} c.show_exit.ensures.shown
-    (λ q h d. record { op_result = c.exit-op_result.result; left = u; implements = implements; picks = picks; stays = did.stays; shown = h })
+    record {
+      op_result = c.exit-op_result.result;
+      left = u;
+      implements = implements;
+      picks = picks;
+      stays = did.stays;
+      shown = c.show_exit.ensures.shown made;
+    }

@@ -1,16 +1,13 @@
 use Rattle.ops_dispatch.proofs.BeforeEndLemmas.{answers_right, event_fits, below_end}
 use Rattle.ops_dispatch.specs.Rules.{rule_of}
 use Rattle.std.proofs.Common.{arith}
-use Rattle.ops_turns.proofs.SteppedLemmas.{IfOk_then}
+use Rattle.ops_turns.proofs.SteppedLemmas.{made_if}
 use Rattle.ops_guests.specs.Works.{NamesTold}
 use Rattle.machine_rules.specs.Step.{own_script}
 use Rattle.ops_dispatch.proofs.EndLemmas.{end_goes, end_implements, end_picks, end_stays, end_works, plain_other}
 use Rattle.ops_turns.proofs.OrderLemmas.{unwinds}
 use Rattle.ops_turns.proofs.RanLemmas.{works_told}
 use Rattle.ops_turns.proofs.runs.run_plain.Goals as goal
-use Rattle.ops_turns.specs.Ran.{scripted_rule_of}
-use Rattle.ops_turns.specs.StepResult.{RuleShown}
-use Rattle.ops_turns.specs.declared.made.StepResult.{StepResult}
 use Rattle.core_primitives.specs.StateView.{thread_of}
 
 pub finish-requires-clause-position : goal.finish-requires-clause-position
@@ -46,26 +43,24 @@ show-requires-clause-goes g c =
     end_goes NamesTold (rule_of c.args.component.now c.args.op.now) (own_script c.args.op.now) c.args.thread (v c.args.w.now) (v c.do_plain_op.new.w) (v c.finish.new.w) c.in-Ok.op_result c.in-Ok.ensures.does c.finish.ensures
 
 pub returns-clause-shown : goal.returns-clause-shown
-returns-clause-shown g c =
+returns-clause-shown g c made =
     let v = g.W.View.view in
     let s = v c.args.w.now in
     let m = v c.do_plain_op.new.w in
     let u = v c.finish.new.w in
-    let t = v c.show.new.w in
     let o = c.args.op.now in
     let k = c.args.component.now in
-    IfOk_then c.show.result {Q = λ (q : StepResult). RuleShown (scripted_rule_of k o c.args.thread s) c.args.thread s c.args.trace.now q t c.show.new.trace} c.show.ensures.shown
-    (λ q h. record {
+    record {
       op_result = c.in-Ok.op_result;
       left = u;
       implements = end_implements NamesTold (rule_of k o) (own_script o) c.args.thread s m u c.in-Ok.op_result c.in-Ok.ensures.does c.finish.ensures;
       picks = end_picks NamesTold (rule_of k o) (own_script o) c.args.thread s m u c.in-Ok.op_result c.in-Ok.ensures.does c.finish.ensures;
       stays = end_stays NamesTold (rule_of k o) (own_script o) c.args.thread s m u c.in-Ok.op_result c.in-Ok.ensures.does c.finish.ensures;
-      shown = h;
-    })
+      shown = c.show.ensures.shown made;
+    }
 
 pub returns-clause-works : goal.returns-clause-works
-returns-clause-works g c =
+returns-clause-works g c room =
     let v = g.W.View.view in
     let s = v c.args.w.now in
     let u = v c.finish.new.w in
@@ -73,5 +68,5 @@ returns-clause-works g c =
     let o = c.args.op.now in
     let did = c.in-Ok.ensures.does in
     let told = end_works NamesTold (rule_of c.args.component.now o) (own_script o) c.args.thread s (v c.do_plain_op.new.w) u c.in-Ok.op_result did c.finish.ensures did.kept in
-    IfOk_then c.show.result {Q = λ (q : StepResult). NamesTold s t} c.show.ensures.shown
-    (λ q h. works_told (thread_of u c.args.thread) c.in-Ok.op_result s u t h.core told c.show.ensures.works)
+    let shown = c.show.ensures.shown (made_if c.show.result c.show.ensures.full room) in
+    works_told (thread_of u c.args.thread) c.in-Ok.op_result s u t shown.core told c.show.ensures.works

@@ -1,19 +1,16 @@
-use Rattle.ops_dispatch.specs.Polls.{polled_host}
 use Rattle.std.proofs.Common.{ap, length, refl, subst, sym, ◌<◌, ◌≡◌, ◌∙◌}
 use Rattle.std.proofs.lemmas.Option.{slice_get_within}
 use Rattle.std.specs.Prelude.{None, Some, option_copied, slice_get}
 use Rattle.machine_data.specs.Labels.{choice_of}
-use Rattle.machine_data.specs.Read.{callee_of, op_progress_of, instance_of, task_of}
+use Rattle.machine_data.specs.Read.{callee_of, instance_of, task_of}
 use Rattle.machine_data.specs.declared.component.Callee.{Callee}
 use Rattle.machine_data.specs.declared.op.Op.TheVariants as op
 use Rattle.machine_data.specs.declared.op.TaskOp.TheVariants as task
 use Rattle.ops_guests.specs.Steps.{label_of}
-use Rattle.machine_rules.specs.Scripts.{op_of}
-use Rattle.machine_rules.specs.Step.{did, scripted_op_rule}
 use Rattle.ops_turns.proofs.CoveredLemmas.{home_below}
 use Rattle.ops_turns.proofs.OrderLemmas.{number_at, runner}
 use Rattle.ops_turns.proofs.RunLemmas.{op_is, row_at, script_is}
-use Rattle.ops_turns.proofs.SteppedLemmas.{rule_as, run_added, run_steps}
+use Rattle.ops_turns.proofs.SteppedLemmas.{of_full, run_steps, step_made}
 use Rattle.ops_turns.proofs.runs.step_run.Goals as goal
 use Rattle.core_primitives.specs.StateView.{thread_of}
 
@@ -68,8 +65,8 @@ returns-in-Some-op_at-clause-ran g c =
     (λ r. row_at c.args.component.now n s.core q.thread q.here c.script_ops-script.result.now c.at-point.result.callee (task_of n s.core) c.at-point.result.position c.at-point.result.script c.at-point.ensures.callee refl (c.at-point.ensures.script q.thread q.here) c.script_ops-script.ensures c.at-point.ensures.position (Some o) e (choice_of (label_of n r)))
     c.args.trace.now c.run_by.new.trace c.run_by.result c.run_by.ensures.step c.run_by.ensures.polls
 
-pub returns-in-Ok-clause-ran : goal.returns-in-Ok-clause-ran
-returns-in-Ok-clause-ran g c =
+pub returns-in-None-clause-ran : goal.returns-in-None-clause-ran
+returns-in-None-clause-ran g c =
     let s = g.W.View.view c.args.w.now in
     let n = thread_of s c.in-Some.thread in
     let q = runner c.args.component.now c.args.number s c.requires.order c.none_is_zero.ensures.threads c.requires.runs c.in-Some.thread (sym c.current.ensures ∙ c.in-Some.is) in
@@ -80,9 +77,7 @@ returns-in-Ok-clause-ran g c =
     let is = op_is c.args.component.now n s.core q.thread q.here c.script_ops-script.result.now c.at-point.result.callee (task_of n s.core) c.at-point.result.position c.at-point.result.script c.at-point.ensures.callee refl (c.at-point.ensures.script q.thread q.here) c.script_ops-script.ensures c.at-point.ensures.position None e in
     let before = c.args.trace.now in
     let after = c.run_exit.new.trace in
-    let shown = c.in-Ok.ensures.shown comp in
-    let did_it = rule_as c.in-Some.thread s t c.in-Ok.stepped before after (λ r. scripted_op_rule comp n s.core (choice_of (label_of n r)) (op.Task task.Exit)) (λ r. did comp n s.core (choice_of (label_of n r)))
-    (λ r. row_at c.args.component.now n s.core q.thread q.here c.script_ops-script.result.now c.at-point.result.callee (task_of n s.core) c.at-point.result.position c.at-point.result.script c.at-point.ensures.callee refl (c.at-point.ensures.script q.thread q.here) c.script_ops-script.ensures c.at-point.ensures.position None e (choice_of (label_of n r))) shown in (
-      run_added c.in-Some.thread s t c.in-Ok.stepped before after comp c.args.number number did_it,
-      subst (λ k. polled_host comp (op_progress_of k s.core) (op_of comp k s.core) ≡ None) number (ap (polled_host comp (op_progress_of n s.core)) is),
-    )
+    of_full c.run_exit.result
+    (λ made. step_made comp c.in-Some.thread c.args.number s t number (op.Task task.Exit) is
+    (λ r. row_at c.args.component.now n s.core q.thread q.here c.script_ops-script.result.now c.at-point.result.callee (task_of n s.core) c.at-point.result.position c.at-point.result.script c.at-point.ensures.callee refl (c.at-point.ensures.script q.thread q.here) c.script_ops-script.ensures c.at-point.ensures.position None e (choice_of (label_of n r)))
+    before after c.run_exit.result (c.run_exit.ensures.shown made comp) refl) c.run_exit.ensures.full (λ same. same)

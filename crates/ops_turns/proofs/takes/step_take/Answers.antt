@@ -1,5 +1,5 @@
-use Rattle.std.proofs.Common.{ap, subst, sym, ◌∙◌}
-use Rattle.std.specs.Prelude.{Option, Some, option_map, ◌<◌}
+use Rattle.std.proofs.Common.{ap, refl, subst, sym, ◌∙◌}
+use Rattle.std.specs.Prelude.{None, Option, Some, is_none, option_map, ◌<◌, ◌≡◌}
 use Rattle.machine_data.specs.declared.records.Entry.{Entry}
 use Rattle.machine_data.specs.declared.records.Subtask.TheVariants as subtask
 use Rattle.machine_data.specs.declared.statuses.Mark.{Mark}
@@ -7,11 +7,11 @@ use Rattle.ops_moves.specs.Idle.{IsJoinThere}
 use Rattle.machine_rules.specs.Places.{Placed}
 use Rattle.ops_turns.proofs.WorkedLemmas.{worked_is}
 use Rattle.ops_turns.specs.Worked.{tracked_entry_group}
-use Rattle.ops_turns.proofs.SteppedLemmas.{host_makes, left_is, next_is, push_makes, take_added}
+use Rattle.ops_turns.proofs.SteppedLemmas.{host_makes, left_is, next_is, of_full, push_makes, take_added}
 use Rattle.ops_turns.proofs.TakenLemmas.{finds, host_joined, host_live, host_placed, taken}
 use Rattle.ops_turns.proofs.takes.step_take.Goals as goal
 use Rattle.machine_data.specs.Labels.{choice_of}
-use Rattle.machine_data.specs.Read.{place_of}
+use Rattle.machine_data.specs.Read.{next_entry, place_of}
 use Rattle.ops_guests.specs.Steps.{label_of}
 use Rattle.ops_guests.specs.declared.op_result.OpResult.{OpResult}
 use Rattle.machine_rules.specs.Progress.{Progress}
@@ -19,7 +19,9 @@ use Rattle.machine_rules.specs.Takes.{thread_taken}
 use Rattle.core_primitives.specs.Preferences.{preference}
 use Rattle.machine_rules.specs.Picks.{Preference}
 use Rattle.ops_guests.specs.OpResult.{PicksFirst}
+use Rattle.ops_turns.specs.StepResult.{Added}
 use Rattle.ops_turns.specs.Taken.{FindsSet, Taken}
+use Rattle.ops_turns.specs.Turn.{Took}
 use Rattle.core_primitives.specs.Names.{entry_in}
 use Rattle.core_primitives.specs.StateView.{StateView, thread_of, with_current, work_of}
 use Rattle.core_primitives.specs.declared.names.EntryId.{EntryId}
@@ -48,8 +50,8 @@ step_thread-requires-clause-finds g c =
     subst (λ (x : StateView). FindsSet (thread_of x q.thread) x.core) (sym (left_is s u c.take_next.result q.mark (entries.Thread q.thread) c.take_next.ensures.taken at))
     (finds c.args.component.now c.args.ended s.core c.requires.order q.mark (thread_of s q.thread))
 
-pub returns-in-Ok-clause-took : goal.returns-in-Ok-clause-took
-returns-in-Ok-clause-took g c =
+pub returns-in-Some-default-Thread-clause-took : goal.returns-in-Some-default-Thread-clause-took
+returns-in-Some-default-Thread-clause-took g c =
     let v = g.W.View.view in
     let s = v c.args.w.now in
     let u = v c.take_next.new.self in
@@ -61,14 +63,14 @@ returns-in-Ok-clause-took g c =
     let before = c.args.trace.now in
     let after = c.step_thread.new.trace in
     let row : OpResult → Progress = λ r. thread_taken q.mark (thread_of u q.thread) (choice_of (label_of (thread_of u q.thread) r)) u.core (place_of (thread_of u q.thread) u.core) in
-    let h = c.in-Ok.ensures.shown in
-    take_added c.args.component.now c.args.ended q.mark q.thread (thread_of s q.thread) s (with_current (Some q.thread) u) h.left t h.op_result c.in-Ok.stepped before after
-    (ap (λ (x : StateView). thread_of x q.thread) left) (ap (λ (x : StateView). x.core) left) next h.implements (subst (λ (f : Preference). PicksFirst f (row h.op_result) (label_of (thread_of u q.thread) h.op_result) u.core h.op_result h.left.core) (ap preference left) h.picks) h.stays h.shown
+    of_full c.step_thread.result (λ made. let h = c.step_thread.ensures.shown made in
+    take_added c.args.component.now c.args.ended q.mark q.thread (thread_of s q.thread) s (with_current (Some q.thread) u) h.left t h.op_result c.step_thread.result before after
+    (ap (λ (x : StateView). thread_of x q.thread) left) (ap (λ (x : StateView). x.core) left) next h.implements (subst (λ (f : Preference). PicksFirst f (row h.op_result) (label_of (thread_of u q.thread) h.op_result) u.core h.op_result h.left.core) (ap preference left) h.picks) h.stays h.shown) c.step_thread.ensures.full (λ same. same)
 
 -- ---- A push
 
-pub returns-in-Ok-put-clause-took : goal.returns-in-Ok-put-clause-took
-returns-in-Ok-put-clause-took g c =
+pub returns-in-Some-default-Push-clause-took : goal.returns-in-Some-default-Push-clause-took
+returns-in-Some-default-Push-clause-took g c =
     let v = g.W.View.view in
     let s = v c.args.w.now in
     let u = v c.take_next.new.self in
@@ -78,7 +80,7 @@ returns-in-Ok-put-clause-took g c =
     (next_is s c.take_next.result q.mark (entries.Push q.work) c.take_next.ensures.next at) c.step_push-made.ensures.made c.step_push-made.ensures.new in
     let t = v c.step_push-made.new.w in
     let before = c.args.trace.now in
-    (c.step_push-made.result, (c.in-Ok-put.ensures.in_trace, makes))
+    of_full {M = Added (λ step. Took c.args.component.now c.args.ended s (Some step) t) c.put.result before c.put.new.trace} c.put.result (λ made. (c.step_push-made.result, (c.put.ensures.in_trace made, makes))) c.put.ensures.full (λ same. same)
 
 -- ---- An ended host work
 
@@ -114,8 +116,8 @@ step_host-made-requires-clause-there g c =
     subst (λ (x : StateView). IsJoinThere (subtask.Host (work_of x q.work)) x.core) (sym (left_is s u c.take_next.result q.mark (entries.Host q.work) c.take_next.ensures.taken at))
     (host_joined c.args.component.now c.args.ended s.core c.requires.order c.none_is_zero.ensures.works q.mark (work_of s q.work))
 
-pub returns-in-Ok-put-2-clause-took : goal.returns-in-Ok-put-2-clause-took
-returns-in-Ok-put-2-clause-took g c =
+pub returns-in-Some-default-Host-clause-took : goal.returns-in-Some-default-Host-clause-took
+returns-in-Some-default-Host-clause-took g c =
     let v = g.W.View.view in
     let s = v c.args.w.now in
     let u = v c.take_next.new.self in
@@ -125,7 +127,17 @@ returns-in-Ok-put-2-clause-took g c =
     (next_is s c.take_next.result q.mark (entries.Host q.work) c.take_next.ensures.next at) c.step_host-made.ensures.picks c.step_host-made.ensures.current c.step_host-made.ensures.turn in
     let t = v c.step_host-made.new.w in
     let before = c.args.trace.now in
-    (c.step_host-made.result, (c.in-Ok-put-2.ensures.in_trace, makes))
+    of_full {M = Added (λ step. Took c.args.component.now c.args.ended s (Some step) t) c.put-2.result before c.put-2.new.trace} c.put-2.result (λ made. (c.step_host-made.result, (c.put-2.ensures.in_trace made, makes))) c.put-2.ensures.full (λ same. same)
+
+-- ---- Nothing is there
+
+pub returns-in-None-clause-took : goal.returns-in-None-clause-took
+returns-in-None-clause-took g c =
+    let v = g.W.View.view in
+    let s = v c.args.w.now in
+    let none : next_entry s.core ≡ None = sym c.take_next.ensures.next ∙ ap (option_map (λ (x : Mark × EntryId). (x.0, entry_in s.tags x.1))) c.in-None.is in
+    let kept : v c.take_next.new.self ≡ s = c.take_next.ensures.none (ap is_none c.in-None.is) in
+    record { made = λ e. absurd (cc); nothing = λ e. ((none, kept), refl); full = λ e. absurd (cc); failed = λ e. absurd (cc) }
 
 -- ---- The group that is worked on
 
@@ -134,45 +146,22 @@ returns-in-None-clause-worked g c =
     let s = g.W.View.view c.args.w.now in
     c.requires.unworked ∙ ap (λ (o : Option (Mark × Entry)). tracked_entry_group o s) (sym (ap (option_map (λ (x : Mark × EntryId). (x.0, entry_in s.tags x.1))) c.in-None.is) ∙ c.take_next.ensures.next)
 
-pub returns-in-Ok-clause-worked : goal.returns-in-Ok-clause-worked
-returns-in-Ok-clause-worked g c =
+pub returns-in-Some-default-Thread-clause-worked : goal.returns-in-Some-default-Thread-clause-worked
+returns-in-Some-default-Thread-clause-worked g c =
     let s = g.W.View.view c.args.w.now in
     let q = c.in-Some-default-Thread in
     let at = q.is ∙ ap (λ (e : EntryId). Some (q.mark, e)) q.field-0-1-is in
     c.requires.unworked ∙ ap (λ (o : Option (Mark × Entry)). tracked_entry_group o s) (sym (next_is s c.take_next.result q.mark (entries.Thread q.thread) c.take_next.ensures.next at))
 
-pub returns-in_default-clause-worked : goal.returns-in_default-clause-worked
-returns-in_default-clause-worked g c =
-    let s = g.W.View.view c.args.w.now in
-    let q = c.in-Some-default-Thread in
-    let at = q.is ∙ ap (λ (e : EntryId). Some (q.mark, e)) q.field-0-1-is in
-    c.requires.unworked ∙ ap (λ (o : Option (Mark × Entry)). tracked_entry_group o s) (sym (next_is s c.take_next.result q.mark (entries.Thread q.thread) c.take_next.ensures.next at))
-
-pub returns-in-Ok-put-clause-worked : goal.returns-in-Ok-put-clause-worked
-returns-in-Ok-put-clause-worked g c =
+pub returns-in-Some-default-Push-clause-worked : goal.returns-in-Some-default-Push-clause-worked
+returns-in-Some-default-Push-clause-worked g c =
     let s = g.W.View.view c.args.w.now in
     let q = c.in-Some-default-Push in
     let at = q.is ∙ ap (λ (e : EntryId). Some (q.mark, e)) q.field-0-1-is in
     c.requires.unworked ∙ ap (λ (o : Option (Mark × Entry)). tracked_entry_group o s) (sym (next_is s c.take_next.result q.mark (entries.Push q.work) c.take_next.ensures.next at))
 
-pub returns-in_default-put-clause-worked : goal.returns-in_default-put-clause-worked
-returns-in_default-put-clause-worked g c =
-    let s = g.W.View.view c.args.w.now in
-    let q = c.in-Some-default-Push in
-    let at = q.is ∙ ap (λ (e : EntryId). Some (q.mark, e)) q.field-0-1-is in
-    c.requires.unworked ∙ ap (λ (o : Option (Mark × Entry)). tracked_entry_group o s) (sym (next_is s c.take_next.result q.mark (entries.Push q.work) c.take_next.ensures.next at))
-
-pub returns-in-Ok-put-2-clause-worked : goal.returns-in-Ok-put-2-clause-worked
-returns-in-Ok-put-2-clause-worked g c =
-    let v = g.W.View.view in
-    let s = v c.args.w.now in
-    let u = v c.take_next.new.self in
-    let q = c.in-Some-default-Host in
-    let at = q.is ∙ ap (λ (e : EntryId). Some (q.mark, e)) q.field-0-1-is in
-    c.work_group.ensures ∙ worked_is s u q.mark q.work (left_is s u c.take_next.result q.mark (entries.Host q.work) c.take_next.ensures.taken at) (next_is s c.take_next.result q.mark (entries.Host q.work) c.take_next.ensures.next at)
-
-pub returns-in_default-put-2-clause-worked : goal.returns-in_default-put-2-clause-worked
-returns-in_default-put-2-clause-worked g c =
+pub returns-in-Some-default-Host-clause-worked : goal.returns-in-Some-default-Host-clause-worked
+returns-in-Some-default-Host-clause-worked g c =
     let v = g.W.View.view in
     let s = v c.args.w.now in
     let u = v c.take_next.new.self in

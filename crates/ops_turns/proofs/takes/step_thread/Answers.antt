@@ -1,19 +1,10 @@
 use Rattle.std.proofs.Common.{subst, sym}
-use Rattle.std.specs.Prelude.{Some}
-use Rattle.ops_turns.proofs.SteppedLemmas.{IfOk_then}
-use Rattle.machine_data.specs.Labels.{choice_of}
-use Rattle.machine_data.specs.Read.{place_of}
 use Rattle.ops_guests.proofs.CalmLemmas.{picks_implements}
 use Rattle.ops_guests.specs.Stays.{StaysAfter}
-use Rattle.ops_guests.specs.Steps.{label_of}
-use Rattle.ops_guests.specs.declared.op_result.OpResult.{OpResult}
-use Rattle.machine_rules.specs.Takes.{thread_taken}
 use Rattle.ops_turns.proofs.ShowLemmas.{taken_unwinds}
 use Rattle.ops_turns.proofs.takes.step_thread.Goals as goal
-use Rattle.ops_turns.specs.StepResult.{RuleShown}
 use Rattle.ops_turns.specs.Taken.{TakesThread, Taken}
-use Rattle.ops_turns.specs.declared.made.StepResult.{StepResult}
-use Rattle.core_primitives.specs.StateView.{StateView, thread_of, with_current}
+use Rattle.core_primitives.specs.StateView.{StateView, thread_of}
 
 pub take_thread-requires-clause-taken : goal.take_thread-requires-clause-taken
 take_thread-requires-clause-taken g c = subst (λ (u : StateView). Taken c.args.mark (thread_of u c.args.thread) u.core) (sym c.set_current.ensures) c.requires.taken
@@ -25,14 +16,12 @@ show_taken-requires-clause-unwinds g c =
     (subst (λ (u : StateView). Taken c.args.mark (thread_of u c.args.thread) u.core) (sym c.set_current.ensures) c.requires.taken) c.in-Ok.ensures.stays
 
 pub returns-clause-shown : goal.returns-clause-shown
-returns-clause-shown g c =
+returns-clause-shown g c made =
     let v = g.W.View.view in
     let s = v c.args.w.now in
     let w = v c.take_thread.new.w in
-    let t = v c.show_taken.new.w in
     let id = c.args.thread in
     let op_result = c.in-Ok.op_result in
     let picks = subst (λ (u : StateView). TakesThread c.args.mark (thread_of u id) u op_result w) c.set_current.ensures c.in-Ok.ensures.picks in
     let stays = subst (λ (u : StateView). StaysAfter op_result u w) c.set_current.ensures c.in-Ok.ensures.stays in
-    IfOk_then c.show_taken.result {Q = λ (q : StepResult). RuleShown (λ (r : OpResult). thread_taken c.args.mark (thread_of s id) (choice_of (label_of (thread_of s id) r)) s.core (place_of (thread_of s id) s.core)) id (with_current (Some id) s) c.args.trace.now q t c.show_taken.new.trace} c.show_taken.ensures.shown
-    (λ q shown. record { op_result = op_result; left = w; implements = picks_implements picks; picks = picks; stays = stays; shown = shown })
+    record { op_result = op_result; left = w; implements = picks_implements picks; picks = picks; stays = stays; shown = c.show_taken.ensures.shown made }

@@ -1,15 +1,17 @@
 -- What the poll of a work gave is told.
 use Rattle.std.proofs.Common.{ap, refl, subst, sym, ◌∙◌}
-use Rattle.std.specs.Prelude.{[], is_some, true, ◌≡◌}
+use Rattle.std.specs.Prelude.{[], is_some, true}
 use Rattle.task_group.specs.Listeners.{AnsweredErr, Listeners, errors_of}
 use Rattle.task_loop.proofs.IdleLemmas.{none_current, poll_leaves_none}
 use Rattle.task_loop.proofs.ToldLemmas.{turns_asked}
 use Rattle.task_loop.proofs.TurnTellLemmas.{asked_after, part_core, tells_in_part, tells_turn, turns_part, works_asked, works_part}
 use Rattle.task_loop.proofs.run.poll_work.Goals as goal
+use Rattle.task_loop.specs.Threads.{PollsTold}
 use Rattle.task_loop.specs.Told.{TellsPart, TellsWhole, groups_before_work}
 use Rattle.machine_data.specs.Core.{Core, Unscripted}
 use Rattle.machine_data.specs.declared.records.Turn.TheVariants as turn
 use Rattle.task_store.specs.Hosts.{HoldsWorks, held_by}
+use Rattle.ops_turns.proofs.SteppedLemmas.{of_full, of_made}
 use Rattle.ops_turns.specs.Turn.{setting_of}
 
 pub poll_next-made-requires-clause-may : goal.poll_next-made-requires-clause-may
@@ -26,7 +28,7 @@ tell_poll-requires g c =
 pub returns-clause-works : goal.returns-clause-works
 returns-clause-works g c =
     let t = c.poll_next-made.new.self in
-    let asked = c.in-Ok-tell_poll.ensures.told.whole.asked in (
+    let asked = c.in-Ok.ensures.told.whole.asked in (
       works_asked c.args.store.now.state t.state c.tell_poll.new.core asked c.poll_next-made.ensures.works.0,
       subst (λ (d : Core). HoldsWorks (held_by g.H.HostWork.course t) d) (sym (ap (λ v. v.core) asked)) c.poll_next-made.ensures.hosts,
     )
@@ -37,12 +39,14 @@ returns-clause-polled g c =
     let t = c.poll_next-made.new.self in
     let u = c.tell_poll.new.core in
     let a = groups_before_work c.poll_next-made.new.worked in
-    let told = c.in-Ok-tell_poll.ensures.told in
-    let same = ap (λ k. k.listeners) c.poll_next-made.ensures.rest in (
+    let told = c.in-Ok.ensures.told in
+    let same = ap (λ k. k.listeners) c.poll_next-made.ensures.rest in
+    let is = sym c.is_made.ensures ∙ c.if-not-is_made.false in
+    of_made {M = PollsTold (turn.Futures c.args.polled) c.in-Ok.next s c.put-stepped.result (record t { state = u; listeners = c.tell_poll.new.listeners }) c.args.trace.now c.put-stepped.new.trace} c.put-stepped.result is (
       (
         c.poll_next-made.result,
         (
-          c.in-Ok.ensures.constants_stay,
+          c.put-stepped.ensures.in_trace is,
           λ x m pends.
               turns_asked x (turn.Futures c.args.polled) m s.state c.poll_next-made.result m t.state u told.whole.asked (c.poll_next-made.ensures.turns x m pends),
         ),
@@ -51,42 +55,43 @@ returns-clause-polled g c =
         told = tells_turn s.state (turn.Futures c.args.polled) c.requires.asked c.none_is_zero.ensures.groups a refl c.poll_next-made.ensures.worked t.state u c.poll_next-made.ensures.works.1 s.listeners c.tell_poll.new.listeners c.count_ended.ensures
             (subst (λ (l : Listeners). TellsWhole a t.state u l c.tell_poll.new.listeners) same told.whole);
         hook_is_ok = told.hook.hook_is_ok ∙ ap errors_of same;
-        group = c.in-Ok-tell_poll.ensures.running;
+        group = c.in-Ok.ensures.running;
         asked = asked_after t.state u told.whole.asked;
       },
     )
 
 -- the step was made, and the hook failed in what it gave
-pub returns-in_default-tell_poll-clause-works : goal.returns-in_default-tell_poll-clause-works
-returns-in_default-tell_poll-clause-works g c =
+pub returns-in_default-clause-works : goal.returns-in_default-clause-works
+returns-in_default-clause-works g c =
     let t = c.poll_next-made.new.self in
     let u = c.tell_poll.new.core in
     let a = groups_before_work c.poll_next-made.new.worked in
-    let part = c.in_default-tell_poll.ensures.told.part in (
+    let part = c.in_default.ensures.told.part in (
       works_part a t.state u t.listeners c.tell_poll.new.listeners part c.args.store.now.state c.poll_next-made.ensures.works.0,
       subst (λ (d : Core). HoldsWorks (held_by g.H.HostWork.course t) d) (sym (part_core a t.state u t.listeners c.tell_poll.new.listeners part)) c.poll_next-made.ensures.hosts,
     )
 
-pub returns-in_default-tell_poll-clause-polled : goal.returns-in_default-tell_poll-clause-polled
-returns-in_default-tell_poll-clause-polled g c =
+pub returns-in_default-clause-polled : goal.returns-in_default-clause-polled
+returns-in_default-clause-polled g c =
     let s = c.args.store.now in
     let t = c.poll_next-made.new.self in
     let u = c.tell_poll.new.core in
     let new = c.tell_poll.new.listeners in
     let a = groups_before_work c.poll_next-made.new.worked in
-    let told = c.in_default-tell_poll.ensures.told in
-    let same = ap (λ k. k.listeners) c.poll_next-made.ensures.rest in (
+    let told = c.in_default.ensures.told in
+    let same = ap (λ k. k.listeners) c.poll_next-made.ensures.rest in
+    let is = sym c.is_made.ensures ∙ c.if-not-is_made.false in (
       record {
         told = tells_in_part s.state (turn.Futures c.args.polled) c.requires.asked c.none_is_zero.ensures.groups a refl c.poll_next-made.ensures.worked t.state u c.poll_next-made.ensures.works.1 s.listeners new
             (subst (λ (l : Listeners). TellsPart a t.state u l new) same told.part) (subst (λ (l : Listeners). AnsweredErr l new) same told.hook.failed);
         hook = c.tell_poll.ensures.told.hook.hook ∙ ap (λ (l : Listeners). is_some l.hook) same;
       },
       (
-        c.in-Ok.stepped,
+        c.put-stepped.result,
         (
           c.poll_next-made.result,
           (
-            c.in-Ok.ensures.constants_stay,
+            c.put-stepped.ensures.in_trace is,
             λ x m pends.
                 turns_part a t.state u t.listeners new told.part x (turn.Futures c.args.polled) m s.state c.poll_next-made.result m (c.poll_next-made.ensures.turns x m pends),
           ),
@@ -94,5 +99,7 @@ returns-in_default-tell_poll-clause-polled g c =
       ),
     )
 
-pub returns-in_default-clause-polled : goal.returns-in_default-clause-polled
-returns-in_default-clause-polled g c = (c.in_default.ensures.err, ap (λ k. k.listeners) c.poll_next-made.ensures.rest)
+pub returns-then-not-is_made-clause-polled : goal.returns-then-not-is_made-clause-polled
+returns-then-not-is_made-clause-polled g c =
+    let unmade = sym c.is_made.ensures ∙ c.if-not-is_made.true in
+    of_full c.put-stepped.result (λ made. let no = sym unmade ∙ made in absurd (cc)) c.put-stepped.ensures.full (λ same. (same, ap (λ k. k.listeners) c.poll_next-made.ensures.rest))

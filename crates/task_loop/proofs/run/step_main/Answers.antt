@@ -2,6 +2,7 @@
 use Rattle.std.proofs.Common.{refl, ◌∙◌}
 use Rattle.task_loop.proofs.MainStepLemmas.{lacks_main, step_failed, step_turned}
 use Rattle.task_loop.proofs.run.step_main.Goals as goal
+use Rattle.ops_turns.proofs.SteppedLemmas.{of_failed, of_full, of_lost}
 use Rattle.ops_turns.specs.declared.mains.MainStep.TheVariants as step
 
 pub ask_main-requires : goal.ask_main-requires
@@ -14,33 +15,29 @@ pub made_by_main-made-requires : goal.made_by_main-made-requires
 made_by_main-made-requires g c = c.in-Ok.ensures.steps.idle ∙ c.requires.may.idle
 
 pub returns-in-Pends-clause-turned : goal.returns-in-Pends-clause-turned
-returns-in-Pends-clause-turned g c =
-    step_turned g.M.MainTask.says g.H.HostWork.course c.args.component.now c.in-Ok.step step.Pends c.in-Pends.is c.args.main.now c.args.store.now c.ask_main.new.main c.ask_main.new.store c.in-Ok.ensures.steps c.requires.may.idle
-    c.made_by_main-pends.result c.made_by_main-pends.ensures.label c.made_by_main-pends.ensures.turns c.in-Ok-put.stepped c.args.trace.now c.put.new.trace c.in-Ok-put.ensures.in_trace
+returns-in-Pends-clause-turned g c idle =
+    of_full c.put.result
+    (λ made. step_turned g.M.MainTask.says g.H.HostWork.course c.args.component.now c.in-Ok.step step.Pends c.in-Pends.is c.args.main.now c.args.store.now c.ask_main.new.main c.ask_main.new.store c.in-Ok.ensures.steps c.requires.may.idle
+    c.made_by_main-pends.result c.made_by_main-pends.ensures.label c.made_by_main-pends.ensures.turns c.put.result c.args.trace.now c.put.new.trace made (c.put.ensures.in_trace made) idle) c.put.ensures.full (λ same. lacks_main g.M.MainTask.says g.H.HostWork.course c.args.component.now c.args.main.now c.args.store.now c.ask_main.new.main c.ask_main.new.store c.args.trace.now c.put.new.trace same idle)
 
 pub returns : goal.returns
 returns g c = record {
   constants_stay = c.in-Ok.ensures.constants_stay;
   script = c.in-Ok.ensures.script;
-  turned =
-      step_turned g.M.MainTask.says g.H.HostWork.course c.args.component.now c.in-Ok.step c.in-Ok.step refl c.args.main.now c.args.store.now c.ask_main.new.main c.ask_main.new.store c.in-Ok.ensures.steps c.requires.may.idle
-      c.made_by_main-made.result c.made_by_main-made.ensures.label c.made_by_main-made.ensures.turns c.in-Ok-put-2.stepped c.args.trace.now c.put-2.new.trace c.in-Ok-put-2.ensures.in_trace;
+  turned = λ idle.
+      of_full c.put-2.result
+      (λ made. step_turned g.M.MainTask.says g.H.HostWork.course c.args.component.now c.in-Ok.step c.in-Ok.step refl c.args.main.now c.args.store.now c.ask_main.new.main c.ask_main.new.store c.in-Ok.ensures.steps c.requires.may.idle
+      c.made_by_main-made.result c.made_by_main-made.ensures.label c.made_by_main-made.ensures.turns c.put-2.result c.args.trace.now c.put-2.new.trace made (c.put-2.ensures.in_trace made) idle) c.put-2.ensures.full (λ same. lacks_main g.M.MainTask.says g.H.HostWork.course c.args.component.now c.args.main.now c.args.store.now c.ask_main.new.main c.ask_main.new.store c.args.trace.now c.put-2.new.trace same idle);
 }
 
 -- ---- It isn't made
 
 pub returns-in-Err-Trap-clause-turned : goal.returns-in-Err-Trap-clause-turned
-returns-in-Err-Trap-clause-turned g c =
+returns-in-Err-Trap-clause-turned g c = λ idle.
     let main = c.args.main.now in
     let s = c.args.store.now in
-    step_failed g.M.MainTask.says g.H.HostWork.course c.args.component.now _ _ c.in-Err-Trap.field-0-is main s c.ask_main.new.main c.ask_main.new.store c.in-Err-Trap.ensures.steps
-    (λ u last. g.met.M.MainTask.stays main s.state u last) c.requires.may.knows c.args.trace.now c.args.trace.now refl
+    of_failed (step_failed g.M.MainTask.says g.H.HostWork.course c.args.component.now _ _ c.in-Err-Trap.field-0-is main s c.ask_main.new.main c.ask_main.new.store c.in-Err-Trap.ensures.steps
+    (λ u last. g.met.M.MainTask.stays main s.state u last) c.requires.may.knows c.args.trace.now c.args.trace.now refl idle)
 
 pub returns-in-Err : goal.returns-in-Err
-returns-in-Err g c = record { constants_stay = c.in-Err.ensures.constants_stay; script = c.in-Err.ensures.script; turned = lacks_main g.M.MainTask.says g.H.HostWork.course c.args.component.now c.args.main.now c.args.store.now c.ask_main.new.main c.ask_main.new.store c.args.trace.now c.args.trace.now refl }
-
-pub returns-in_default-put-clause-turned : goal.returns-in_default-put-clause-turned
-returns-in_default-put-clause-turned g c = lacks_main g.M.MainTask.says g.H.HostWork.course c.args.component.now c.args.main.now c.args.store.now c.ask_main.new.main c.ask_main.new.store c.args.trace.now c.put.new.trace c.in_default-put.ensures.err
-
-pub returns-in_default-put-2 : goal.returns-in_default-put-2
-returns-in_default-put-2 g c = record { constants_stay = c.in-Ok.ensures.constants_stay; script = c.in-Ok.ensures.script; turned = lacks_main g.M.MainTask.says g.H.HostWork.course c.args.component.now c.args.main.now c.args.store.now c.ask_main.new.main c.ask_main.new.store c.args.trace.now c.put-2.new.trace c.in_default-put-2.ensures.err }
+returns-in-Err g c = record { constants_stay = c.in-Err.ensures.constants_stay; script = c.in-Err.ensures.script; turned = λ idle. of_lost (lacks_main g.M.MainTask.says g.H.HostWork.course c.args.component.now c.args.main.now c.args.store.now c.ask_main.new.main c.ask_main.new.store c.args.trace.now c.args.trace.now refl idle) }

@@ -1,7 +1,7 @@
 -- A step that calls a host is made apart.
 use Rattle.ops_dispatch.specs.Fits.{calls_host}
-use Rattle.std.proofs.Common.{inl, refl, subst, sym}
-use Rattle.std.specs.Prelude.{IfOk, List, None, OnErr, Option, Some, true, ◌≡◌}
+use Rattle.std.proofs.Common.{inl, refl, subst, sym, ◌∙◌}
+use Rattle.std.specs.Prelude.{List, None, true, ◌≡◌}
 use Rattle.task_loop.proofs.HoldLemmas.{held_run}
 use Rattle.task_loop.proofs.run.step_thread.Goals as goal
 use Rattle.task_loop.specs.Threads.{RunsThread, StepsUntold}
@@ -9,22 +9,27 @@ use Rattle.machine_data.specs.declared.label.Label.{Label}
 use Rattle.machine_data.specs.declared.statuses.HostPoll.TheVariants as host_poll
 use Rattle.machine_rules.specs.Scripts.{op_of}
 use Rattle.task_store.specs.Hosts.{held_by}
+use Rattle.ops_turns.proofs.SteppedLemmas.{full_told, made_room, match_made}
 use Rattle.ops_turns.specs.StepResult.{RunStepped}
 use Rattle.ops_turns.specs.declared.made.StepResult.{StepResult}
 use Rattle.core_primitives.specs.StateView.{StateView}
 
-pub returns-in-Some-clause-steps : goal.returns-in-Some-clause-steps
-returns-in-Some-clause-steps g c =
+pub returns-clause-steps : goal.returns-clause-steps
+returns-clause-steps g c made =
     let store = c.args.store.now in
-    let t = c.step_run.new.w in
+    let t = c.step_run-stepped.new.w in
     let comp = c.args.component.now in
     let n = c.args.thread in
-    let ran = subst (λ (r : Option StepResult). RunStepped comp n store.state r t c.args.trace.now c.step_run.new.trace) c.in-Some.is c.in-Ok.ensures.ran in
+    let q = c.step_run-stepped.result in
+    let ran = match_made q made c.step_run-stepped.ensures.ran in
     record {
-      makes = ran.0;
-      works = c.in-Ok.ensures.works;
-      hosts = held_run host_poll.Pending comp n store.state t ran.0.0 None c.requires.runs.order ran.0.1.1.0 (inl ran.1) (held_by g.H.HostWork.course store) c.requires.runs.hosts (held_by g.H.HostWork.course store) (λ i. refl);
+      makes = (ran.0, (ran.1.0, ran.1.1.0));
+      works = c.step_run-stepped.ensures.works (made_room q made);
+      hosts = held_run host_poll.Pending comp n store.state t ran.0 None c.requires.runs.order ran.1.1.0.0 (inl ran.1.1.1) (held_by g.H.HostWork.course store) c.requires.runs.hosts (held_by g.H.HostWork.course store) (λ i. refl);
     }
+
+pub returns-clause-full : goal.returns-clause-full
+returns-clause-full g c unmade = full_told c.step_run-stepped.result c.in_default.not-Nothing unmade c.step_run-stepped.ensures.ran
 
 -- ---- Where the op calls a host nothing is done before
 
@@ -33,29 +38,31 @@ call_host-requires-clause-runs g c =
     let store = c.args.store.now in
     let comp = c.args.component.now in
     let n = c.args.thread in
-    let same = subst (λ (r : Option StepResult). RunStepped comp n store.state r c.step_run.new.w c.args.trace.now c.step_run.new.trace) c.in-None.is c.in-Ok.ensures.ran in
+    let same = subst (λ (r : StepResult). RunStepped comp n store.state r c.step_run-stepped.new.w c.args.trace.now c.step_run-stepped.new.trace) c.in-Nothing.is c.step_run-stepped.ensures.ran in
     subst (λ (v : StateView). RunsThread g.H.HostWork.course comp n (record store { state = v })) (sym same.0.0) c.requires.runs
 
 pub call_host-requires-clause-calls : goal.call_host-requires-clause-calls
 call_host-requires-clause-calls g c =
     let comp = c.args.component.now in
     let n = c.args.thread in
-    let same = subst (λ (r : Option StepResult). RunStepped comp n c.args.store.now.state r c.step_run.new.w c.args.trace.now c.step_run.new.trace) c.in-None.is c.in-Ok.ensures.ran in
+    let same = subst (λ (r : StepResult). RunStepped comp n c.args.store.now.state r c.step_run-stepped.new.w c.args.trace.now c.step_run-stepped.new.trace) c.in-Nothing.is c.step_run-stepped.ensures.ran in
     subst (λ (v : StateView). calls_host (op_of comp n v.core) ≡ true) (sym same.0.0) same.0.1
 
-pub returns-in-None-clause-steps : goal.returns-in-None-clause-steps
-returns-in-None-clause-steps g c =
+pub returns-in-Nothing-clause-steps : goal.returns-in-Nothing-clause-steps
+returns-in-Nothing-clause-steps g c made =
     let store = c.args.store.now in
     let course = g.H.HostWork.course in
     let comp = c.args.component.now in
     let n = c.args.thread in
-    let mid = c.step_run.new.trace in
+    let mid = c.step_run-stepped.new.trace in
     let after = c.call_host.new.trace in
-    let same = subst (λ (r : Option StepResult). RunStepped comp n store.state r c.step_run.new.w c.args.trace.now mid) c.in-None.is c.in-Ok.ensures.ran in
-    subst (λ (l : List Label). IfOk c.call_host.result (λ (q : StepResult). StepsUntold course comp n store q c.call_host.new.store l after)) same.1
-    (subst (λ (v : StateView). IfOk c.call_host.result (λ (q : StepResult). StepsUntold course comp n (record store { state = v }) q c.call_host.new.store mid after)) same.0.0 c.call_host.ensures.steps)
+    let same = subst (λ (r : StepResult). RunStepped comp n store.state r c.step_run-stepped.new.w c.args.trace.now mid) c.in-Nothing.is c.step_run-stepped.ensures.ran in
+    let q = c.call_host.result in
+    subst (λ (l : List Label). StepsUntold course comp n store q c.call_host.new.store l after) same.1
+    (subst (λ (v : StateView). StepsUntold course comp n (record store { state = v }) q c.call_host.new.store mid after) same.0.0 (c.call_host.ensures.steps made))
 
-pub returns-in-None-clause-err : goal.returns-in-None-clause-err
-returns-in-None-clause-err g c =
-    let same = subst (λ (r : Option StepResult). RunStepped c.args.component.now c.args.thread c.args.store.now.state r c.step_run.new.w c.args.trace.now c.step_run.new.trace) c.in-None.is c.in-Ok.ensures.ran in
-    subst (λ (l : List Label). OnErr c.call_host.result (c.call_host.new.trace ≡ l)) same.1 c.call_host.ensures.err
+pub returns-in-Nothing-clause-full : goal.returns-in-Nothing-clause-full
+returns-in-Nothing-clause-full g c unmade =
+    let same = subst (λ (r : StepResult). RunStepped c.args.component.now c.args.thread c.args.store.now.state r c.step_run-stepped.new.w c.args.trace.now c.step_run-stepped.new.trace) c.in-Nothing.is c.step_run-stepped.ensures.ran in
+    let full = c.call_host.ensures.full unmade in
+    (full.0, full.1 ∙ same.1)

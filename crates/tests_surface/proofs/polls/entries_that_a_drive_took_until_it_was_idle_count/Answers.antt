@@ -1,4 +1,5 @@
 -- Where the drive was idle, calls are started, and the run is polled on.
+use Rattle.ops_turns.specs.StepResult.{turn_of}
 use Rattle.std.proofs.Common.{Ok, ap, arith, sym, ◌∙◌}
 use Rattle.std.specs.Prelude.{[], ◌^◌, ◌≤◌}
 use Rattle.tests_surface.proofs.PollLemmas.{idle_turn, pends_outside, settled_take_of}
@@ -22,7 +23,7 @@ drive-requires g c =
     }
 
 pub call_often-requires-2-clause-order : goal.call_often-requires-2-clause-order
-call_often-requires-2-clause-order g c = let driven = rw c.in-Ok-Idle.is at c.drive.ensures.drives in (c.drive.new.self.turn, driven.gone.has.may_turn.order)
+call_often-requires-2-clause-order g c = let driven = rw c.in-Ok-Idle.is at c.drive.ensures.drives in ((turn_of c.drive.new.self.last), driven.gone.has.may_turn.order)
 
 pub call_often-requires-2-clause-given : goal.call_often-requires-2-clause-given
 call_often-requires-2-clause-given g c =
@@ -58,10 +59,10 @@ poll-polled-requires g c =
       may = record {
         covered = c.component-component.ensures.covered;
         may_turn = record {
-          order = e.order c.drive.new.self.turn driven.gone.has.may_turn.order;
-          settled = settled_take_of c.call_often-2.new.store.state.core c.drive.new.self.turn taking;
+          order = e.order (turn_of c.drive.new.self.last) driven.gone.has.may_turn.order;
+          settled = settled_take_of c.call_often-2.new.store.state.core (turn_of c.drive.new.self.last) taking;
           running = e.current ∙ sym (ap runs_in taking);
-          pends = pends_outside (setting_of c.component-component.result [] c.drive.new.self.trap_on_idle) c.call_often-2.new.store.state.core c.drive.new.self.turn taking;
+          pends = pends_outside (setting_of c.component-component.result [] c.drive.new.self.trap_on_idle) c.call_often-2.new.store.state.core (turn_of c.drive.new.self.last) taking;
           suits = tt;
           knows = tt;
           works = e.hosts;
@@ -91,10 +92,10 @@ poll-polled-requires-2 g c =
           (record {
             covered = c.component-component.ensures.covered;
             may_turn = record {
-              order = e.order c.drive.new.self.turn driven.gone.has.may_turn.order;
-              settled = settled_take_of c.call_often-2.new.store.state.core c.drive.new.self.turn taking;
+              order = e.order (turn_of c.drive.new.self.last) driven.gone.has.may_turn.order;
+              settled = settled_take_of c.call_often-2.new.store.state.core (turn_of c.drive.new.self.last) taking;
               running = e.current ∙ sym (ap runs_in taking);
-              pends = pends_outside (setting_of c.component-component.result [] c.drive.new.self.trap_on_idle) c.call_often-2.new.store.state.core c.drive.new.self.turn taking;
+              pends = pends_outside (setting_of c.component-component.result [] c.drive.new.self.trap_on_idle) c.call_often-2.new.store.state.core (turn_of c.drive.new.self.last) taking;
               suits = tt;
               knows = tt;
               works = e.hosts;

@@ -2,24 +2,25 @@
 use Rattle.laws_labels.specs.Own.{rests_by}
 use Rattle.run_trace.specs.YieldBudget.{counted, yields_before}
 use Rattle.std.proofs.Common.{ap, arith, refl, subst, sym, ◌∙◌}
-use Rattle.std.specs.Prelude.{None, Option, Some, false, true, ◌+◌, ◌<◌, ◌^◌, ◌≡◌}
+use Rattle.std.specs.Prelude.{Option, false, true, ◌+◌, ◌<◌, ◌^◌, ◌≡◌}
 use Rattle.task_loop.proofs.HasPolledLemmas.{polled_idles, polled_none, polled_out, polled_over, polled_rests, polled_yields}
-use Rattle.task_loop.proofs.HasRunLemmas.{come_computed, come_first, come_goes, come_halts, come_may, come_none, come_out, come_over, come_rests, come_short, gives_halt, goes_on_by, opened, over_told, stops_by, turned_as}
+use Rattle.task_loop.proofs.HasRunLemmas.{come_computed, come_first, come_goes, come_lost, come_may, come_none, come_out, come_over, come_rests, come_short, come_stopped, goes_on_by, opened, over_told, stops_by}
 use Rattle.task_loop.proofs.PausedLemmas.{spent_data, spent_none, poll_goes}
 use Rattle.task_loop.proofs.RunPollLemmas.{and_false}
 use Rattle.task_loop.proofs.ToldLemmas.{current_is, group_computed}
 use Rattle.task_loop.proofs.run.RunConcurrent.go_on.Goals as goal
-use Rattle.task_loop.specs.HasRun.{GoesTo, at, numbers, setting, state}
+use Rattle.task_loop.specs.HasRun.{GoesTo, TurnsTo, at, numbers, setting, state}
 use Rattle.task_loop.specs.declared.run.RunConcurrent.{RunConcurrent}
 use Rattle.task_loop.specs.declared.run.Stop.TheVariants as stop
 use Rattle.machine_data.specs.declared.outcome.Outcome.TheVariants as outcome
 use Rattle.machine_data.specs.declared.records.Turn.TheVariants as turn
 use Rattle.machine_data.specs.declared.statuses.Mark.{Mark}
 use Rattle.machine_rules.proofs.Machine.{and_parts}
-use Rattle.ops_turns.specs.Turn.{given, idle_line_of, is_open}
-use Rattle.machine_data.specs.declared.records.Turn.{Turn}
-use Rattle.ops_turns.proofs.SteppedLemmas.{closes, opens}
+use Rattle.ops_turns.specs.Turn.{given, idle_line_of}
+use Rattle.ops_turns.proofs.SteppedLemmas.{made_else, made_open, match_made}
 use Rattle.ops_turns.specs.StepResult.{turn_of}
+use Rattle.ops_turns.specs.declared.made.StepResult.{StepResult}
+use Rattle.ops_turns.specs.declared.made.StepResult.TheVariants as stepped
 use Rattle.core_primitives.specs.StateView.{Tags}
 
 pub turns-init : goal.turns-init
@@ -29,7 +30,7 @@ turns-init g c =
       kept = λ driven. refl;
       spent = λ polled. spent_none c.args.self.now.yield_budget.passes c.args.self.now.yield_budget.since c.args.trace.now;
       few = omega arith;
-      running = c.group_now-running.ensures ∙ current_is c.args.store.now.state c.args.self.now.turn c.requires.may.may_turn.running;
+      running = c.group_now-running.ensures ∙ current_is c.args.store.now.state (turn_of c.args.self.now.last) c.requires.may.may_turn.running;
     }
 
 pub turn-requires : goal.turn-requires
@@ -49,11 +50,11 @@ turn-requires g c =
 pub spent_by-self-requires : goal.spent_by-self-requires
 spent_by-self-requires g c = sym c.yields_by.ensures ∙ c.if-yields_by.false
 
-pub compute-all-requires-clause-covered : goal.compute-all-requires-clause-covered
-compute-all-requires-clause-covered g c = c.requires.may.covered
+pub compute-requires-clause-covered : goal.compute-requires-clause-covered
+compute-requires-clause-covered g c = c.requires.may.covered
 
-pub compute-all-requires-clause-order : goal.compute-all-requires-clause-order
-compute-all-requires-clause-order g c =
+pub compute-requires-clause-order : goal.compute-requires-clause-order
+compute-requires-clause-order g c =
     let says = g.M.MainTask.says in
     let course = g.H.HostWork.course in
     let d = c.args.component.now in
@@ -61,16 +62,17 @@ compute-all-requires-clause-order g c =
     let u = at c.turns.self c.turns.main c.turns.store c.turns.trace in
     let n = c.turns.added in
     let come = c.turns.invariant.come in
-    let v = at c.turns.self c.turn.new.main c.turn.new.store c.turn.new.trace in
-    let r = c.turn.new.running in
-    let q = c.in-Some.stepped in
-    let op_result = turned_as says course d u v r _ (Some q) c.in-Some.is c.in-Ok.ensures.turned in
-    let ongoing = opens (is_open (turn_of q)) (sym c.is_over.ensures ∙ c.if-is_over.false) in
-    let goes = come_goes says course d a u n come v r q ongoing op_result c.turn.ensures.keeps in
+    let v = at c.turns.self c.turn-stepped.new.main c.turn-stepped.new.store c.turn-stepped.new.trace in
+    let r = c.turn-stepped.new.running in
+    let q = c.turn-stepped.result in
+    let made = made_else q c.in_default.not-Nothing c.in_default.not-Full c.in_default.not-HookFailed in
+    let op_result = match_made q made c.turn-stepped.ensures.turned in
+    let ongoing = made_open q made c.in_default.not-Over in
+    let goes = come_goes says course d a u n come v r q made ongoing op_result c.turn-stepped.ensures.keeps in
     goes.on.at.order
 
-pub compute-all-requires-clause-runs : goal.compute-all-requires-clause-runs
-compute-all-requires-clause-runs g c =
+pub compute-requires-clause-runs : goal.compute-requires-clause-runs
+compute-requires-clause-runs g c =
     let says = g.M.MainTask.says in
     let course = g.H.HostWork.course in
     let d = c.args.component.now in
@@ -78,12 +80,13 @@ compute-all-requires-clause-runs g c =
     let u = at c.turns.self c.turns.main c.turns.store c.turns.trace in
     let n = c.turns.added in
     let come = c.turns.invariant.come in
-    let v = at c.turns.self c.turn.new.main c.turn.new.store c.turn.new.trace in
-    let r = c.turn.new.running in
-    let q = c.in-Some.stepped in
-    let op_result = turned_as says course d u v r _ (Some q) c.in-Some.is c.in-Ok.ensures.turned in
-    let ongoing = opens (is_open (turn_of q)) (sym c.is_over.ensures ∙ c.if-is_over.false) in
-    let goes = come_goes says course d a u n come v r q ongoing op_result c.turn.ensures.keeps in
+    let v = at c.turns.self c.turn-stepped.new.main c.turn-stepped.new.store c.turn-stepped.new.trace in
+    let r = c.turn-stepped.new.running in
+    let q = c.turn-stepped.result in
+    let made = made_else q c.in_default.not-Nothing c.in_default.not-Full c.in_default.not-HookFailed in
+    let op_result = match_made q made c.turn-stepped.ensures.turned in
+    let ongoing = made_open q made c.in_default.not-Over in
+    let goes = come_goes says course d a u n come v r q made ongoing op_result c.turn-stepped.ensures.keeps in
     goes.on.at.running
 
 pub turns-preserved : goal.turns-preserved
@@ -100,28 +103,29 @@ turns-preserved g c =
     let b = c.turns.self.yield_budget.passes in
     let k = c.turns.self.yield_budget.since in
     let spent = c.turns.invariant.spent in
-    let v = at c.turns.self c.turn.new.main c.turn.new.store c.turn.new.trace in
-    let r = c.turn.new.running in
-    let q = c.in-Some.stepped in
-    let op_result = turned_as says course d u v r _ (Some q) c.in-Some.is c.in-Ok.ensures.turned in
-    let ongoing = opens (is_open (turn_of q)) (sym c.is_over.ensures ∙ c.if-is_over.false) in
-    let goes = come_goes says course d a u n come v r q ongoing op_result c.turn.ensures.keeps in
-    let all = c.in-Ok-all.ensures.ok in
-    rw c.turn_of-self.ensures (record {
-      come = come_computed says course d a (record v { turn = turn_of q }) (n + 1) goes c.compute-all.new.w c.compute-all.new.trace c.in-Ok-all.all all.on all.computes all.still c.in-Ok-all.ensures.works
-          (λ last knows. g.met.M.MainTask.stays c.turn.new.main c.turn.new.store.state c.compute-all.new.w last knows);
+    let v = at c.turns.self c.turn-stepped.new.main c.turn-stepped.new.store c.turn-stepped.new.trace in
+    let r = c.turn-stepped.new.running in
+    let q = c.turn-stepped.result in
+    let made = made_else q c.in_default.not-Nothing c.in_default.not-Full c.in_default.not-HookFailed in
+    let op_result = match_made q made c.turn-stepped.ensures.turned in
+    let ongoing = made_open q made c.in_default.not-Over in
+    let goes = come_goes says course d a u n come v r q made ongoing op_result c.turn-stepped.ensures.keeps in
+    let all = c.in-Ok.ensures.ok in
+    record {
+      come = come_computed says course d a (record v { turn = turn_of q }) (n + 1) goes c.compute.new.w c.compute.new.trace c.in-Ok.all all.on all.computes all.still c.in-Ok.ensures.works
+          (λ last knows. g.met.M.MainTask.stays c.turn-stepped.new.main c.turn-stepped.new.store.state c.compute.new.w last knows);
       kept = λ driven. c.spent_by-self.ensures.kept driven ∙ c.turns.invariant.kept driven;
       spent = λ polled.
-          let next = c.next_mark-next.ensures polled in
+          let next = rw c.turn_of-turn.ensures at (c.next_mark-next.ensures polled) in
           let stays = subst (λ (o : Option Mark). yields_before b k o ≡ false) next (and_false stops (yields_before b k c.next_mark-next.result) polled (sym c.yields_by.ensures ∙ c.if-yields_by.false)) in
-          let rests = subst (λ (o : Option Mark). rests_by c.turns.self.turn o ≡ false) next (and_false stops (rests_by c.turns.self.turn c.next_mark-next.result) polled (sym c.rests_with-rests.ensures ∙ c.if-rests.false)) in
+          let rests = subst (λ (o : Option Mark). rests_by (turn_of c.turns.self.last) o ≡ false) next (rw c.turn_of-turn.ensures at (and_false stops (rests_by c.turn_of-turn.result c.next_mark-next.result) polled (sym c.rests_with-rests.ensures ∙ c.if-rests.false))) in
           let since = c.spent_by-self.ensures.since polled ∙ ap (λ (o : Option Mark). counted k o) next in
           let more = poll_goes (setting says course d a) (state says course d a) a.trace (numbers says course d a) yield_budget c.args.steps u.turn (says.part u.main) u.store.state u.trace n b k come.on (spent polled) (says.part v.main) v.store.state v.trace (turn_of q)
-          (opened says course d a u n come v r q ongoing op_result) stays c.spent_by-self.result.passes c.spent_by-self.result.since rests since (c.spent_by-self.ensures.passes polled) in
-          spent_data yield_budget.passes yield_budget.since a.trace c.turn.new.trace c.spent_by-self.result.passes c.spent_by-self.result.since more all.computes.labels c.compute-all.new.trace all.computes.computing all.computes.trace (c.spent_by-self.ensures.passes polled);
+          (opened says course d a u n come v r q made ongoing op_result) stays c.spent_by-self.result.passes c.spent_by-self.result.since rests since (c.spent_by-self.ensures.passes polled) in
+          spent_data yield_budget.passes yield_budget.since a.trace c.turn-stepped.new.trace c.spent_by-self.result.passes c.spent_by-self.result.since more all.computes.labels c.compute.new.trace all.computes.computing all.computes.trace (c.spent_by-self.ensures.passes polled);
       few = all.few;
-      running = op_result.group ∙ sym (group_computed d c.turn.new.store.state c.turn.new.trace (n + 1) c.compute-all.new.w c.compute-all.new.trace c.in-Ok-all.all (setting says course d a) refl (ap (λ (ts : Tags). ts.tracked) c.in-Ok-all.ensures.works.tags) (turn_of q) all.computes all.still);
-    })
+      running = op_result.group made ∙ sym (group_computed d c.turn-stepped.new.store.state c.turn-stepped.new.trace (n + 1) c.compute.new.w c.compute.new.trace c.in-Ok.all (setting says course d a) refl (ap (λ (ts : Tags). ts.tracked) c.in-Ok.ensures.works.tags) (turn_of q) all.computes all.still);
+    }
 
 -- ---- What it has resulted in
 
@@ -140,12 +144,12 @@ returns-then-yields_by-clause-gone g c =
     let k = c.turns.self.yield_budget.since in
     let spent = c.turns.invariant.spent in
     let both = and_parts stops (yields_before b k c.next_mark-next.result) (sym c.yields_by.ensures ∙ c.if-yields_by.true) in
-    let yields = subst (λ (o : Option Mark). yields_before b k o ≡ true) (c.next_mark-next.ensures both.0) both.1 in
+    let yields = subst (λ (o : Option Mark). yields_before b k o ≡ true) (rw c.turn_of-turn.ensures at (c.next_mark-next.ensures both.0)) both.1 in
     stops_by says course d a u c.args.steps stops stop.Yields yield_budget c.yielded-self.result both.0
     (polled_yields says course d a u n come yield_budget c.args.steps b k (spent both.0) c.yielded-self.result (omega arith) yields c.yielded-self.ensures.since c.yielded-self.ensures.passes)
 
-pub returns-in-None-clause-gone : goal.returns-in-None-clause-gone
-returns-in-None-clause-gone g c =
+pub returns-in-Nothing-clause-gone : goal.returns-in-Nothing-clause-gone
+returns-in-Nothing-clause-gone g c =
     let says = g.M.MainTask.says in
     let course = g.H.HostWork.course in
     let d = c.args.component.now in
@@ -158,12 +162,12 @@ returns-in-None-clause-gone g c =
     let b = c.turns.self.yield_budget.passes in
     let k = c.turns.self.yield_budget.since in
     let spent = c.turns.invariant.spent in
-    let v = at c.turns.self c.turn.new.main c.turn.new.store c.turn.new.trace in
-    let r = c.turn.new.running in
-    let op_result = turned_as says course d u v r _ None c.in-None.is c.in-Ok.ensures.turned in
+    let v = at c.turns.self c.turn-stepped.new.main c.turn-stepped.new.store c.turn-stepped.new.trace in
+    let r = c.turn-stepped.new.running in
+    let op_result = subst (λ (q : StepResult). TurnsTo says course d q r u v) c.in-Nothing.is c.turn-stepped.ensures.turned in
     let yield_budget' = c.ends.new.self.yield_budget in
     rw c.ends.ensures.stop
-    (subst (λ (w : RunConcurrent). GoesTo says course d stops c.args.steps (stop.Ends outcome.Idle) yield_budget a (at w c.turn.new.main c.turn.new.store c.turn.new.trace) yield_budget') (sym c.ends.ensures.new)
+    (subst (λ (w : RunConcurrent). GoesTo says course d stops c.args.steps (stop.Ends outcome.Idle) yield_budget a (at w c.turn-stepped.new.main c.turn-stepped.new.store c.turn-stepped.new.trace) yield_budget') (sym c.ends.ensures.new)
     (goes_on_by says course d a v c.args.steps stops (stop.Ends outcome.Idle) yield_budget yield_budget' (λ driven. come_none says course d a u n come v r c.args.steps (omega arith) op_result)
     (λ polled. polled_none says course d a u n come yield_budget c.args.steps b k (spent polled) yield_budget' v r (omega arith) op_result (c.ends.ensures.since polled) (c.ends.ensures.passes polled))))
 
@@ -174,14 +178,12 @@ outcome_in-requires g c =
     let d = c.args.component.now in
     let a = at c.args.self.now c.args.main.now c.args.store.now c.args.trace.now in
     let u = at c.turns.self c.turns.main c.turns.store c.turns.trace in
-    let v = at c.turns.self c.turn.new.main c.turn.new.store c.turn.new.trace in
-    let r = c.turn.new.running in
-    let q = c.in-Some.stepped in
-    let op_result = turned_as says course d u v r _ (Some q) c.in-Some.is c.in-Ok.ensures.turned in
-    over_told says course d a u c.turns.added c.turns.invariant.come v r q (closes (turn_of q) (sym c.is_over.ensures ∙ c.if-is_over.true)) op_result
+    let v = at c.turns.self c.turn-stepped.new.main c.turn-stepped.new.store c.turn-stepped.new.trace in
+    let r = c.turn-stepped.new.running in
+    over_told says course d a u c.turns.added c.turns.invariant.come v r stepped.Over refl refl (subst (λ (q : StepResult). TurnsTo says course d q r u v) c.in-Over.is c.turn-stepped.ensures.turned)
 
-pub returns-then-is_over-clause-gone : goal.returns-then-is_over-clause-gone
-returns-then-is_over-clause-gone g c =
+pub returns-in-Over-clause-gone : goal.returns-in-Over-clause-gone
+returns-in-Over-clause-gone g c =
     let says = g.M.MainTask.says in
     let course = g.H.HostWork.course in
     let d = c.args.component.now in
@@ -194,19 +196,16 @@ returns-then-is_over-clause-gone g c =
     let b = c.turns.self.yield_budget.passes in
     let k = c.turns.self.yield_budget.since in
     let spent = c.turns.invariant.spent in
-    let v = at c.turns.self c.turn.new.main c.turn.new.store c.turn.new.trace in
-    let r = c.turn.new.running in
-    let q = c.in-Some.stepped in
+    let v = at c.turns.self c.turn-stepped.new.main c.turn-stepped.new.store c.turn-stepped.new.trace in
+    let r = c.turn-stepped.new.running in
     let o = c.outcome_in.result in
-    let op_result = turned_as says course d u v r _ (Some q) c.in-Some.is c.in-Ok.ensures.turned in
-    let over = closes (turn_of q) (sym c.is_over.ensures ∙ c.if-is_over.true) in
-    let ends = c.ends-then-is_over in
+    let op_result = subst (λ (q : StepResult). TurnsTo says course d q r u v) c.in-Over.is c.turn-stepped.ensures.turned in
+    let ends = c.ends-in-Over in
     let yield_budget' = ends.new.self.yield_budget in
     rw ends.ensures.stop
-    (subst (λ (w : RunConcurrent). GoesTo says course d stops c.args.steps (stop.Ends o) yield_budget a (at w c.turn.new.main c.turn.new.store c.turn.new.trace) yield_budget') (sym ends.ensures.new)
-    (subst (λ (p : Turn). GoesTo says course d stops c.args.steps (stop.Ends o) yield_budget a (record v { turn = p }) yield_budget') (sym (c.turn_of-self.ensures ∙ over))
-    (goes_on_by says course d a (record v { turn = turn.Over }) c.args.steps stops (stop.Ends o) yield_budget yield_budget' (λ driven. come_over says course d a u n come v r c.args.steps q o (omega arith) over c.outcome_in.ensures op_result)
-    (λ polled. polled_over says course d a u n come yield_budget c.args.steps b k (spent polled) yield_budget' v r q o (omega arith) over c.outcome_in.ensures op_result (ends.ensures.since polled) (ends.ensures.passes polled)))))
+    (subst (λ (w : RunConcurrent). GoesTo says course d stops c.args.steps (stop.Ends o) yield_budget a (at w c.turn-stepped.new.main c.turn-stepped.new.store c.turn-stepped.new.trace) yield_budget') (sym ends.ensures.new)
+    (goes_on_by says course d a (record v { turn = turn.Over }) c.args.steps stops (stop.Ends o) yield_budget yield_budget' (λ driven. come_over says course d a u n come v r c.args.steps stepped.Over o (omega arith) refl refl c.outcome_in.ensures op_result)
+    (λ polled. polled_over says course d a u n come yield_budget c.args.steps b k (spent polled) yield_budget' v r stepped.Over o (omega arith) refl refl c.outcome_in.ensures op_result (ends.ensures.since polled) (ends.ensures.passes polled))))
 
 pub returns-then-rests-clause-gone : goal.returns-then-rests-clause-gone
 returns-then-rests-clause-gone g c =
@@ -222,20 +221,21 @@ returns-then-rests-clause-gone g c =
     let b = c.turns.self.yield_budget.passes in
     let k = c.turns.self.yield_budget.since in
     let spent = c.turns.invariant.spent in
-    let v = at c.turns.self c.turn.new.main c.turn.new.store c.turn.new.trace in
-    let r = c.turn.new.running in
-    let q = c.in-Some.stepped in
-    let op_result = turned_as says course d u v r _ (Some q) c.in-Some.is c.in-Ok.ensures.turned in
-    let ongoing = opens (is_open (turn_of q)) (sym c.is_over.ensures ∙ c.if-is_over.false) in
-    let goes = come_goes says course d a u n come v r q ongoing op_result c.turn.ensures.keeps in
-    let both = and_parts stops (rests_by c.turns.self.turn c.next_mark-next.result) (sym c.rests_with-rests.ensures ∙ c.if-rests.true) in
+    let v = at c.turns.self c.turn-stepped.new.main c.turn-stepped.new.store c.turn-stepped.new.trace in
+    let r = c.turn-stepped.new.running in
+    let q = c.turn-stepped.result in
+    let made = made_else q c.in_default.not-Nothing c.in_default.not-Full c.in_default.not-HookFailed in
+    let op_result = match_made q made c.turn-stepped.ensures.turned in
+    let ongoing = made_open q made c.in_default.not-Over in
+    let goes = come_goes says course d a u n come v r q made ongoing op_result c.turn-stepped.ensures.keeps in
+    let both = and_parts stops (rests_by c.turn_of-turn.result c.next_mark-next.result) (sym c.rests_with-rests.ensures ∙ c.if-rests.true) in
     let polled = both.0 in
-    let next = c.next_mark-next.ensures polled in
+    let next = rw c.turn_of-turn.ensures at (c.next_mark-next.ensures polled) in
     let stays = subst (λ (o : Option Mark). yields_before b k o ≡ false) next (and_false stops (yields_before b k c.next_mark-next.result) polled (sym c.yields_by.ensures ∙ c.if-yields_by.false)) in
-    let rests = subst (λ (o : Option Mark). rests_by c.turns.self.turn o ≡ true) next both.1 in
+    let rests = subst (λ (o : Option Mark). rests_by (turn_of c.turns.self.last) o ≡ true) next (rw c.turn_of-turn.ensures at both.1) in
     let since = c.spent_by-self.ensures.since polled ∙ ap (λ (o : Option Mark). counted k o) next in
-    rw c.turn_of-self.ensures (stops_by says course d a (record v { turn = turn_of q }) c.args.steps stops stop.Rests yield_budget c.spent_by-self.result polled
-    (polled_rests says course d a u n come yield_budget c.args.steps b k (spent polled) c.spent_by-self.result v r q ongoing (omega arith) op_result c.turn.ensures.keeps stays rests since (c.spent_by-self.ensures.passes polled)))
+    stops_by says course d a (record v { turn = turn_of q }) c.args.steps stops stop.Rests yield_budget c.spent_by-self.result polled
+    (polled_rests says course d a u n come yield_budget c.args.steps b k (spent polled) c.spent_by-self.result v r q made ongoing (omega arith) op_result c.turn-stepped.ensures.keeps stays rests since (c.spent_by-self.ensures.passes polled))
 
 pub returns-then-is_idle-clause-gone : goal.returns-then-is_idle-clause-gone
 returns-then-is_idle-clause-gone g c =
@@ -251,7 +251,7 @@ returns-then-is_idle-clause-gone g c =
     let b = c.turns.self.yield_budget.passes in
     let k = c.turns.self.yield_budget.since in
     let spent = c.turns.invariant.spent in
-    let rests = c.is_idle.ensures (setting says course d a) come.on.at.order (ap idle_line_of (sym come.keeps.idle)) (says.part c.turns.main) come.on.pends ∙ c.if-is_idle.true in
+    let rests = (rw c.turn_of.ensures at c.is_idle.ensures) (setting says course d a) come.on.at.order (ap idle_line_of (sym come.keeps.idle)) (says.part c.turns.main) come.on.pends ∙ c.if-is_idle.true in
     let ends = c.ends-then-is_idle in
     let yield_budget' = ends.new.self.yield_budget in
     rw ends.ensures.stop
@@ -273,7 +273,7 @@ returns-clause-gone g c =
     let b = c.turns.self.yield_budget.passes in
     let k = c.turns.self.yield_budget.since in
     let spent = c.turns.invariant.spent in
-    let moves = c.is_idle.ensures (setting says course d a) come.on.at.order (ap idle_line_of (sym come.keeps.idle)) (says.part c.turns.main) come.on.pends ∙ c.if-is_idle.false in
+    let moves = (rw c.turn_of.ensures at c.is_idle.ensures) (setting says course d a) come.on.at.order (ap idle_line_of (sym come.keeps.idle)) (says.part c.turns.main) come.on.pends ∙ c.if-is_idle.false in
     let ends = c.ends-2 in
     let yield_budget' = ends.new.self.yield_budget in
     rw ends.ensures.stop
@@ -283,18 +283,28 @@ returns-clause-gone g c =
 
 -- ---- It is out of memory, or the hook fails
 
-pub returns-in-Err-clause-gone : goal.returns-in-Err-clause-gone
-returns-in-Err-clause-gone g c =
+pub returns-in-Full-clause-gone : goal.returns-in-Full-clause-gone
+returns-in-Full-clause-gone g c =
     let says = g.M.MainTask.says in
     let course = g.H.HostWork.course in
     let d = c.args.component.now in
     let a = at c.args.self.now c.args.main.now c.args.store.now c.args.trace.now in
     let u = at c.turns.self c.turns.main c.turns.store c.turns.trace in
-    let v = at c.turns.self c.turn.new.main c.turn.new.store c.turn.new.trace in
-    gives_halt says course d g.P.Policy.YIELDS c.args.steps _ _ _ _ _ _ _ _ c.in-Err.why (come_halts says course d a u c.turns.added c.turns.invariant.come v c.in-Err.why c.args.steps (omega arith) c.in-Err.ensures.turned)
+    let v = at c.turns.self c.turn-stepped.new.main c.turn-stepped.new.store c.turn-stepped.new.trace in
+    come_lost says course d a u c.turns.added c.turns.invariant.come v c.args.steps (omega arith) (c.turn-stepped.ensures.turned.full c.in-Full.is)
 
-pub returns-in_default-all-clause-gone : goal.returns-in_default-all-clause-gone
-returns-in_default-all-clause-gone g c =
+pub returns-in-HookFailed-clause-gone : goal.returns-in-HookFailed-clause-gone
+returns-in-HookFailed-clause-gone g c =
+    let says = g.M.MainTask.says in
+    let course = g.H.HostWork.course in
+    let d = c.args.component.now in
+    let a = at c.args.self.now c.args.main.now c.args.store.now c.args.trace.now in
+    let u = at c.turns.self c.turns.main c.turns.store c.turns.trace in
+    let v = at c.turns.self c.turn-stepped.new.main c.turn-stepped.new.store c.turn-stepped.new.trace in
+    come_stopped says course d a u c.turns.added c.turns.invariant.come v c.args.steps (omega arith) (c.turn-stepped.ensures.turned.failed c.in-HookFailed.is)
+
+pub returns-in_default-compute-clause-gone : goal.returns-in_default-compute-clause-gone
+returns-in_default-compute-clause-gone g c =
     let says = g.M.MainTask.says in
     let course = g.H.HostWork.course in
     let d = c.args.component.now in
@@ -302,44 +312,51 @@ returns-in_default-all-clause-gone g c =
     let u = at c.turns.self c.turns.main c.turns.store c.turns.trace in
     let n = c.turns.added in
     let come = c.turns.invariant.come in
-    let v = at c.turns.self c.turn.new.main c.turn.new.store c.turn.new.trace in
-    let r = c.turn.new.running in
-    let q = c.in-Some.stepped in
-    let op_result = turned_as says course d u v r _ (Some q) c.in-Some.is c.in-Ok.ensures.turned in
-    let ongoing = opens (is_open (turn_of q)) (sym c.is_over.ensures ∙ c.if-is_over.false) in
-    let goes = come_goes says course d a u n come v r q ongoing op_result c.turn.ensures.keeps in
-    come_short says course d a (record v { turn = turn_of q }) (n + 1) goes c.args.steps c.compute-all.new.trace c.in_default-all.ensures.err
+    let v = at c.turns.self c.turn-stepped.new.main c.turn-stepped.new.store c.turn-stepped.new.trace in
+    let r = c.turn-stepped.new.running in
+    let q = c.turn-stepped.result in
+    let made = made_else q c.in_default.not-Nothing c.in_default.not-Full c.in_default.not-HookFailed in
+    let op_result = match_made q made c.turn-stepped.ensures.turned in
+    let ongoing = made_open q made c.in_default.not-Over in
+    let goes = come_goes says course d a u n come v r q made ongoing op_result c.turn-stepped.ensures.keeps in
+    come_short says course d a (record v { turn = turn_of q }) (n + 1) goes c.args.steps c.compute.new.trace c.in_default-compute.ensures.err
 
 -- ---- What stays
 
-pub returns-in-Err-clause-keeps : goal.returns-in-Err-clause-keeps
-returns-in-Err-clause-keeps g c =
+pub returns-in-Full-clause-keeps : goal.returns-in-Full-clause-keeps
+returns-in-Full-clause-keeps g c =
     let come = c.turns.invariant.come in
-    let kept = c.turn.ensures.keeps in
+    let kept = c.turn-stepped.ensures.keeps in
     record { script = kept.script ∙ come.keeps.script; idle = come.keeps.idle; constants = kept.constants ∙ come.keeps.constants }
 
-pub returns-in_default-all-clause-keeps : goal.returns-in_default-all-clause-keeps
-returns-in_default-all-clause-keeps g c =
+pub returns-in-HookFailed-clause-keeps : goal.returns-in-HookFailed-clause-keeps
+returns-in-HookFailed-clause-keeps g c =
     let come = c.turns.invariant.come in
-    let kept = c.turn.ensures.keeps in
+    let kept = c.turn-stepped.ensures.keeps in
     record { script = kept.script ∙ come.keeps.script; idle = come.keeps.idle; constants = kept.constants ∙ come.keeps.constants }
 
-pub returns-in-None-clause-keeps : goal.returns-in-None-clause-keeps
-returns-in-None-clause-keeps g c =
+pub returns-in_default-compute-clause-keeps : goal.returns-in_default-compute-clause-keeps
+returns-in_default-compute-clause-keeps g c =
     let come = c.turns.invariant.come in
-    let kept = c.turn.ensures.keeps in
+    let kept = c.turn-stepped.ensures.keeps in
+    record { script = kept.script ∙ come.keeps.script; idle = come.keeps.idle; constants = kept.constants ∙ come.keeps.constants }
+
+pub returns-in-Nothing-clause-keeps : goal.returns-in-Nothing-clause-keeps
+returns-in-Nothing-clause-keeps g c =
+    let come = c.turns.invariant.come in
+    let kept = c.turn-stepped.ensures.keeps in
     record { script = kept.script ∙ come.keeps.script; idle = ap (λ (r : RunConcurrent). r.trap_on_idle) c.ends.ensures.new ∙ come.keeps.idle; constants = kept.constants ∙ come.keeps.constants }
 
-pub returns-then-is_over-clause-keeps : goal.returns-then-is_over-clause-keeps
-returns-then-is_over-clause-keeps g c =
+pub returns-in-Over-clause-keeps : goal.returns-in-Over-clause-keeps
+returns-in-Over-clause-keeps g c =
     let come = c.turns.invariant.come in
-    let kept = c.turn.ensures.keeps in
-    record { script = kept.script ∙ come.keeps.script; idle = ap (λ (r : RunConcurrent). r.trap_on_idle) c.ends-then-is_over.ensures.new ∙ come.keeps.idle; constants = kept.constants ∙ come.keeps.constants }
+    let kept = c.turn-stepped.ensures.keeps in
+    record { script = kept.script ∙ come.keeps.script; idle = ap (λ (r : RunConcurrent). r.trap_on_idle) c.ends-in-Over.ensures.new ∙ come.keeps.idle; constants = kept.constants ∙ come.keeps.constants }
 
 pub returns-then-rests-clause-keeps : goal.returns-then-rests-clause-keeps
 returns-then-rests-clause-keeps g c =
     let come = c.turns.invariant.come in
-    let kept = c.turn.ensures.keeps in
+    let kept = c.turn-stepped.ensures.keeps in
     record { script = kept.script ∙ come.keeps.script; idle = come.keeps.idle; constants = kept.constants ∙ come.keeps.constants }
 
 pub returns-then-yields_by-clause-keeps : goal.returns-then-yields_by-clause-keeps
@@ -358,17 +375,20 @@ returns-clause-keeps g c =
     record { script = come.keeps.script; idle = ap (λ (r : RunConcurrent). r.trap_on_idle) c.ends-2.ensures.new ∙ come.keeps.idle; constants = come.keeps.constants }
 
 -- the yield budget stays if the policy never stops the turns
-pub returns-in-Err-clause-kept : goal.returns-in-Err-clause-kept
-returns-in-Err-clause-kept g c = λ driven. c.turns.invariant.kept driven
+pub returns-in-Full-clause-kept : goal.returns-in-Full-clause-kept
+returns-in-Full-clause-kept g c = λ driven. c.turns.invariant.kept driven
 
-pub returns-in_default-all-clause-kept : goal.returns-in_default-all-clause-kept
-returns-in_default-all-clause-kept g c = λ driven. c.spent_by-self.ensures.kept driven ∙ c.turns.invariant.kept driven
+pub returns-in-HookFailed-clause-kept : goal.returns-in-HookFailed-clause-kept
+returns-in-HookFailed-clause-kept g c = λ driven. c.turns.invariant.kept driven
 
-pub returns-in-None-clause-kept : goal.returns-in-None-clause-kept
-returns-in-None-clause-kept g c = λ driven. c.ends.ensures.kept driven ∙ c.turns.invariant.kept driven
+pub returns-in_default-compute-clause-kept : goal.returns-in_default-compute-clause-kept
+returns-in_default-compute-clause-kept g c = λ driven. c.spent_by-self.ensures.kept driven ∙ c.turns.invariant.kept driven
 
-pub returns-then-is_over-clause-kept : goal.returns-then-is_over-clause-kept
-returns-then-is_over-clause-kept g c = λ driven. c.ends-then-is_over.ensures.kept driven ∙ c.turns.invariant.kept driven
+pub returns-in-Nothing-clause-kept : goal.returns-in-Nothing-clause-kept
+returns-in-Nothing-clause-kept g c = λ driven. c.ends.ensures.kept driven ∙ c.turns.invariant.kept driven
+
+pub returns-in-Over-clause-kept : goal.returns-in-Over-clause-kept
+returns-in-Over-clause-kept g c = λ driven. c.ends-in-Over.ensures.kept driven ∙ c.turns.invariant.kept driven
 
 pub returns-then-rests-clause-kept : goal.returns-then-rests-clause-kept
 returns-then-rests-clause-kept g c = λ driven. c.spent_by-self.ensures.kept driven ∙ c.turns.invariant.kept driven

@@ -5,7 +5,7 @@ use Rattle.task_loop.proofs.HasRunLemmas.{HasCome}
 use Rattle.task_loop.proofs.PausedLemmas.{Spent}
 use Rattle.task_loop.proofs.run.RunConcurrent.go_on.Given as goal
 use Rattle.task_loop.specs.HasRun.{at}
-use Rattle.task_loop.specs.Told.{group_running}
+use Rattle.task_loop.specs.Told.{group_running, turn_of}
 
 abbrev pub invariant-turns : goal.invariant-turns
 invariant-turns g l = record {
@@ -13,7 +13,7 @@ invariant-turns g l = record {
   kept : g.P.Policy.YIELDS ≡ false → l.self.yield_budget ≡ l.initial.self.yield_budget;
   spent : g.P.Policy.YIELDS ≡ true → Spent l.initial.self.yield_budget.passes l.initial.self.yield_budget.since l.initial.trace l.trace l.self.yield_budget.passes l.self.yield_budget.since;
   few : l.added ≤ l.steps;
-  running : l.running ≡ group_running l.store.state l.self.turn;
+  running : l.running ≡ group_running l.store.state (turn_of l.self.last);
 }
 
 abbrev pub decreases-turns : goal.decreases-turns
