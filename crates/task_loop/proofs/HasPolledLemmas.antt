@@ -3,7 +3,7 @@ use Rattle.laws_labels.specs.Own.{next_mark, rests_by}
 use Rattle.run_trace.specs.YieldBudget.{counted, is_unyielded, since_after, yields_before}
 use Rattle.run_trace.specs.declared.yield_budget.YieldBudget.{YieldBudget}
 use Rattle.ops_state.specs.declared.error.TaskError.{TaskError}
-use Rattle.std.proofs.Common.{subst, sym, ◌∙◌}
+use Rattle.std.proofs.Common.{refl, subst, sym, ◌∙◌}
 use Rattle.std.proofs.lemmas.List.{append_cancel_left}
 use Rattle.std.specs.Prelude.{Bool, List, Ok, Result, Some, false, length, not, true, ℕ, ◌&&◌, ◌<◌, ◌==◌, ◌≡◌, ◌≤◌}
 use Rattle.task_loop.proofs.HasRunLemmas.{HasCome, come_goes, opened, over_added, ran_kept, ran_over, told}
@@ -95,7 +95,7 @@ module _ {M T H G : Type 0} (says : Says M) (course : H → HostDef) (c : Compon
     -- the turn saw that
     pub polled_none : n ≤ steps → HasTurned says course c stepped.Nothing r u v → yield_budget'.since ≡ k' → yield_budget'.passes ≡ false → HasPolled says course c steps (Ok poll.Idle) yield_budget a v yield_budget'
     polled_none room op_result since passes =
-        let t = told says course c a u n come v r stepped.Nothing op_result in
+        let t = (told says course c a u n come v r stepped.Nothing op_result).nothing refl in
         has_polled says course c a v steps (Ok poll.Idle) yield_budget yield_budget'
         (subst (λ (q : Turn). Paused x s a.trace given yield_budget steps (Ok poll.Idle) q (says.part v.main) v.store.state v.trace yield_budget') (sym op_result.turn)
         (idle_turned x s a.trace given yield_budget steps u.turn (says.part u.main) u.store.state u.trace n b' k' come.on so_far (says.part v.main) v.store.state v.trace yield_budget' room (t.0.turned, t.1) since passes))

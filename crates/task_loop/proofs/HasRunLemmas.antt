@@ -49,7 +49,7 @@ use Rattle.task_store.specs.declared.store.Store.{Store}
 use Rattle.ops_turns.proofs.DriveLemmas.{on_begins, on_out_at, on_rests, was_on, was_on_short}
 use Rattle.ops_turns.proofs.KeptLemmas.{core_in_order_after}
 use Rattle.ops_turns.proofs.LaterLemmas.{last_by_works}
-use Rattle.ops_turns.proofs.SteppedLemmas.{AddedTo, added_ends, added_more, added_none, added_open, added_over, match_made, outcome_told}
+use Rattle.ops_turns.proofs.SteppedLemmas.{AddedTo, added_ends, added_more, added_none, added_open, added_over, outcome_told}
 use Rattle.ops_turns.specs.Drive.{Computes, Drives, Drove, IsOn, KeepsOn, StopsShort, WasGoing}
 use Rattle.ops_turns.specs.Later.{SameWorks, WorksLast}
 use Rattle.ops_turns.specs.StepResult.{Added, AddedOrNone, is_made, turn_of}
@@ -161,7 +161,7 @@ module _ {M T H G : Type 0} (says : Says M) (course : H → HostDef) (c : Compon
             (setting_kept a u come.keeps) op_result.told
 
       pub turned : (q : StepResult) → is_made q ≡ true → HasTurned says course c q r u v → Added (λ (made : MadeStep). Turns x u.turn (says.part u.main) u.store.state made (says.part v.main) v.store.state) q u.trace v.trace
-      turned q made op_result = let t = match_made q made (told q op_result) in (t.0, (t.1.0, t.1.1.turned))
+      turned q made op_result = let t = (told q op_result).made made in (t.0, (t.1.0, t.1.1.turned))
 
       pub opened : (q : StepResult) → is_made q ≡ true → is_open (turn_of q) ≡ true → HasTurned says course c q r u v → AddedTo (λ (made : MadeStep). Turns x u.turn (says.part u.main) u.store.state made (says.part v.main) v.store.state) (turn_of q) None u.trace v.trace
       opened q made ongoing op_result = added_open x u.turn (says.part u.main) u.store.state u.trace (says.part v.main) v.store.state v.trace q ongoing (turned q made op_result)
@@ -170,7 +170,7 @@ module _ {M T H G : Type 0} (says : Says M) (course : H → HostDef) (c : Compon
       pub come_goes : (q : StepResult) → is_made q ≡ true → is_open (turn_of q) ≡ true → HasTurned says course c q r u v → Keeps says u v → HasCome says course c a (turned_to (turn_of q)) (n + 1)
       come_goes q made ongoing op_result kept = record {
         on = added_more x s a.trace (numbers says course c a) u.turn (says.part u.main) u.store.state u.trace n come.on (says.part v.main) v.store.state v.trace (turn_of q) (opened q made ongoing op_result);
-        ran = ran_more says.does x s a.main a.trace a.store.listeners says.part u.turn u.main u.store.state u.trace u.store.listeners v.main v.store.state v.store.listeners q v.trace come.ran (match_made q made (told q op_result)) (match_made q made op_result.did);
+        ran = ran_more says.does x s a.main a.trace a.store.listeners says.part u.turn u.main u.store.state u.trace u.store.listeners v.main v.store.state v.store.listeners q v.trace come.ran ((told q op_result).made made) (op_result.did.made made);
         keeps = let k = keeps_on a u v come.keeps kept in record { script = k.script; idle = k.idle; constants = k.constants };
         suits = op_result.suits;
         knows = op_result.knows;
@@ -181,7 +181,7 @@ module _ {M T H G : Type 0} (says : Says M) (course : H → HostDef) (c : Compon
       pub ran_over : (q : StepResult) → is_made q ≡ true → turn_of q ≡ turn.Over → HasTurned says course c q r u v → RanTo says course c a (turned_to turn.Over)
       ran_over q made is op_result =
           subst (λ (p : Turn). RanTo says course c a (turned_to p)) is
-          (ran_more says.does x s a.main a.trace a.store.listeners says.part u.turn u.main u.store.state u.trace u.store.listeners v.main v.store.state v.store.listeners q v.trace come.ran (match_made q made (told q op_result)) (match_made q made op_result.did))
+          (ran_more says.does x s a.main a.trace a.store.listeners says.part u.turn u.main u.store.state u.trace u.store.listeners v.main v.store.state v.store.listeners q v.trace come.ran ((told q op_result).made made) (op_result.did.made made))
 
       -- the last label says how the run has ended
       pub over_told : (q : StepResult) → is_made q ≡ true → turn_of q ≡ turn.Over → HasTurned says course c q r u v → is_some (last_outcome v.trace) ≡ true
@@ -194,7 +194,7 @@ module _ {M T H G : Type 0} (says : Says M) (course : H → HostDef) (c : Compon
       pub ran_kept : HasTurned says course c stepped.Nothing r u v → RanTo says course c a v
       ran_kept op_result =
           subst (λ (q : Turn). Ran says.does x s a.main a.trace a.store.listeners (state_at v.store.state.core (says.part v.main) q) v.main v.trace v.store.listeners) (sym op_result.turn)
-          (ran_still says.does x s a.main a.trace a.store.listeners says.part u.turn u.main u.store.state u.trace u.store.listeners v.main v.store.state v.store.listeners v.trace come.ran (told stepped.Nothing op_result) op_result.did.0)
+          (ran_still says.does x s a.main a.trace a.store.listeners says.part u.turn u.main u.store.state u.trace u.store.listeners v.main v.store.state v.store.listeners v.trace come.ran ((told stepped.Nothing op_result).nothing refl) (op_result.did.nothing refl).0)
 
       -- it is over
       pub come_over : (steps : ℕ) (q : StepResult) (o : Outcome) → n < steps → is_made q ≡ true → turn_of q ≡ turn.Over → last_outcome v.trace ≡ Some o → HasTurned says course c q r u v → HasGone says course c steps o a (turned_to turn.Over)
@@ -206,7 +206,7 @@ module _ {M T H G : Type 0} (says : Says M) (course : H → HostDef) (c : Compon
       -- nothing can go on, and that is no deadlock
       pub come_none : (steps : ℕ) → n ≤ steps → HasTurned says course c stepped.Nothing r u v → HasGone says course c steps outcome.Idle a v
       come_none steps room op_result =
-          let t = told stepped.Nothing op_result in
+          let t = (told stepped.Nothing op_result).nothing refl in
           gone steps outcome.Idle v
           (subst (λ (q : Turn). Drove x s a.trace (numbers says course c a) q (says.part v.main) v.store.state v.trace steps outcome.Idle) (sym op_result.turn)
           (added_none x s a.trace (numbers says course c a) u.turn (says.part u.main) u.store.state u.trace n come.on (says.part v.main) v.store.state v.trace steps room (t.0.turned, t.1)))

@@ -1,6 +1,6 @@
 -- Turns in which main has no part, as the loop tells of them.
 use Rattle.store_notices.specs.declared.tells.GroupsBefore.{GroupsBefore}
-use Rattle.std.proofs.Common.{refl, ◌∙◌, ◌≡◌}
+use Rattle.std.proofs.Common.{refl, ◌∙◌, ◌≡◌, sym}
 use Rattle.std.specs.Prelude.{[], ◌++◌, ◌∷◌, Bool, List, None, Option, Some, false, true, ℕ}
 use Rattle.task_group.specs.Listeners.{Listeners, errors_of}
 use Rattle.task_loop.proofs.ToldLemmas.{current_is, none_told, other_told, turns_asked, turns_runs}
@@ -13,8 +13,8 @@ use Rattle.machine_data.specs.declared.records.Turn.TheVariants as turn
 use Rattle.machine_rules.specs.Stalled.{Setting}
 use Rattle.machine_data.specs.declared.component.Component.{Component}
 use Rattle.core_primitives.specs.Groups.{IsAsked, asked}
-use Rattle.ops_turns.proofs.SteppedLemmas.{match_made, match_then}
-use Rattle.ops_turns.specs.StepResult.{Added, AddedOrNone, IsInTrace, is_made}
+use Rattle.ops_turns.proofs.SteppedLemmas.{of_full}
+use Rattle.ops_turns.specs.StepResult.{Added, AddedOrNone, IsFull, IsInTrace, MatchStep, is_made}
 use Rattle.ops_turns.specs.Turn.{PendsIn, Turned, TurnedBeside, Turns, setting_of}
 use Rattle.ops_turns.specs.declared.made.MadeStep.{MadeStep}
 use Rattle.ops_turns.specs.declared.made.StepResult.{StepResult}
@@ -38,6 +38,12 @@ pends_take x s false = refl
 pub none_kept : (c : Component) (b ended : Bool) (s t : StateView) → TurnedBeside c b (turn.Take ended) s None t → t ≡ s
 none_kept c b ended s t turned = let x = setting_of c [] b in (turned x refl refl Unscripted (pends_take x s.core ended)).1.1
 
+-- ---- No step was made
+
+-- it is out of memory
+pub of_unmade : {M N F H : Type 0} {before after : List Label} (q : StepResult) → is_made q ≡ false → IsFull q before after → (after ≡ before → F) → MatchStep M N F H q
+of_unmade q unmade is lost = of_full q (λ made. absurd (let no = sym unmade ∙ made in cc)) (λ none. is) lost
+
 -- ---- An entry is taken
 
 -- what was made was made once it was told
@@ -57,9 +63,14 @@ module _ (x : Setting) (ended : Bool) (m : Main) (s t : StateView) (before after
   IsTurned q = AddedOrNone (λ (made : Option MadeStep). Turned x p m s made m t) q before after
 
   pub taken_running : (running : ℕ) (q : StepResult) → IsTurned q → (is_made q ≡ true → running ≡ current_group t) → is_made q ≡ true → running ≡ group_running t (turn_of q)
-  taken_running running q turned is made = is made ∙ current_is t (turn_of q) (turns_runs x p m s m t q before after (match_made q made turned))
+  taken_running running q turned is made = is made ∙ current_is t (turn_of q) (turns_runs x p m s m t q before after (turned.made made))
 
   pub taken_told : (old new : Listeners) (q : StepResult) → IsAsked s → IsTurned q → (q ≡ stepped.Nothing → new ≡ old) → (is_made q ≡ true → TellsTurn s p t old new) →
       (is_made q ≡ true → errors_of new ≡ errors_of old) → AddedOrNone (λ (made : Option MadeStep). TurnTold x p m s old made m t new) q before after
   taken_told old new q is turned none told hook_is_ok =
-      match_then q (λ made added. other_told x p refl m s is old m t new (told made) q before after added (hook_is_ok made)) (λ nothing rests. none_told x p m s old m t new before after (none nothing) rests) (λ same. same) (λ no. no) turned
+      record {
+        made = λ e. other_told x p refl m s is old m t new (told e) q before after (turned.made e) (hook_is_ok e);
+        nothing = λ e. none_told x p m s old m t new before after (none e) (turned.nothing e);
+        full = turned.full;
+        failed = turned.failed;
+      }

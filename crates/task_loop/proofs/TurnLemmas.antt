@@ -1,5 +1,5 @@
 -- The turn in which an entry is taken.
-use Rattle.std.proofs.Common.{ap, refl, subst, sym, ◌≡◌, ◌∙◌}
+use Rattle.std.proofs.Common.{refl, subst, sym, ◌≡◌}
 use Rattle.std.specs.Prelude.{Bool, List, None, Option, Some, true, ℕ}
 use Rattle.task_loop.proofs.DoesLemmas.{still_taken}
 use Rattle.task_loop.proofs.HoldLemmas.{held_taken}
@@ -20,7 +20,7 @@ use Rattle.machine_rules.specs.Stalled.{Setting}
 use Rattle.task_store.specs.Hosts.{HoldsHosts, held_by}
 use Rattle.task_store.specs.declared.store.Store.{Store}
 use Rattle.ops_turns.specs.Later.{WorksLast}
-use Rattle.ops_turns.proofs.SteppedLemmas.{match_made, match_then, none_as}
+use Rattle.ops_turns.proofs.SteppedLemmas.{made_some, none_as}
 use Rattle.ops_turns.specs.StepResult.{AddedOrNone, is_made}
 use Rattle.ops_turns.specs.Turn.{PendsIn, CoreInOrder, Turned, TurnedBeside, setting_of}
 use Rattle.ops_turns.specs.declared.made.MadeStep.{MadeStep}
@@ -82,9 +82,9 @@ module _ {M T H G : Type 0} (says : Says M) (course : H → HostDef) (c : Compon
 
   took_failed : (k : StepResult) → is_made k ≡ true → Taken k → KeepsWorks s.state t.state → FailsTold s.state.core p t.state s.listeners t.listeners → FailsTurn says course c (u p) (v p)
   took_failed k is taken kept fails =
-      let added = match_made k is taken in
+      let added = taken.made is in
       record {
-        stops = stops_after x p p refl (λ no. absurd (cc)) part s.state before after s.listeners t.listeners (fails.told.answered, fails.hook) k part t.state fails.told (match_made k is (turned_of k taken));
+        stops = stops_after x p p refl (λ no. absurd (cc)) part s.state before after s.listeners t.listeners (fails.told.answered, fails.hook) k part t.state fails.told ((turned_of k taken).made is);
         main = refl;
         knows = knows (Some added.0) added.1.1 kept;
         works = works (Some added.0) added.1.1;
@@ -92,14 +92,16 @@ module _ {M T H G : Type 0} (says : Says M) (course : H → HostDef) (c : Compon
 
   -- by what the call gives that takes it
   pub took : (k : StepResult) → TakesTo c b ended s k running t before after → TurnsTo says course c k running (u q) (v q)
-  took k taken =
-      match_then k
-      (λ made told. subst (λ (w : Turn). HasTurned says course c k running (u w) (v w)) (sym is)
-      (let added = match_made k made told.0.0 in took_ok k told.0.0 (Some added.0) added.1.1 told.0.1 (λ yes. told.1) (λ none. absurd (not_none k none made)) told.1.asked))
-      (λ none nothing. subst (λ (w : Turn). HasTurned says course c k running (u w) (v w)) (sym is)
-      (took_ok k (subst (λ (w : StepResult). Taken w) (sym none) nothing.0.0) None nothing.0.0.0 nothing.0.1 (λ made. absurd (not_none k none made)) (λ same. nothing.1.0) nothing.1.1))
-      (λ lost. record { trace = lost.0; main = λ other. refl; untold = λ other. lost.1 })
-      (λ fails. subst (λ (w : Turn). FailsTurn says course c (u w) (v w)) (sym is) (took_failed fails.1.0 fails.1.1.0 fails.1.1.1.0 fails.1.1.1.1 fails.0)) taken
-    where
-      not_none : (k : StepResult) → k ≡ stepped.Nothing → is_made k ≡ true → ⊥
-      not_none k none made = let no = sym (ap is_made none) ∙ made in cc
+  took k taken = record {
+    made = λ e.
+        let told = taken.made e in
+        let added = told.0.0.made e in
+        subst (λ (w : Turn). HasTurned says course c k running (u w) (v w)) (sym is) (took_ok k told.0.0 (Some added.0) added.1.1 told.0.1 (λ yes. told.1) (λ none. absurd (made_some k e none)) told.1.asked);
+    nothing = λ e.
+        let nothing = taken.nothing e in
+        let there = subst (λ (w : StepResult). Taken w) (sym e) nothing.0.0 in
+        subst (λ (w : Turn). HasTurned says course c k running (u w) (v w)) (sym is)
+        (took_ok k there None (there.nothing e).0 nothing.0.1 (λ made. absurd (made_some k made e)) (λ same. nothing.1.0) nothing.1.1);
+    full = λ e. let lost = taken.full e in record { trace = lost.0; main = λ other. refl; untold = λ other. lost.1 };
+    failed = λ e. let fails = taken.failed e in subst (λ (w : Turn). FailsTurn says course c (u w) (v w)) (sym is) (took_failed fails.1.0 fails.1.1.0 fails.1.1.1.0 fails.1.1.1.1 fails.0);
+  }

@@ -13,15 +13,6 @@ returns-in-Call-clause-step g c = record { made = λ e. absurd (cc); nothing = �
 pub returns-in-Call-clause-polls : goal.returns-in-Call-clause-polls
 returns-in-Call-clause-polls g c = let calls : calls_host c.args.op.now ≡ true = search rules in record { made = λ e. absurd (cc); nothing = λ e. calls; full = λ e. absurd (cc); failed = λ e. absurd (cc) }
 
-pub returns-clause-step : goal.returns-clause-step
-returns-clause-step g c = rw c.in-Data.is (of_full c.run_data.result c.run_data.ensures.shown c.run_data.ensures.full (λ same. same))
-
-pub returns-clause-polls : goal.returns-clause-polls
-returns-clause-polls g c =
-    let s = g.W.View.view c.args.w.now in
-    let none : polled_host c.args.component.now (op_progress_of (thread_of s c.args.thread) s.core) c.args.op.now ≡ None = rw c.in-Data.is refl in
-    of_full c.run_data.result (λ made. none) c.run_data.ensures.full (λ same. tt)
-
 pub returns-in_default-clause-step : goal.returns-in_default-clause-step
 returns-in_default-clause-step g c = of_full c.run_plain.result c.run_plain.ensures.shown c.run_plain.ensures.full (λ same. same)
 

@@ -127,7 +127,7 @@ returns-in-Some-default-Host-clause-took g c =
     (next_is s c.take_next.result q.mark (entries.Host q.work) c.take_next.ensures.next at) c.step_host-made.ensures.picks c.step_host-made.ensures.current c.step_host-made.ensures.turn in
     let t = v c.step_host-made.new.w in
     let before = c.args.trace.now in
-    of_full {M = Added (λ step. Took c.args.component.now c.args.ended s (Some step) t) c.put-2.result before c.put-2.new.trace} c.put-2.result (λ made. (c.step_host-made.result, (c.put-2.ensures.in_trace made, makes))) c.put-2.ensures.full (λ same. same)
+    of_full {M = Added (λ step. Took c.args.component.now c.args.ended s (Some step) t) c.put-in-Some-default-Host.result before c.put-in-Some-default-Host.new.trace} c.put-in-Some-default-Host.result (λ made. (c.step_host-made.result, (c.put-in-Some-default-Host.ensures.in_trace made, makes))) c.put-in-Some-default-Host.ensures.full (λ same. same)
 
 -- ---- Nothing is there
 

@@ -11,7 +11,8 @@ use Rattle.task_loop.specs.Told.{TellsPart, TellsWhole, groups_before_work}
 use Rattle.machine_data.specs.Core.{Core, Unscripted}
 use Rattle.machine_data.specs.declared.records.Turn.TheVariants as turn
 use Rattle.task_store.specs.Hosts.{HoldsWorks, held_by}
-use Rattle.ops_turns.proofs.SteppedLemmas.{of_full, of_made}
+use Rattle.ops_turns.proofs.SteppedLemmas.{of_made}
+use Rattle.task_loop.proofs.TakenLemmas.{of_unmade}
 use Rattle.ops_turns.specs.Turn.{setting_of}
 
 pub poll_next-made-requires-clause-may : goal.poll_next-made-requires-clause-may
@@ -80,26 +81,32 @@ returns-in_default-clause-polled g c =
     let a = groups_before_work c.poll_next-made.new.worked in
     let told = c.in_default.ensures.told in
     let same = ap (λ k. k.listeners) c.poll_next-made.ensures.rest in
-    let is = sym c.is_made.ensures ∙ c.if-not-is_made.false in (
-      record {
-        told = tells_in_part s.state (turn.Futures c.args.polled) c.requires.asked c.none_is_zero.ensures.groups a refl c.poll_next-made.ensures.worked t.state u c.poll_next-made.ensures.works.1 s.listeners new
-            (subst (λ (l : Listeners). TellsPart a t.state u l new) same told.part) (subst (λ (l : Listeners). AnsweredErr l new) same told.hook.failed);
-        hook = c.tell_poll.ensures.told.hook.hook ∙ ap (λ (l : Listeners). is_some l.hook) same;
-      },
-      (
-        c.put-stepped.result,
+    let is = sym c.is_made.ensures ∙ c.if-not-is_made.false in
+    record {
+      made = λ e. absurd (cc);
+      nothing = λ e. absurd (cc);
+      full = λ e. absurd (cc);
+      failed = λ e. (
+        record {
+          told = tells_in_part s.state (turn.Futures c.args.polled) c.requires.asked c.none_is_zero.ensures.groups a refl c.poll_next-made.ensures.worked t.state u c.poll_next-made.ensures.works.1 s.listeners new
+              (subst (λ (l : Listeners). TellsPart a t.state u l new) same told.part) (subst (λ (l : Listeners). AnsweredErr l new) same told.hook.failed);
+          hook = c.tell_poll.ensures.told.hook.hook ∙ ap (λ (l : Listeners). is_some l.hook) same;
+        },
         (
-          c.poll_next-made.result,
+          c.put-stepped.result,
           (
-            c.put-stepped.ensures.in_trace is,
-            λ x m pends.
-                turns_part a t.state u t.listeners new told.part x (turn.Futures c.args.polled) m s.state c.poll_next-made.result m (c.poll_next-made.ensures.turns x m pends),
+            c.poll_next-made.result,
+            (
+              c.put-stepped.ensures.in_trace is,
+              λ x m pends.
+                  turns_part a t.state u t.listeners new told.part x (turn.Futures c.args.polled) m s.state c.poll_next-made.result m (c.poll_next-made.ensures.turns x m pends),
+            ),
           ),
         ),
-      ),
-    )
+      );
+    }
 
 pub returns-then-not-is_made-clause-polled : goal.returns-then-not-is_made-clause-polled
 returns-then-not-is_made-clause-polled g c =
     let unmade = sym c.is_made.ensures ∙ c.if-not-is_made.true in
-    of_full c.put-stepped.result (λ made. let no = sym unmade ∙ made in absurd (cc)) c.put-stepped.ensures.full (λ same. (same, ap (λ k. k.listeners) c.poll_next-made.ensures.rest))
+    of_unmade c.put-stepped.result unmade (c.put-stepped.ensures.full unmade) (λ same. (same, ap (λ k. k.listeners) c.poll_next-made.ensures.rest))

@@ -12,7 +12,8 @@ use Rattle.machine_data.specs.declared.records.Turn.TheVariants as turn
 use Rattle.task_store.specs.Hosts.{HoldsWorks, held_by}
 use Rattle.ops_turns.proofs.KeptLemmas.{made_in_order}
 use Rattle.ops_turns.proofs.ThereLemmas.{core_in_order_there}
-use Rattle.ops_turns.proofs.SteppedLemmas.{of_full, of_made}
+use Rattle.ops_turns.proofs.SteppedLemmas.{of_made}
+use Rattle.task_loop.proofs.TakenLemmas.{of_unmade}
 use Rattle.ops_turns.specs.StepResult.{Added}
 use Rattle.ops_turns.specs.Turn.{IsFree, MakesStep, running_of}
 use Rattle.ops_turns.specs.declared.made.MadeStep.{MadeStep}
@@ -81,23 +82,29 @@ returns-in_default-clause-ran g c =
     let steps = c.step_thread-stepped.ensures.steps is in
     let made = steps.makes in
     let told = c.in_default.ensures.told in
-    let same = c.step_thread-stepped.ensures.listeners in (
-      record {
-        told = tells_in_part s.state (turn.Run n) c.requires.asked c.none_is_zero.ensures.groups a c.requires.running refl t.state u steps.works.1 s.listeners new
-            (subst (λ (l : Listeners). TellsPart a t.state u l new) same told.part) (subst (λ (l : Listeners). AnsweredErr l new) same told.hook.failed);
-        hook = c.tell_run-told.ensures.told.hook.hook ∙ ap (λ (l : Listeners). is_some l.hook) same;
-      },
-      (
-        c.step_thread-stepped.result,
+    let same = c.step_thread-stepped.ensures.listeners in
+    record {
+      made = λ e. absurd (cc);
+      nothing = λ e. absurd (cc);
+      full = λ e. absurd (cc);
+      failed = λ e. (
         record {
-          makes = (made.0, (made.1.0, (makes_part a t.state u t.listeners new told.part d (turn.Run n) s.state made.0 (made.1.1).0, (made.1.1).1)));
-          works = names_part a t.state u t.listeners new told.part s.state steps.works.0;
-          hosts = subst (λ (k : Core). HoldsWorks (held_by g.H.HostWork.course t) k) (sym (part_core a t.state u t.listeners new told.part)) steps.hosts;
+          told = tells_in_part s.state (turn.Run n) c.requires.asked c.none_is_zero.ensures.groups a c.requires.running refl t.state u steps.works.1 s.listeners new
+              (subst (λ (l : Listeners). TellsPart a t.state u l new) same told.part) (subst (λ (l : Listeners). AnsweredErr l new) same told.hook.failed);
+          hook = c.tell_run-told.ensures.told.hook.hook ∙ ap (λ (l : Listeners). is_some l.hook) same;
         },
-      ),
-    )
+        (
+          c.step_thread-stepped.result,
+          record {
+            makes = (made.0, (made.1.0, (makes_part a t.state u t.listeners new told.part d (turn.Run n) s.state made.0 (made.1.1).0, (made.1.1).1)));
+            works = names_part a t.state u t.listeners new told.part s.state steps.works.0;
+            hosts = subst (λ (k : Core). HoldsWorks (held_by g.H.HostWork.course t) k) (sym (part_core a t.state u t.listeners new told.part)) steps.hosts;
+          },
+        ),
+      );
+    }
 
 pub returns-then-not-is_made-clause-ran : goal.returns-then-not-is_made-clause-ran
 returns-then-not-is_made-clause-ran g c =
     let unmade = sym c.is_made.ensures ∙ c.if-not-is_made.true in
-    of_full c.step_thread-stepped.result (λ made. let no = sym unmade ∙ made in absurd (cc)) c.step_thread-stepped.ensures.full (λ same. (same, c.step_thread-stepped.ensures.listeners))
+    of_unmade c.step_thread-stepped.result unmade (c.step_thread-stepped.ensures.full unmade) (λ same. (same, c.step_thread-stepped.ensures.listeners))

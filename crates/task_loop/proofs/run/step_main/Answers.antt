@@ -33,7 +33,7 @@ returns g c = record {
 -- ---- It isn't made
 
 pub returns-in-Err-Trap-clause-turned : goal.returns-in-Err-Trap-clause-turned
-returns-in-Err-Trap-clause-turned g c = λ idle.
+returns-in-Err-Trap-clause-turned g c idle =
     let main = c.args.main.now in
     let s = c.args.store.now in
     of_failed (step_failed g.M.MainTask.says g.H.HostWork.course c.args.component.now _ _ c.in-Err-Trap.field-0-is main s c.ask_main.new.main c.ask_main.new.store c.in-Err-Trap.ensures.steps

@@ -9,9 +9,7 @@ use Rattle.machine_data.specs.declared.label.Label.{Label}
 use Rattle.machine_data.specs.declared.statuses.HostPoll.TheVariants as host_poll
 use Rattle.machine_rules.specs.Scripts.{op_of}
 use Rattle.task_store.specs.Hosts.{held_by}
-use Rattle.ops_turns.proofs.SteppedLemmas.{full_told, made_room, match_made}
-use Rattle.ops_turns.specs.StepResult.{RunStepped}
-use Rattle.ops_turns.specs.declared.made.StepResult.{StepResult}
+use Rattle.ops_turns.proofs.SteppedLemmas.{full_told, made_room}
 use Rattle.core_primitives.specs.StateView.{StateView}
 
 pub returns-clause-steps : goal.returns-clause-steps
@@ -21,7 +19,7 @@ returns-clause-steps g c made =
     let comp = c.args.component.now in
     let n = c.args.thread in
     let q = c.step_run-stepped.result in
-    let ran = match_made q made c.step_run-stepped.ensures.ran in
+    let ran = c.step_run-stepped.ensures.ran.made made in
     record {
       makes = (ran.0, (ran.1.0, ran.1.1.0));
       works = c.step_run-stepped.ensures.works (made_room q made);
@@ -38,14 +36,14 @@ call_host-requires-clause-runs g c =
     let store = c.args.store.now in
     let comp = c.args.component.now in
     let n = c.args.thread in
-    let same = subst (λ (r : StepResult). RunStepped comp n store.state r c.step_run-stepped.new.w c.args.trace.now c.step_run-stepped.new.trace) c.in-Nothing.is c.step_run-stepped.ensures.ran in
+    let same = c.step_run-stepped.ensures.ran.nothing c.in-Nothing.is in
     subst (λ (v : StateView). RunsThread g.H.HostWork.course comp n (record store { state = v })) (sym same.0.0) c.requires.runs
 
 pub call_host-requires-clause-calls : goal.call_host-requires-clause-calls
 call_host-requires-clause-calls g c =
     let comp = c.args.component.now in
     let n = c.args.thread in
-    let same = subst (λ (r : StepResult). RunStepped comp n c.args.store.now.state r c.step_run-stepped.new.w c.args.trace.now c.step_run-stepped.new.trace) c.in-Nothing.is c.step_run-stepped.ensures.ran in
+    let same = c.step_run-stepped.ensures.ran.nothing c.in-Nothing.is in
     subst (λ (v : StateView). calls_host (op_of comp n v.core) ≡ true) (sym same.0.0) same.0.1
 
 pub returns-in-Nothing-clause-steps : goal.returns-in-Nothing-clause-steps
@@ -56,13 +54,13 @@ returns-in-Nothing-clause-steps g c made =
     let n = c.args.thread in
     let mid = c.step_run-stepped.new.trace in
     let after = c.call_host.new.trace in
-    let same = subst (λ (r : StepResult). RunStepped comp n store.state r c.step_run-stepped.new.w c.args.trace.now mid) c.in-Nothing.is c.step_run-stepped.ensures.ran in
+    let same = c.step_run-stepped.ensures.ran.nothing c.in-Nothing.is in
     let q = c.call_host.result in
     subst (λ (l : List Label). StepsUntold course comp n store q c.call_host.new.store l after) same.1
     (subst (λ (v : StateView). StepsUntold course comp n (record store { state = v }) q c.call_host.new.store mid after) same.0.0 (c.call_host.ensures.steps made))
 
 pub returns-in-Nothing-clause-full : goal.returns-in-Nothing-clause-full
 returns-in-Nothing-clause-full g c unmade =
-    let same = subst (λ (r : StepResult). RunStepped c.args.component.now c.args.thread c.args.store.now.state r c.step_run-stepped.new.w c.args.trace.now c.step_run-stepped.new.trace) c.in-Nothing.is c.step_run-stepped.ensures.ran in
+    let same = c.step_run-stepped.ensures.ran.nothing c.in-Nothing.is in
     let full = c.call_host.ensures.full unmade in
     (full.0, full.1 ∙ same.1)

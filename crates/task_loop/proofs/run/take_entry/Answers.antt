@@ -4,11 +4,12 @@ use Rattle.std.specs.Prelude.{false, true}
 use Rattle.task_loop.proofs.TakenLemmas.{none_kept, turned_asked, turned_part}
 use Rattle.task_loop.proofs.TurnTellLemmas.{asked_after, tells_in_part, tells_turn, works_asked, works_part}
 use Rattle.task_loop.proofs.run.take_entry.Goals as goal
-use Rattle.task_loop.specs.Threads.{TakesNothing, TakesTold}
+use Rattle.task_loop.specs.Threads.{TakesTold}
 use Rattle.task_loop.specs.Told.{groups_before_work}
 use Rattle.machine_data.specs.declared.records.Turn.TheVariants as turn
-use Rattle.ops_turns.proofs.SteppedLemmas.{made_room, match_made, match_then, of_made}
-use Rattle.ops_turns.specs.StepResult.{is_made}
+use Rattle.ops_turns.proofs.SteppedLemmas.{made_room, of_made}
+use Rattle.ops_turns.specs.StepResult.{TakesBeside}
+use Rattle.ops_turns.specs.declared.made.StepResult.{StepResult}
 use Rattle.core_primitives.specs.Groups.{IsAsked}
 use Rattle.core_primitives.specs.StateView.{StateView}
 
@@ -28,7 +29,7 @@ returns-clause-taken g c =
     let before = c.args.trace.now in
     let after = c.take-taken.new.trace in
     of_made {M = TakesTold d b c.args.ended c.in-Ok.next s q (record s { state = u; listeners = c.tell_work.new.listeners }) before after} q is (
-      (of_made q is (turned_asked d b p s.state t u asked q before after (match_made q is c.take-taken.ensures.turned)), works_asked s.state t u asked works.0),
+      (of_made q is (turned_asked d b p s.state t u asked q before after (c.take-taken.ensures.turned.made is)), works_asked s.state t u asked works.0),
       record {
         told = tells_turn s.state p c.requires.asked c.none_is_zero.ensures.groups (groups_before_work c.take-taken.new.worked) refl c.take-taken.ensures.worked t u works.1 s.listeners c.tell_work.new.listeners c.count_ended.ensures told.whole;
         hook_is_ok = told.hook.hook_is_ok;
@@ -44,9 +45,16 @@ returns-then-not-is_made-clause-taken g c =
     let s = c.args.store.now.state in
     let q = c.take-taken.result in
     let unmade = sym c.is_made.ensures ∙ c.if-not-is_made.true in
-    match_then {N' = TakesNothing d c.args.trap_on_idle c.args.ended c.args.store.now (record c.args.store.now { state = c.take-taken.new.w }) c.args.trace.now c.take-taken.new.trace} q (λ made h. let no = sym unmade ∙ made in absurd (cc))
-    (λ is nothing. ((nothing, (c.take-taken.ensures.works (λ full. let no = sym is ∙ full in cc)).0), (refl, subst (λ (v : StateView). IsAsked v) (sym (none_kept d c.args.trap_on_idle c.args.ended s c.take-taken.new.w nothing.0)) c.requires.asked)))
-    (λ lost. (lost, refl)) (λ no. absurd no) c.take-taken.ensures.turned
+    let turned = c.take-taken.ensures.turned in
+    record {
+      made = λ e. absurd (let no = sym unmade ∙ e in cc);
+      nothing = λ e.
+          let there = subst (λ (w : StepResult). TakesBeside d c.args.trap_on_idle c.args.ended s w c.take-taken.new.w c.args.trace.now c.take-taken.new.trace) e turned in
+          let asked = subst (λ (v : StateView). IsAsked v) (sym (none_kept d c.args.trap_on_idle c.args.ended s c.take-taken.new.w (turned.nothing e).0)) c.requires.asked in
+          ((there, (c.take-taken.ensures.works (λ full. let no = sym e ∙ full in cc)).0), (refl, asked));
+      full = λ e. (turned.full e, refl);
+      failed = λ e. absurd (turned.failed e);
+    }
 
 -- the step was made, and the hook failed in what it gave
 pub returns-in_default-clause-taken : goal.returns-in_default-clause-taken
@@ -64,22 +72,28 @@ returns-in_default-clause-taken g c =
     let u = c.tell_work.new.core in
     let new = c.tell_work.new.listeners in
     let before = c.args.trace.now in
-    let after = c.take-taken.new.trace in (
-      record {
-        told = tells_in_part s.state p c.requires.asked c.none_is_zero.ensures.groups a refl c.take-taken.ensures.worked t u works.1 s.listeners new told.part told.hook.failed;
-        hook = c.tell_work.ensures.told.hook.hook;
-      },
-      (
-        q,
+    let after = c.take-taken.new.trace in
+    record {
+      made = λ e. absurd (cc);
+      nothing = λ e. absurd (cc);
+      full = λ e. absurd (cc);
+      failed = λ e. (
+        record {
+          told = tells_in_part s.state p c.requires.asked c.none_is_zero.ensures.groups a refl c.take-taken.ensures.worked t u works.1 s.listeners new told.part told.hook.failed;
+          hook = c.tell_work.ensures.told.hook.hook;
+        },
         (
-          is,
+          q,
           (
-            of_made q is (turned_part a d b p s.state t u s.listeners new told.part q before after (match_made q is c.take-taken.ensures.turned)),
-            works_part a t u s.listeners new told.part s.state works.0,
+            is,
+            (
+              of_made q is (turned_part a d b p s.state t u s.listeners new told.part q before after (c.take-taken.ensures.turned.made is)),
+              works_part a t u s.listeners new told.part s.state works.0,
+            ),
           ),
         ),
-      ),
-    )
+      );
+    }
 
 pub tell_work-requires : goal.tell_work-requires
 tell_work-requires g c = c.take-taken.ensures.there (made_room c.take-taken.result (sym c.is_made.ensures ∙ c.if-not-is_made.false))

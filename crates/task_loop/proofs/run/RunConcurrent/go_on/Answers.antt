@@ -9,7 +9,7 @@ use Rattle.task_loop.proofs.PausedLemmas.{spent_data, spent_none, poll_goes}
 use Rattle.task_loop.proofs.RunPollLemmas.{and_false}
 use Rattle.task_loop.proofs.ToldLemmas.{current_is, group_computed}
 use Rattle.task_loop.proofs.run.RunConcurrent.go_on.Goals as goal
-use Rattle.task_loop.specs.HasRun.{GoesTo, TurnsTo, at, numbers, setting, state}
+use Rattle.task_loop.specs.HasRun.{GoesTo, HasTurned, at, numbers, setting, state}
 use Rattle.task_loop.specs.declared.run.RunConcurrent.{RunConcurrent}
 use Rattle.task_loop.specs.declared.run.Stop.TheVariants as stop
 use Rattle.machine_data.specs.declared.outcome.Outcome.TheVariants as outcome
@@ -17,8 +17,8 @@ use Rattle.machine_data.specs.declared.records.Turn.TheVariants as turn
 use Rattle.machine_data.specs.declared.statuses.Mark.{Mark}
 use Rattle.machine_rules.proofs.Machine.{and_parts}
 use Rattle.ops_turns.specs.Turn.{given, idle_line_of}
-use Rattle.ops_turns.proofs.SteppedLemmas.{made_else, made_open, match_made}
-use Rattle.ops_turns.specs.StepResult.{turn_of}
+use Rattle.ops_turns.proofs.SteppedLemmas.{made_else, made_open}
+use Rattle.ops_turns.specs.StepResult.{is_made, turn_of}
 use Rattle.ops_turns.specs.declared.made.StepResult.{StepResult}
 use Rattle.ops_turns.specs.declared.made.StepResult.TheVariants as stepped
 use Rattle.core_primitives.specs.StateView.{Tags}
@@ -66,7 +66,7 @@ compute-requires-clause-order g c =
     let r = c.turn-stepped.new.running in
     let q = c.turn-stepped.result in
     let made = made_else q c.in_default.not-Nothing c.in_default.not-Full c.in_default.not-HookFailed in
-    let op_result = match_made q made c.turn-stepped.ensures.turned in
+    let op_result = c.turn-stepped.ensures.turned.made made in
     let ongoing = made_open q made c.in_default.not-Over in
     let goes = come_goes says course d a u n come v r q made ongoing op_result c.turn-stepped.ensures.keeps in
     goes.on.at.order
@@ -84,7 +84,7 @@ compute-requires-clause-runs g c =
     let r = c.turn-stepped.new.running in
     let q = c.turn-stepped.result in
     let made = made_else q c.in_default.not-Nothing c.in_default.not-Full c.in_default.not-HookFailed in
-    let op_result = match_made q made c.turn-stepped.ensures.turned in
+    let op_result = c.turn-stepped.ensures.turned.made made in
     let ongoing = made_open q made c.in_default.not-Over in
     let goes = come_goes says course d a u n come v r q made ongoing op_result c.turn-stepped.ensures.keeps in
     goes.on.at.running
@@ -107,7 +107,7 @@ turns-preserved g c =
     let r = c.turn-stepped.new.running in
     let q = c.turn-stepped.result in
     let made = made_else q c.in_default.not-Nothing c.in_default.not-Full c.in_default.not-HookFailed in
-    let op_result = match_made q made c.turn-stepped.ensures.turned in
+    let op_result = c.turn-stepped.ensures.turned.made made in
     let ongoing = made_open q made c.in_default.not-Over in
     let goes = come_goes says course d a u n come v r q made ongoing op_result c.turn-stepped.ensures.keeps in
     let all = c.in-Ok.ensures.ok in
@@ -164,7 +164,7 @@ returns-in-Nothing-clause-gone g c =
     let spent = c.turns.invariant.spent in
     let v = at c.turns.self c.turn-stepped.new.main c.turn-stepped.new.store c.turn-stepped.new.trace in
     let r = c.turn-stepped.new.running in
-    let op_result = subst (λ (q : StepResult). TurnsTo says course d q r u v) c.in-Nothing.is c.turn-stepped.ensures.turned in
+    let op_result = subst (λ (q : StepResult). HasTurned says course d q r u v) c.in-Nothing.is (c.turn-stepped.ensures.turned.nothing c.in-Nothing.is) in
     let yield_budget' = c.ends.new.self.yield_budget in
     rw c.ends.ensures.stop
     (subst (λ (w : RunConcurrent). GoesTo says course d stops c.args.steps (stop.Ends outcome.Idle) yield_budget a (at w c.turn-stepped.new.main c.turn-stepped.new.store c.turn-stepped.new.trace) yield_budget') (sym c.ends.ensures.new)
@@ -180,7 +180,7 @@ outcome_in-requires g c =
     let u = at c.turns.self c.turns.main c.turns.store c.turns.trace in
     let v = at c.turns.self c.turn-stepped.new.main c.turn-stepped.new.store c.turn-stepped.new.trace in
     let r = c.turn-stepped.new.running in
-    over_told says course d a u c.turns.added c.turns.invariant.come v r stepped.Over refl refl (subst (λ (q : StepResult). TurnsTo says course d q r u v) c.in-Over.is c.turn-stepped.ensures.turned)
+    over_told says course d a u c.turns.added c.turns.invariant.come v r stepped.Over refl refl (subst (λ (q : StepResult). HasTurned says course d q r u v) c.in-Over.is (c.turn-stepped.ensures.turned.made (ap is_made c.in-Over.is)))
 
 pub returns-in-Over-clause-gone : goal.returns-in-Over-clause-gone
 returns-in-Over-clause-gone g c =
@@ -199,7 +199,7 @@ returns-in-Over-clause-gone g c =
     let v = at c.turns.self c.turn-stepped.new.main c.turn-stepped.new.store c.turn-stepped.new.trace in
     let r = c.turn-stepped.new.running in
     let o = c.outcome_in.result in
-    let op_result = subst (λ (q : StepResult). TurnsTo says course d q r u v) c.in-Over.is c.turn-stepped.ensures.turned in
+    let op_result = subst (λ (q : StepResult). HasTurned says course d q r u v) c.in-Over.is (c.turn-stepped.ensures.turned.made (ap is_made c.in-Over.is)) in
     let ends = c.ends-in-Over in
     let yield_budget' = ends.new.self.yield_budget in
     rw ends.ensures.stop
@@ -225,7 +225,7 @@ returns-then-rests-clause-gone g c =
     let r = c.turn-stepped.new.running in
     let q = c.turn-stepped.result in
     let made = made_else q c.in_default.not-Nothing c.in_default.not-Full c.in_default.not-HookFailed in
-    let op_result = match_made q made c.turn-stepped.ensures.turned in
+    let op_result = c.turn-stepped.ensures.turned.made made in
     let ongoing = made_open q made c.in_default.not-Over in
     let goes = come_goes says course d a u n come v r q made ongoing op_result c.turn-stepped.ensures.keeps in
     let both = and_parts stops (rests_by c.turn_of-turn.result c.next_mark-next.result) (sym c.rests_with-rests.ensures ∙ c.if-rests.true) in
@@ -316,7 +316,7 @@ returns-in_default-compute-clause-gone g c =
     let r = c.turn-stepped.new.running in
     let q = c.turn-stepped.result in
     let made = made_else q c.in_default.not-Nothing c.in_default.not-Full c.in_default.not-HookFailed in
-    let op_result = match_made q made c.turn-stepped.ensures.turned in
+    let op_result = c.turn-stepped.ensures.turned.made made in
     let ongoing = made_open q made c.in_default.not-Over in
     let goes = come_goes says course d a u n come v r q made ongoing op_result c.turn-stepped.ensures.keeps in
     come_short says course d a (record v { turn = turn_of q }) (n + 1) goes c.args.steps c.compute.new.trace c.in_default-compute.ensures.err

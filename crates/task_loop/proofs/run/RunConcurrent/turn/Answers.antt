@@ -9,14 +9,14 @@ use Rattle.task_loop.proofs.TakenLemmas.{any_turns}
 use Rattle.task_loop.proofs.ToldLemmas.{current_is, other_told, run_turns, told_turn, turns_runs}
 use Rattle.task_loop.proofs.TurnLemmas.{took}
 use Rattle.task_loop.proofs.run.RunConcurrent.turn.Goals as goal
-use Rattle.task_loop.specs.HasRun.{FailsTurn, HasTurned, LacksTurn, TurnsTo, at}
+use Rattle.task_loop.specs.HasRun.{TurnsTo, at}
 use Rattle.task_loop.specs.Ran.{DoesStep}
 use Rattle.task_loop.specs.Constants.{constants}
 use Rattle.task_loop.specs.Told.{TurnTold, group_running, turn_of}
 use Rattle.machine_data.specs.declared.records.Turn.{Turn}
 use Rattle.machine_data.specs.declared.records.Turn.TheVariants as turn
 use Rattle.task_store.specs.declared.store.Store.{Store}
-use Rattle.ops_turns.proofs.SteppedLemmas.{added_as, match_then, of_made}
+use Rattle.ops_turns.proofs.SteppedLemmas.{added_as, of_made}
 use Rattle.ops_turns.specs.Does.{step_shown}
 use Rattle.ops_turns.specs.StepResult.{Added}
 use Rattle.ops_turns.specs.Turn.{IsAtTurn, IsFree, MakesStep, PendsIn, CoreInOrder, Turns, is_open, runs_in, setting_of}
@@ -87,6 +87,7 @@ returns-in-Run-clause-turned g c =
     let may = c.requires.may in
     let part = says.part main in
     let n = c.in-Run.thread in
+    let at_run = sym c.turn_of.ensures ∙ c.in-Run.is in
     let s = c.args.store.now.state in
     let t = c.run_thread.new.store.state in
     let old = c.args.store.now.listeners in
@@ -95,34 +96,38 @@ returns-in-Run-clause-turned g c =
     let before = c.args.trace.now in
     let after = c.run_thread.new.trace in
     let q = c.run_thread.result in
-    let order = subst (λ (p : Turn). CoreInOrder d p s.core) (sym c.turn_of.ensures ∙ c.in-Run.is) may.may_turn.order in
-    let u = at c.args.self.now main c.args.store.now before in
-    let v = at c.args.self.now main c.run_thread.new.store after in
-    match_then {M' = HasTurned says g.H.HostWork.course d q c.run_thread.new.running u v} {N' = HasTurned says g.H.HostWork.course d q c.run_thread.new.running u v} {F' = LacksTurn says g.H.HostWork.course d u v} {H' = FailsTurn says g.H.HostWork.course d u v} q
-    (λ is ran.
-    let made = ran.steps.makes in
+    let order = subst (λ (p : Turn). CoreInOrder d p s.core) at_run may.may_turn.order in
     record {
-      turn = refl;
-      told = of_made q is (subst (λ (p : Turn). Added (λ (made : MadeStep). TurnTold x p part s old (Some made) part t new) q before after) (sym (sym c.turn_of.ensures ∙ c.in-Run.is)) (told_turn x n part s old t new q before after ran.told));
-      did = of_made q is (added_as (λ (made : MadeStep). MakesStep d (turn.Run n) s made t × IsFree made.turn) (λ (made : MadeStep). DoesStep says.does main s.core (step_shown made.label) main t.core) q before after
-          (λ made h. still_run says.does main x part s t n made h.0) made);
-      group = λ yes. ran.group;
-      suits = may.may_turn.suits;
-      knows = by_run (says.knows main) s t (λ last. g.met.M.MainTask.stays main s t last may.may_turn.knows) x part n made.0 order made.1.1.0 ran.steps.works;
-      works = ran.steps.hosts;
-      asked = ran.asked;
-    })
-    (λ is no. absurd no) (λ lost. record { trace = lost.0; main = λ other. refl; untold = λ other. lost.1 })
-    (λ failed.
-    let fails = failed.0 in
-    let k = failed.1 in
-    let made = k.1.makes in
-    record {
-      stops = stops_after x (turn_of c.args.self.now.last) (turn.Run n) (sym c.turn_of.ensures ∙ c.in-Run.is) (λ no. absurd (cc)) part s before after old new (fails.told.answered, fails.hook) k.0 part t fails.told (made.0, (made.1.0, run_turns d n s t k.0 before after made x refl part));
-      main = refl;
-      knows = by_run (says.knows main) s t (λ last. g.met.M.MainTask.stays main s t last may.may_turn.knows) x part n made.0 order made.1.1.0 k.1.works;
-      works = k.1.hosts;
-    }) c.run_thread.ensures.ran
+      made = λ is.
+          let ran = c.run_thread.ensures.ran.made is in
+          let made = ran.steps.makes in
+          record {
+            turn = refl;
+            told = of_made q is (subst (λ (p : Turn). Added (λ (made : MadeStep). TurnTold x p part s old (Some made) part t new) q before after) (sym at_run) (told_turn x n part s old t new q before after ran.told));
+            did = of_made q is
+                (added_as (λ (made : MadeStep). MakesStep d (turn.Run n) s made t × IsFree made.turn) (λ (made : MadeStep). DoesStep says.does main s.core (step_shown made.label) main t.core) q before after
+                (λ made h. still_run says.does main x part s t n made h.0) made);
+            group = λ yes. ran.group;
+            suits = may.may_turn.suits;
+            knows = by_run (says.knows main) s t (λ last. g.met.M.MainTask.stays main s t last may.may_turn.knows) x part n made.0 order made.1.1.0 ran.steps.works;
+            works = ran.steps.hosts;
+            asked = ran.asked;
+          };
+      nothing = λ is. absurd (c.run_thread.ensures.ran.nothing is);
+      full = λ is. let lost = c.run_thread.ensures.ran.full is in record { trace = lost.0; main = λ other. refl; untold = λ other. lost.1 };
+      failed = λ is.
+          let failed = c.run_thread.ensures.ran.failed is in
+          let fails = failed.0 in
+          let k = failed.1 in
+          let made = k.1.makes in
+          record {
+            stops = stops_after x (turn_of c.args.self.now.last) (turn.Run n) at_run (λ no. absurd (cc)) part s before after old new (fails.told.answered, fails.hook) k.0 part t fails.told
+                (made.0, (made.1.0, run_turns d n s t k.0 before after made x refl part));
+            main = refl;
+            knows = by_run (says.knows main) s t (λ last. g.met.M.MainTask.stays main s t last may.may_turn.knows) x part n made.0 order made.1.1.0 k.1.works;
+            works = k.1.hosts;
+          };
+    }
 
 -- ---- A work is polled
 
@@ -150,6 +155,7 @@ returns-in-Futures-clause-turned g c =
     let may = c.requires.may in
     let m = says.part main in
     let p = turn.Futures c.in-Futures.polled in
+    let at_poll = sym c.turn_of.ensures ∙ c.in-Futures.is in
     let s = c.args.store.now.state in
     let t = c.poll_work.new.store.state in
     let x = setting_of d (says.script main) c.args.self.now.trap_on_idle in
@@ -159,35 +165,38 @@ returns-in-Futures-clause-turned g c =
     let new = c.poll_work.new.store.listeners in
     let q = c.poll_work.result in
     let works = c.poll_work.ensures.works in
-    let order = subst (λ (w : Turn). CoreInOrder d w s.core) (sym c.turn_of.ensures ∙ c.in-Futures.is) may.may_turn.order in
-    let pends : PendsIn x s.core m p = subst (λ (w : Turn). PendsIn x s.core m w) (sym c.turn_of.ensures ∙ c.in-Futures.is) may.may_turn.pends in
-    let u = at c.args.self.now main c.args.store.now before in
-    let v = at c.args.self.now main c.poll_work.new.store after in
-    match_then {M' = HasTurned says g.H.HostWork.course d q c.poll_work.new.running u v} {N' = HasTurned says g.H.HostWork.course d q c.poll_work.new.running u v} {F' = LacksTurn says g.H.HostWork.course d u v} {H' = FailsTurn says g.H.HostWork.course d u v} q
-    (λ is polled.
-    let made : Added (λ (made : MadeStep). Turns x p m s made m t) q before after = any_turns x p m s t q before after pends polled.0 in
-    let told = polled.1 in
+    let order = subst (λ (w : Turn). CoreInOrder d w s.core) at_poll may.may_turn.order in
+    let pends : PendsIn x s.core m p = subst (λ (w : Turn). PendsIn x s.core m w) at_poll may.may_turn.pends in
     record {
-      turn = refl;
-      told = of_made q is (subst (λ (w : Turn). Added (λ (made : MadeStep). TurnTold x w m s old (Some made) m t new) q before after) (sym (sym c.turn_of.ensures ∙ c.in-Futures.is)) (other_told x p refl m s may.may_turn.asked old m t new told.told q before after made told.hook_is_ok));
-      did = of_made {M = Added (λ (step : MadeStep). DoesStep says.does main s.core (step_shown step.label) main t.core) q before after} q is (made.0, (made.1.0, still says.does main x m s t p refl made.0 made.1.1));
-      group = λ yes. told.group ∙ current_is t (turn_of q) (turns_runs x p m s m t q before after made);
-      suits = may.may_turn.suits;
-      knows = by_poll (says.knows main) s t (λ last. g.met.M.MainTask.stays main s t last may.may_turn.knows) x m c.in-Futures.polled made.0 order made.1.1 works.0;
-      works = works.1;
-      asked = told.asked;
-    })
-    (λ is no. absurd no) (λ lost. record { trace = lost.0; main = λ other. refl; untold = λ other. lost.1 })
-    (λ failed.
-    let fails = failed.0 in
-    let k = failed.1 in
-    let made = any_turns x p m s t k.0 before after pends k.1 in
-    record {
-      stops = stops_after x (turn_of c.args.self.now.last) p (sym c.turn_of.ensures ∙ c.in-Futures.is) (λ no. absurd (cc)) m s before after old new (fails.told.answered, fails.hook) k.0 m t fails.told made;
-      main = refl;
-      knows = by_poll (says.knows main) s t (λ last. g.met.M.MainTask.stays main s t last may.may_turn.knows) x m c.in-Futures.polled made.0 order made.1.1 works.0;
-      works = works.1;
-    }) c.poll_work.ensures.polled
+      made = λ is.
+          let polled = c.poll_work.ensures.polled.made is in
+          let made : Added (λ (made : MadeStep). Turns x p m s made m t) q before after = any_turns x p m s t q before after pends polled.0 in
+          let told = polled.1 in
+          record {
+            turn = refl;
+            told = of_made q is
+                (subst (λ (w : Turn). Added (λ (made : MadeStep). TurnTold x w m s old (Some made) m t new) q before after) (sym at_poll) (other_told x p refl m s may.may_turn.asked old m t new told.told q before after made told.hook_is_ok));
+            did = of_made {M = Added (λ (step : MadeStep). DoesStep says.does main s.core (step_shown step.label) main t.core) q before after} q is (made.0, (made.1.0, still says.does main x m s t p refl made.0 made.1.1));
+            group = λ yes. told.group ∙ current_is t (turn_of q) (turns_runs x p m s m t q before after made);
+            suits = may.may_turn.suits;
+            knows = by_poll (says.knows main) s t (λ last. g.met.M.MainTask.stays main s t last may.may_turn.knows) x m c.in-Futures.polled made.0 order made.1.1 works.0;
+            works = works.1;
+            asked = told.asked;
+          };
+      nothing = λ is. absurd (c.poll_work.ensures.polled.nothing is);
+      full = λ is. let lost = c.poll_work.ensures.polled.full is in record { trace = lost.0; main = λ other. refl; untold = λ other. lost.1 };
+      failed = λ is.
+          let failed = c.poll_work.ensures.polled.failed is in
+          let fails = failed.0 in
+          let k = failed.1 in
+          let made = any_turns x p m s t k.0 before after pends k.1 in
+          record {
+            stops = stops_after x (turn_of c.args.self.now.last) p at_poll (λ no. absurd (cc)) m s before after old new (fails.told.answered, fails.hook) k.0 m t fails.told made;
+            main = refl;
+            knows = by_poll (says.knows main) s t (λ last. g.met.M.MainTask.stays main s t last may.may_turn.knows) x m c.in-Futures.polled made.0 order made.1.1 works.0;
+            works = works.1;
+          };
+    }
 
 -- ---- An entry is taken
 
