@@ -28,6 +28,9 @@ pub fn start_watched<T, H, G: TaskGroupHook>(
     ensures keeps { KeepsStore component.now store.old store.new }
 {
     let takes = func.param_count(component);
-    prove!(takes as usize == params.len()); // else the export takes another number of words
+    prove!(
+        takes as usize == params.len(),
+        "the export takes so many words"
+    );
     func.start_call_concurrent(component, store, params)
 }

@@ -3,7 +3,7 @@ ghost use Rattle.std.specs.Prelude.{◌≡◌, ◌↔◌, true};
 ghost use Rattle.host_watch.specs.Watched.{IsShown, may_show, thread_shown, trapped_by, watched_says, work_shown};
 
 use core_primitives::ResultPrimitives;
-use machine_data::{Label, MadeCounts, MainLabel};
+use machine_data::{Label, MainLabel};
 use task_group::TaskGroupHook;
 use task_loop::{Component, MainStep, MainTask, TaskError};
 use task_store::{Access, HostWork, Whole};
@@ -60,15 +60,28 @@ fn is_shown(shown: Option<u64>, before: u64, after: u64) -> bool
     }
 }
 
-// Tests the label of a start or a spawn by what was made before the step and after it.
-fn test_step(step: &MainStep, before: MadeCounts, after: MadeCounts)
-    requires thread { IsShown (thread_shown step.now) before.threads after.threads }
-    requires work { IsShown (work_shown step.now) before.works after.works }
+// The functions that test have the names of what they test, since an unproved run that stops says in which function it was.
+
+// Tests that a start shows the thread that was made, and that no other step made one.
+fn a_start_shows_its_thread(step: &MainStep, before: u64, after: u64)
+    requires { IsShown (thread_shown step.now) before after }
 {
-    let thread_is_right = is_shown(thread_shown(step), before.threads, after.threads);
-    prove!(thread_is_right); // else the label of a start names another thread, or a step started a call and doesn't say so
-    let work_is_right = is_shown(work_shown(step), before.works, after.works);
-    prove!(work_is_right); // else the label of a spawn names another work, or a step spawned a work and doesn't say so
+    let is_right = is_shown(thread_shown(step), before, after);
+    prove!(
+        is_right,
+        "a start shows the thread that was made, and no other step makes one"
+    );
+}
+
+// Tests that a spawn shows the work that was made, and that no other step made one.
+fn a_spawn_shows_its_work(step: &MainStep, before: u64, after: u64)
+    requires { IsShown (work_shown step.now) before after }
+{
+    let is_right = is_shown(work_shown(step), before, after);
+    prove!(
+        is_right,
+        "a spawn shows the work that was made, and no other step makes one"
+    );
 }
 
 // Whether main may say so, by whether something was returned to it and whether some task was interesting.
@@ -92,20 +105,26 @@ fn trapped_by(step: &MainStep, before: bool) -> bool
     }
 }
 
-// Tests what the step's label says of the store before it.
-fn test_label(step: &MainStep, returned: bool, interesting: bool)
+// Tests that some call had returned if a finish is shown, and that no task was interesting if `quiet` is.
+fn a_finish_or_quiet_was_due(step: &MainStep, returned: bool, interesting: bool)
     requires { may_show step.now returned interesting ≡ true }
 {
-    let label_is_right = may_show(step, returned, interesting);
-    prove!(label_is_right); // else a finish is shown and no call had returned, or that all is quiet and a task was interesting
+    let is_right = may_show(step, returned, interesting);
+    prove!(
+        is_right,
+        "main finishes a call that has returned, and all is quiet if no task is interesting"
+    );
 }
 
-// Tests whether the step has trapped the store as its label says.
-fn test_trap(step: &MainStep, before: bool, after: bool)
+// Tests that the store is trapped by a step if a refused start is shown, and else is trapped if it was before.
+fn only_a_refused_start_traps(step: &MainStep, before: bool, after: bool)
     requires { after ≡ trapped_by step.now before }
 {
-    let trap_is_right = after == trapped_by(step, before);
-    prove!(trap_is_right); // else a start was refused and isn't shown as that, or another step has trapped the store
+    let is_right = after == trapped_by(step, before);
+    prove!(
+        is_right,
+        "a start that was refused is shown as that, and no other step traps the store"
+    );
 }
 
 impl<T, H: HostWork, G: TaskGroupHook, M: MainTask<T, H, G> + Drop> MainTask<T, H, G>
@@ -126,9 +145,10 @@ impl<T, H: HostWork, G: TaskGroupHook, M: MainTask<T, H, G> + Drop> MainTask<T, 
         match self.main.step(access, component) {
             Ok(step) => {
                 let after = access.store.state.made();
-                test_step(&step, before, after);
-                test_label(&step, returned, interesting);
-                test_trap(&step, was_trapped, access.store.state.trapped());
+                a_start_shows_its_thread(&step, before.threads, after.threads);
+                a_spawn_shows_its_work(&step, before.works, after.works);
+                a_finish_or_quiet_was_due(&step, returned, interesting);
+                only_a_refused_start_traps(&step, was_trapped, access.store.state.trapped());
                 Ok(step)
             }
             Err(error) => Err(error),

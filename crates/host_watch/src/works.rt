@@ -92,15 +92,26 @@ fn is_one_fewer(before: HostDef, after: HostDef) -> bool
     }
 }
 
-// Tests a poll by what the work said was left before it and after it.
-fn test_poll(before: HostDef, answer: HostPoll, after: HostDef)
-    requires answer { MayTell before answer }
-    requires left { after ≡ one_fewer before }
+// Tests that a work pends or ends as it said before the poll.
+fn a_work_answers_as_it_said(before: HostDef, answer: HostPoll)
+    requires { MayTell before answer }
 {
-    let answer_is_right = may_tell(before, answer);
-    prove!(answer_is_right); // else the work was to pend and has ended, or was to end and pends, or ends otherwise than it said
-    let left_is_right = is_one_fewer(before, after);
-    prove!(left_is_right); // else the work doesn't say that one poll fewer is left
+    let is_right = may_tell(before, answer);
+    prove!(
+        is_right,
+        "a work pends while polls are left, and then ends as it said"
+    );
+}
+
+// Tests that a work says after the poll what it said before, with one poll fewer.
+fn one_poll_fewer_is_left(before: HostDef, after: HostDef)
+    requires { after ≡ one_fewer before }
+{
+    let is_right = is_one_fewer(before, after);
+    prove!(
+        is_right,
+        "a work says that one poll fewer is left, and the same end"
+    );
 }
 
 impl<W: HostWork> HostWork for WatchedWork<W> {
@@ -116,7 +127,8 @@ impl<T, W: AccessorTask<T>> AccessorTask<T> for WatchedWork<W> {
         let before = self.work.left();
         let answer = self.work.poll(host);
         let after = self.work.left();
-        test_poll(before, answer, after);
+        a_work_answers_as_it_said(before, answer);
+        one_poll_fewer_is_left(before, after);
         answer
     }
 }

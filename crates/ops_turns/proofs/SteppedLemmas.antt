@@ -143,6 +143,10 @@ of_full q made full lost = record {
   failed = λ e. absurd (let no = sym e ∙ (full (ap is_made e)).0 in cc);
 }
 
+-- none was made, as it is out of memory
+pub of_unmade : {M N F H : Type 0} {before after : List Label} (q : StepResult) → is_made q ≡ false → IsFull q before after → (after ≡ before → F) → MatchStep M N F H q
+of_unmade q unmade is lost = of_full q (λ made. absurd (let no = sym unmade ∙ made in cc)) (λ none. is) lost
+
 -- one was made, where no hook was told
 pub made_told : {M N F : Type 0} (q : StepResult) → (q ≡ stepped.Nothing → ⊥) → (q ≡ stepped.Full → ⊥) → MatchStep M N F ⊥ q → is_made q ≡ true
 made_told q some room h = made_else q some room h.failed

@@ -34,8 +34,8 @@ pub record MayStep {T H G : Type 0} (course : H → HostDef) (c : Component) (m 
   pub given : given s.state.core + 4 < 2 ^ 61
 
 -- It has taken this one, which serves the requests.
-pub record HasStepResult {T H G : Type 0} (course : H → HostDef) (c : Component) (m : ServerMain) (s : Store T H G) (x : MainStep) (n : ServerMain)
-    (t : Store T H G) : Type 0 where
+pub record HasStepResult {T H G : Type 0} (course : H → HostDef) (c : Component) (m : ServerMain) (s : Store T H G)
+    (x : MainStep) (n : ServerMain) (t : Store T H G) : Type 0 where
   pub constants_stay : constants t ≡ constants s
   pub requests : n.requests ≡ m.requests
   pub limit : n.nursery.limit ≡ m.nursery.limit
@@ -49,8 +49,8 @@ pub record HasStepResult {T H G : Type 0} (course : H → HostDef) (c : Componen
   pub hook_is_ok : is_refused (label_of_step x) ≡ false → errors_of t.listeners ≡ errors_of s.listeners
 
 -- Nothing was to be finished, and all is as before.
-pub record HasWaited {T H G : Type 0} (course : H → HostDef) (c : Component) (m : ServerMain) (s : Store T H G) (n : ServerMain) (t : Store T H G) :
-    Type 0 where
+pub record HasWaited {T H G : Type 0} (course : H → HostDef) (c : Component) (m : ServerMain) (s : Store T H G)
+    (n : ServerMain) (t : Store T H G) : Type 0 where
   pub may : MayStep course c n t
   pub same : n ≡ m
   pub state : t.state ≡ s.state
@@ -74,4 +74,5 @@ IsBusy m = (m.nursery.limit ≤ count_where is_open_call m.nursery.children) ⊎
 -- The next request is started or refused; none is to be started, and all is as before.
 abbrev pub StartsNext : {T H G : Type 0} → (H → HostDef) → Component → ServerMain → Store T H G → Option MainStep → ServerMain →
     Store T H G → Type 0
-StartsNext course c m s result n t = MatchOption result (HasWaited course c m s n t × IsBusy m) (λ step. HasStepResult course c m s step n t)
+StartsNext course c m s result n t =
+    MatchOption result (HasWaited course c m s n t × IsBusy m) (λ step. HasStepResult course c m s step n t)

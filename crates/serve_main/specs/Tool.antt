@@ -110,7 +110,8 @@ IsMore before after = (all : List ℕ) → before ≡ Some all → IsBeyond 4194
 -- How `serve l n` ended: `before` and `after` are what the source gives.
 pub data SourceEnded (l n : ℕ) (before after old new : Option (List ℕ)) (status : ℕ) : Type 0 where
   -- 0, 1, 3, 5 or 6 of all that there was to read
-  ReadWhole : (input : List ℕ) → IsAllOf before after input → InputEnded l n input old new status → SourceEnded l n before after old new status
+  ReadWhole : (input : List ℕ) → IsAllOf before after input → InputEnded l n input old new status →
+      SourceEnded l n before after old new status
   -- 6: more was read than an input may have, and the line that says so is written
   SaidTooLong : status ≡ 6 → IsMore before after → Appends old new too_long_text → SourceEnded l n before after old new status
   -- 5: a front of that line is written

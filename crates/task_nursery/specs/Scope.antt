@@ -89,7 +89,8 @@ StopsCall c f words s why t =
     (t.state ≡ asked (on_core set_trapped s.state))
 
 -- Else the store starts the call, which is a child more, or refuses it; or it is out of memory.
-abbrev pub ScopeBegins : {T H G : Type 0} → Component → Func → List ℕ → Scope → Store T H G → Result Child NurseryError → Scope → Store T H G →
+abbrev pub ScopeBegins :
+    {T H G : Type 0} → Component → Func → List ℕ → Scope → Store T H G → Result Child NurseryError → Scope → Store T H G →
     Type 0
 ScopeBegins c f words n s (Ok child) m t =
     (call : FuncCallConcurrent) × (m ≡ with_child (kept.Call f call) n) × (child.number ≡ length m.children) ×

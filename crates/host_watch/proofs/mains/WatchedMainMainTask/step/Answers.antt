@@ -6,28 +6,28 @@ use Rattle.host_watch.proofs.mains.WatchedMainMainTask.step.Goals as goal
 pub step-requires : goal.step-requires
 step-requires g c = record { may = may_inside g.M.MainTask.says g.H.HostWork.course c.args.component.now c.args.self.now c.args.access.now.store.now c.requires.may }
 
-pub test_step-requires-clause-thread : goal.test_step-requires-clause-thread
-test_step-requires-clause-thread g c =
+pub a_start_shows_its_thread-requires : goal.a_start_shows_its_thread-requires
+a_start_shows_its_thread-requires g c =
     let says = g.M.MainTask.says in
     let main = c.args.self.now.main in
     rw (c.made-before.ensures, c.made-after.ensures)
     (step_thread c.args.component.now (says.script main) c.in-Ok.step (says.part main) (says.part c.step.new.self) c.args.access.now.store.now.state.core c.step.new.access.store.now.state.core c.in-Ok.ensures.steps.steps)
 
-pub test_step-requires-clause-work : goal.test_step-requires-clause-work
-test_step-requires-clause-work g c =
+pub a_spawn_shows_its_work-requires : goal.a_spawn_shows_its_work-requires
+a_spawn_shows_its_work-requires g c =
     let says = g.M.MainTask.says in
     let main = c.args.self.now.main in
     rw (c.made-before.ensures, c.made-after.ensures)
     (step_work c.args.component.now (says.script main) c.in-Ok.step (says.part main) (says.part c.step.new.self) c.args.access.now.store.now.state.core c.step.new.access.store.now.state.core c.in-Ok.ensures.steps.steps)
 
-pub test_label-requires : goal.test_label-requires
-test_label-requires g c =
+pub a_finish_or_quiet_was_due-requires : goal.a_finish_or_quiet_was_due-requires
+a_finish_or_quiet_was_due-requires g c =
     let says = g.M.MainTask.says in
     let main = c.args.self.now.main in
     step_backed c.args.component.now (says.script main) c.in-Ok.step c.has_results-returned.result c.has_interesting-interesting.result (says.part main) (says.part c.step.new.self) c.args.access.now.store.now.state.core c.step.new.access.store.now.state.core c.has_results-returned.ensures.none c.has_interesting-interesting.ensures c.in-Ok.ensures.steps.steps
 
-pub test_trap-requires : goal.test_trap-requires
-test_trap-requires g c =
+pub only_a_refused_start_traps-requires : goal.only_a_refused_start_traps-requires
+only_a_refused_start_traps-requires g c =
     let says = g.M.MainTask.says in
     let main = c.args.self.now.main in
     rw (c.trapped-was_trapped.ensures, c.trapped.ensures)

@@ -33,8 +33,8 @@ turns-init g c =
       running = c.group_now-running.ensures ∙ current_is c.args.store.now.state (turn_of c.args.self.now.last) c.requires.may.may_turn.running;
     }
 
-pub turn-requires : goal.turn-requires
-turn-requires g c =
+pub turn-stepped-requires : goal.turn-stepped-requires
+turn-stepped-requires g c =
     let says = g.M.MainTask.says in
     let course = g.H.HostWork.course in
     let d = c.args.component.now in
