@@ -16,6 +16,4 @@ mod polls;
 #[cfg(test)]
 mod store;
 #[cfg(test)]
-mod trapped;
-#[cfg(test)]
 mod typed;
