@@ -3,7 +3,7 @@ use Rattle.laws_labels.specs.Tells.{is_start}
 use Rattle.ops_state.specs.declared.error.TaskError.{TaskError}
 use Rattle.ops_state.specs.declared.error.TaskError.TheVariants as task_error
 use Rattle.std.proofs.Common.{ap, inl, inr, refl, subst, sym, ◌∙◌}
-use Rattle.std.specs.Prelude.{Bool, List, None, Some, false, ◌≡◌}
+use Rattle.std.specs.Prelude.{Bool, List, None, Some, false, true, ◌≡◌}
 use Rattle.task_group.specs.Listeners.{ToldListeners, errors_of}
 use Rattle.task_loop.proofs.DoesLemmas.{step_in}
 use Rattle.task_loop.proofs.HookLemmas.{knows_trapped, stops_main}

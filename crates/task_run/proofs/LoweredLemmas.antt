@@ -13,7 +13,7 @@ use Rattle.text_scenario.specs.declared.tree.ScenarioText.{ScenarioText}
 use Rattle.text_scenario.specs.Spelling.{exports_in, exports_of}
 use Rattle.text_scenario.specs.Placement.{EachIsPlaced, ExportIsPlaced, InstanceIsPlaced, IsWellFormed, OpIsPlaced, PartIsPlaced, ReactIsPlaced, ScriptIsPlaced, params_of}
 use Rattle.text_scenario.proofs.ExportLaws.{export_placed}
-use Rattle.text_scenario.proofs.PlacementLaws.{some_map, stands_at}
+use Rattle.text_scenario.proofs.PlacementLaws.{placed_at, some_map}
 use Rattle.machine_data.specs.Read.{is_callback}
 use Rattle.machine_data.specs.declared.component.Callee.{Callee}
 use Rattle.machine_data.specs.declared.component.Component.{Component}
@@ -151,7 +151,7 @@ module _ (s : ScenarioText) (formed : IsWellFormed s) where
   pub exported : (f : Callee) (d : ExportDef) → export_at (lowered s) f ≡ Some d → Exported f d
   exported f d at =
       let t = export_text s.instances f d (sym (at_lowered s f) ∙ at) in
-      let i = stands_at (InstanceIsPlaced s.hosts) s.instances f.instance t.i formed.instances t.at in
+      let i = placed_at (InstanceIsPlaced s.hosts) s.instances f.instance t.i formed.instances t.at in
       let x = export_placed s.hosts (take f.instance s.instances) t.i.parts f.export t.e i.parts t.within in
       record { before = x.before; e = t.e; is_def = t.is_def; stands = x.stands }
 
@@ -177,7 +177,7 @@ module _ (s : ScenarioText) (formed : IsWellFormed s) where
       by_instance : (o : Option InstanceText) → slice_get s.instances i ≡ o → ScriptIsPlaced s.hosts (take i s.instances) false (in_slot j (option_map instance_def o))
       by_instance None none = tt
       by_instance (Some t) some =
-          let stands = stands_at (InstanceIsPlaced s.hosts) s.instances i t formed.instances some in
+          let stands = placed_at (InstanceIsPlaced s.hosts) s.instances i t formed.instances some in
           slots_placed s.hosts (take i s.instances) [] t.parts (replicate 16 slot.Empty) stands.parts (empty_placed s.hosts (take i s.instances) 16) j
 
   -- each script of the component is such a one

@@ -13,7 +13,7 @@ use Rattle.text_scenario.specs.declared.tree.MainOpText.TheVariants as text
 use Rattle.text_scenario.specs.declared.tree.ScenarioText.{ScenarioText}
 use Rattle.text_scenario.specs.Placement.{CallIsPlaced, EachIsPlaced, InstanceIsPlaced, IsWellFormed, MainOpIsPlaced, OpFits, OpIsPlaced, ReactIsPlaced, ScriptIsPlaced, finish_opens, is_callback_end, main_has_room, op_suits, params_of}
 use Rattle.text_scenario.proofs.CalleeLaws.{some_at}
-use Rattle.text_scenario.proofs.PlacementLaws.{stands_at}
+use Rattle.text_scenario.proofs.PlacementLaws.{placed_at}
 use Rattle.laws_states.specs.Settings.{CodesInCallbacks, HasNoCode}
 use Rattle.task_loop.specs.LoopCalls.{callee_of}
 use Rattle.task_loop.specs.declared.call.Func.{Func}
@@ -97,7 +97,7 @@ no_end (op.Call o) suits = refl
 no_end (op.Thread o) suits = refl
 
 no_codes : (hosts : List HostText) (earlier : List InstanceText) (ops : List Op) → ScriptIsPlaced hosts earlier false ops → HasNoCode ops
-no_codes hosts earlier ops stands = λ p o at. no_end o (stands_at (OpIsPlaced hosts earlier false) ops p o stands at).suits
+no_codes hosts earlier ops stands = λ p o at. no_end o (placed_at (OpIsPlaced hosts earlier false) ops p o stands at).suits
 
 -- only a callback has a react script
 no_react : (hosts : List HostText) (earlier : List InstanceText) (k : ExportKind) (react : Option (List Op)) → ReactIsPlaced hosts earlier k react → is_callback k ≡ false → HasNoCode (unwrap_or react [])
@@ -157,7 +157,7 @@ module _ (s : ScenarioText) (formed : IsWellFormed s) where
         omega (arith, few);
     ops = λ f x p o at.
         let k = script_known s formed f x in
-        fits k.instances o (stands_at (OpIsPlaced s.hosts (take k.instances s.instances) k.callback) (script_in (lowered s) f x) p o k.stands at).fits;
+        fits k.instances o (placed_at (OpIsPlaced s.hosts (take k.instances s.instances) k.callback) (script_in (lowered s) f x) p o k.stands at).fits;
   }
 
   -- ---- Codes
@@ -248,7 +248,7 @@ module _ (s : ScenarioText) (formed : IsWellFormed s) where
       omega arith
 
   line_placed : (i : ℕ) (l : MainOpText) → slice_get s.main i ≡ Some l → IsPlaced (take i s.main) l
-  line_placed i l at = stands_at IsPlaced s.main i l formed.main at
+  line_placed i l at = placed_at IsPlaced s.main i l formed.main at
 
   suits : SuitsOps (scenario_of s).main (lowered s)
   suits = record {
