@@ -1,4 +1,5 @@
 -- What a call on a run gives, of what its turns gave.
+use Rattle.laws_labels.specs.Own.{is_main_turn}
 use Rattle.run_trace.specs.declared.yield_budget.YieldBudget.{YieldBudget}
 use Rattle.ops_state.specs.declared.error.TaskError.{TaskError}
 use Rattle.ops_state.specs.declared.error.TaskError.TheVariants as task_error
@@ -16,7 +17,7 @@ use Rattle.task_loop.proofs.RanLemmas.{nothing_ran, ran_computed, ran_more, ran_
 use Rattle.task_loop.proofs.StartLemmas.{trapped_hosts}
 use Rattle.task_loop.proofs.TakenLemmas.{stands_adds}
 use Rattle.task_loop.proofs.ToldLemmas.{asked_computed}
-use Rattle.task_loop.specs.HasRun.{At, DrivesTo, FailsTurn, GoesTo, HasDriven, HasFailed, HasGone, HasLost, HasPolled, HasStopped, HasTurned, IsLost, IsStopped, Keeps, MayRun, MayTurn, PollsTo, RanTo, at, numbers, setting, state}
+use Rattle.task_loop.specs.HasRun.{At, DrivesTo, FailsTurn, GoesTo, HasDriven, HasFailed, HasGone, HasLost, HasPolled, HasStopped, HasTurned, IsLost, IsStopped, Keeps, LacksTurn, MayRun, MayTurn, PollsTo, RanTo, at, numbers, setting, state}
 use Rattle.task_loop.specs.Hooked.{StopsTurn, hook_failed}
 use Rattle.task_loop.specs.YieldBudgets.{LeavesYieldBudget}
 use Rattle.task_loop.specs.Ran.{Ran}
@@ -239,11 +240,34 @@ module _ {M T H G : Type 0} (says : Says M) (course : H → HostDef) (c : Compon
       }
 
     -- it was out of memory
-    lost : (steps : ℕ) (after : List Label) → n ≤ steps → after ≡ u.trace → WasGoing x s a.trace after steps
-    lost steps after few same = was_on x s a.trace (numbers says course c a) u.turn (says.part u.main) u.store.state u.trace after n steps come.on few same
+    lost_by : (steps : ℕ) (last : State) (main : M) (between : Listeners) (k : M) (after : List Label) (l : Listeners) → Ran says.does x s a.main a.trace a.store.listeners last main after between → WasGoing x s a.trace after steps →
+        (is_main_turn last.turn ≡ false → k ≡ main) → (is_main_turn last.turn ≡ false → l ≡ between) → IsLost says course c steps a k after l
+    lost_by steps last main between k after l ran was kept untold =
+        let same : was.going.added ≡ ran.added = append_cancel_left a.trace was.going.added ran.added (sym was.going.trace ∙ ran.trace) in
+        let short : length was.going.added ≤ steps = let e = was.going.count in let f = was.few in omega (arith, e, f) in
+        record {
+          last = last;
+          main = main;
+          between = between;
+          ran = ran;
+          few = subst (λ (ls : List Label). length ls ≤ steps) same short;
+          going_on = subst (λ (ls : List Label). last_outcome ls ≡ None) same was.going.going_on;
+          same = kept;
+          untold = untold;
+        }
 
-    pub come_short : (steps : ℕ) (after : List Label) → StopsShort c u.turn u.store.state u.trace n after steps → WasGoing x s a.trace after steps
-    come_short steps after short = was_on_short x s a.trace (numbers says course c a) u.turn (says.part u.main) u.store.state u.trace after n steps come.on short
+    lost : (v : At M T H G) (steps : ℕ) → n ≤ steps → LacksTurn says course c u v → IsLost says course c steps a v.main v.trace v.store.listeners
+    lost v steps few lacks =
+        lost_by steps (state says course c u) u.main u.store.listeners v.main v.trace v.store.listeners
+        (subst (λ (ls : List Label). Ran says.does x s a.main a.trace a.store.listeners (state says course c u) u.main ls u.store.listeners) (sym lacks.trace) come.ran)
+        (was_on x s a.trace (numbers says course c a) u.turn (says.part u.main) u.store.state u.trace v.trace n steps come.on few lacks.trace)
+        lacks.main lacks.untold
+
+    pub come_short : (steps : ℕ) (after : List Label) → StopsShort c u.turn u.store.state u.trace n after steps → IsLost says course c steps a u.main after u.store.listeners
+    come_short steps after short =
+        lost_by steps (state_at short.last.core (says.part u.main) u.turn) u.main u.store.listeners u.main after u.store.listeners
+        (ran_computed says.does x s a.main a.trace a.store.listeners says.part u.turn u.main u.store.state u.trace u.store.listeners short.last n after short.labels come.ran short.computes short.still)
+        (was_on_short x s a.trace (numbers says course c a) u.turn (says.part u.main) u.store.state u.trace after n steps come.on short) (λ other. refl) (λ other. refl)
 
     -- in the turns before the hook answered no error, and it failed in this one
     stopped : (v : At M T H G) (steps : ℕ) → n < steps → FailsTurn says course c u v → HasStopped says course c steps a v.main v.trace v.store.state v.store.listeners
@@ -292,8 +316,8 @@ module _ {M T H G : Type 0} (says : Says M) (course : H → HostDef) (c : Compon
         }
 
     -- the turns stop before the run does, as it is out of memory
-    pub come_lost : (v : At M T H G) (steps : ℕ) → n < steps → v.trace ≡ u.trace → IsLost says course c steps a v
-    come_lost v steps room same = lost steps v.trace (omega (arith, room)) same
+    pub come_lost : (v : At M T H G) (steps : ℕ) → n < steps → LacksTurn says course c u v → IsLost says course c steps a v.main v.trace v.store.listeners
+    come_lost v steps room lacks = lost v steps (omega (arith, room)) lacks
 
     -- or as the hook failed
     pub come_stopped : (v : At M T H G) (steps : ℕ) → n < steps → FailsTurn says course c u v → IsStopped says course c steps a v
@@ -312,16 +336,8 @@ yes_of true not_off = refl
 yes_of false not_off = absurd (not_off refl)
 
 module _ {M T H G : Type 0} (says : Says M) (course : H → HostDef) (c : Component) (a b : At M T H G) (steps : ℕ) where
-  pub has_lost : WasGoing (setting says course c a) (state says course c a) a.trace b.trace steps → b.store.state.core.trapped ≡ true → HasLost says course c steps a b
-  has_lost w trapped = record {
-    added = w.going.added;
-    trace = w.going.trace;
-    last = w.last;
-    run = w.going.run;
-    few = let e = w.going.count in let f = w.few in omega (arith, e, f);
-    going_on = w.going.going_on;
-    trapped = trapped;
-  }
+  pub has_lost : (m : Store T H G) → IsLost says course c steps a b.main b.trace m.listeners → ToldListeners (finishes m.state.tags.tracked) m.listeners b.store.listeners → b.store.state.core.trapped ≡ true → HasLost says course c steps a b
+  has_lost m lost told trapped = record { listeners = m.listeners; lost = lost; tracked = m.state.tags.tracked; finishes = told; trapped = trapped }
 
   pub has_failed : (m : Store T H G) → b.store ≡ record m { state = asked (on_core set_trapped m.state); listeners = b.store.listeners } →
       HasStopped says course c steps a b.main b.trace m.state m.listeners → ToldListeners (finishes m.state.tags.tracked) m.listeners b.store.listeners →

@@ -9,7 +9,7 @@ use Rattle.task_loop.proofs.DoesLemmas.{step_in}
 use Rattle.task_loop.proofs.HookLemmas.{knows_trapped, stops_main}
 use Rattle.task_loop.proofs.MainToldLemmas.{asked_step, told_step}
 use Rattle.task_loop.proofs.ToldLemmas.{idle_at, idle_running, main_moment, stands_turn}
-use Rattle.task_loop.specs.HasRun.{FailsTurn, HasStepResult, HasTurned, MayStep, at_main}
+use Rattle.task_loop.specs.HasRun.{FailsTurn, HasStepResult, HasTurned, LacksTurn, MayStep, at_main}
 use Rattle.task_loop.specs.AnswersOk.{is_refused}
 use Rattle.task_loop.specs.Hooked.{FailsMain, MainFails}
 use Rattle.task_loop.specs.Says.{Says}
@@ -95,6 +95,10 @@ module _ {M T H G : Type 0} (says : Says M) (course : H → HostDef) (c : Compon
         works = did.works;
         asked = did.asked;
       }
+
+  -- it was out of memory, and main may have told something
+  pub lacks_main : (m : M) (s : Store T H G) (n : M) (t : Store T H G) (before after : List Label) → after ≡ before → (idle : Bool) → LacksTurn says course c (at_main idle m s before) (at_main idle n t after)
+  lacks_main m s n t before after same idle = record { trace = same; main = λ other. absurd (cc); untold = λ other. absurd (cc) }
 
   -- main's op came to a trap, as the hook failed
   pub step_failed : (e : TaskError) (w : Trap) → e ≡ task_error.Trap w → (m : M) (s : Store T H G) (n : M) (t : Store T H G) → FailsMain course e m n s t → ((u : StateView) → WorksLast s.state u → says.knows m s.state → says.knows m u) →

@@ -31,13 +31,12 @@ use Rattle.machine_data.specs.declared.records.Turn.{Turn}
 use Rattle.machine_data.specs.declared.records.Turn.TheVariants as turn
 use Rattle.machine_data.specs.declared.trap.Trap.TheVariants as trap
 use Rattle.machine_rules.specs.Outcome.{IsOutcome, last_outcome}
-use Rattle.machine_rules.specs.Run.{Run}
 use Rattle.machine_rules.specs.Stalled.{Setting}
 use Rattle.machine_rules.specs.Step.{Step}
 use Rattle.task_store.specs.Hosts.{HoldsHosts}
 use Rattle.task_store.specs.declared.store.Store.{Store}
 use Rattle.ops_turns.specs.Does.{label_of_step, step_of, step_shown}
-use Rattle.ops_turns.specs.Drive.{WasGoing}
+use Rattle.laws_labels.specs.Own.{is_main_turn}
 use Rattle.ops_turns.specs.Main.{Steps}
 use Rattle.ops_turns.specs.StepResult.{AddedOrNone, MatchStep, is_made}
 use Rattle.ops_turns.specs.Turn.{IsSettled, PendsIn, CoreInOrder, given, goes_on, is_open, running_of, runs_in, setting_of, state_at}
@@ -175,9 +174,15 @@ module _ {M T H G : Type 0} (says : Says M) (course : H → HostDef) (c : Compon
     pub knows : says.knows b.main b.store.state
     pub works : HoldsHosts course b.store
 
-  -- in each case: if it is out of memory, no label was added
+  -- It is out of memory in the turn: no label was added. Only main may have done something then, and told something.
+  pub record LacksTurn (a b : At M T H G) : Type 0 where
+    pub trace : b.trace ≡ a.trace
+    pub main : is_main_turn a.turn ≡ false → b.main ≡ a.main
+    pub untold : is_main_turn a.turn ≡ false → b.store.listeners ≡ a.store.listeners
+
+  -- in each case
   abbrev pub TurnsTo : StepResult → (running : ℕ) → (a b : At M T H G) → Type 0
-  TurnsTo q running a b = MatchStep (HasTurned q running a b) (HasTurned q running a b) (b.trace ≡ a.trace) (FailsTurn a b) q
+  TurnsTo q running a b = MatchStep (HasTurned q running a b) (HasTurned q running a b) (LacksTurn a b) (FailsTurn a b) q
 
   -- so it is of main's turn, whatever the idle line is
   abbrev pub MainTurned : StepResult → (m : M) (s : Store T H G) (before : List Label) (n : M) (t : Store T H G) (after : List Label) → Type 0
@@ -226,14 +231,24 @@ module _ {M T H G : Type 0} (says : Says M) (course : H → HostDef) (c : Compon
 
   -- ---- It is out of memory
 
-  -- Traps the store. The labels that were added are those of a run to a state that is lost.
-  pub record HasLost (steps : ℕ) (a b : At M T H G) : Type 0 where
-    pub added : List Label
-    pub trace : b.trace ≡ a.trace ++ added
+  -- A run of at most so many labels was added, up to a turn that isn't made, and the state is lost. Main and the listeners are as that
+  -- run left them, unless the turn is main's.
+  pub record IsLost (steps : ℕ) (a : At M T H G) (n : M) (after : List Label) (listeners : Listeners) : Type 0 where
     pub last : State
-    pub run : Run (setting a) (state a) added last
-    pub few : length added ≤ steps
-    pub going_on : last_outcome added ≡ None
+    pub main : M
+    pub between : Listeners
+    pub ran : Ran says.does (setting a) (state a) a.main a.trace a.store.listeners last main after between
+    pub few : length ran.added ≤ steps
+    pub going_on : last_outcome ran.added ≡ None
+    pub same : is_main_turn last.turn ≡ false → n ≡ main
+    pub untold : is_main_turn last.turn ≡ false → listeners ≡ between
+
+  -- So it was. Then the store was trapped, and the groups that were tracked were told that they finish.
+  pub record HasLost (steps : ℕ) (a b : At M T H G) : Type 0 where
+    pub listeners : Listeners
+    pub lost : IsLost steps a b.main b.trace listeners
+    pub tracked : List ℕ
+    pub finishes : ToldListeners (finishes tracked) listeners b.store.listeners
     pub trapped : b.store.state.core.trapped ≡ true
 
   -- ---- The hook failed
@@ -291,10 +306,6 @@ module _ {M T H G : Type 0} (says : Says M) (course : H → HostDef) (c : Compon
   GoesTo false steps _ yield_budget a b yield_budget' = ⊥
   GoesTo true steps stopped yield_budget a b yield_budget' = HasPolled steps (stop_answer stopped) yield_budget a b yield_budget'
 
-  -- it is out of memory in the turns
-  abbrev pub IsLost : ℕ → (a b : At M T H G) → Type 0
-  IsLost steps a b = WasGoing (setting a) (state a) a.trace b.trace steps
-
   -- the hook failed in them
   abbrev pub IsStopped : ℕ → (a b : At M T H G) → Type 0
   IsStopped steps a b =
@@ -335,5 +346,5 @@ module _ {M T H G : Type 0} (says : Says M) (course : H → HostDef) (c : Compon
       RunConcurrent → M → Store T H G → List Label → Type 0
   TurnsGive yields steps (Ok q) run m s before run' n t after =
       GoesTo yields steps q run.yield_budget (at run m s before) (at run' n t after) run'.yield_budget
-  TurnsGive yields steps (Err halt.NoMemory) run m s before run' n t after = IsLost steps (at run m s before) (at run' n t after)
+  TurnsGive yields steps (Err halt.NoMemory) run m s before run' n t after = IsLost steps (at run m s before) n after t.listeners
   TurnsGive yields steps (Err halt.HookFailed) run m s before run' n t after = IsStopped steps (at run m s before) (at run' n t after)

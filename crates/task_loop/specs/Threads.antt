@@ -77,11 +77,15 @@ abbrev pub FailsThread : {T H G : Type 0} → (H → HostDef) → Component → 
 FailsThread course c n s t before after =
     FailsTold s.state.core (turn.Run n) t.state s.listeners t.listeners × ((q : StepResult) × StepsThread course c n s q t before after)
 
--- So it took its step; or it is out of memory, and no label was added; or the hook failed.
+-- It is out of memory: no label was added, and nothing was told.
+abbrev pub LacksStep : {T H G : Type 0} → (s t : Store T H G) → (before after : List Label) → Type 0
+LacksStep s t before after = (after ≡ before) × (t.listeners ≡ s.listeners)
+
+-- So it took its step; or it is out of memory; or the hook failed.
 abbrev pub RunsTo : {T H G : Type 0} → (H → HostDef) → Component → ℕ → (s : Store T H G) → StepResult → (running : ℕ) →
     (t : Store T H G) → (before after : List Label) → Type 0
 RunsTo course c n s q running t before after =
-    MatchStep (RanThread course c n s q running t before after) ⊥ (after ≡ before) (FailsThread course c n s t before after) q
+    MatchStep (RanThread course c n s q running t before after) ⊥ (LacksStep s t before after) (FailsThread course c n s t before after) q
 
 -- A work was polled, and that was told; or the hook answered an error as it was.
 abbrev pub PollsTold : {T H G : Type 0} → Turn → (running : ℕ) → (s : Store T H G) → StepResult → (t : Store T H G) →
@@ -108,7 +112,7 @@ TakesNothing c b ended s t before after =
 abbrev pub WorkPollsTo : {T H G : Type 0} → Turn → (s : Store T H G) → StepResult → (running : ℕ) → (t : Store T H G) →
     (before after : List Label) → Type 0
 WorkPollsTo p s q running t before after =
-    MatchStep (PollsTold p running s q t before after) ⊥ (after ≡ before) (FailsPoll p s t before after) q
+    MatchStep (PollsTold p running s q t before after) ⊥ (LacksStep s t before after) (FailsPoll p s t before after) q
 
 -- It answered one as the taking of an entry was told.
 abbrev pub FailsTake : {T H G : Type 0} → Component → (trap_on_idle ended : Bool) → (s t : Store T H G) →
@@ -121,5 +125,5 @@ FailsTake c b ended s t before after =
 abbrev pub TakesTo : {T H G : Type 0} → Component → (trap_on_idle ended : Bool) → (s : Store T H G) → StepResult → (running : ℕ) →
     (t : Store T H G) → (before after : List Label) → Type 0
 TakesTo c b ended s q running t before after =
-    MatchStep (TakesTold c b ended running s q t before after) (TakesNothing c b ended s t before after) (after ≡ before)
+    MatchStep (TakesTold c b ended running s q t before after) (TakesNothing c b ended s t before after) (LacksStep s t before after)
     (FailsTake c b ended s t before after) q

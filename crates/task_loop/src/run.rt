@@ -137,7 +137,7 @@ fn call_host_outlined<T, H: AccessorTask<T> + FromHost, G: TaskGroupHook>(
     requires calls { calls_host (op_of component.now thread store.old.state.core) ≡ true }
     ensures constants_stay { constants store.new ≡ constants store.old }
     ensures steps { is_made result ≡ true → StepsUntold H.course component.now thread store.old result store.new trace.old trace.new }
-    ensures listeners { is_made result ≡ true → store.new.listeners ≡ store.old.listeners }
+    ensures listeners { store.new.listeners ≡ store.old.listeners }
     ensures full { is_made result ≡ false → IsFull result trace.old trace.new }
 {
     // The host's work is polled before its call is done: what the call results in is what it answers.
@@ -164,7 +164,7 @@ fn call_host<T, H: AccessorTask<T> + FromHost, G: TaskGroupHook>(
     requires calls { calls_host (op_of component.now thread store.old.state.core) ≡ true }
     ensures constants_stay { constants store.new ≡ constants store.old }
     ensures steps { is_made result ≡ true → StepsUntold H.course component.now thread store.old result store.new trace.old trace.new }
-    ensures listeners { is_made result ≡ true → store.new.listeners ≡ store.old.listeners }
+    ensures listeners { store.new.listeners ≡ store.old.listeners }
     ensures full { is_made result ≡ false → IsFull result trace.old trace.new }
 {
     call_host_outlined(component, store, thread, trace)
@@ -182,7 +182,7 @@ fn step_thread<T, H: AccessorTask<T> + FromHost, G: TaskGroupHook>(
     requires runs { RunsThread H.course component.now thread store.old }
     ensures constants_stay { constants store.new ≡ constants store.old }
     ensures steps { is_made result ≡ true → StepsUntold H.course component.now thread store.old result store.new trace.old trace.new }
-    ensures listeners { is_made result ≡ true → store.new.listeners ≡ store.old.listeners }
+    ensures listeners { store.new.listeners ≡ store.old.listeners }
     ensures full { is_made result ≡ false → IsFull result trace.old trace.new }
 {
     let stepped = step_run(component, &mut store.state, thread, trace);
@@ -317,9 +317,11 @@ impl RunConcurrent {
     /// Goes on with the run until it is over, until it has added `steps` labels to the trace, or until nothing can go on and that
     /// is no deadlock. The labels that it adds are those of a run of the component machine from the store before to the store
     /// after, and the outcome is what that run has resulted in. The labels of main among them are those of the steps that main did,
-    /// in their order. If it is out of memory, the store is trapped, and the labels that were added are those of such a run to a
-    /// state that is lost. Whether a run is active on the store, whether it is concurrent and its number stay. The notices of that
-    /// run are told, in their order.
+    /// in their order. The notices of that run are told, in their order.
+    ///
+    /// If it is out of memory, the labels that were added are those of such a run to a state that is lost. The notices of these labels
+    /// were told, and main did the steps that they show; at main's turn it may have done and told more. Then the store is trapped,
+    /// and its groups are finished. Whether a run is active on the store, whether it is concurrent and its number stay.
     ///
     /// Where the hook that is told of the groups answers an error, the outcome is trap 22, which adds no label of its own and
     /// comes by nothing else: the store is trapped, its groups are finished, and the run is over. The labels that were added are

@@ -51,7 +51,7 @@ returns-clause-ran g c =
     let made = steps.makes in
     let told = c.in-Ok.ensures.told in
     let asked = told.whole.asked in
-    let same = c.step_thread-stepped.ensures.listeners is in
+    let same = c.step_thread-stepped.ensures.listeners in
     let makes : Added (λ (k : MadeStep). MakesStep d (turn.Run n) s.state k u × IsFree k.turn) q before after = (made.0, (made.1.0, (makes_asked d (turn.Run n) s.state made.0 t.state u asked (made.1.1).0, (made.1.1).1))) in
     of_made {M = RanThread g.H.HostWork.course d n s q c.in-Ok.next (record t { state = u; listeners = new }) before after} q is (record {
       steps = record {
@@ -82,7 +82,7 @@ returns-in_default-clause-ran g c =
     let steps = c.step_thread-stepped.ensures.steps is in
     let made = steps.makes in
     let told = c.in_default.ensures.told in
-    let same = c.step_thread-stepped.ensures.listeners is in
+    let same = c.step_thread-stepped.ensures.listeners in
     record {
       made = λ e. absurd (cc);
       nothing = λ e. absurd (cc);
@@ -107,4 +107,4 @@ returns-in_default-clause-ran g c =
 pub returns-then-not-is_made-clause-ran : goal.returns-then-not-is_made-clause-ran
 returns-then-not-is_made-clause-ran g c =
     let unmade = sym c.is_made.ensures ∙ c.if-not-is_made.true in
-    of_unmade c.step_thread-stepped.result unmade (c.step_thread-stepped.ensures.full unmade) (λ same. same)
+    of_unmade c.step_thread-stepped.result unmade (c.step_thread-stepped.ensures.full unmade) (λ same. (same, c.step_thread-stepped.ensures.listeners))

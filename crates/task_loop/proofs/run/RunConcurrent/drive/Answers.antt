@@ -30,7 +30,7 @@ unreachable-requires-in-Yields g c = absurd (never_yields g.M.MainTask.says g.H.
 pub returns-in-Err-NoMemory-clause-drives : goal.returns-in-Err-NoMemory-clause-drives
 unfolding set_trapped
 returns-in-Err-NoMemory-clause-drives g c =
-    rw (← c.trace.view_is) (has_lost _ _ _ _ _ c.args.steps (rw c.in-Err-NoMemory.field-0-is at c.in-Err-NoMemory.ensures.gone) (rw c.set_trapped.ensures.rest refl), c.go_on.ensures.kept refl)
+    rw (← c.trace.view_is) (has_lost _ _ _ _ _ c.args.steps c.go_on.new.store (rw c.in-Err-NoMemory.field-0-is at c.in-Err-NoMemory.ensures.gone) c.set_trapped.ensures.told (rw c.set_trapped.ensures.rest refl), c.go_on.ensures.kept refl)
 
 pub returns-in-Err-HookFailed-clause-drives : goal.returns-in-Err-HookFailed-clause-drives
 returns-in-Err-HookFailed-clause-drives g c =

@@ -11,7 +11,7 @@ returns-in-Ok-clause-polls g c =
 pub returns-in-Err-NoMemory-clause-polls : goal.returns-in-Err-NoMemory-clause-polls
 unfolding set_trapped
 returns-in-Err-NoMemory-clause-polls g c =
-    rw (← c.trace.view_is) (has_lost _ _ _ _ _ c.args.steps (rw c.in-Err-NoMemory.field-0-is at c.in-Err-NoMemory.ensures.gone) (rw c.set_trapped.ensures.rest refl))
+    rw (← c.trace.view_is) (has_lost _ _ _ _ _ c.args.steps c.go_on.new.store (rw c.in-Err-NoMemory.field-0-is at c.in-Err-NoMemory.ensures.gone) c.set_trapped.ensures.told (rw c.set_trapped.ensures.rest refl))
 
 pub returns-in-Err-HookFailed-clause-polls : goal.returns-in-Err-HookFailed-clause-polls
 returns-in-Err-HookFailed-clause-polls g c =

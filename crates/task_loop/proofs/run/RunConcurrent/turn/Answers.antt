@@ -114,7 +114,7 @@ returns-in-Run-clause-turned g c =
             asked = ran.asked;
           };
       nothing = λ is. absurd (c.run_thread.ensures.ran.nothing is);
-      full = λ is. c.run_thread.ensures.ran.full is;
+      full = λ is. let lost = c.run_thread.ensures.ran.full is in record { trace = lost.0; main = λ other. refl; untold = λ other. lost.1 };
       failed = λ is.
           let failed = c.run_thread.ensures.ran.failed is in
           let fails = failed.0 in
@@ -184,7 +184,7 @@ returns-in-Futures-clause-turned g c =
             asked = told.asked;
           };
       nothing = λ is. absurd (c.poll_work.ensures.polled.nothing is);
-      full = λ is. c.poll_work.ensures.polled.full is;
+      full = λ is. let lost = c.poll_work.ensures.polled.full is in record { trace = lost.0; main = λ other. refl; untold = λ other. lost.1 };
       failed = λ is.
           let failed = c.poll_work.ensures.polled.failed is in
           let fails = failed.0 in
