@@ -79,23 +79,6 @@ fn make_hooked<T, H, G: TaskGroupHook>(
     }
 }
 
-// Makes a call in a new group.
-fn make_grouped<T, H, G: TaskGroupHook>(
-    store: &mut Store<T, H, G>,
-    kind: ExportKind,
-    instance: u32,
-) -> Result<QualifiedThreadId, TaskError>
-    requires instance { IsSome (get store.old.state.core.instances instance) }
-    requires given { given store.old.state.core < 2 ^ 61 }
-    ensures makes { MakesCall G.listens kind instance None store.old result store.new }
-    ensures rest { store.new ≡ record store.old { state = store.new.state; listeners = store.new.listeners } }
-{
-    if store.listeners.is_hooked() {
-        return make_hooked(store, kind, instance);
-    }
-    make_with_group(store, kind, instance)
-}
-
 // Makes a call, in the group of its caller's call or in a new one.
 fn make<T, H, G: TaskGroupHook>(
     store: &mut Store<T, H, G>,
@@ -111,7 +94,13 @@ fn make<T, H, G: TaskGroupHook>(
 {
     match caller {
         Some(_) => ops_calls::new_guest_task(&mut store.state, kind, instance, caller),
-        None => make_grouped(store, kind, instance),
+        None => {
+            if store.listeners.is_hooked() {
+                make_hooked(store, kind, instance)
+            } else {
+                make_with_group(store, kind, instance)
+            }
+        }
     }
 }
 

@@ -1,6 +1,7 @@
 //! The event loop: main and the threads take their steps, and each step adds a label to a trace.
 #![tactic(auto)]
 
+mod beside;
 mod call;
 mod call_concurrent;
 mod call_tells;
@@ -18,6 +19,7 @@ mod typed;
 mod waitables;
 mod yield_budgets;
 
+pub use beside::Beside;
 pub use call::{Func, FuncCallConcurrent};
 pub use call_concurrent::CallConcurrent;
 pub use guest_tasks::{cleanup_thread, new_guest_task, set_thread};

@@ -55,14 +55,14 @@ longer all left long =
     let many : length long.taken ≡ 1048577 = long.long in
     omega arith
 
-hindered : (all : List ℕ) (status : ℕ) → (status ≡ 1) ⊎ ((status ≡ 4) ⊎ (status ≡ 5)) → IsDue all status
+pub hindered : (all : List ℕ) (status : ℕ) → (status ≡ 1) ⊎ ((status ≡ 4) ⊎ (status ≡ 5)) → IsDue all status
 hindered all status is = record {
   scenario = λ x short reads. inr is;
   other = λ short none. inr is;
   longer = λ long. inr is;
 }
 
-too_long : (all : List ℕ) (after : Held) (status : ℕ) → IsTooLong all after → (status ≡ 6) → IsDue all status
+pub too_long : (all : List ℕ) (after : Held) (status : ℕ) → IsTooLong all after → (status ≡ 6) → IsDue all status
 too_long all after status long is =
     let many : 1048576 < length all = longer all after long in
     record {

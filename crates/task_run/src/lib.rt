@@ -1,6 +1,7 @@
 //! Scenarios: their text is read, run, and reported.
 #![tactic(auto)]
 
+mod asked;
 mod copy;
 mod lower;
 mod main_script;
@@ -9,6 +10,7 @@ mod report;
 mod scenario;
 mod script;
 
+pub use asked::AskedSpawns;
 pub use lower::{component_of, read_scenario, scenario_of};
 pub use machine_data::{IdleLine, NoMemory, Operand, Seq};
 pub use program::{TOO_LONG, ToolEnd, USAGE, counted, tool};

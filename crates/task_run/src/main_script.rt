@@ -70,7 +70,7 @@ impl<'a> ScriptMain<'a> {
     }
 
     // The place after this op.
-    fn next_place(&self) -> usize
+    pub(crate) fn next_place(&self) -> usize
         requires { self.now.at < length self.now.ops.now }
         ensures { result ≡ self.now.at + 1 }
     {
@@ -132,8 +132,8 @@ impl<'a> ScriptMain<'a> {
         }
     }
 
-    // The work of a spawn, if the spawn is there.
-    fn spawned(&self, spawn: u32) -> Option<SpawnHandle>
+    /// Answers the work of a spawn, counted from 1; none if main hasn't made so many.
+    pub fn spawned(&self, spawn: u32) -> Option<SpawnHandle>
         ensures is { result ≡ slice_get self.now.spawns.items (spawn - 1) }
         ensures number { spawned_at (place_of self.now) spawn ≡ number_in result }
     {
@@ -402,7 +402,7 @@ fn await_ready<T, H: HostWork, G: TaskGroupHook>(
 }
 
 // The op at this place, none at the script's end.
-fn op_here(ops: &[MainOp], at: usize) -> Option<&MainOp>
+pub(crate) fn op_here(ops: &[MainOp], at: usize) -> Option<&MainOp>
     ensures { option_copied result ≡ slice_get ops.now at }
 {
     ops.get(at)

@@ -15,13 +15,24 @@ returns-in-Some g c =
       rest = refl;
     }
 
-pub returns-in-None : goal.returns-in-None
-returns-in-None g c =
+pub returns-then-is_hooked : goal.returns-then-is_hooked
+returns-then-is_hooked g c =
     let store = c.args.store.now in
-    let made = c.make_grouped.new.store in
+    let made = c.make_hooked.new.store in
     record {
       makes = subst
-          (λ (f : Option QualifiedThreadId). MakesCall g.G.TaskGroupHook.listens c.args.kind c.args.instance f store c.make_grouped.result made)
-          (sym c.in-None.is) c.make_grouped.ensures.makes;
-      rest = c.make_grouped.ensures.rest;
+          (λ (f : Option QualifiedThreadId). MakesCall g.G.TaskGroupHook.listens c.args.kind c.args.instance f store c.make_hooked.result made)
+          (sym c.in-None.is) c.make_hooked.ensures.makes;
+      rest = c.make_hooked.ensures.rest;
+    }
+
+pub returns-else-is_hooked : goal.returns-else-is_hooked
+returns-else-is_hooked g c =
+    let store = c.args.store.now in
+    let made = c.make_with_group.new.store in
+    record {
+      makes = subst
+          (λ (f : Option QualifiedThreadId). MakesCall g.G.TaskGroupHook.listens c.args.kind c.args.instance f store c.make_with_group.result made)
+          (sym c.in-None.is) c.make_with_group.ensures.makes;
+      rest = c.make_with_group.ensures.rest;
     }

@@ -1,0 +1,90 @@
+-- The work that another thread has aborted is aborted in the core, and polled: so it ends.
+use Rattle.std.proofs.Common.{ap, subst, sym, ◌∙◌}
+use Rattle.std.specs.Prelude.{IfSome, Option, Some, [], true, ℕ, ◌++◌, ◌∷◌, ◌≡◌}
+use Rattle.laws_beside.specs.Wide.{is_running}
+use Rattle.machine_data.specs.Core.{Unscripted}
+use Rattle.machine_data.specs.Read.{phase_of}
+use Rattle.machine_data.specs.declared.label.Label.TheVariants as label
+use Rattle.machine_data.specs.declared.label.LoopLabel.TheVariants as loop_label
+use Rattle.machine_rules.specs.Works.{next_polled}
+use Rattle.machine_data.specs.declared.records.Turn.{Turn}
+use Rattle.ops_turns.specs.StepResult.{turn_of}
+use Rattle.ops_turns.specs.Turn.{running_of}
+use Rattle.task_loop.proofs.BesideLemmas.{ended_aborted, settled_still}
+use Rattle.task_loop.proofs.IdleLemmas.{none_current}
+use Rattle.task_loop.proofs.run.RunConcurrent.meet_abort.Goals as goal
+use Rattle.task_loop.specs.Beside.{HasEndedAborted, IsFound, IsNextAborted}
+use Rattle.task_loop.specs.Constants.{constants}
+use Rattle.task_store.specs.declared.spawn.SpawnHandle.{SpawnHandle}
+
+pub returns-in_default-clause-keeps : goal.returns-in_default-clause-keeps
+returns-in_default-clause-keeps g c = g.B.Beside.same c.args.beside.now
+
+pub polls-requires : goal.polls-requires
+polls-requires g c = c.requires.knows
+
+pub polls-requires-2 : goal.polls-requires-2
+polls-requires-2 g c = c.requires.knows
+
+pub returns-then-not-is_made-clause-constants_stay : goal.returns-then-not-is_made-clause-constants_stay
+returns-then-not-is_made-clause-constants_stay g c =
+    ap constants c.set_trapped.ensures.rest ∙ (ap constants c.poll_next-made.ensures.rest ∙ ap constants c.abort-phase.ensures.state)
+
+pub returns-then-not-is_made-clause-err : goal.returns-then-not-is_made-clause-err
+returns-then-not-is_made-clause-err g c =
+    let unmade = sym c.is_made.ensures ∙ c.if-not-is_made.true in
+    rw (← c.trace.view_is) (c.put-stepped.ensures.full unmade).1
+
+pub abort-phase-requires-clause-spawned : goal.abort-phase-requires-clause-spawned
+abort-phase-requires-clause-spawned g c =
+    let s = c.args.store.now.state in
+    let found : IsFound c.work_number-number.result true c.in-Some-found.work s = subst (λ (o : Option SpawnHandle). IfSome o (λ w. IsFound c.work_number-number.result true w s)) c.in-Some-found.is c.in-Ok-polls.ensures.found in
+    found.0
+
+pub abort-phase-requires-clause-hosts : goal.abort-phase-requires-clause-hosts
+abort-phase-requires-clause-hosts g c = c.requires.may.hosts
+
+pub poll_next-made-requires-clause-may : goal.poll_next-made-requires-clause-may
+poll_next-made-requires-clause-may g c =
+    let s = c.args.store.now.state in
+    let t = c.abort-phase.new.store.state in
+    let h = c.in-Some-found.work in
+    let i = c.work_number-number.result in
+    let order = (c.abort-phase.ensures.order c.args.component.now (turn_of c.args.self.now.last) c.requires.may.order).order Unscripted in
+    let found : IsFound i true h s = subst (λ (o : Option SpawnHandle). IfSome o (λ w. IsFound i true w s)) c.in-Some-found.is c.in-Ok-polls.ensures.found in
+    let at : next_polled c.args.polled s.core ≡ Some h.number = sym c.in-Some.ensures ∙ ap (λ (n : ℕ). Some n) (sym (found.1.0 ∙ c.work_number-number.ensures)) in
+    let runs : is_running (phase_of h.number s.core) ≡ true =
+    ap (λ (n : ℕ). is_running (phase_of n s.core)) (found.1.0 ∙ c.work_number-number.ensures) ∙ ap is_running (sym c.phase.ensures ∙ c.in-Running.is) in
+    record {
+      placed = order.in_place.placed;
+      works = order.works;
+      current = none_current t (ap (λ u. running_of u.state) c.abort-phase.ensures.state ∙ c.requires.may.idle);
+      settled = settled_still c.args.polled h s t (ap (λ u. u.state) c.abort-phase.ensures.state) (found.0, (at, runs));
+    }
+
+pub returns-clause-constants_stay : goal.returns-clause-constants_stay
+returns-clause-constants_stay g c = ap constants c.poll_next-made.ensures.rest ∙ ap constants c.abort-phase.ensures.state
+
+pub returns-clause-met : goal.returns-clause-met
+returns-clause-met g c =
+    let s = c.args.store.now in
+    let h = c.in-Some-found.work in
+    let i = c.work_number-number.result in
+    let found : IsFound i true h s.state = subst (λ (o : Option SpawnHandle). IfSome o (λ w. IsFound i true w s.state)) c.in-Some-found.is c.in-Ok-polls.ensures.found in
+    let at : next_polled c.args.polled s.state.core ≡ Some h.number = sym c.in-Some.ensures ∙ ap (λ (n : ℕ). Some n) (sym (found.1.0 ∙ c.work_number-number.ensures)) in
+    let runs : is_running (phase_of h.number s.state.core) ≡ true =
+    ap (λ (n : ℕ). is_running (phase_of n s.state.core)) (found.1.0 ∙ c.work_number-number.ensures) ∙ ap is_running (sym c.phase.ensures ∙ c.in-Running.is) in
+    let next : IsNextAborted c.args.polled h s.state = (found.0, (at, runs)) in
+    let ended = ended_aborted g.H.HostWork.course c.args.component.now (turn_of c.args.self.now.last) c.args.polled h s c.abort-phase.new.store c.poll_next-made.new.self c.poll_next-made.result c.requires.may next c.abort-phase.ensures.state
+    (λ q order. c.abort-phase.ensures.order c.args.component.now q order) c.poll_next-made.ensures.turns c.poll_next-made.ensures.works c.poll_next-made.ensures.hosts (ap (λ t. t.listeners) c.poll_next-made.ensures.rest) in
+    let added = c.put-stepped.ensures.in_trace (sym c.is_made.ensures ∙ c.if-not-is_made.false) in
+    rw (← c.trace.view_is) (
+      h,
+      (
+        next,
+        (
+          subst (λ (q : Turn). HasEndedAborted g.H.HostWork.course c.args.component.now h.number s c.poll_next-made.new.self q) added.1 ended,
+          added.0 ∙ ap (λ (n : ℕ). c.trace.inside.labels ++ label.Loop (loop_label.FutureAborted n) ∷ []) (sym found.1.0),
+        ),
+      ),
+    )
