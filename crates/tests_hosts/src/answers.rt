@@ -1,5 +1,5 @@
 //! A hook that tells what it was told, and what it answered to each notice.
-ghost use Rattle.tests_hosts.specs.Hooks.{heard_by};
+ghost use Rattle.tests_hosts.specs.Hooks.{keeping};
 ghost use Rattle.std.specs.Prelude.{◌≡◌, Some, is_ok, true};
 ghost use Rattle.task_group.specs.Heard.{Tells, notice_of};
 
@@ -19,7 +19,8 @@ struct Teller<'a, A: Abort> {
 
 impl<A: Abort> Teller<'_, A> {
     fn answer(&mut self, kind: NoticeKind, id: TaskGroupId) -> Result<(), HookError>
-        ensures { Tells (notice_of kind id) (heard_by self.old) (heard_by self.new) (is_ok result) }
+        ensures { Tells (notice_of kind id) (keeping self.old.told.items self.old.answers.items self.old.errors)
+            (keeping self.new.told.items self.new.answers.items self.new.errors) (is_ok result) }
     {
         let group = id.number;
         let hook_is_ok = self.fails != group || self.errors == u64::MAX;
