@@ -188,7 +188,7 @@ class Words(Script):
     def test_wrong_words_read_nothing_and_compile_nothing(self):
         def check(_):
             for words in ((), ('run',), ('run', '0'), ('run', '07'), ('run', '1000001'), ('make', 'x'), ('make', '257'), ('make', '1', '1'), ('big', '1'),
-                          ('big', '1', '0'), ('beside', '7'), ('-x',), ('run', '7', SCRIPT, '8'), ('runs', '7', 'texts'), ('run', '9' * 30)):
+                          ('big', '1', '0'), ('beside',), ('beside', '0'), ('-x',), ('run', '7', SCRIPT, '8'), ('runs', '7', 'texts'), ('run', '9' * 30)):
                 reader, writer = os.pipe()
                 try:
                     ran = self.call(*words, input=None, stdin=reader)
@@ -246,6 +246,15 @@ class Words(Script):
             self.assertEqual(tried is None or self.given(), tried is None or 'of a file\n')
             ran = self.call('serve', '8', '7', 'a text', cwd=f'{self.room}/some folder', script='../a copy/vatbramble')
             self.assertEqual(ran[:2], (0 if tried else 2, tried or 'proved: serve 8 7\nof a file\n'))
+        self.both(check)
+
+    def test_beside_takes_what_run_takes(self):
+        write(f'{self.room}/some folder/a text', 'of a file\n')
+
+        def check(tried):
+            ran = self.call('beside', '7', 'a text', cwd=f'{self.room}/some folder', script='../a copy/vatbramble')
+            self.assertEqual(ran[1], tried or 'proved: beside 7\nof a file\n')
+            self.assertEqual(tried is None or self.given(), tried is None or 'of a file\n')
         self.both(check)
 
     def test_a_file_that_cannot_be_read(self):

@@ -1,5 +1,5 @@
 ghost use Rattle.std.specs.Prelude.{◌≡◌};
-ghost use Rattle.core_records.specs.Seen.{nothing};
+ghost use Rattle.core_records.specs.Seen.{IsSoundCore, nothing, seen};
 
 use core_primitives::{Primitives, ThreadId, View, WantedId};
 use core_records::CoreParts;
@@ -41,6 +41,14 @@ impl TaskCore {
         TaskCore {
             parts: CoreParts::new(alloc),
         }
+    }
+
+    /// Returns the records and their chains, for crates that list what is in them.
+    pub fn parts(&self) -> &CoreParts
+        ensures sound { IsSoundCore result.now }
+        ensures seen { seen result.now ≡ self.now }
+    {
+        &self.parts
     }
 }
 

@@ -2,7 +2,7 @@
 use Rattle.ops_dispatch.specs.Fits.{calls_host}
 use Rattle.ops_dispatch.specs.Polls.{polled_host}
 use Rattle.std.proofs.Common.{ap, refl, subst, sym, ◌∙◌}
-use Rattle.std.specs.Prelude.{Bool, Err, IfOk, IfSome, List, None, Ok, Option, Result, Some, [], false, is_none, is_some, not, option_map, true, ℕ, ◌+◌, ◌++◌, ◌<◌, ◌≡◌, ◌≤◌, ◌∷◌}
+use Rattle.std.specs.Prelude.{Bool, Err, IfOk, IfSome, List, None, Ok, Option, Result, Some, [], false, is_none, is_some, option_map, true, ℕ, ◌+◌, ◌++◌, ◌<◌, ◌≡◌, ◌≤◌, ◌∷◌}
 use Rattle.machine_data.specs.Core.{Main, State}
 use Rattle.machine_data.specs.Labels.{choice_of}
 use Rattle.machine_data.specs.Read.{op_progress_of, next_entry, place_of}
@@ -50,26 +50,6 @@ use Rattle.task_wait.specs.declared.keys.ThreadKey.{ThreadKey}
 use Rattle.core_primitives.specs.Names.{entry_in}
 use Rattle.core_primitives.specs.StateView.{StateView, on_core, thread_of, work_of}
 use Rattle.core_primitives.specs.declared.names.EntryId.{EntryId}
-
--- a run that isn't over goes on
-pub opens : (b : Bool) → not b ≡ false → b ≡ true
-opens true e = refl
-opens false e = absurd (cc)
-
--- a turn in which nothing more is made
-pub closed : (p : Turn) → is_open p ≡ false → p ≡ turn.Over
-closed turn.Over e = refl
-closed turn.Main e = absurd (cc)
-closed (turn.Futures n) e = absurd (cc)
-closed (turn.Take b) e = absurd (cc)
-closed (turn.Run n) e = absurd (cc)
-
-pub closes : (p : Turn) → not (is_open p) ≡ true → p ≡ turn.Over
-closes p e = closed p (off (is_open p) e)
-  where
-    off : (b : Bool) → not b ≡ true → b ≡ false
-    off false e = refl
-    off true e = absurd (cc)
 
 pub added_as : (P Q : MadeStep → Type 0) (stepped : StepResult) (before after : List Label) → ((made : MadeStep) → P made → Q made) → Added P stepped before after → Added Q stepped before after
 added_as P Q stepped before after f h = (h.0, (h.1.0, f h.0 h.1.1))
@@ -142,10 +122,6 @@ of_full q made full lost = record {
   full = λ e. lost (full (ap is_made e)).1;
   failed = λ e. absurd (let no = sym e ∙ (full (ap is_made e)).0 in cc);
 }
-
--- none was made, as it is out of memory
-pub of_unmade : {M N F H : Type 0} {before after : List Label} (q : StepResult) → is_made q ≡ false → IsFull q before after → (after ≡ before → F) → MatchStep M N F H q
-of_unmade q unmade is lost = of_full q (λ made. absurd (let no = sym unmade ∙ made in cc)) (λ none. is) lost
 
 -- one was made, where no hook was told
 pub made_told : {M N F : Type 0} (q : StepResult) → (q ≡ stepped.Nothing → ⊥) → (q ≡ stepped.Full → ⊥) → MatchStep M N F ⊥ q → is_made q ≡ true

@@ -81,12 +81,12 @@ pub record HasEndedAborted {T H G : Type 0} (course : H → HostDef) (c : Compon
   pub listeners : new.listeners ≡ old.listeners
 
 -- it was found, and so the work has ended; or nothing is changed
-abbrev pub MeetsAbort : {T H G : Type 0} → (H → HostDef) → Component → (polled : ℕ) → (met : Bool) → (old : Store T H G) → (p : Turn) →
-    (before : List Label) → (new : Store T H G) → (q : Turn) → (after : List Label) → Type 0
-MeetsAbort course c polled true old p before new q after =
+abbrev pub MetAbort : {T H G : Type 0} → (H → HostDef) → Component → (polled : ℕ) → (old : Store T H G) → (p : Turn) →
+    (before : List Label) → (new : Store T H G) → (q : Turn) → (after : List Label) → (met : Bool) → Type 0
+MetAbort course c polled old p before new q after true =
     (work : SpawnHandle) × (IsNextAborted polled work old.state × (HasEndedAborted course c work.number old new q
     × (after ≡ before ++ label.Loop (loop_label.FutureAborted work.number) ∷ [])))
-MeetsAbort course c polled false old p before new q after = (new ≡ old) × ((q ≡ p) × (after ≡ before))
+MetAbort course c polled old p before new q after false = (new ≡ old) × ((q ≡ p) × (after ≡ before))
 
 abbrev pub polled_label : Bool → ℕ → Label
 polled_label found i = cond found (label.Loop (loop_label.FutureAborted i)) (label.Loop (loop_label.FuturePends i))

@@ -1,6 +1,6 @@
 //! Steps of a run beside other threads, which may abort the works that main has spawned.
 ghost use Rattle.std.specs.Prelude.{◌≡◌, IfOk, IfSome, OnErr, OnOk};
-ghost use Rattle.task_loop.specs.Beside.{HasFound, IsFound, LastPollGives, MayMeet, MayPollLast, MeetsAbort, StepBesideGives};
+ghost use Rattle.task_loop.specs.Beside.{HasFound, IsFound, LastPollGives, MayMeet, MayPollLast, MetAbort, StepBesideGives};
 ghost use Rattle.task_loop.specs.HasRun.{Keeps, MayRun, at};
 ghost use Rattle.task_loop.specs.Constants.{constants};
 ghost use Rattle.ops_turns.specs.StepResult.{turn_of};
@@ -65,7 +65,7 @@ impl RunConcurrent {
         requires knows { M.says.knows main.now store.old.state }
         ensures keeps { B.keeps beside.old beside.new }
         ensures constants_stay { constants store.new ≡ constants store.old }
-        ensures met { IfOk result (λ met. MeetsAbort H.course component.now polled met
+        ensures met { IfOk result (MetAbort H.course component.now polled
             store.old (turn_of self.old.last) trace.old store.new (turn_of self.new.last) trace.new) }
         ensures err { OnErr result (trace.new ≡ trace.old) }
         ensures rest { self.new ≡ record self.old { last = self.new.last } }

@@ -8,6 +8,7 @@ fn nothing_is_in_a_new_core_which_has_its_limits(rt: HostRuntime) {
     core.set_capacity(4);
     assert!(rt; core.fits(4) && !core.fits(5));
     assert!(rt; core.capacity() == 4);
+    assert!(rt; core.parts().capacity == 4);
     core.set_handle_limit(7);
     assert!(rt; core.handle_limit() == 7);
     core.set_current(None);

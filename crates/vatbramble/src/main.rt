@@ -1,6 +1,7 @@
 //! Runs scenarios of component calls: see the repository's README.
 #![tactic(auto)]
 
+use beside_main::{OpenGate, tool_beside};
 use serve_main::serve_tool;
 use std::alloc::AllocError;
 use std::process::ExitCode;
@@ -35,6 +36,9 @@ fn main(rt: HostRuntime) -> ExitCode {
     let status = match words.first() {
         Some(word) if word.as_bytes() == b"serve".as_slice() => {
             serve_tool(rt.alloc(), words, &mut source, &mut sink)
+        }
+        Some(word) if word.as_bytes() == b"beside".as_slice() => {
+            tool_beside(&rt, rt.alloc(), words, &mut source, &mut sink, &OpenGate).status
         }
         _ => tool(rt.alloc(), words, &mut source, &mut sink).status,
     };

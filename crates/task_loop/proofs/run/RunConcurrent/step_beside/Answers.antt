@@ -8,7 +8,7 @@ use Rattle.ops_turns.specs.Turn.{runs_in}
 use Rattle.run_trace.specs.declared.yield_budget.YieldBudget.{YieldBudget}
 use Rattle.task_loop.proofs.BesideLemmas.{abort_met, all_stays, drives_beside, main_stays, request_met}
 use Rattle.task_loop.proofs.run.RunConcurrent.step_beside.Goals as goal
-use Rattle.task_loop.specs.Beside.{HasFound, MeetsAbort, StepsBeside}
+use Rattle.task_loop.specs.Beside.{HasFound, MetAbort, StepsBeside}
 use Rattle.task_loop.specs.HasRun.{Keeps, MayRun, at}
 use Rattle.task_loop.specs.declared.run.RunConcurrent.{RunConcurrent}
 use Rattle.ops_turns.specs.StepResult.{turn_of}
@@ -100,7 +100,7 @@ returns-then-met-clause-steps g c =
     let new = c.meet_abort.new in
     let a = at c.args.self.now c.args.main.now s c.args.trace.now in
     let b = at new.self c.args.main.now new.store new.trace in
-    let met = subst (λ (t : Bool). MeetsAbort course k c.in-Futures.polled t s (turn_of c.args.self.now.last) c.args.trace.now new.store (turn_of new.self.last) new.trace) c.if-met.true c.in-Ok-meet_abort.ensures.met in
+    let met = subst (λ (t : Bool). MetAbort course k c.in-Futures.polled s (turn_of c.args.self.now.last) c.args.trace.now new.store (turn_of new.self.last) new.trace t) c.if-met.true c.in-Ok-meet_abort.ensures.met in
     inl (
       label.Loop (loop_label.FutureAborted met.0.number),
       (
@@ -117,7 +117,7 @@ drive-requires-in-Futures g c =
     let s = c.args.store.now in
     let new = c.meet_abort.new in
     let a = at c.args.self.now c.args.main.now s c.args.trace.now in
-    let none = subst (λ (t : Bool). MeetsAbort course k c.in-Futures.polled t s (turn_of c.args.self.now.last) c.args.trace.now new.store (turn_of new.self.last) new.trace) c.if-met.false c.in-Ok-meet_abort.ensures.met in
+    let none = subst (λ (t : Bool). MetAbort course k c.in-Futures.polled s (turn_of c.args.self.now.last) c.args.trace.now new.store (turn_of new.self.last) new.trace t) c.if-met.false c.in-Ok-meet_abort.ensures.met in
     let same = ap (λ (r : RunConcurrent). at r c.args.main.now new.store new.trace) c.meet_abort.ensures.rest ∙ all_stays a new.store (turn_of new.self.last) new.trace none.0 none.1.0 none.1.1 in
     record { may = subst (λ q. MayRun says course k q) (sym same) c.requires.may }
 
@@ -130,7 +130,7 @@ returns-else-met-clause-keeps g c =
     let new = c.meet_abort.new in
     let last = c.drive-in-Futures.new in
     let a = at c.args.self.now c.args.main.now s c.args.trace.now in
-    let none = subst (λ (t : Bool). MeetsAbort course k c.in-Futures.polled t s (turn_of c.args.self.now.last) c.args.trace.now new.store (turn_of new.self.last) new.trace) c.if-met.false c.in-Ok-meet_abort.ensures.met in
+    let none = subst (λ (t : Bool). MetAbort course k c.in-Futures.polled s (turn_of c.args.self.now.last) c.args.trace.now new.store (turn_of new.self.last) new.trace t) c.if-met.false c.in-Ok-meet_abort.ensures.met in
     let same = ap (λ (r : RunConcurrent). at r c.args.main.now new.store new.trace) c.meet_abort.ensures.rest ∙ all_stays a new.store (turn_of new.self.last) new.trace none.0 none.1.0 none.1.1 in
     subst (λ q. Keeps says q (at last.self last.main last.store last.trace)) same c.drive-in-Futures.ensures.keeps
 
@@ -148,7 +148,7 @@ returns-else-met-clause-steps g c =
     let mid = at new.self c.args.main.now new.store new.trace in
     let b = at last.self last.main last.store last.trace in
     let z = last.self.yield_budget in
-    let none = subst (λ (t : Bool). MeetsAbort course k c.in-Futures.polled t s (turn_of c.args.self.now.last) c.args.trace.now new.store (turn_of new.self.last) new.trace) c.if-met.false c.in-Ok-meet_abort.ensures.met in
+    let none = subst (λ (t : Bool). MetAbort course k c.in-Futures.polled s (turn_of c.args.self.now.last) c.args.trace.now new.store (turn_of new.self.last) new.trace t) c.if-met.false c.in-Ok-meet_abort.ensures.met in
     let same = ap (λ (q : RunConcurrent). at q c.args.main.now new.store new.trace) c.meet_abort.ensures.rest ∙ all_stays a new.store (turn_of new.self.last) new.trace none.0 none.1.0 none.1.1 in
     subst (λ q. StepsBeside says course k listens r c.args.self.now.yield_budget q b z) same
     (subst (λ (y : YieldBudget). StepsBeside says course k listens r y mid b z) (ap (λ (q : RunConcurrent). q.yield_budget) c.meet_abort.ensures.rest)

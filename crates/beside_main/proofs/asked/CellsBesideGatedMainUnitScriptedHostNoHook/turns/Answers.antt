@@ -1,0 +1,11 @@
+-- Main asks as its script does.
+use Rattle.std.proofs.Common.{ap}
+use Rattle.beside_main.proofs.GateLemmas.{founds}
+use Rattle.beside_main.proofs.asked.CellsBesideGatedMainUnitScriptedHostNoHook.turns.Goals as goal
+use Rattle.task_run.specs.Script.{machine_ops}
+
+pub returns-clause-script : goal.returns-clause-script
+returns-clause-script g c = ap machine_ops (ap (λ ops. ops.now) c.ask.ensures.ops)
+
+pub returns-clause-found : goal.returns-clause-found
+returns-clause-found g c = founds c.ask.result c.args.main.now c.ask.new.self c.args.store.now.state c.ask.ensures.found

@@ -1,0 +1,33 @@
+use Rattle.std.proofs.Common.{◌≡◌, ap, arith, length, refl, sym, ◌∙◌}
+use Rattle.std.proofs.lemmas.Option.{slice_get_read}
+use Rattle.std.specs.Prelude.{Some, slice_get, ◌-◌}
+use Rattle.beside_main.proofs.CellLemmas.{one_cell}
+use Rattle.beside_main.specs.Same.{same_cells}
+use Rattle.beside_main.proofs.cells.finds_request.Goals as goal
+
+pub returns-in_err-phase-clause-cells : goal.returns-in_err-phase-clause-cells
+returns-in_err-phase-clause-cells c =
+    let ds = c.args.cells.now.items in
+    let i = c.saturating_sub.result in
+    let s = c.in-Some.cell.now in
+    let there : slice_get ds i ≡ Some s = slice_get_read ds (length ds) i s refl (omega (arith, c.args.cells.now.ok.0, c.in-Some.ensures.variant.0 refl)) c.in-Some.ensures.value in
+    one_cell ds i s c.abort.new.self there (record { cell = c.abort.ensures.cell; split = c.abort.ensures.rest.1.0; met = c.abort.ensures.rest.1.1; round = c.abort.ensures.round })
+
+pub returns-then-matches-clause-cells : goal.returns-then-matches-clause-cells
+returns-then-matches-clause-cells c =
+    let ds = c.args.cells.now.items in
+    let i = c.saturating_sub.result in
+    let s = c.in-Some.cell.now in
+    let there : slice_get ds i ≡ Some s = slice_get_read ds (length ds) i s refl (omega (arith, c.args.cells.now.ok.0, c.in-Some.ensures.variant.0 refl)) c.in-Some.ensures.value in
+    one_cell ds i s c.abort.new.self there (record { cell = c.abort.ensures.cell; split = c.abort.ensures.rest.1.0; met = c.abort.ensures.rest.1.1; round = c.abort.ensures.round })
+
+pub returns-clause-cells : goal.returns-clause-cells
+returns-clause-cells c =
+    let ds = c.args.cells.now.items in
+    let i = c.saturating_sub.result in
+    let s = c.in-Some.cell.now in
+    let there : slice_get ds i ≡ Some s = slice_get_read ds (length ds) i s refl (omega (arith, c.args.cells.now.ok.0, c.in-Some.ensures.variant.0 refl)) c.in-Some.ensures.value in
+    one_cell ds i s c.abort.new.self there (record { cell = c.abort.ensures.cell; split = c.abort.ensures.rest.1.0; met = c.abort.ensures.rest.1.1; round = c.abort.ensures.round })
+
+pub returns-in_default-clause-cells : goal.returns-in_default-clause-cells
+returns-in_default-clause-cells c = same_cells c.args.cells.now.items

@@ -1,0 +1,56 @@
+//! The logs of the works that were spawned.
+ghost use Rattle.std.specs.Prelude.{◌≡◌, IfOk, map, slice_get};
+ghost use Rattle.beside_main.specs.Cells.{AreEarly, AreLogsOf, AreMet};
+
+use crate::lists::add;
+use beside_works::SharedSpawn;
+use machine_data::NoMemory;
+use std::alloc::Global;
+use task_abort::LogEntry;
+use task_run::ScriptMain;
+
+// How many calls the run has made on each cell by now.
+pub(crate) fn counts_of(alloc: Global, cells: &[SharedSpawn]) -> Result<Vec<usize>, NoMemory>
+    ensures { IfOk result (λ v. AreEarly cells.now v.items) }
+{
+    let mut counts = Vec::new(alloc);
+    for cell in cells {
+        add(&mut counts, cell.calls())?;
+    }
+    Ok(counts)
+}
+
+// The count at this place, if there is one.
+fn count_at(counts: &[usize], place: usize) -> Option<usize>
+    ensures { result ≡ slice_get counts.now place }
+{
+    counts.get(place).copied()
+}
+
+// The logs of the works that were spawned, in the order of the spawns. So many of the run's own calls on each were made before its last
+// round.
+pub(crate) fn logs_of(
+    alloc: Global,
+    script: &ScriptMain<'_>,
+    cells: &[SharedSpawn],
+    early: &[usize],
+) -> Result<Vec<Vec<LogEntry<u32>>>, NoMemory>
+    requires met { AreMet cells.now }
+    requires early { AreEarly cells.now early.now }
+    ensures { IfOk result (λ v. AreLogsOf cells.now (map (λ l. l.items) v.items)) }
+{
+    let mut logs = Vec::new(alloc);
+    let mut spawn = 0u32;
+    for cell in cells {
+        spawn = spawn.saturating_add(1);
+        let Some(_work) = script.spawned(spawn) else {
+            return Ok(logs);
+        };
+        let Some(count) = count_at(early, logs.len()) else {
+            return Ok(logs);
+        };
+        let log = cell.log(alloc, count)?;
+        add(&mut logs, log)?;
+    }
+    Ok(logs)
+}
